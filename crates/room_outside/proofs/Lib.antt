@@ -1,0 +1,5 @@
+pub mod FaultLemmas
+pub mod FileLemmas
+pub mod MemShelfLemmas
+pub mod ShelfLemmas
+pub mod SinkLemmas

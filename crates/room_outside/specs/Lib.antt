@@ -1,0 +1,7 @@
+pub mod Calls
+pub mod Faults
+pub mod Files
+pub mod MemShelf
+pub mod MemSink
+pub mod Shown
+pub mod Written

@@ -1,0 +1,33 @@
+-- What was written to a sink.
+use Rattle.std.specs.Prelude.{◌≡◌, ℕ, ◌<◌, ◌≤◌, List, ◌++◌, length, take, Option, None}
+use Rattle.std.specs.Option.{option_map}
+use Rattle.room_outside.specs.Faults.{Rose}
+
+-- the bytes, where they are told, and how many writes have failed
+pub record Written : Type 0 where
+  pub told : Option (List ℕ)
+  pub faults : ℕ
+
+-- no bytes are told
+abbrev pub untold : ℕ → Written
+untold faults = record { told = None; faults = faults }
+
+-- told bytes, and then more
+abbrev pub appended : Option (List ℕ) → List ℕ → Option (List ℕ)
+appended told bytes = option_map (λ xs. xs ++ bytes) told
+
+-- exactly these bytes were appended, as far as bytes are told, and the count of faults didn't fall
+pub record Appends (before after : Written) (bytes : List ℕ) : Type 0 where
+  pub told : after.told ≡ appended before.told bytes
+  pub faults : before.faults ≤ after.faults
+
+-- a write failed after so many of these bytes: exactly those were appended, and the count of faults rose
+pub record BreaksOffAt (before after : Written) (bytes : List ℕ) (taken : ℕ) : Type 0 where
+  pub within : taken < length bytes
+  pub front : Appends before after (take taken bytes)
+  pub fault : Rose before.faults after.faults
+
+-- a write failed somewhere in these bytes
+pub record BreaksOff (before after : Written) (bytes : List ℕ) : Type 0 where
+  pub taken : ℕ
+  pub place : BreaksOffAt before after bytes taken

@@ -1,0 +1,54 @@
+//! A stream of bytes that can only grow.
+ghost use Rattle.std.specs.Prelude.{◌≡◌, ◌<◌, ◌≤◌, [], length, take, Ok, IfOk, IfErr, OnOk, OnErr};
+ghost use Rattle.room_outside.specs.Faults.{Rose};
+ghost use Rattle.room_outside.specs.Written.{Written, Appends, BreaksOffAt, BreaksOff};
+
+use crate::Failed;
+
+/// What is written to.
+///
+/// A contract sees the bytes that were written, where the sink tells them, and a count of write
+/// faults, which never falls. A call's count rose where it is greater at the end of the call than
+/// at its beginning, or stands at the last value of a `u64`.
+pub trait Sink {
+    // What was written so far.
+    ghost written: { Self → Written };
+
+    /// Takes bytes from the front of `piece` and says how many. A failed write takes none. Of a
+    /// piece that isn't empty it takes none only where the count of faults rose.
+    fn write(&mut self, piece: &[u8]) -> Result<usize, Failed>
+        ensures within { IfOk result (λ n. n ≤ length piece.now) }
+        ensures taken { IfOk result (λ n. Appends (written self.old) (written self.new) (take n piece.now)) }
+        ensures failed { OnErr result (Appends (written self.old) (written self.new) []) }
+        ensures fault { OnErr result (Rose (written self.old).faults (written self.new).faults) }
+        ensures none { result ≡ Ok 0 → 0 < length piece.now → Rose (written self.old).faults (written self.new).faults };
+}
+
+/// A write that failed after `taken` bytes of its piece.
+#[derive(Clone, Copy, Debug, PartialEq, Eq)]
+pub struct WriteFault {
+    pub taken: usize,
+}
+
+/// Writes a whole piece, in as many writes as it needs. It takes no memory.
+///
+/// A refusal says how many bytes of the piece were appended, fewer than all. It comes only where
+/// the sink's count of faults rose in this call.
+pub fn write_whole<K: Sink>(sink: &mut K, piece: &[u8]) -> Result<(), WriteFault>
+    ensures ok { OnOk result (Appends (K.written sink.old) (K.written sink.new) piece.now) }
+    ensures fault { IfErr result (λ e. BreaksOffAt (K.written sink.old) (K.written sink.new) piece.now e.taken) }
+    ensures stops { OnErr result (BreaksOff (K.written sink.old) (K.written sink.new) piece.now) }
+{
+    let mut taken = 0;
+    let mut rest = piece;
+    while !rest.is_empty() {
+        match sink.write(rest) {
+            Ok(0) | Err(Failed) => return Err(WriteFault { taken }),
+            Ok(n) => {
+                taken += n;
+                rest = rest.split_at(n).1;
+            }
+        }
+    }
+    Ok(())
+}
