@@ -1,0 +1,6 @@
+pub mod Names
+pub mod Lines
+pub mod Text
+pub mod Fits
+pub mod Output
+pub mod Parts

@@ -1,0 +1,5 @@
+pub mod Slots
+pub mod Places
+pub mod Consistent
+pub mod Single
+pub mod WellNamed

@@ -1,0 +1,22 @@
+-- What the tables of a wiring say of slots and classes.
+use Rattle.std.specs.Prelude.{ℕ, List, Option, slice_get, position, nat_eq, option_and_then}
+use lib.Pointwise.{pointwise}
+use Rattle.room_wiring.specs.declared.tables.Tables.{Tables}
+use Rattle.room_wiring.specs.declared.slot.Slot.{Slot}
+use Rattle.room_wiring.specs.declared.names.ClassNames.{ClassNames}
+
+-- the slot of a number
+abbrev pub slot_at : Tables → ℕ → Option Slot
+slot_at t s = slice_get t.slots s
+
+-- the class of a number
+abbrev pub class_at : Tables → ℕ → Option ClassNames
+class_at t c = slice_get t.classes c
+
+-- the class of a slot
+unfoldable pub class_of : Tables → ℕ → Option ClassNames
+class_of t s = option_and_then (λ (x : Slot). class_at t x.class) (slot_at t s)
+
+-- the number of the first slot with this path
+unfoldable pub slot_named : Tables → List ℕ → Option ℕ
+slot_named t path = position (λ (x : Slot). pointwise nat_eq x.path path) t.slots

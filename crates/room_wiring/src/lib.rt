@@ -1,0 +1,23 @@
+//! The wiring of a model: its slots, controllers and classes by number, and who is joined to whom.
+//!
+//! A slot is a place in the tree of actor references where an actor may stand; a port has places,
+//! and two end places that are joined exchange messages (ROOM: Selic, Gullekson and Ward 1994).
+//! The numbering and the owners of slots are this project's own. All look-ups are accesses of
+//! tables and take no memory.
+#![tactic(auto)]
+
+mod label;
+mod names;
+mod single;
+mod slot;
+mod tables;
+#[cfg(test)]
+mod tests;
+mod wiring;
+
+pub use label::Label;
+pub use names::{AttrNames, ClassNames, PortNames, RefNames, SignalNames};
+pub use room_kinds::{NumberType, PortKind, ReferenceKind as Kind};
+pub use slot::{Partner, Slot};
+pub use tables::{PlaceSpan, Tables};
+pub use wiring::Wiring;
