@@ -1,0 +1,6 @@
+pub mod ChartTree
+pub mod MappingTree
+pub mod Values
+pub mod Trees
+pub mod Tokens
+pub mod Found

@@ -1,0 +1,138 @@
+//! State machines.
+
+use crate::name::Name;
+use crate::text::Text;
+use room_kinds::Sequence;
+
+/// The top graph of a class.
+#[derive(Drop)]
+pub struct StateMachine {
+    pub items: Vec<GraphItem>,
+}
+
+#[cycle(chart)]
+#[derive(Drop)]
+pub enum GraphItem {
+    State(State),
+    Choice(ChoicePoint),
+    Point(Point),
+    Transition(Transition),
+}
+
+/// `State` name, and its body in braces
+#[cycle(chart)]
+#[derive(Drop)]
+pub struct State {
+    pub name: Name,
+    pub body: Option<StateBody>,
+}
+
+/// `entry` code, `exit` code, and `subgraph` `{` graph `}`. A state with a subgraph is composite.
+#[cycle(chart)]
+#[derive(Drop)]
+pub struct StateBody {
+    pub entry: Option<Code>,
+    pub exit: Option<Code>,
+    pub subgraph: Option<Vec<GraphItem>>,
+}
+
+/// `ChoicePoint` name
+#[derive(Drop)]
+pub struct ChoicePoint {
+    pub name: Name,
+}
+
+/// A word for its kind, and a name
+#[derive(Drop)]
+pub struct Point {
+    pub kind: PointKind,
+    pub name: Name,
+}
+
+#[derive(Clone, Copy, Debug, PartialEq, Eq)]
+pub enum PointKind {
+    Transition,
+    Entry,
+    Exit,
+}
+
+/// `Transition`, a name, which may be missing, `:` source `->` target, and a body in braces
+#[derive(Drop)]
+pub struct Transition {
+    pub name: Option<Name>,
+    pub source: Source,
+    pub target: Target,
+    pub body: Option<TransitionBody>,
+}
+
+/// Where a transition begins.
+#[derive(Drop)]
+pub enum Source {
+    Initial,
+    At(Target),
+}
+
+/// Where a transition leads.
+#[derive(Drop)]
+pub enum Target {
+    /// A state, or else a choice point.
+    Bare(Name),
+    /// `cp` name: a choice point.
+    Choice(Name),
+    /// `my` name: a point of this graph.
+    My(Name),
+    /// point `of` state
+    Of { point: Name, state: Name },
+}
+
+/// `triggers` `{` triggers `}`, `cond` code and `action` code
+#[derive(Drop)]
+pub struct TransitionBody {
+    pub triggers: Option<Triggers>,
+    pub condition: Option<Code>,
+    pub action: Option<Code>,
+}
+
+/// Triggers joined by `or`.
+#[derive(Drop)]
+pub struct Triggers {
+    pub first: Trigger,
+    pub others: Sequence<Trigger>,
+}
+
+/// `<` events joined by `|`, and `guard` code `>`
+#[derive(Drop)]
+pub struct Trigger {
+    pub first: Event,
+    pub others: Sequence<Event>,
+    pub guard: Option<Code>,
+}
+
+/// A port, or `imported`, `:` signal
+#[derive(Drop)]
+pub struct Event {
+    pub port: EventPort,
+    pub signal: Name,
+}
+
+#[derive(Drop)]
+pub enum EventPort {
+    Named(Name),
+    /// `imported` as a port's name.
+    Imported,
+}
+
+/// Code as it is written: its texts, joined by line feeds, are a program or a condition.
+#[derive(Drop)]
+pub enum Code {
+    /// Texts in braces.
+    Texts(Sequence<CodeText>),
+    /// One text without braces.
+    Single(CodeText),
+}
+
+#[derive(Drop)]
+pub enum CodeText {
+    Str(Text),
+    Block(Text),
+}

@@ -1,0 +1,6 @@
+pub mod Plain
+pub mod Escapes
+pub mod Loop
+pub mod Readers
+pub mod Whole
+pub mod Singles

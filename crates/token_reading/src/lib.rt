@@ -1,0 +1,14 @@
+//! Reading lists of tokens: what is left to read, single tokens of it, and the readers of lists
+//! of token values that say what a parser reads. Every parser of the repository stands on it.
+#![tactic(auto)]
+
+mod contents;
+mod fault;
+mod rest;
+
+pub use contents::{block_contents, spelled, string_contents};
+pub use fault::ReadFault;
+pub use rest::{
+    Rest, block, comes, comes_name, comes_string, comes_word, name, next, number, place, skip,
+    string, take_mark, take_word, text, word_here,
+};
