@@ -1,0 +1,11 @@
+pub mod Lists
+pub mod CutTurns
+pub mod Loop
+pub mod Readers
+pub mod Grammar
+pub mod CutLaws
+pub mod Messages
+pub mod FirstLaws
+pub mod Meets
+pub mod LineLaws
+pub mod LineTurns
