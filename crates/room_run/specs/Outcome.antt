@@ -1,0 +1,50 @@
+-- How a call ends, and what it wrote.
+use Rattle.std.specs.Prelude.{◌≡◌, ℕ, List, []}
+use Rattle.room_outside.specs.Shown.{Shown}
+use Rattle.room_outside.specs.Written.{Written, Appends, BreaksOff}
+use Rattle.first_form.specs.declared.model.FirstModel.{FirstModel}
+use Rattle.first_form.specs.declared.model.FirstLine.{FirstLine}
+use Rattle.first_run.specs.Runs.{journals_of}
+use Rattle.first_run.specs.Charts.{chart_of}
+use Rattle.first_wiring.specs.Wirings.{wiring_of}
+use Rattle.journal.specs.Text.{text_of}
+use Rattle.journal.specs.declared.entry.Journals.{Journals}
+use Rattle.room_wiring.specs.declared.tables.Tables.{Tables}
+use Rattle.room_run.specs.Causes.{Causes, NamesRun, status_of, note_of}
+use Rattle.room_run.specs.declared.refusal.Refusal.{Refusal}
+use Rattle.room_run.specs.declared.status.Status.{Status}
+use Rattle.room_run.specs.declared.status.Status.TheVariants as statuses
+
+-- a model's run over lines: its names, and the journals
+pub record IsRunOf (model : FirstModel) (lines : List FirstLine) (names : Tables) (entries : Journals) : Type 0 where
+  pub wiring : names ≡ wiring_of model
+  pub journals : entries ≡ journals_of (chart_of model) lines
+
+-- the text of the journals of a model's run over these lines
+unfoldable pub printed : FirstModel → List FirstLine → List ℕ
+printed model lines = text_of (wiring_of model) (journals_of (chart_of model) lines)
+
+-- a text was written, or writing it broke off
+pub data Prints (before after : Written) (text : List ℕ) (status : Status) : Type 0 where
+  written : status ≡ statuses.Done → Appends before after text → Prints before after text status
+  cut : status ≡ statuses.WriteFault → BreaksOff before after text → Prints before after text status
+
+-- a refusal was told, or telling it broke off
+pub data Tells (before after : Written) (why : Refusal) (status : Status) : Type 0 where
+  told : status ≡ status_of why → Appends before after (note_of why) → Tells before after why status
+  broken : status ≡ statuses.WriteFault → BreaksOff before after (note_of why) → Tells before after why status
+
+-- what a call did to standard output, and to standard error
+pub record Streams : Type 0 where
+  pub out_before : Written
+  pub out_after : Written
+  pub notes_before : Written
+  pub notes_after : Written
+
+-- A call ends in one of four ways: the whole journal is written; writing it breaks off; it is
+-- refused, for a cause that holds, with one line; or writing that line breaks off.
+pub data Outcome (before after : Shown) (words : List (List ℕ)) (streams : Streams) (status : Status) : Type 0 where
+  whole : (model : FirstModel) (lines : List FirstLine) → NamesRun before words model lines → status ≡ statuses.Done → Appends streams.out_before streams.out_after (printed model lines) → Appends streams.notes_before streams.notes_after [] → Outcome before after words streams status
+  cut_short : (model : FirstModel) (lines : List FirstLine) → NamesRun before words model lines → status ≡ statuses.WriteFault → BreaksOff streams.out_before streams.out_after (printed model lines) → Appends streams.notes_before streams.notes_after [] → Outcome before after words streams status
+  refused : (why : Refusal) → Causes before after words why → status ≡ status_of why → Appends streams.out_before streams.out_after [] → Appends streams.notes_before streams.notes_after (note_of why) → Outcome before after words streams status
+  refused_unheard : (why : Refusal) → Causes before after words why → status ≡ statuses.WriteFault → Appends streams.out_before streams.out_after [] → BreaksOff streams.notes_before streams.notes_after (note_of why) → Outcome before after words streams status

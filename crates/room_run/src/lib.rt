@@ -1,0 +1,15 @@
+//! From the words of a command line to the bytes of the journals.
+//!
+//! `room_top` is the whole program over a shelf of texts and two sinks. Its contract is the
+//! headline of the project for the models that run today.
+#![tactic(auto)]
+
+mod files;
+mod prepare;
+mod refusal;
+mod status;
+mod top;
+
+pub use refusal::Refusal;
+pub use status::Status;
+pub use top::room_top;

@@ -1,0 +1,119 @@
+//! A call up to its first written byte.
+ghost use Rattle.std.specs.Prelude.{◌≡◌, ◌≤◌, List, map, length, IfOk, IfErr};
+ghost use Rattle.std.specs.String.{string_bytes};
+ghost use Rattle.room_outside.specs.Shown.{Keeps};
+ghost use Rattle.first_form.specs.FirstModel.{MeetsConditions};
+ghost use Rattle.first_form.specs.Text.{HasNames, symbols_of};
+ghost use Rattle.first_form.specs.Lines.{AreInRange};
+ghost use Rattle.room_run.specs.Causes.{Causes, InjectionsCauses, IsInjections, IsModel, ModelCauses, NamesRun, TextIs};
+ghost use Rattle.room_run.specs.Outcome.{IsRunOf};
+ghost use Rattle.first_form.specs.declared.model.FirstModel.{FirstModel as Model};
+ghost use Rattle.first_form.specs.declared.model.FirstLine.{FirstLine as Line};
+
+use crate::files::files_of;
+use crate::refusal::Refusal;
+use first_form::{FirstFault, FirstLine, FirstModel, read_first, read_first_lines};
+use first_run::{FlatChart, run_first};
+use first_wiring::wiring_of;
+use journal::Journals;
+use room_kinds::Sequence;
+use room_outside::{ReadRefused, Shelf, read_whole};
+use room_wiring::Wiring;
+use std::alloc::{AllocError, Global};
+
+/// A run that has ended and is not written yet.
+#[derive(Drop)]
+pub(crate) struct Finished {
+    pub(crate) wiring: Wiring,
+    pub(crate) journals: Journals,
+}
+
+/// The model whose text stands under a name.
+fn read_model<S: Shelf>(alloc: Global, shelf: &mut S, name: &str) -> Result<FirstModel, Refusal>
+    ensures ok { IfOk result (λ model. TextIs (S.shown shelf.old) name.now (λ text. IsModel text model)) }
+    ensures conditions { IfOk result (λ model. MeetsConditions model) }
+    ensures names { IfOk result (λ model. HasNames (symbols_of model)) }
+    ensures err { IfErr result (λ why. ModelCauses (S.shown shelf.old) (S.shown shelf.new) name.now why) }
+    ensures keeps { Keeps (S.shown shelf.old) (S.shown shelf.new) }
+{
+    let text = match read_whole(alloc, shelf, name) {
+        Ok(text) => text,
+        Err(ReadRefused::ReadFault) => return Err(Refusal::ReadFault),
+        Err(ReadRefused::TooLong) => return Err(Refusal::ModelTooLong),
+        Err(ReadRefused::Memory) => return Err(Refusal::Memory),
+    };
+    match read_first(alloc, text.as_slice()) {
+        Ok(model) => Ok(model),
+        Err(FirstFault::Later) => Err(Refusal::ModelLater),
+        Err(FirstFault::Memory) => Err(Refusal::Memory),
+    }
+}
+
+/// The injections whose text stands under a name.
+fn read_injections<S: Shelf>(
+    alloc: Global,
+    shelf: &mut S,
+    name: &str,
+    model: &FirstModel,
+) -> Result<Sequence<FirstLine>, Refusal>
+    requires conditions { MeetsConditions model.now }
+    requires names { HasNames (symbols_of model.now) }
+    ensures ok { IfOk result (λ lines. TextIs (S.shown shelf.old) name.now (λ text. IsInjections model.now text lines)) }
+    ensures few { IfOk result (λ lines. length lines ≤ 10000) }
+    ensures in_range { IfOk result (λ lines. AreInRange model.now lines) }
+    ensures err { IfErr result (λ why. InjectionsCauses (S.shown shelf.old) (S.shown shelf.new) name.now model.now why) }
+    ensures keeps { Keeps (S.shown shelf.old) (S.shown shelf.new) }
+{
+    let text = match read_whole(alloc, shelf, name) {
+        Ok(text) => text,
+        Err(ReadRefused::ReadFault) => return Err(Refusal::ReadFault),
+        Err(ReadRefused::TooLong) => return Err(Refusal::InjectionsTooLong),
+        Err(ReadRefused::Memory) => return Err(Refusal::Memory),
+    };
+    match read_first_lines(alloc, text.as_slice(), model) {
+        Ok(lines) => Ok(lines),
+        Err(FirstFault::Later) => Err(Refusal::InjectionsLater),
+        Err(FirstFault::Memory) => Err(Refusal::Memory),
+    }
+}
+
+/// The run of a model over lines, which the words named.
+fn run(alloc: Global, model: &FirstModel, lines: &[FirstLine]) -> Result<Finished, AllocError>
+    requires conditions { MeetsConditions model.now }
+    requires names { HasNames (symbols_of model.now) }
+    requires few { length lines.now ≤ 10000 }
+    requires lines { AreInRange model.now lines.now }
+    ensures { IfOk result (λ f. IsRunOf model.now lines.now f.wiring f.journals) }
+{
+    let wiring = wiring_of(alloc, model)?;
+    let chart = FlatChart::of(alloc, model)?;
+    let journals = run_first(alloc, &chart, lines)?;
+    Ok(Finished { wiring, journals })
+}
+
+/// All that comes before the first written byte.
+pub(crate) fn prepare<S: Shelf>(
+    alloc: Global,
+    words: &[String],
+    shelf: &mut S,
+) -> Result<Finished, Refusal>
+    ensures ok { IfOk result (λ f. (model : Model) × (lines : List Line) × NamesRun (S.shown shelf.old) (map string_bytes words.now) model lines × IsRunOf model lines f.wiring f.journals) }
+    ensures err { IfErr result (λ why. Causes (S.shown shelf.old) (S.shown shelf.new) (map string_bytes words.now) why) }
+    ensures keeps { Keeps (S.shown shelf.old) (S.shown shelf.new) }
+{
+    let Some(files) = files_of(words) else {
+        return Err(Refusal::Words);
+    };
+    let model = match read_model(alloc, shelf, files.model) {
+        Ok(model) => model,
+        Err(why) => return Err(why),
+    };
+    let lines = match read_injections(alloc, shelf, files.injections, &model) {
+        Ok(lines) => lines,
+        Err(why) => return Err(why),
+    };
+    match run(alloc, &model, lines.as_slice()) {
+        Ok(finished) => Ok(finished),
+        Err(AllocError) => Err(Refusal::Memory),
+    }
+}

@@ -1,0 +1,54 @@
+//! The whole program.
+ghost use Rattle.std.specs.Prelude.{◌≡◌, map};
+ghost use Rattle.std.specs.String.{string_bytes};
+ghost use Rattle.journal.specs.Text.{text_of};
+ghost use Rattle.room_run.specs.Outcome.{Prints, Outcome, Tells};
+
+use crate::prepare::{Finished, prepare};
+use crate::refusal::Refusal;
+use crate::status::Status;
+use journal::text_to;
+use room_outside::{Gate, Shelf, Sink, write_whole};
+use std::alloc::Global;
+
+/// Tells why the call was refused, and gives its status.
+fn tell<K: Sink>(why: Refusal, notes: &mut K) -> Status
+    ensures { Tells (K.written notes.old) (K.written notes.new) why result }
+{
+    match write_whole(notes, why.note()) {
+        Ok(()) => why.status(),
+        Err(_) => Status::WriteFault,
+    }
+}
+
+/// Writes the journals of a run, and gives the status.
+fn print<K: Sink>(finished: &Finished, out: &mut K) -> Status
+    ensures { Prints (K.written out.old) (K.written out.new) (text_of finished.now.wiring finished.now.journals) result }
+{
+    match text_to(&finished.journals, &finished.wiring, out) {
+        Ok(()) => Status::Done,
+        Err(_) => Status::WriteFault,
+    }
+}
+
+/// The program over a shelf of texts, standard output and standard error.
+///
+/// The words `run MODEL INJECT` name a model and injections; every other list of words is refused.
+/// The order is: the words, reading the model, the model, reading the injections, the injections,
+/// the run, writing. After a failed read nothing more is read, and want of memory never comes once
+/// something was written.
+pub fn room_top<S: Shelf, K: Sink, G: Gate + Sync>(
+    alloc: Global,
+    words: &[String],
+    shelf: &mut S,
+    out: &mut K,
+    notes: &mut K,
+    _gate: &G,
+) -> Status
+    ensures { Outcome (S.shown shelf.old) (S.shown shelf.new) (map string_bytes words.now) (record { out_before = K.written out.old; out_after = K.written out.new; notes_before = K.written notes.old; notes_after = K.written notes.new }) result }
+{
+    match prepare(alloc, words, shelf) {
+        Ok(finished) => print(&finished, out),
+        Err(why) => tell(why, notes),
+    }
+}
