@@ -1,0 +1,10 @@
+pub mod BoxLemmas
+pub mod DrainLemmas
+pub mod ExchangeLemmas
+pub mod FreshLemmas
+pub mod LaneLemmas
+pub mod ListLemmas
+pub mod LocalTied
+pub mod PollLemmas
+pub mod TieAll
+pub mod Tied

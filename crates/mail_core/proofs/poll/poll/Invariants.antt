@@ -1,0 +1,15 @@
+use Rattle.std.proofs.Common.{◌≡◌}
+use Rattle.mail_core.specs.Tied.{IsTied, StaysTied}
+use Rattle.mail_core.proofs.PollLemmas.{Polled}
+use Rattle.mail_core.proofs.poll.poll.Given as goal
+
+abbrev pub invariant-loop-b : goal.invariant-loop-b
+invariant-loop-b g l =
+    let log = g.M.Mail.log in
+    record {
+      polled : Polled g.M.Mail.in_box l.b (log l.fn.end) (log l.end) l.fn.out.items l.out.items;
+      party : (log l.end).party ≡ (log l.fn.end).party;
+      parties : (log l.end).parties ≡ (log l.fn.end).parties;
+      now : IsTied g.M.Mail.tied (log l.end).party l.office l.end;
+      tied : StaysTied g.M.Mail.tied (log l.fn.end).party l.fn.office l.office l.fn.end l.end;
+    }

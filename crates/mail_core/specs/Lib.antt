@@ -1,0 +1,10 @@
+pub mod BoxLaws
+pub mod Boxes
+pub mod EndLog
+pub mod Exchanges
+pub mod Lanes
+pub mod Local
+pub mod LocalLaws
+pub mod SetUp
+pub mod Takes
+pub mod Tied

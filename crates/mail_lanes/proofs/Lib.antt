@@ -1,0 +1,10 @@
+pub mod CloseLemmas
+pub mod EndLemmas
+pub mod LaneLemmas
+pub mod MadeLemmas
+pub mod PlaceLemmas
+pub mod RuleLemmas
+pub mod SetUpLemmas
+pub mod SeatLemmas
+pub mod SettleLemmas
+pub mod TiedLemmas

@@ -1,0 +1,9 @@
+pub mod Ends
+pub mod Laws
+pub mod Lanes
+pub mod Addressed
+pub mod Made
+pub mod Parts
+pub mod Rule
+pub mod Settle
+pub mod Wires

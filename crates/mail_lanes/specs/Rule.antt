@@ -1,0 +1,16 @@
+-- What was sent is what was got and then what the deque holds. One pass at most may push, and it has the list of what was sent. The same for what was got.
+use Rattle.std.specs.Prelude.{◌≡◌, ℕ, Bool, true, List, ◌++◌}
+use mathlib.Core.Option.{some}
+use lib.ListN.{get_elem?}
+use Rattle.mail_lanes.specs.declared.contents.Contents.{Contents}
+use Rattle.mail_lanes.specs.declared.rule.LaneView.{LaneView}
+
+abbrev pub lane_view : Bool → Bool → List Contents → List Contents → LaneView
+lane_view a b sent got = record { pushes = a; takes = b; sent = sent; got = got }
+
+abbrev pub Fits : ℕ → ℕ → List Contents → List Contents → ℕ → LaneView → Type 0
+Fits writer reader sent got port v = (v.pushes ≡ true → (port ≡ writer) × (v.sent ≡ sent)) × (v.takes ≡ true → (port ≡ reader) × (v.got ≡ got))
+
+abbrev pub InOrder : List Contents → List LaneView → Type 0
+InOrder items views = (writer : ℕ) × (reader : ℕ) × (sent : List Contents) × (got : List Contents) × (sent ≡ got ++ items)
+    × ((port : ℕ) (v : LaneView) → get_elem? views port ≡ some v → Fits writer reader sent got port v)

@@ -1,0 +1,18 @@
+//! Mail among threads: a deque for each lane.
+#![tactic(auto)]
+
+mod close;
+pub mod contents;
+pub mod ends;
+pub mod lane;
+pub mod mail;
+mod make;
+mod pair;
+mod places;
+mod rows;
+pub mod rule;
+mod settle;
+mod steps;
+mod tables;
+#[cfg(test)]
+mod tests;

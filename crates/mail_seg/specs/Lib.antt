@@ -1,0 +1,3 @@
+pub mod Addressed
+pub mod Boxes
+pub mod Rule

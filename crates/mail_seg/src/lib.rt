@@ -1,0 +1,12 @@
+//! Boxes that several senders share: one ruled queue for a receiver and a priority.
+//!
+//! Each sender has a pass to the queue, and the receiver takes by the pass with which it posts. The
+//! rule of the queue says of each sender: what the receiver took of its messages, followed by those
+//! that the queue holds, is what it posted.
+#![tactic(auto)]
+
+pub mod contents;
+pub mod rule;
+pub mod shared_box;
+#[cfg(test)]
+mod tests;
