@@ -1,0 +1,11 @@
+pub mod Words
+pub mod State
+pub mod Messages
+pub mod Lives
+pub mod Peers
+pub mod Imports
+pub mod Frame
+pub mod Names
+pub mod Links
+pub mod Commands
+pub mod Places

@@ -1,0 +1,140 @@
+-- The rows on the lives of actors: Create and Destroy with what they answer, and Announce, by which
+-- directories are kept (this project's own). Actors are created and destroyed by others, and what
+-- is fixed in an actor lives and ends with it (ROOM: Selic, Gullekson and Ward 1994).
+use Rattle.std.specs.Prelude.{ℕ, zero, suc, ℤ, pos, ◌+◌, ◌==◌, ◌&&◌, ◌||◌, Bool, true, false, not, List, [], ◌∷◌, map, filter, flat_map, reverse, length, Option, Some, if◌then◌else◌}
+use Rattle.std.specs.Option.{option_map_or}
+use Rattle.std.specs.List.{range_with_len}
+use Rattle.room_kinds.specs.declared.message.Msg.{Msg}
+use Rattle.room_kinds.specs.declared.numbers.Incarnation.{Incarnation}
+use Rattle.room_kinds.specs.declared.numbers.Endpoint.{Endpoint}
+use Rattle.room_kinds.specs.declared.system.SysKind.TheVariants as kinds
+use Rattle.room_wiring.specs.declared.tables.Tables.{Tables}
+use Rattle.room_wiring.specs.Places.{is_told}
+use Rattle.actor_duties.specs.Words.{updated, incarnation, frame_at, frame_of, whose, id_of, slots_of, is_fixed, container_of, is_own}
+use Rattle.actor_duties.specs.Messages.{system, reply, told_of, coded, Created, Destroyed, Refused, NotHere, Occupied}
+use Rattle.actor_duties.specs.State.{Lives}
+
+-- the generation that lives in a slot, 0 for none
+abbrev pub standing : Lives → ℕ → ℕ
+standing l s = if l.lives s then l.generation s else 0
+
+-- whether this incarnation lives
+abbrev pub is_live : Lives → Incarnation → Bool
+is_live l x = l.lives x.slot.0 && (l.generation x.slot.0 == x.generation.0)
+
+-- whether a container lives, as its part's owner sees it: one that another controller owns is a slot
+-- that lives from the start, and counts as live
+abbrev pub counts_as_live : Tables → ℕ → Lives → Incarnation → Bool
+counts_as_live t me l x = if is_own t me x.slot.0 then is_live l x else true
+
+-- the incarnation that stands in a slot, or stood there last
+abbrev pub last_of : Lives → ℕ → Incarnation
+last_of l s = incarnation s (l.generation s)
+
+-- whether slot s is made with slot o: it is o, or a fixed slot of one that is made with o; so many
+-- containers up are looked at
+abbrev pub is_made_within : Tables → ℕ → ℕ → ℕ → Bool
+is_made_within t o zero s = s == o
+is_made_within t o (suc up) s =
+    (s == o) || (is_fixed t s && option_map_or (λ c. is_made_within t o up c) (container_of t s) false)
+
+-- the same, however deep
+unfoldable pub is_made_with : Tables → ℕ → ℕ → Bool
+is_made_with t o s = is_made_within t o (length t.slots) s
+
+-- whether slot s is o or below it, so many containers up being looked at
+abbrev pub is_within_steps : Tables → ℕ → ℕ → ℕ → Bool
+is_within_steps t o zero s = s == o
+is_within_steps t o (suc up) s = (s == o) || option_map_or (λ c. is_within_steps t o up c) (container_of t s) false
+
+-- the same, however deep
+unfoldable pub is_within : Tables → ℕ → ℕ → Bool
+is_within t o s = is_within_steps t o (length t.slots) s
+
+-- the slots that are made with a slot, in their order
+unfoldable pub made_slots : Tables → ℕ → List ℕ
+made_slots t o = filter (is_made_with t o) (slots_of t)
+
+-- the live slots from a slot on down, in descending order
+unfoldable pub ended_slots : Tables → Lives → ℕ → List ℕ
+ended_slots t l o = reverse (filter (λ s. is_within t o s && l.lives s) (slots_of t))
+
+-- lives after a slot is made: what is made with it lives with the next generation
+unfoldable pub lives_made : Tables → ℕ → Lives → Lives
+lives_made t o l = record {
+  generation = λ s. if is_made_with t o s then l.generation s + 1 else l.generation s;
+  lives = λ s. is_made_with t o s || l.lives s;
+}
+
+-- lives after a slot has ended: nothing lives from it on down
+unfoldable pub lives_ended : Tables → ℕ → Lives → Lives
+lives_ended t o l = record { generation = l.generation; lives = λ s. not (is_within t o s) && l.lives s }
+
+-- an Announce of an incarnation to one controller: 1 that it came up, 0 that it went down
+abbrev pub announce_to : ℕ → Incarnation → ℤ → ℕ → Msg
+announce_to me x up d = system me d kinds.Announce (frame_of x) (frame_of x) (up ∷ [])
+
+-- the controllers that are told of the actors in a slot, ascending
+unfoldable pub told_controllers : Tables → ℕ → List ℕ
+told_controllers t s = filter (is_told t s) (range_with_len 0 (length t.controllers))
+
+-- an Announce to each controller that is told, ascending
+unfoldable pub announces : Tables → ℕ → Incarnation → ℤ → List Msg
+announces t me x up = map (announce_to me x up) (told_controllers t x.slot.0)
+
+-- what a Create or a Destroy gives: the lives after it, the messages at once, the incarnations that
+-- were made in slot order, those that ended in descending slot order, and the message that closes it
+-- once the initial transitions of the made, or the withdrawals of the ended, are through
+pub record Lived : Type 0 where
+  pub lives : Lives
+  pub sent : List Msg
+  pub made : List Incarnation
+  pub ended : List Incarnation
+  pub last : Option Msg
+
+-- the request is answered at once, and nothing else is done
+abbrev pub answered : Lives → Msg → Lived
+answered l m = record { lives = l; sent = []; made = []; ended = []; last = Some m }
+
+-- slot o is made for x
+unfoldable pub made : Tables → ℕ → Lives → Msg → ℕ → Endpoint → Lived
+made t me l m o x =
+    let now = lives_made t o l in
+    let new = map (last_of now) (made_slots t o) in
+    record {
+      lives = now;
+      sent = flat_map (λ (i : Incarnation). announces t me i (pos 1)) new;
+      made = new;
+      ended = [];
+      last = Some (reply me m kinds.CreateDone (frame_of (last_of now o)) x []);
+    }
+
+-- row 0, Create: from the container x to its optional slot o. If x doesn't live, the answer is 3; if
+-- o lives, 1; else o is made with all that is fixed in it
+unfoldable pub create : Tables → ℕ → Lives → Msg → ℕ → Endpoint → Lived
+create t me l m o x =
+    if not (counts_as_live t me l (whose x)) then answered l (reply me m kinds.CreateRefused (frame_at o 0) x (coded NotHere))
+    else if l.lives o then answered l (reply me m kinds.CreateRefused (frame_at o 0) x (coded Occupied))
+    else made t me l m o x
+
+-- row 1, CreateDone: the container x is told `created`
+unfoldable pub create_done : Tables → ℕ → Endpoint → Endpoint → List Msg
+create_done t me new x = told_of t me Created new x new.slot.0 (id_of (whose new)) ∷ []
+
+-- row 2, CreateRefused: the container x is told `refused`
+unfoldable pub create_refused : Tables → ℕ → Endpoint → Endpoint → ℤ → List Msg
+create_refused t me o x code = told_of t me Refused o x o.slot.0 code ∷ []
+
+-- row 4, DestroyDone: the container x is told `destroyed`, or `refused` where nothing was there
+unfoldable pub destroy_done : Tables → ℕ → Endpoint → Endpoint → ℕ → List Msg
+destroy_done t me o x code =
+    if code == 0 then told_of t me Destroyed o x o.slot.0 (id_of (whose o)) ∷ []
+    else if code == 3 then told_of t me Refused o x o.slot.0 (pos code) ∷ []
+    else []
+
+-- row 11, Announce: the directory tells the generation that came up, or 0
+unfoldable pub announce : (ℕ → ℕ) → Incarnation → ℕ → ℕ → ℕ
+announce told x up =
+    if up == 1 then updated told x.slot.0 x.generation.0
+    else if up == 0 then updated told x.slot.0 0
+    else told

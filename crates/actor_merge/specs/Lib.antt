@@ -1,0 +1,5 @@
+pub mod Mail
+pub mod Parties
+pub mod World
+pub mod Merge
+pub mod History

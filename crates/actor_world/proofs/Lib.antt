@@ -1,0 +1,11 @@
+pub mod Slots
+pub mod Counts
+pub mod LifeSteps
+pub mod Notes
+pub mod TurnLives
+pub mod LivesLaw
+pub mod RunsLaw
+pub mod Silent
+pub mod TrueTurns
+pub mod TrueWorld
+pub mod DirectoriesLaw

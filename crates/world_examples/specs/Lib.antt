@@ -1,0 +1,13 @@
+pub mod Writing
+pub mod Incarnate
+pub mod Stale
+pub mod Late
+pub mod PingPong
+pub mod Priorities
+pub mod Parts
+pub mod Defer
+pub mod Broadcast
+pub mod Import
+pub mod Home
+pub mod Provider
+pub mod Withdrawal
