@@ -1,0 +1,4 @@
+pub mod ServiceNames
+pub mod Faults
+pub mod Numbering
+pub mod Answers

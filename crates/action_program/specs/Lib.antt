@@ -1,0 +1,4 @@
+pub mod Arithmetic
+pub mod Numbered
+pub mod Meaning
+pub mod Named

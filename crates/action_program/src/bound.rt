@@ -1,0 +1,110 @@
+//! Programs whose names are numbers.
+//!
+//! A chain of operators of one level, a list of statements and a chain of `else if` are vectors
+//! here, so that only what nests makes a tree deep.
+
+use crate::operator::{BinaryOp, FrameVerb, UnaryOp};
+use room_kinds::{NumberType, Priority};
+
+/// A program that was checked against a class: attributes, ports, signals, references and service
+/// names are numbers.
+#[derive(Drop, Debug)]
+pub struct Bound {
+    pub statements: Vec<BoundStmt>,
+}
+
+/// An expression over numbered attributes.
+#[cycle(bound_expression)]
+#[derive(Drop, Debug)]
+pub enum BoundExpr {
+    Number(i64),
+    /// The number of the message's payload at this place.
+    Data(u8),
+    /// The place at which the message came.
+    Place,
+    /// The number of the actor.
+    Me,
+    Attribute(u32),
+    Unary(UnaryOp, Box<BoundExpr>),
+    /// Operators of one level with their right sides, from left to right.
+    Chain(Box<BoundExpr>, Vec<BoundStep>),
+}
+
+/// An operator and its right side.
+#[cycle(bound_expression)]
+#[derive(Drop, Debug)]
+pub struct BoundStep {
+    pub op: BinaryOp,
+    pub operand: BoundExpr,
+}
+
+/// A statement over numbered names.
+#[cycle(bound_statement)]
+#[derive(Drop, Debug)]
+pub enum BoundStmt {
+    Empty,
+    Assign {
+        attribute: u32,
+        kind: NumberType,
+        value: BoundExpr,
+    },
+    If(BoundIf),
+    Repeat {
+        times: u64,
+        body: Vec<BoundStmt>,
+    },
+    Send(BoundSend),
+    Defer,
+    Recall,
+    RecallAll,
+    Frame {
+        verb: FrameVerb,
+        reference: u16,
+        index: BoundExpr,
+    },
+    Import {
+        reference: u16,
+        index: BoundExpr,
+        id: BoundExpr,
+    },
+    Register {
+        port: u16,
+        name: u32,
+    },
+    Withdraw {
+        port: u16,
+    },
+}
+
+/// The block of the first branch whose condition isn't 0, else the last block.
+#[cycle(bound_statement)]
+#[derive(Drop, Debug)]
+pub struct BoundIf {
+    pub branches: Vec<BoundBranch>,
+    pub otherwise: Vec<BoundStmt>,
+}
+
+/// A condition and its block.
+#[cycle(bound_statement)]
+#[derive(Drop, Debug)]
+pub struct BoundBranch {
+    pub condition: BoundExpr,
+    pub body: Vec<BoundStmt>,
+}
+
+/// A send at a place of a port; without a place, at all.
+#[derive(Drop, Debug)]
+pub struct BoundSend {
+    pub port: u16,
+    pub place: Option<BoundExpr>,
+    pub signal: u16,
+    pub arguments: Vec<Argument>,
+    pub prio: Priority,
+}
+
+/// A number of a message, and the type to which it is reduced.
+#[derive(Drop, Debug)]
+pub struct Argument {
+    pub kind: NumberType,
+    pub value: BoundExpr,
+}

@@ -1,0 +1,24 @@
+//! Programs of the action language, and what they mean.
+//!
+//! A program stands in the code of a state machine: an action, a guard or a condition. The
+//! language is this project's own, after the detail level of ROOM (Selic, Gullekson and Ward 1994)
+//! and the action code of eTrice.
+#![tactic(auto)]
+
+mod bound;
+mod evaluation;
+mod fault;
+mod moment;
+mod operator;
+mod program;
+mod running;
+
+pub use bound::{
+    Argument, Bound, BoundBranch, BoundExpr, BoundIf, BoundSend, BoundStep, BoundStmt,
+};
+pub use evaluation::test;
+pub use fault::ActionFault;
+pub use moment::{Effects, Moment, Vars};
+pub use operator::{BinaryOp, FrameVerb, UnaryOp};
+pub use program::{Branch, Expr, IfStmt, Program, SendStmt, Step, Stmt};
+pub use running::eval;
