@@ -1,9 +1,8 @@
 pub mod Lists
-pub mod CutTurns
-pub mod Loop
-pub mod Readers
-pub mod Grammar
-pub mod CutLaws
+pub mod ShapeLists
+pub mod ShapeLaws
+pub mod TokenLaws
+pub mod NameLaws
 pub mod Messages
 pub mod FirstLaws
 pub mod Meets

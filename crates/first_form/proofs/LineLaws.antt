@@ -4,9 +4,13 @@ use Rattle.std.specs.Prelude.{◌&&◌, ◌==◌, nat_le, position, option_map, 
 use Rattle.std.specs.List.{prefix_len, position_or_len, list_all, slice_index_or, flat_map, IsDistinct, AllByRecursion}
 use Rattle.std.proofs.lemmas.Bool.{and_parts, and_from, eqb-true, ltb-true, lt-ltb, leb-true}
 use Rattle.std.proofs.lemmas.List.{take_at, drop_at, take-append-drop, length-map}
-use Rattle.first_form.specs.Words.{same, is_inside, is_name, is_identifier, is_letter, AreDistinct}
+use Rattle.name_numbers.specs.Names.{same, AreDistinct}
+use Rattle.name_numbers.proofs.Lists.{same_back, distinct_none}
+use Rattle.room_lexer.specs.Cut.{Each}
+use Rattle.room_lexer.specs.Front.{is_letter, is_word}
+use Rattle.token_names.specs.Names.{IsName}
 use Rattle.first_form.specs.FirstModel.{MeetsConditions, AreDistinctIn, ports_of, port_names, messages_in, messages_of, messages_at, place_of, most}
-use Rattle.first_form.specs.Text.{Symbol, Exactly, Named, HasNames, symbols_of, message_symbols, protocol_symbols, port_symbols, structure_symbols, item_symbols}
+use Rattle.first_form.specs.Names.{AreNames, HaveNames, IsNamed}
 use Rattle.first_form.specs.Lines.{name_at, text_of_line, text_of_lines, AreInRange, most_lines, IsLinesOf}
 use Rattle.first_form.specs.LineReading.{word_of, behind_word, behind, LineParts, parts_at, numbered, line_of, line_at, lines_at, AreRead}
 use Rattle.first_form.specs.declared.fault.FirstFault.{FirstFault}
@@ -16,13 +20,10 @@ use Rattle.first_form.specs.declared.model.FirstLine.{FirstLine}
 use Rattle.first_form.specs.declared.model.Protocol.{Protocol}
 use Rattle.first_form.specs.declared.model.Port.{Port}
 use Rattle.std.specs.Option.{unwrap_or}
-use Rattle.first_form.specs.Reading.{Gives}
+use Rattle.first_form.specs.Shapes.{Gives}
 use Rattle.first_form.specs.Settles.{Tabled}
-use Rattle.first_form.proofs.Readers.{names-left, names-right}
 use Rattle.first_form.proofs.Meets.{names_differ}
-use Rattle.first_form.proofs.Lists.{same_back, distinct_none}
-use Rattle.first_form.proofs.Grammar.{same_is, same_own}
-use Rattle.first_form.proofs.CutLaws.{prefix_of}
+use Rattle.first_form.proofs.Lists.{same_is, same_own}
 
 -- ---- the parts of a line
 
@@ -38,7 +39,7 @@ behind_is c (b ∷ bs) r e = by_test (b == c) refl e
     by_test true h e = let rest : bs ≡ r = cc in ap (λ x. x ∷ bs) (eqb-true b c h) ∙ ap (λ u. c ∷ u) rest
 
 word_split : (bs : List ℕ) (c : ℕ) (r : List ℕ) → behind c (behind_word bs) ≡ Some r → bs ≡ word_of bs ++ c ∷ r
-word_split bs c r h = sym (take-append-drop (prefix_len is_inside bs) bs) ∙ ap (λ u. word_of bs ++ u) (behind_is c (behind_word bs) r h)
+word_split bs c r h = sym (take-append-drop (prefix_len is_word bs) bs) ∙ ap (λ u. word_of bs ++ u) (behind_is c (behind_word bs) r h)
 
 parts_is : (p q : LineParts) → Some p ≡ Some q → p ≡ q
 parts_is p q e = cc
@@ -79,15 +80,20 @@ parts_right : (bytes : List ℕ) (p : LineParts) → parts_at bytes ≡ Some p �
 unfolding parts_at
 parts_right bytes p e = right1 bytes (behind 46 (behind_word bytes)) p refl e
 
+-- a front that passes, where what is behind it doesn't
+prefix_of : (p : ℕ → Bool) (xs : List ℕ) (c : ℕ) (rest : List ℕ) → list_all p xs ≡ true → p c ≡ false → prefix_len p (xs ++ c ∷ rest) ≡ length xs
+prefix_of p [] c rest each stops = rw stops refl
+prefix_of p (x ∷ xs) c rest each stops = let parts = and_parts (p x) (list_all p xs) each in rw (parts.0, prefix_of p xs c rest parts.1 stops) (omega arith)
+
 -- each byte may stand inside a name
 abbrev AreInside : List ℕ → Type 0
-AreInside n = list_all is_inside n ≡ true
+AreInside n = list_all is_word n ≡ true
 
-word_again : (n : List ℕ) (c : ℕ) (rest : List ℕ) → AreInside n → is_inside c ≡ false → word_of (n ++ c ∷ rest) ≡ n
-word_again n c rest each stops = take_at n (c ∷ rest) _ (sym (prefix_of is_inside n (c ∷ rest) each stops))
+word_again : (n : List ℕ) (c : ℕ) (rest : List ℕ) → AreInside n → is_word c ≡ false → word_of (n ++ c ∷ rest) ≡ n
+word_again n c rest each stops = take_at n (c ∷ rest) _ (sym (prefix_of is_word n c rest each stops))
 
-behind_again : (n : List ℕ) (c : ℕ) (rest : List ℕ) → AreInside n → is_inside c ≡ false → behind_word (n ++ c ∷ rest) ≡ c ∷ rest
-behind_again n c rest each stops = drop_at n (c ∷ rest) _ (sym (prefix_of is_inside n (c ∷ rest) each stops))
+behind_again : (n : List ℕ) (c : ℕ) (rest : List ℕ) → AreInside n → is_word c ≡ false → behind_word (n ++ c ∷ rest) ≡ c ∷ rest
+behind_again n c rest each stops = drop_at n (c ∷ rest) _ (sym (prefix_of is_word n c rest each stops))
 
 parts_again : (p : LineParts) → AreInside p.actor → AreInside p.port → AreInside p.message → parts_at (spelled p) ≡ Some p
 unfolding parts_at
@@ -199,45 +205,23 @@ place_again m port message good hp hm =
 
 -- ---- names are of letters, digits and `_`
 
-inside_of : (n : List ℕ) → is_name n ≡ true → AreInside n
-inside_of [] e = refl
-inside_of (b ∷ bs) e =
-    let word = (and_parts (is_identifier (b ∷ bs)) _ e).0 in
-    let parts = and_parts (is_letter b) (list_all is_inside bs) word in
-    let first : is_inside b ≡ true = rw parts.0 refl in
-    and_from (is_inside b) (list_all is_inside bs) first parts.1
+each_inside : (bs : List ℕ) → Each is_word bs → AreInside bs
+each_inside [] h = refl
+each_inside (b ∷ bs) h = and_from (is_word b) (list_all is_word bs) h.0 (each_inside bs h.1)
 
-named_inside : (n : List ℕ) (ss : List Symbol) → HasNames (Named n ∷ ss) → AreInside n
-named_inside n ss h = inside_of n h.0
+inside_of : (n : List ℕ) → IsName n → AreInside n
+inside_of [] h = absurd h.identifier
+inside_of (b ∷ bs) h = let first : is_word b ≡ true = rw h.identifier.0 refl in and_from (is_word b) (list_all is_word bs) first (each_inside bs h.identifier.1)
 
-ports_inside : (ps : List Port) (rest : List Symbol) (k : ℕ) → HasNames (flat_map port_symbols ps ++ rest) → AreInside (name_at (map (λ (p : Port). p.name) ps) k)
-ports_inside [] rest k h = refl
-ports_inside (p ∷ ps) rest zero h = inside_of p.name h.0
-ports_inside (p ∷ ps) rest (suc k) h = ports_inside ps rest k h.1.1
+names_inside : (ns : List (List ℕ)) → AreNames ns → (k : ℕ) → AreInside (name_at ns k)
+names_inside [] h k = refl
+names_inside (n ∷ ns) h zero = inside_of n h.0
+names_inside (n ∷ ns) h (suc k) = names_inside ns h.1 k
 
-messages_inside : (ms : List (List ℕ)) (rest : List Symbol) (k : ℕ) → HasNames (flat_map message_symbols ms ++ rest) → AreInside (name_at ms k)
-messages_inside [] rest k h = refl
-messages_inside (m ∷ ms) rest zero h = inside_of m h.0
-messages_inside (m ∷ ms) rest (suc k) h = messages_inside ms rest k h.1
-
-abbrev behind_messages : List Symbol
-behind_messages = Exactly (codes "}") ∷ Exactly (codes "outgoing") ∷ Exactly (codes "{") ∷ Exactly (codes "}") ∷ Exactly (codes "}") ∷ []
-
-each_protocol_inside : (ps : List Protocol) → HasNames (flat_map protocol_symbols ps) → (i : ℕ) (d : Protocol) → i < length ps → (k : ℕ) → AreInside (name_at (get_or ps i d).messages k)
+each_protocol_inside : (ps : List Protocol) → HaveNames ps → (i : ℕ) (d : Protocol) → i < length ps → (k : ℕ) → AreInside (name_at (get_or ps i d).messages k)
 each_protocol_inside [] h i d lt k = absurd (omega arith)
-each_protocol_inside (p ∷ ps) h zero d lt k = messages_inside p.messages behind_messages k (names-left (protocol_symbols p) (flat_map protocol_symbols ps) h).1
-each_protocol_inside (p ∷ ps) h (suc i) d lt k = each_protocol_inside ps (names-right (protocol_symbols p) (flat_map protocol_symbols ps) h) i d (omega arith) k
-
-structure_inside : (o : Option (List Port)) → HasNames (structure_symbols o) → (k : ℕ) → AreInside (name_at (map (λ (p : Port). p.name) (unwrap_or o [])) k)
-structure_inside None h k = refl
-structure_inside (Some ps) h k = ports_inside ps (Exactly (codes "}") ∷ []) k h
-
-abbrev behavior_part : FirstModel → List Symbol
-behavior_part m =
-    Exactly (codes "Behavior") ∷ Exactly (codes "{") ∷ Exactly (codes "StateMachine") ∷ Exactly (codes "{") ∷ flat_map item_symbols m.items ++ Exactly (codes "}") ∷ Exactly (codes "}") ∷ Exactly (codes "}") ∷ Exactly (codes "}") ∷ []
-
-abbrev class_part : FirstModel → List Symbol
-class_part m = Exactly (codes "ActorClass") ∷ Named m.actor ∷ Exactly (codes "{") ∷ (structure_symbols m.ports ++ behavior_part m)
+each_protocol_inside (p ∷ ps) h zero d lt k = names_inside p.messages h.0 k
+each_protocol_inside (p ∷ ps) h (suc i) d lt k = each_protocol_inside ps h.1 i d (omega arith) k
 
 -- the names of lines are of letters, digits and `_`
 record Inside (m : FirstModel) : Type 0 where
@@ -245,16 +229,12 @@ record Inside (m : FirstModel) : Type 0 where
   ports : (k : ℕ) → AreInside (name_at (port_names m) k)
   messages : (p k : ℕ) → AreInside (name_at (messages_at m p) k)
 
-all_inside : (m : FirstModel) → HasNames (symbols_of m) → Inside m
+all_inside : (m : FirstModel) → IsNamed m → Inside m
 all_inside m h =
-    let classes : HasNames (flat_map protocol_symbols m.protocols ++ class_part m) = h.1.1.1.1.1.1.1 in
-    let protocols : HasNames (flat_map protocol_symbols m.protocols) = names-left (flat_map protocol_symbols m.protocols) (class_part m) classes in
-    let class : HasNames (class_part m) = names-right (flat_map protocol_symbols m.protocols) (class_part m) classes in
-    let structure : HasNames (structure_symbols m.ports) = names-left (structure_symbols m.ports) (behavior_part m) class.1 in
     record {
-      actor = inside_of m.actor_reference h.1.1.1.1.1.0;
-      ports = structure_inside m.ports structure;
-      messages = λ p k. of_messages (λ (ms : List (List ℕ)). (j : ℕ) → AreInside (name_at ms j)) m p (λ j. refl) (each_protocol_inside m.protocols protocols) k;
+      actor = inside_of m.actor_reference h.reference;
+      ports = names_inside (port_names m) h.ports;
+      messages = λ p k. of_messages (λ (ms : List (List ℕ)). (j : ℕ) → AreInside (name_at ms j)) m p (λ j. refl) (each_protocol_inside m.protocols h.messages) k;
     }
 
 -- ---- a line
@@ -384,7 +364,7 @@ untabled m bytes Memory h = tt
 untabled m bytes Later h = λ good names ls is. h (names_differ m good)
 
 -- two lists of lines of one text are one
-pub one_list : (m : FirstModel) (bytes : List ℕ) (ls ks : List FirstLine) → MeetsConditions m → HasNames (symbols_of m) → IsLinesOf m bytes ls → IsLinesOf m bytes ks → ls ≡ ks
+pub one_list : (m : FirstModel) (bytes : List ℕ) (ls ks : List FirstLine) → MeetsConditions m → IsNamed m → IsLinesOf m bytes ls → IsLinesOf m bytes ks → ls ≡ ks
 one_list m bytes ls ks good names h k =
     lines_are ls ks
     (sym (ap (lines_at m most_lines) h.text ∙ lines_again m ls most_lines good (all_inside m names) h.few h.in_range)
@@ -394,12 +374,12 @@ pub found : (m : FirstModel) (bytes : List ℕ) (r : Result (List FirstLine) Fir
 found m bytes (Ok ls) h = h
 found m bytes (Err e) h = tt
 
-pub only : (m : FirstModel) (bytes : List ℕ) (r : Result (List FirstLine) FirstFault) → AreRead m bytes r → MeetsConditions m → HasNames (symbols_of m) → (ls : List FirstLine) → IsLinesOf m bytes ls → (r ≡ Ok ls) ⊎ (r ≡ Err Memory)
+pub only : (m : FirstModel) (bytes : List ℕ) (r : Result (List FirstLine) FirstFault) → AreRead m bytes r → MeetsConditions m → IsNamed m → (ls : List FirstLine) → IsLinesOf m bytes ls → (r ≡ Ok ls) ⊎ (r ≡ Err Memory)
 only m bytes (Ok ks) h good names ls is = inl (ap Ok (one_list m bytes ks ls good names h is))
 only m bytes (Err Memory) h good names ls is = inr refl
 only m bytes (Err Later) h good names ls is = absurd (h good names ls is)
 
-pub later : (m : FirstModel) (bytes : List ℕ) (r : Result (List FirstLine) FirstFault) → AreRead m bytes r → r ≡ Err Later → MeetsConditions m → HasNames (symbols_of m) → (ls : List FirstLine) → IsLinesOf m bytes ls → ⊥
+pub later : (m : FirstModel) (bytes : List ℕ) (r : Result (List FirstLine) FirstFault) → AreRead m bytes r → r ≡ Err Later → MeetsConditions m → IsNamed m → (ls : List FirstLine) → IsLinesOf m bytes ls → ⊥
 later m bytes (Ok ks) h e good names ls is = cc
 later m bytes (Err Memory) h e good names ls is = cc
 later m bytes (Err Later) h e good names ls is = h good names ls is

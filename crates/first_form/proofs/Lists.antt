@@ -1,30 +1,17 @@
--- Lists of texts behind references.
-use Rattle.std.proofs.Common.{inl, inr, take, drop, get_or, subst, append_assoc, ◌≡◌, ℕ, suc, ◌+◌, ◌<◌, Bool, true, false, cond, List, [], ◌∷◌, ◌++◌, length, Bor, not, refl, sym, ap, ◌∙◌}
-use Rattle.std.specs.Prelude.{◌||◌, position}
-use Rattle.std.specs.List.{list_any, position_or_len, IsDistinct, AllByRecursion}
-use Rattle.std.proofs.lemmas.Bool.{or_cases, not-true, not-false}
-use Rattle.std.proofs.lemmas.List.{take_more, take-append-drop}
+-- Names that are the same, and the names of states.
+use Rattle.std.proofs.Common.{◌≡◌, ℕ, ◌+◌, ◌<◌, true, List, [], ◌∷◌, ◌++◌, length, get_or, take, refl, sym, ap, ◌∙◌}
+use Rattle.std.proofs.lemmas.List.{take_more}
 use lib.Pointwise.{bytes_decides}
+use Rattle.name_numbers.specs.Names.{same}
 use Rattle.first_form.specs.FirstModel.{states_in}
 use Rattle.first_form.specs.declared.model.Item.{Item}
 use Rattle.first_form.specs.declared.model.Item.TheVariants.{State, Initial, Triggered}
-use Rattle.first_form.specs.Words.{same, is_among, AreDistinct}
-use Rattle.first_form.specs.View.{texts}
 
-pub any_texts : (x : List ℕ) (ks : List (Bor (List ℕ))) → list_any (λ (k : Bor (List ℕ)). same x k.now) ks ≡ is_among (texts ks) x
-any_texts x [] = refl
-any_texts x (k ∷ ks) = ap (λ b. same x k.now || b) (any_texts x ks)
+pub same_is : (a b : List ℕ) → same a b ≡ true → a ≡ b
+same_is a b e = (bytes_decides a b).0 e
 
-prefix_texts : (x : List ℕ) (ks : List (Bor (List ℕ))) → position_or_len (λ (k : Bor (List ℕ)). same x k.now) ks ≡ position_or_len (same x) (texts ks)
-prefix_texts x [] = refl
-prefix_texts x (k ∷ ks) = ap (λ n. cond (not (same x k.now)) (1 + n) 0) (prefix_texts x ks)
-
-length_texts : (ks : List (Bor (List ℕ))) → length ks ≡ length (texts ks)
-length_texts [] = refl
-length_texts (k ∷ ks) = ap suc (length_texts ks)
-
-pub position_texts : (x : List ℕ) (ks : List (Bor (List ℕ))) → position (λ (k : Bor (List ℕ)). same x k.now) ks ≡ position (same x) (texts ks)
-position_texts x ks = rw (prefix_texts x ks, length_texts ks) refl
+pub same_own : (a : List ℕ) → same a a ≡ true
+same_own a = (bytes_decides a a).1 refl
 
 -- ---- states
 
@@ -37,79 +24,3 @@ states-append (Triggered name source target message port ∷ xs) ys = states-app
 pub state_next : (items : List Item) (i : ℕ) (x : Item) (found new : List (List ℕ)) → i < length items → x ≡ get_or items i x → found ≡ states_in (take i items) → new ≡ found ++ states_in (x ∷ []) → new ≡ states_in (take (i + 1) items)
 state_next items i x found new lt is h e =
     e ∙ ap (λ ns. ns ++ states_in (x ∷ [])) h ∙ sym (states-append (take i items) (x ∷ [])) ∙ ap (λ y. states_in (take i items ++ y ∷ [])) is ∙ ap states_in (sym (take_more items i x lt))
-
--- ---- distinct names
-
-same_is : (a b : List ℕ) → same a b ≡ true → a ≡ b
-same_is a b e = (bytes_decides a b).0 e
-
-same_own : (a : List ℕ) → same a a ≡ true
-same_own a = (bytes_decides a a).1 refl
-
-pub same_back : (a b : List ℕ) (t : Bool) → same b a ≡ t → same a b ≡ false → t ≡ false
-same_back a b false e h = refl
-same_back a b true e h = let own : same a b ≡ true = subst (λ x. same x b ≡ true) (same_is b a e) (same_own b) in absurd cc
-
-apart_push : (x : List ℕ) (xs : List (List ℕ)) (y : List ℕ) → AllByRecursion (λ z. same x z ≡ false) xs → same x y ≡ false → AllByRecursion (λ z. same x z ≡ false) (xs ++ y ∷ [])
-apart_push x [] y h k = (k, tt)
-apart_push x (z ∷ zs) y h k = (h.0, apart_push x zs y h.1 k)
-
-or_parts : (a b : Bool) → (a || b) ≡ false → (a ≡ false) × (b ≡ false)
-or_parts false b h = (refl, h)
-or_parts true b h = absurd cc
-
-pub distinct_push : (xs : List (List ℕ)) (y : List ℕ) → AreDistinct xs → is_among xs y ≡ false → AreDistinct (xs ++ y ∷ [])
-unfolding IsDistinct
-distinct_push [] y h k = (tt, tt)
-distinct_push (x ∷ xs) y h k =
-    let parts = or_parts (same y x) (is_among xs y) k in
-    (apart_push x xs y h.0 (same_back y x (same x y) refl parts.0), distinct_push xs y h.1 parts.1)
-
-apart_middle : (x : List ℕ) (xs : List (List ℕ)) (y : List ℕ) (zs : List (List ℕ)) → AllByRecursion (λ z. same x z ≡ false) (xs ++ y ∷ zs) → same x y ≡ false
-apart_middle x [] y zs h = h.0
-apart_middle x (u ∷ us) y zs h = apart_middle x us y zs h.1
-
-pub twice : (xs : List (List ℕ)) (y : List ℕ) (zs : List (List ℕ)) → is_among xs y ≡ true → AreDistinct (xs ++ y ∷ zs) → ⊥
-unfolding IsDistinct
-twice [] y zs among h = cc
-twice (x ∷ xs) y zs among h =
-    elim (or_cases (same y x) (is_among xs y) among) [
-      | inl e ↦ let off : same y x ≡ false = same_back x y (same y x) refl (apart_middle x xs y zs h.0) in cc
-      | inr e ↦ twice xs y zs e h.1
-    ]
-
-pub distinct_none : AreDistinct []
-unfolding IsDistinct
-distinct_none = tt
-
-pub distinct_tail : (x : List ℕ) (xs : List (List ℕ)) → AreDistinct (x ∷ xs) → AreDistinct xs
-unfolding IsDistinct
-distinct_tail x xs h = h.1
-
-texts-append : (xs ys : List (Bor (List ℕ))) → texts (xs ++ ys) ≡ texts xs ++ texts ys
-texts-append [] ys = refl
-texts-append (x ∷ xs) ys = ap (λ ts. x.now ∷ ts) (texts-append xs ys)
-
--- the texts up to the next one, and those behind it
-pub texts_next : (refs : List (Bor (List ℕ))) (i : ℕ) (d : Bor (List ℕ)) → i < length refs → texts (take (i + 1) refs) ≡ texts (take i refs) ++ (get_or refs i d).now ∷ []
-texts_next refs i d lt = ap texts (take_more refs i d lt) ∙ texts-append (take i refs) (get_or refs i d ∷ [])
-
-pub texts_split : (refs : List (Bor (List ℕ))) (i : ℕ) (d : Bor (List ℕ)) → i < length refs → texts refs ≡ texts (take i refs) ++ (get_or refs i d).now ∷ texts (drop (i + 1) refs)
-texts_split refs i d lt =
-    ap texts (sym (take-append-drop (i + 1) refs)) ∙ texts-append (take (i + 1) refs) (drop (i + 1) refs) ∙ ap (λ ts. ts ++ texts (drop (i + 1) refs)) (texts_next refs i d lt)
-    ∙ append_assoc (texts (take i refs)) ((get_or refs i d).now ∷ []) (texts (drop (i + 1) refs))
-
--- ---- numbering names
-
-pub number_next : (refs : List (Bor (List ℕ))) (i : ℕ) (d : Bor (List ℕ)) (b : Bool) (numbers new : List (List ℕ)) → i < length refs → (numbers ≡ texts (take i refs)) × AreDistinct numbers → b ≡ true → b ≡ not (is_among numbers (get_or refs i d).now)
-    → new ≡ cond b (numbers ++ (get_or refs i d).now ∷ []) numbers → (new ≡ texts (take (i + 1) refs)) × AreDistinct new
-number_next refs i d false numbers new lt h is fresh e = absurd cc
-number_next refs i d true numbers new lt h is fresh e =
-    let other : is_among numbers (get_or refs i d).now ≡ false = not-true _ (sym fresh) in
-    (e ∙ ap (λ ns. ns ++ (get_or refs i d).now ∷ []) h.0 ∙ sym (texts_next refs i d lt), rw e (distinct_push numbers (get_or refs i d).now h.1 other))
-
-pub number_twice : (refs : List (Bor (List ℕ))) (i : ℕ) (d : Bor (List ℕ)) (b : Bool) (numbers : List (List ℕ)) → i < length refs → (numbers ≡ texts (take i refs)) × AreDistinct numbers → b ≡ false → b ≡ not (is_among numbers (get_or refs i d).now) → AreDistinct (texts refs) → ⊥
-number_twice refs i d true numbers lt h is old k = cc
-number_twice refs i d false numbers lt h is old k =
-    let there : is_among (texts (take i refs)) (get_or refs i d).now ≡ true = rw h.0 at (not-false _ (sym old)) in
-    twice (texts (take i refs)) (get_or refs i d).now (texts (drop (i + 1) refs)) there (subst AreDistinct (texts_split refs i d lt) k)

@@ -3,8 +3,10 @@ use Rattle.std.proofs.Common.{◌≡◌, ℕ, eqb, Bool, true, not, List, [], �
 use Rattle.std.specs.Prelude.{◌&&◌, ◌||◌}
 use Rattle.std.specs.List.{list_any, list_all, count_by}
 use Rattle.std.proofs.lemmas.Bool.{and_parts, and_from, not-true, eqb-true, eq-eqb}
-use Rattle.first_form.specs.Words.{same, is_among, AreDistinct, type_names, port_words}
-use Rattle.first_form.specs.View.{texts}
+use Rattle.name_numbers.specs.Names.{same, is_among, AreDistinct}
+use Rattle.name_numbers.proofs.Lists.{distinct_tail}
+use Rattle.first_form.specs.Words.{type_names, port_words}
+use Rattle.name_numbers.specs.Names.{names_of}
 use Rattle.first_form.specs.FirstModel.{RefersToClasses, HasClassNames, HasStates, HasFew, MeetsConditions, class_names, states_of, ports_of, protocol_names, ends_at_states, is_initial, has_trigger, states_in}
 use Rattle.first_form.specs.Settles.{Settles, Numbered, Tabled, TablesOf, NamesDiffer, HasGoodPorts}
 use Rattle.first_form.specs.declared.fault.FirstFault.{FirstFault}
@@ -13,8 +15,7 @@ use Rattle.first_form.specs.declared.model.FirstModel.{FirstModel}
 use Rattle.first_form.specs.declared.model.Port.{Port}
 use Rattle.first_form.specs.declared.tables.Tables.{Tables}
 use Rattle.first_form.specs.declared.model.Item.{Item}
-use Rattle.first_form.proofs.Lists.{distinct_tail}
-use Rattle.first_form.proofs.Grammar.{same_is, same_own}
+use Rattle.first_form.proofs.Lists.{same_is, same_own}
 
 abbrev Answer : Type 0
 Answer = Result (Unit {0}) FirstFault
@@ -50,7 +51,7 @@ own a b e = subst (λ x. same a x ≡ true) e (same_own a)
 pub refers_back : (m : FirstModel) → RefersToClasses m → (same m.system_reference_class m.subsystem && same m.actor_reference_class m.actor) ≡ true
 refers_back m h = and_from _ _ (own _ _ h.to_subsystem) (own _ _ h.to_actor)
 
-pub any_ref : (p : List ℕ → Bool) (refs : List (Bor (List ℕ))) → list_any (λ (r : Bor (List ℕ)). p r.now) refs ≡ list_any p (texts refs)
+pub any_ref : (p : List ℕ → Bool) (refs : List (Bor (List ℕ))) → list_any (λ (r : Bor (List ℕ)). p r.now) refs ≡ list_any p (names_of refs)
 any_ref p [] = refl
 any_ref p (r ∷ rs) = ap (λ b. p r.now || b) (any_ref p rs)
 
@@ -83,7 +84,7 @@ good_ports m t ps a b r tables same_ports word known h =
     let known_of : b ≡ list_all (λ (p : Port). is_among (protocol_names m) p.protocol) (ports_of m) = known ∙ ap (λ (ns : List (List ℕ)). list_all (λ (p : Port). is_among ns p.protocol) ps) tables.protocols ∙ ap (list_all (λ (p : Port). is_among (protocol_names m) p.protocol)) same_ports in
     settles_as r (λ x. record { free = sym word_of ∙ not-true a x.0; protocols = sym known_of ∙ x.1 }) (λ g. (ap not (word_of ∙ g.free), known_of ∙ g.protocols)) h
 
-pub classes_met : (m : FirstModel) (refs : List (Bor (List ℕ))) (a : Bool) (r : Answer) → texts refs ≡ m.system ∷ class_names m → AreDistinct (texts refs) → a ≡ list_any (λ (x : Bor (List ℕ)). is_among type_names x.now) refs
+pub classes_met : (m : FirstModel) (refs : List (Bor (List ℕ))) (a : Bool) (r : Answer) → names_of refs ≡ m.system ∷ class_names m → AreDistinct (names_of refs) → a ≡ list_any (λ (x : Bor (List ℕ)). is_among type_names x.now) refs
     → Settles r (not a ≡ true) → Settles r (HasClassNames m)
 classes_met m refs a r names apart typed h =
     let typed_of : a ≡ list_any (is_among type_names) (m.system ∷ class_names m) = typed ∙ any_ref (is_among type_names) refs ∙ ap (list_any (is_among type_names)) names in

@@ -4,7 +4,7 @@ use Rattle.std.specs.Prelude.{position}
 use Rattle.std.specs.List.{position_or_len, slice_get, slice_index_or}
 use Rattle.std.proofs.lemmas.Bool.{ltb-false}
 use Rattle.std.proofs.lemmas.List.{take_more, map_push}
-use Rattle.first_form.specs.Words.{same, AreDistinct}
+use Rattle.name_numbers.specs.Names.{same, AreDistinct}
 use Rattle.first_form.specs.FirstModel.{AreDistinctIn, ports_of, protocol_names, messages_in, messages_of, messages_at}
 use Rattle.first_form.specs.Settles.{Numbered, MessagesNumbered, TablesOf}
 use Rattle.first_form.specs.declared.fault.FirstFault.{FirstFault}

@@ -2,7 +2,8 @@
 use Rattle.std.specs.Prelude.{◌≡◌, ◌≤◌, ℕ, ◌&&◌, nat_le, Bool, true, false, List, [], ◌∷◌, length, map, Option, if◌then◌else◌, option_map, option_and_then, position}
 use Rattle.std.specs.List.{list_any, list_all, count_by, slice_index_or}
 use Rattle.std.specs.Option.{unwrap_or, is_some}
-use Rattle.first_form.specs.Words.{same, is_among, AreDistinct, type_names, port_words}
+use Rattle.name_numbers.specs.Names.{same, is_among, AreDistinct}
+use Rattle.first_form.specs.Words.{type_names, port_words}
 use Rattle.first_form.specs.declared.model.FirstModel.{FirstModel}
 use Rattle.first_form.specs.declared.model.Protocol.{Protocol}
 use Rattle.first_form.specs.declared.model.Port.{Port}

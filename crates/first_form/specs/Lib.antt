@@ -1,8 +1,9 @@
 pub mod Words
 pub mod FirstModel
-pub mod Text
+pub mod Tree
+pub mod Grammar
+pub mod Names
 pub mod Lines
-pub mod View
-pub mod Reading
 pub mod Settles
+pub mod Shapes
 pub mod LineReading

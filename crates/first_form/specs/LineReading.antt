@@ -1,9 +1,10 @@
 -- The reading of injections from left to right, as the code does it.
 use Rattle.std.specs.Prelude.{◌==◌, ◌&&◌, nat_lt, ℕ, zero, suc, List, [], ◌∷◌, take, drop, Option, Some, None, option_map, option_and_then, Result, Ok, Err, if◌then◌else◌}
 use Rattle.std.specs.List.{prefix_len}
-use Rattle.first_form.specs.Words.{same, is_inside}
+use Rattle.name_numbers.specs.Names.{same}
+use Rattle.room_lexer.specs.Front.{is_word}
 use Rattle.first_form.specs.FirstModel.{MeetsConditions, place_of}
-use Rattle.first_form.specs.Text.{symbols_of, HasNames}
+use Rattle.first_form.specs.Names.{IsNamed}
 use Rattle.first_form.specs.Lines.{IsLinesOf}
 use Rattle.first_form.specs.declared.fault.FirstFault.{FirstFault}
 use Rattle.first_form.specs.declared.fault.FirstFault.TheVariants.{Later, Memory}
@@ -13,11 +14,11 @@ use Rattle.first_form.specs.declared.model.FirstLine.{FirstLine}
 
 -- the letters, digits and `_` at the front
 abbrev pub word_of : List ℕ → List ℕ
-word_of bytes = take (prefix_len is_inside bytes) bytes
+word_of bytes = take (prefix_len is_word bytes) bytes
 
 -- what is behind them
 abbrev pub behind_word : List ℕ → List ℕ
-behind_word bytes = drop (prefix_len is_inside bytes) bytes
+behind_word bytes = drop (prefix_len is_word bytes) bytes
 
 -- what is behind a byte, if it comes
 abbrev pub behind : ℕ → List ℕ → Option (List ℕ)
@@ -64,4 +65,4 @@ lines_at m (suc n) (b ∷ bs) = option_and_then (λ x. option_map (λ ls. x.0 �
 abbrev pub AreRead : FirstModel → List ℕ → Result (List FirstLine) FirstFault → Type 0
 AreRead m bytes (Ok ls) = IsLinesOf m bytes ls
 AreRead m bytes (Err Memory) = Unit {0}
-AreRead m bytes (Err Later) = MeetsConditions m → HasNames (symbols_of m) → (ls : List FirstLine) → IsLinesOf m bytes ls → ⊥
+AreRead m bytes (Err Later) = MeetsConditions m → IsNamed m → (ls : List FirstLine) → IsLinesOf m bytes ls → ⊥

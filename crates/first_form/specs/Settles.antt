@@ -2,7 +2,8 @@
 use Rattle.std.specs.Prelude.{◌≡◌, ℕ, true, false, List, map, Result, Ok, Err}
 use Rattle.std.specs.List.{list_any, list_all}
 use Rattle.std.specs.Global.{Vec}
-use Rattle.first_form.specs.Words.{AreDistinct, is_among, port_words}
+use Rattle.name_numbers.specs.Names.{AreDistinct, is_among}
+use Rattle.first_form.specs.Words.{port_words}
 use Rattle.first_form.specs.FirstModel.{AreDistinctIn, ports_of, port_names, protocol_names}
 use Rattle.first_form.specs.declared.tables.Tables.{Tables}
 use Rattle.first_form.specs.declared.model.FirstModel.{FirstModel}

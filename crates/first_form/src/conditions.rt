@@ -2,17 +2,17 @@
 
 ghost use Rattle.std.specs.Prelude.{◌≡◌, ◌∷◌, nat_le, length, true};
 ghost use Rattle.std.specs.List.{list_any, list_all, count_by};
-ghost use Rattle.first_form.specs.Words.{is_among, type_names, port_words};
-ghost use Rattle.first_form.specs.View.{texts};
+ghost use Rattle.name_numbers.specs.Names.{is_among, names_of};
+ghost use Rattle.first_form.specs.Words.{type_names, port_words};
 ghost use Rattle.first_form.specs.FirstModel.{RefersToClasses, HasClassNames, HasStates, HasFew, MeetsConditions, class_names, states_of, ports_of, ends_at_states, is_initial, has_trigger, most};
 ghost use Rattle.first_form.specs.Settles.{Settles, Collects, TablesOf, HasGoodPorts};
 
 use crate::fault::FirstFault;
 use crate::model::{FirstModel, Item, Port, Protocol};
 use crate::names::{numbers_of, protocol_names, state_names};
-use crate::numbers::Numbers;
 use crate::tables::{Tables, place_of, ports_of, tables_of};
 use crate::words::{is_port_word, is_type_name};
+use name_numbers::Numbers;
 use std::alloc::Global;
 
 /// The most classes, ports, states and messages of a protocol.
@@ -47,7 +47,7 @@ fn references(model: &FirstModel) -> Result<(), FirstFault>
 
 /// The names of the LogicalSystem and of the classes.
 fn class_names<'a>(alloc: Global, model: &'a FirstModel) -> Result<Vec<&'a [u8]>, FirstFault>
-    ensures { Collects (λ v. texts v.items) result (model.now.system ∷ class_names model.now) }
+    ensures { Collects (λ v. names_of v.items) result (model.now.system ∷ class_names model.now) }
 {
     let protocols = protocol_names(alloc, model.protocols.as_slice())?;
     let mut texts = Vec::new(alloc);

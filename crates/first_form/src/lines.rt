@@ -1,15 +1,16 @@
 //! Reading injections of the first form.
 
-ghost use Rattle.std.specs.Prelude.{◌≡◌, ◌⊎◌, ℕ, List, IfOk, Ok, Err, option_map};
+ghost use Rattle.std.specs.Prelude.{◌≡◌, ◌≤◌, ◌⊎◌, ℕ, List, length, IfOk, Ok, Err, option_map};
+ghost use Rattle.std.specs.List.{prefix_len};
+ghost use Rattle.room_lexer.specs.Front.{is_word};
 ghost use Rattle.first_form.specs.FirstModel.{MeetsConditions};
-ghost use Rattle.first_form.specs.Text.{symbols_of, HasNames, IsFirstForm};
+ghost use Rattle.first_form.specs.Names.{IsNamed};
 ghost use Rattle.first_form.specs.Lines.{IsLinesOf, most_lines};
-ghost use Rattle.first_form.specs.Reading.{Gives};
+ghost use Rattle.first_form.specs.Shapes.{Gives};
 ghost use Rattle.first_form.specs.LineReading.{word_of, behind_word, behind, parts_view, parts_at, numbered, line_of, lines_at, AreRead};
 ghost use Rattle.first_form.specs.Settles.{TablesOf};
 ghost use Rattle.first_form.specs.declared.fault.FirstFault.TheVariants.{Later, Memory};
 
-use crate::cut::inside_len;
 use crate::fault::FirstFault;
 use crate::model::{FirstLine, FirstModel};
 use crate::tables::{Tables, place_of, tables_of};
@@ -28,12 +29,26 @@ struct Parts<'a> {
     rest: &'a [u8],
 }
 
+/// Whether a byte may stand in a name, behind its first.
+fn is_word(b: u8) -> bool
+    ensures { result ≡ is_word b }
+{
+    b >= b'a' && b <= b'z' || b >= b'A' && b <= b'Z' || b == b'_' || b >= b'0' && b <= b'9'
+}
+
+fn word_len(bytes: &[u8]) -> usize
+    ensures len { result ≡ prefix_len is_word bytes.now }
+    ensures short { result ≤ length bytes.now }
+{
+    bytes.iter().take_while(|b| is_word(**b)).count()
+}
+
 /// The letters, digits and `_` at the front, and what is behind them.
 fn word<'a>(bytes: &'a [u8]) -> (&'a [u8], &'a [u8])
     ensures front { result.0.now ≡ word_of bytes.now }
     ensures back { result.1.now ≡ behind_word bytes.now }
 {
-    bytes.split_at(inside_len(bytes))
+    bytes.split_at(word_len(bytes))
 }
 
 /// What is behind a byte, if it comes.
@@ -136,7 +151,7 @@ fn read(alloc: Global, bytes: &[u8], model: &FirstModel) -> Result<Sequence<Firs
     lines(alloc, bytes, model, &tables)
 }
 
-/// Reads injections of the first form for a model, which `read_first` gave. It takes time in
+/// Reads injections of the first form for a model, which `first_of` gave. It takes time in
 /// proportion to the text.
 pub fn read_first_lines(
     alloc: Global,
@@ -146,15 +161,14 @@ pub fn read_first_lines(
     // What is found has this text.
     ensures found { IfOk result (λ ls. IsLinesOf model.now bytes.now ls) }
     // What has this text is found, unless memory runs out.
-    ensures only { MeetsConditions model.now → HasNames (symbols_of model.now) → (ls : List FirstLine) → IsLinesOf model.now bytes.now ls → (result ≡ Ok ls) ⊎ (result ≡ Err Memory) }
+    ensures only { MeetsConditions model.now → IsNamed model.now → (ls : List FirstLine) → IsLinesOf model.now bytes.now ls → (result ≡ Ok ls) ⊎ (result ≡ Err Memory) }
     // Later where no lines have this text.
-    ensures later { result ≡ Err Later → MeetsConditions model.now → HasNames (symbols_of model.now) → (ls : List FirstLine) → ¬ IsLinesOf model.now bytes.now ls }
+    ensures later { result ≡ Err Later → MeetsConditions model.now → IsNamed model.now → (ls : List FirstLine) → ¬ IsLinesOf model.now bytes.now ls }
 {
     read(alloc, bytes, model)
 }
 
-/// A text has at most one model, and a text has at most one list of lines of a model.
-pub fn one_reading()
-    ensures models { (bytes : List ℕ) (m n : FirstModel) → IsFirstForm bytes m → IsFirstForm bytes n → m ≡ n }
-    ensures lines { (m : FirstModel) (bytes : List ℕ) (ls ks : List FirstLine) → MeetsConditions m → HasNames (symbols_of m) → IsLinesOf m bytes ls → IsLinesOf m bytes ks → ls ≡ ks }
+/// A text has at most one list of lines of a model.
+pub fn one_list_of_lines()
+    ensures { (m : FirstModel) (bytes : List ℕ) (ls ks : List FirstLine) → MeetsConditions m → IsNamed m → IsLinesOf m bytes ls → IsLinesOf m bytes ks → ls ≡ ks }
 {}

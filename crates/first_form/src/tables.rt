@@ -1,14 +1,14 @@
 //! The numbers of a model's ports, protocols and messages.
 
 ghost use Rattle.std.specs.Prelude.{◌≡◌, position};
-ghost use Rattle.first_form.specs.Words.{same};
+ghost use Rattle.name_numbers.specs.Names.{same};
 ghost use Rattle.first_form.specs.FirstModel.{ports_of, port_names, protocol_names, messages_in, messages_at, place_of};
 ghost use Rattle.first_form.specs.Settles.{Numbered, MessagesNumbered, Tabled, TablesOf};
 
 use crate::fault::FirstFault;
 use crate::model::{FirstModel, Port, Protocol};
 use crate::names::{numbers_of, port_names, protocol_names, texts_of};
-use crate::numbers::Numbers;
+use name_numbers::Numbers;
 use std::alloc::Global;
 
 /// The numbers of the ports, of the protocols, and of each protocol's messages.

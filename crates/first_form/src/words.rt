@@ -1,73 +1,9 @@
-//! Names, and the words that no name may be.
+//! Words that name no class and no port.
 
 ghost use Rattle.std.specs.Prelude.{◌≡◌};
-ghost use Rattle.std.specs.List.{list_all, list_any};
-ghost use Rattle.first_form.specs.Words.{same, is_among, is_inside, is_identifier, is_name, reserved_words, type_names, port_words};
-
-use crate::cut::{is_inside, is_letter};
-
-/// The reserved words of the model language.
-const RESERVED_WORDS: [&[u8]; 59] = [
-    b"RoomModel",
-    b"import",
-    b"from",
-    b"LogicalSystem",
-    b"SubSystemRef",
-    b"SubSystemClass",
-    b"LogicalThread",
-    b"ActorInstanceMapping",
-    b"eventdriven",
-    b"ProtocolClass",
-    b"incoming",
-    b"outgoing",
-    b"Message",
-    b"DataClass",
-    b"Attribute",
-    b"true",
-    b"false",
-    b"ActorClass",
-    b"Interface",
-    b"SPP",
-    b"Structure",
-    b"Behavior",
-    b"StateMachine",
-    b"conjugated",
-    b"Port",
-    b"external",
-    b"SAP",
-    b"ServiceImplementation",
-    b"of",
-    b"fixed",
-    b"optional",
-    b"imported",
-    b"ActorRef",
-    b"Binding",
-    b"and",
-    b"LayerConnection",
-    b"ref",
-    b"satisfied_by",
-    b"usercode",
-    b"usercode1",
-    b"usercode2",
-    b"usercode3",
-    b"State",
-    b"entry",
-    b"exit",
-    b"subgraph",
-    b"ChoicePoint",
-    b"TransitionPoint",
-    b"EntryPoint",
-    b"ExitPoint",
-    b"Transition",
-    b"triggers",
-    b"or",
-    b"cond",
-    b"action",
-    b"guard",
-    b"initial",
-    b"cp",
-    b"my",
-];
+ghost use Rattle.std.specs.List.{list_any};
+ghost use Rattle.name_numbers.specs.Names.{same, is_among};
+ghost use Rattle.first_form.specs.Words.{type_names, port_words};
 
 /// The names of the types of numbers.
 const TYPE_NAMES: [&[u8]; 7] = [
@@ -110,13 +46,6 @@ fn is_one_of(words: &[&[u8]], text: &[u8]) -> bool
     words.iter().any(|word| text == *word)
 }
 
-#[tactic(auto, unfolding(crate::specs::Words::reserved_words))]
-fn is_reserved(text: &[u8]) -> bool
-    ensures { result ≡ is_among reserved_words text.now }
-{
-    is_one_of(&RESERVED_WORDS, text)
-}
-
 /// Whether a text is the name of a type of numbers.
 #[tactic(auto, unfolding(crate::specs::Words::type_names))]
 pub fn is_type_name(text: &[u8]) -> bool
@@ -131,26 +60,4 @@ pub fn is_port_word(text: &[u8]) -> bool
     ensures { result ≡ is_among port_words text.now }
 {
     is_one_of(&PORT_WORDS, text)
-}
-
-fn are_inside(bytes: &[u8]) -> bool
-    ensures { result ≡ list_all is_inside bytes.now }
-{
-    bytes.iter().all(|b| is_inside(*b))
-}
-
-fn is_identifier(text: &[u8]) -> bool
-    ensures { result ≡ is_identifier text.now }
-{
-    match text {
-        [first, others @ ..] => is_letter(*first) && are_inside(others),
-        [] => false,
-    }
-}
-
-/// Whether a text is an identifier that isn't reserved.
-pub fn is_name(text: &[u8]) -> bool
-    ensures { result ≡ is_name text.now }
-{
-    is_identifier(text) && !is_reserved(text)
 }

@@ -1,6 +1,5 @@
 pub mod Rounds
 pub mod Targets
-pub mod Distinct
 pub mod NamesLemmas
 pub mod LawProofs
 pub mod InRange

@@ -6,7 +6,7 @@ use Rattle.std.proofs.lemmas.List.{length-map, take_more}
 use Rattle.std.proofs.lemmas.List.Elements.{filter_map-append}
 use Rattle.std.proofs.lemmas.Bool.{false≢true}
 use Rattle.std.proofs.lemmas.Bool.Decides.{nat_tests}
-use Rattle.first_form.specs.Words.{same, is_among, AreDistinct}
+use Rattle.name_numbers.specs.Names.{same, is_among, AreDistinct}
 use Rattle.first_form.specs.FirstModel.{HasClassNames, messages_in, ports_of, protocol_names, states_of, port_names}
 use Rattle.first_form.specs.declared.model.FirstModel.{FirstModel}
 use Rattle.first_form.specs.declared.model.Port.{Port}
@@ -64,11 +64,6 @@ few_messages (p ∷ ps) zero e =
     let both = split_and (nat_le (length p.messages) 60000) (list_all (λ (q : Protocol). nat_le (length q.messages) 60000) ps) e in grind (arith, nat_tests, both.0)
 few_messages (p ∷ ps) (suc k) e =
     few_messages ps k (split_and (nat_le (length p.messages) 60000) (list_all (λ (q : Protocol). nat_le (length q.messages) 60000) ps) e).1
-
--- the protocols have distinct names
-pub protocols_distinct : (m : FirstModel) → HasClassNames m → AreDistinct (protocol_names m)
-unfolding IsDistinct
-protocols_distinct m h = h.distinct.1.1.1
 
 -- the naming of a model, put together
 pub naming_built : (m : FirstModel) (states ports : List (List ℕ)) (messages : List (List (List ℕ))) (protocols : List ℕ) →

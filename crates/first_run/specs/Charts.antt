@@ -2,7 +2,7 @@
 use Rattle.std.specs.Prelude.{ℕ, List, [], ◌∷◌, map, Option, Some, None, position}
 use Rattle.std.specs.Option.{unwrap_or}
 use Rattle.std.specs.List.{slice_index_or, filter_map}
-use Rattle.first_form.specs.Words.{same}
+use Rattle.name_numbers.specs.Names.{same}
 use Rattle.first_form.specs.FirstModel.{states_of, port_names, ports_of, messages_of}
 use Rattle.first_form.specs.declared.model.FirstModel.{FirstModel}
 use Rattle.first_form.specs.declared.model.Item.{Item}

@@ -1,13 +1,13 @@
 //! The names of a model, with their numbers.
-ghost use Rattle.std.specs.Prelude.{◌≡◌, ◌≤◌, [], ◌∷◌, ◌++◌, false, map, length, IfOk, OnOk};
-ghost use Rattle.first_form.specs.Words.{is_among, AreDistinct};
-ghost use Rattle.first_form.specs.FirstModel.{states_in, AreDistinctIn, ports_of, MeetsConditions};
+ghost use Rattle.std.specs.Prelude.{◌≡◌, ◌≤◌, map, length, IfOk};
+ghost use Rattle.name_numbers.specs.Names.{AreDistinct};
+ghost use Rattle.first_form.specs.FirstModel.{states_in, MeetsConditions};
 ghost use Rattle.first_run.specs.Charts.{number_in, naming_of, messages_at, flat_of};
 ghost use Rattle.first_form.specs.declared.model.Port.{Port};
-ghost use Rattle.first_form.specs.declared.model.Protocol.{Protocol};
 
 use crate::chart::FlatTransition;
-use first_form::{FirstModel, Item, Numbers, Port, Protocol};
+use first_form::{FirstModel, Item, Port, ports_of, state_names, tables_of};
+use name_numbers::{Numbers, numbered};
 use room_ast::Name;
 use std::alloc::{AllocError, Global};
 use std::marker::Model;
@@ -40,16 +40,16 @@ impl<'a> Names<'a> {
         requires { MeetsConditions model.now }
         ensures { IfOk result (λ n. n ≡ naming_of model.now) }
     {
-        let ports = ports_of(model);
-        let names = numbers_of_protocols(alloc, model.protocols.as_slice())?;
-        let protocols = protocols_of_ports(alloc, &names, ports)?;
-        let messages = numbers_of_messages(alloc, model.protocols.as_slice())?;
+        // The names of such a model differ, so that only memory can be lacking.
+        let Ok(tables) = tables_of(alloc, model) else {
+            return Err(AllocError);
+        };
         let states = numbers_of_states(alloc, model.items.as_slice())?;
-        let ports = numbers_of_ports(alloc, ports)?;
+        let protocols = protocols_of_ports(alloc, &tables.protocols, ports_of(model))?;
         Ok(Names {
             states,
-            ports,
-            messages,
+            ports: tables.ports,
+            messages: tables.messages,
             protocols,
         })
     }
@@ -107,15 +107,6 @@ impl<'a> Names<'a> {
     }
 }
 
-/// Adds a name that is new.
-fn add_new<'a>(numbers: &mut Numbers<'a>, name: &'a [u8]) -> Result<(), AllocError>
-    requires { is_among numbers.old name.now ≡ false }
-    ensures { OnOk result (numbers.new ≡ numbers.old ++ name.now ∷ []) }
-{
-    let _new = numbers.add(name)?;
-    Ok(())
-}
-
 /// The number of a name; 0 for a name that is none of these.
 pub fn number_in(numbers: &Numbers<'_>, name: &[u8]) -> u16
     requires { length numbers.now ≤ 60000 }
@@ -127,74 +118,19 @@ pub fn number_in(numbers: &Numbers<'_>, name: &[u8]) -> u16
     }
 }
 
-/// The numbers of names that are distinct.
-pub fn numbers_of<'a>(alloc: Global, names: &'a [Name]) -> Result<Numbers<'a>, AllocError>
-    requires { AreDistinct names.now }
-    ensures { IfOk result (λ n. n ≡ names.now) }
-{
-    let mut numbers = Numbers::new(alloc);
-    for name in names {
-        add_new(&mut numbers, name.as_bytes())?;
-    }
-    Ok(numbers)
-}
-
-/// The numbers of ports with distinct names.
-pub fn numbers_of_ports<'a>(alloc: Global, ports: &'a [Port]) -> Result<Numbers<'a>, AllocError>
-    requires { AreDistinct (map (λ (p : Port). p.name) ports.now) }
-    ensures { IfOk result (λ n. n ≡ map (λ (p : Port). p.name) ports.now) }
-{
-    let mut numbers = Numbers::new(alloc);
-    for port in ports {
-        add_new(&mut numbers, port.name.as_bytes())?;
-    }
-    Ok(numbers)
-}
-
-/// The numbers of states with distinct names.
-pub fn numbers_of_states<'a>(alloc: Global, items: &'a [Item]) -> Result<Numbers<'a>, AllocError>
+/// The numbers of the states.
+fn numbers_of_states<'a>(alloc: Global, items: &'a [Item]) -> Result<Numbers<'a>, AllocError>
     requires { AreDistinct (states_in items.now) }
     ensures { IfOk result (λ n. n ≡ states_in items.now) }
 {
-    let mut numbers = Numbers::new(alloc);
-    for item in items {
-        match item {
-            Item::State { name } => add_new(&mut numbers, name.as_bytes())?,
-            Item::Initial { .. } => {}
-            Item::Triggered { .. } => {}
-        }
+    let Ok(names) = state_names(alloc, items) else {
+        return Err(AllocError);
+    };
+    match numbered(alloc, &names)? {
+        Some(numbers) => Ok(numbers),
+        // This doesn't come: the names differ.
+        None => Err(AllocError),
     }
-    Ok(numbers)
-}
-
-/// The numbers of protocols with distinct names.
-fn numbers_of_protocols<'a>(
-    alloc: Global,
-    protocols: &'a [Protocol],
-) -> Result<Numbers<'a>, AllocError>
-    requires { AreDistinct (map (λ (p : Protocol). p.name) protocols.now) }
-    ensures { IfOk result (λ n. n ≡ map (λ (p : Protocol). p.name) protocols.now) }
-{
-    let mut numbers = Numbers::new(alloc);
-    for protocol in protocols {
-        add_new(&mut numbers, protocol.name.as_bytes())?;
-    }
-    Ok(numbers)
-}
-
-/// The numbers of the messages of each protocol, in which they are distinct.
-fn numbers_of_messages<'a>(
-    alloc: Global,
-    protocols: &'a [Protocol],
-) -> Result<Vec<Numbers<'a>>, AllocError>
-    requires { AreDistinctIn protocols.now }
-    ensures { IfOk result (λ v. v.items ≡ map (λ (p : Protocol). p.messages) protocols.now) }
-{
-    let mut messages = Vec::new(alloc);
-    for protocol in protocols {
-        messages.push(numbers_of(alloc, protocol.messages.as_slice())?)?;
-    }
-    Ok(messages)
 }
 
 /// The number of the protocol of each port.
@@ -212,14 +148,4 @@ fn protocols_of_ports(
         numbers.push(number_in(protocols, port.protocol.as_bytes()))?;
     }
     Ok(numbers)
-}
-
-/// The ports of a model's actor class.
-fn ports_of(model: &FirstModel) -> &[Port]
-    ensures { result.now ≡ ports_of model.now }
-{
-    match &model.ports {
-        Some(ports) => ports.as_slice(),
-        None => &[],
-    }
 }

@@ -2,13 +2,14 @@
 use Rattle.std.proofs.lemmas.List.{take_more, map_push}
 use Rattle.std.proofs.Common.{◌≡◌, ℕ, zero, suc, ◌+◌, ◌<◌, List, [], ◌∷◌, ◌++◌, take, length, map, get_or, Option, Some, None, Bool, true, false, cond, sym, ap, ◌∙◌, subst, arith}
 use Rattle.std.specs.Prelude.{position, slice_get}
-use Rattle.first_form.specs.Words.{same}
+use Rattle.name_numbers.specs.Names.{same}
 use Rattle.first_form.specs.FirstModel.{messages_in, protocol_names}
 use Rattle.first_form.proofs.Messages.{by_protocol, or_none}
 use Rattle.first_form.specs.declared.model.FirstModel.{FirstModel}
 use Rattle.first_form.specs.declared.model.Protocol.{Protocol}
 use Rattle.first_form.specs.declared.model.Port.{Port}
-use Rattle.first_wiring.specs.Names.{AreNames, HaveNames, IsName}
+use Rattle.token_names.specs.Names.{IsName}
+use Rattle.first_form.specs.Names.{AreNames, HaveNames}
 
 pub in_named : (ps : List Protocol) (x : List ℕ) → HaveNames ps → AreNames (messages_in ps x)
 in_named [] x h = tt

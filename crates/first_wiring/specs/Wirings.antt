@@ -8,7 +8,7 @@ use Rattle.room_wiring.specs.declared.names.ClassNames.{ClassNames}
 use Rattle.room_wiring.specs.declared.names.PortNames.{PortNames}
 use Rattle.room_wiring.specs.declared.names.SignalNames.{SignalNames}
 use Rattle.room_wiring.specs.Single.{single_tables}
-use Rattle.first_form.specs.Words.{same}
+use Rattle.name_numbers.specs.Names.{same}
 use Rattle.first_form.specs.FirstModel.{ports_of, protocol_names, messages_of, states_of}
 use Rattle.first_form.specs.declared.model.FirstModel.{FirstModel}
 use Rattle.first_form.specs.declared.model.Port.{Port}

@@ -1,7 +1,8 @@
 //! Labels of names.
 ghost use Rattle.std.specs.Prelude.{◌≡◌, [], map, IfOk};
-ghost use Rattle.first_form.specs.View.{texts};
-ghost use Rattle.first_wiring.specs.Names.{AreNames, IsName};
+ghost use Rattle.name_numbers.specs.Names.{names_of};
+ghost use Rattle.token_names.specs.Names.{IsName};
+ghost use Rattle.first_form.specs.Names.{AreNames};
 ghost use Rattle.first_wiring.specs.Wirings.{signal_of};
 
 use room_ast::Name;
@@ -28,8 +29,8 @@ pub(crate) fn label(alloc: Global, name: &Name) -> Result<Label, AllocError>
 
 /// The labels of names.
 pub(crate) fn labels(alloc: Global, names: &[&[u8]]) -> Result<Sequence<Label>, AllocError>
-    requires { AreNames (texts names.now) }
-    ensures { IfOk result (λ s. s ≡ texts names.now) }
+    requires { AreNames (names_of names.now) }
+    ensures { IfOk result (λ s. s ≡ names_of names.now) }
 {
     let mut all = Sequence::new(alloc);
     for name in names {

@@ -2,7 +2,8 @@
 ghost use Rattle.std.specs.Prelude.{◌≡◌, ◌≤◌, ◌∷◌, [], map, length, replicate, IfOk};
 ghost use Rattle.first_form.specs.FirstModel.{HasFew, ports_of, messages_of};
 ghost use Rattle.first_form.specs.Settles.{TablesOf};
-ghost use Rattle.first_wiring.specs.Names.{AreNames, IsName, IsNamed};
+ghost use Rattle.token_names.specs.Names.{IsName};
+ghost use Rattle.first_form.specs.Names.{AreNames, IsNamed};
 ghost use Rattle.first_wiring.specs.Wirings.{frame_port, frame_signal, frame_signals, port_of, signal_of};
 ghost use Rattle.room_kinds.specs.declared.number_type.NumberType.TheVariants.{Plain};
 

@@ -2,8 +2,7 @@
 ghost use Rattle.std.specs.Prelude.{◌≡◌, IfOk};
 ghost use Rattle.first_form.specs.FirstModel.{HasFew, MeetsConditions};
 ghost use Rattle.first_form.specs.Settles.{TablesOf};
-ghost use Rattle.first_form.specs.Text.{HasNames, symbols_of};
-ghost use Rattle.first_wiring.specs.Names.{IsNamed};
+ghost use Rattle.first_form.specs.Names.{IsNamed};
 ghost use Rattle.first_wiring.specs.Wirings.{class_of, wiring_of};
 
 use crate::labels::{label, labels};
@@ -53,9 +52,8 @@ fn wiring_by(alloc: Global, model: &FirstModel, tables: &Tables) -> Result<Wirin
 }
 
 /// The wiring of a model: one slot, whose path is the actor reference, run by the one controller.
-#[tactic(auto, using(crate::proofs::NameLaws::named))]
 pub fn wiring_of(alloc: Global, model: &FirstModel) -> Result<Wiring, AllocError>
-    requires names { HasNames (symbols_of model.now) }
+    requires names { IsNamed model.now }
     requires conditions { MeetsConditions model.now }
     ensures { IfOk result (λ w. w ≡ wiring_of model.now) }
 {

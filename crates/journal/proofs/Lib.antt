@@ -1,3 +1,1 @@
-pub mod OutputLemmas
-pub mod Going
-pub mod PartLemmas
+pub mod JournalGoing

@@ -2,5 +2,3 @@ pub mod Names
 pub mod Lines
 pub mod Text
 pub mod Fits
-pub mod Output
-pub mod Parts

@@ -1,23 +1,19 @@
 -- The lines of a journal.
 use Rattle.std.specs.Prelude.{ℕ, List, [], ◌∷◌, ◌++◌, Bool, true, false, if◌then◌else◌, Option, Some, None, codes, decimal}
 use Rattle.std.specs.Fmt.{signed_decimal}
-use Rattle.std.specs.List.{concat}
 use Rattle.room_kinds.specs.declared.numbers.Incarnation.{Incarnation}
 use Rattle.room_kinds.specs.declared.numbers.SlotId.{SlotId}
 use Rattle.room_kinds.specs.declared.message.Msg.{Msg}
 use Rattle.room_kinds.specs.declared.note.Note.{Note}
 use Rattle.room_kinds.specs.declared.note.Note.TheVariants as notes
 use Rattle.room_wiring.specs.declared.tables.Tables.{Tables}
+use Rattle.line_text.specs.Lines.{line, numbers_text}
 use Rattle.journal.specs.declared.entry.Entry.{Entry}
 use Rattle.journal.specs.declared.entry.Entry.TheVariants as entries
 use Rattle.journal.specs.declared.entry.Did.{Did}
 use Rattle.journal.specs.declared.entry.Did.TheVariants as outcomes
 use Rattle.journal.specs.declared.entry.Left.{Left}
-use Rattle.journal.specs.Names.{party_text, port_text, state_text, signal_text, incarnation_parts, source_parts, endpoint_parts, numbers_text}
-
--- a line of these parts
-abbrev pub line : List (List ℕ) → List ℕ
-line parts = concat parts ++ 10 ∷ []
+use Rattle.journal.specs.Names.{party_text, port_text, state_text, signal_text, incarnation_parts, source_parts, endpoint_parts}
 
 -- `<prio> `
 abbrev pub priority_parts : ℕ → List (List ℕ)

@@ -1,7 +1,5 @@
 -- How a journal names controllers, actors, ports, signals and states.
-use Rattle.std.specs.Prelude.{ℕ, List, [], ◌∷◌, ◌==◌, nat_lt, if◌then◌else◌, Option, Some, None, length, slice_get, slice_index_or, option_map, option_and_then, unwrap_or, codes, ℤ, decimal}
-use Rattle.std.specs.Fmt.{signed_decimal}
-use Rattle.std.specs.List.{flat_map}
+use Rattle.std.specs.Prelude.{ℕ, List, [], ◌∷◌, ◌==◌, nat_lt, if◌then◌else◌, Option, Some, None, length, slice_get, slice_index_or, option_map, option_and_then, unwrap_or, codes, decimal}
 use Rattle.room_kinds.specs.declared.numbers.Incarnation.{Incarnation}
 use Rattle.room_kinds.specs.declared.numbers.Endpoint.{Endpoint}
 use Rattle.room_kinds.specs.declared.message.Msg.{Msg}
@@ -71,7 +69,3 @@ endpoint_parts t e =
 abbrev pub source_parts : Tables → Option Endpoint → List (List ℕ)
 source_parts t None = codes "-" ∷ []
 source_parts t (Some e) = endpoint_parts t e
-
--- numbers, each after a blank
-abbrev pub numbers_text : List ℤ → List ℕ
-numbers_text zs = flat_map (λ z. 32 ∷ signed_decimal z) zs

@@ -5,7 +5,8 @@ use Rattle.room_wiring.specs.declared.tables.Tables.{Tables}
 use Rattle.journal.specs.declared.entry.Entry.{Entry}
 use Rattle.journal.specs.declared.entry.Journals.{Journals}
 use Rattle.journal.specs.declared.entry.Left.{Left}
-use Rattle.journal.specs.Lines.{line, controller_line, entry_text, left_line, unposted_line}
+use Rattle.line_text.specs.Lines.{line}
+use Rattle.journal.specs.Lines.{controller_line, entry_text, left_line, unposted_line}
 
 -- a journal's entries
 unfoldable pub journal_text : Tables → List Entry → List ℕ

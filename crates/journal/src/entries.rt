@@ -1,15 +1,15 @@
 //! Journals as text, line by line.
 ghost use Rattle.std.specs.Prelude.{◌≡◌, ℕ, false, Some, [], ◌∷◌, ◌++◌};
-ghost use Rattle.journal.specs.Lines.{line, turn_parts, turn_line, note_line, note_lines, speaker_after, is_duty, speaker_of, start_line, fetch_line, post_line, entry_text, where_text, left_line, unposted_line};
-ghost use Rattle.journal.specs.Parts.{part_texts};
+ghost use Rattle.line_text.specs.Lines.{line};
+ghost use Rattle.journal.specs.Lines.{turn_parts, turn_line, note_line, note_lines, speaker_after, is_duty, speaker_of, start_line, fetch_line, post_line, entry_text, where_text, left_line, unposted_line};
+ghost use Rattle.line_text.specs.Parts.{part_texts};
 ghost use Rattle.journal.specs.Text.{title_of, journal_text, controller_text, controllers_text, left_text, unposted_text, end_line, text_of};
-ghost use Rattle.journal.specs.Output.{Puts, at_rest};
+ghost use Rattle.line_text.specs.Output.{Puts, at_rest};
 
-use crate::buffer::LineBuffer;
 use crate::entry::{Did, Entry, Journal, Journals, Left};
-use crate::lines::{write_actor_line, write_line, write_message_line, write_standing_line};
+use crate::lines::{write_actor_line, write_message_line, write_standing_line};
 use crate::naming;
-use crate::part::Part;
+use line_text::{LineBuffer, Part, write_line};
 use room_kinds::{ControllerId, Incarnation, Msg, Note, SlotId, Stamp};
 use room_outside::{Sink, WriteFault};
 use room_wiring::Wiring;

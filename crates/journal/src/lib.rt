@@ -1,12 +1,10 @@
 //! The journals of a run.
 #![tactic(auto)]
 
-mod buffer;
 mod entries;
 mod entry;
 mod lines;
 mod naming;
-mod part;
 #[cfg(test)]
 mod tests;
 mod text;

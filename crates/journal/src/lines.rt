@@ -2,29 +2,16 @@
 ghost use Rattle.std.specs.Prelude.{◌≡◌, [], ◌∷◌, ◌++◌};
 ghost use Rattle.std.specs.List.{concat};
 ghost use Rattle.journal.specs.Names.{incarnation_parts, endpoint_parts, source_parts};
-ghost use Rattle.journal.specs.Lines.{line, priority_parts, signal_parts, message_parts, standing_parts};
-ghost use Rattle.journal.specs.Parts.{part_texts};
-ghost use Rattle.journal.specs.Output.{Puts, at_rest};
+ghost use Rattle.line_text.specs.Lines.{line};
+ghost use Rattle.journal.specs.Lines.{priority_parts, signal_parts, message_parts, standing_parts};
+ghost use Rattle.line_text.specs.Parts.{part_texts};
+ghost use Rattle.line_text.specs.Output.{Puts, at_rest};
 
-use crate::buffer::LineBuffer;
 use crate::naming;
-use crate::part::Part;
+use line_text::{LineBuffer, Part};
 use room_kinds::{Endpoint, Incarnation, Msg, Priority};
 use room_outside::{Sink, WriteFault};
 use room_wiring::Wiring;
-
-/// Writes a line of these parts. What the buffer held before is lost.
-pub fn write_line<K: Sink>(
-    out: &mut LineBuffer,
-    sink: &mut K,
-    parts: &[Part],
-) -> Result<(), WriteFault>
-    ensures { Puts result (at_rest (K.written sink.old)) (at_rest (K.written sink.new)) (line (part_texts parts.now)) }
-{
-    out.clear();
-    out.put_all(sink, parts)?;
-    out.end_line(sink)
-}
 
 fn put_incarnation<K: Sink>(
     out: &mut LineBuffer,

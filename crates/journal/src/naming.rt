@@ -6,9 +6,9 @@ ghost use Rattle.std.specs.Option.{option_copied};
 ghost use Rattle.room_wiring.specs.Slots.{slot_at, class_of};
 ghost use Rattle.journal.specs.Names.{party_text, path_text, port_at, port_text, state_text, kind_text, signal_of_port_text, port_signal_text, signal_text};
 ghost use Rattle.journal.specs.Lines.{speaking_port_text};
-ghost use Rattle.journal.specs.Parts.{part_text};
+ghost use Rattle.line_text.specs.Parts.{part_text};
 
-use crate::part::Part;
+use line_text::Part;
 use room_kinds::{ControllerId, Msg, SlotId};
 use room_wiring::{ClassNames, PortNames, Slot, Wiring};
 

@@ -3,9 +3,9 @@ ghost use Rattle.std.specs.Prelude.{OnOk, OnErr};
 ghost use Rattle.room_outside.specs.Written.{Appends, BreaksOff};
 ghost use Rattle.journal.specs.Text.{text_of};
 
-use crate::buffer::LineBuffer;
 use crate::entries::write_text;
 use crate::entry::Journals;
+use line_text::LineBuffer;
 use room_outside::{Sink, WriteFault};
 use room_wiring::Wiring;
 

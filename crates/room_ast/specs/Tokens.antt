@@ -17,8 +17,8 @@ use Rattle.room_ast.specs.declared.actor.LayerConnection.{LayerConnection}
 use Rattle.room_ast.specs.declared.actor.Places.{Places}
 use Rattle.room_ast.specs.declared.actor.Places.TheVariants as places
 use Rattle.room_ast.specs.declared.actor.Port.{Port}
-use Rattle.room_ast.specs.declared.actor.RefKind.{RefKind}
-use Rattle.room_ast.specs.declared.actor.RefKind.TheVariants as refs
+use Rattle.room_kinds.specs.declared.structure.ReferenceKind.{ReferenceKind}
+use Rattle.room_kinds.specs.declared.structure.ReferenceKind.TheVariants as refs
 use Rattle.room_ast.specs.declared.actor.ServiceAccess.{ServiceAccess}
 use Rattle.room_ast.specs.declared.actor.ServiceImplementation.{ServiceImplementation}
 use Rattle.room_ast.specs.declared.actor.ServiceProvision.{ServiceProvision}
@@ -225,7 +225,7 @@ abbrev mutual
 
 -- ---- actor references, bindings and layer connections
 
-abbrev pub ref_kind : RefKind → List TokenValue
+abbrev pub ref_kind : ReferenceKind → List TokenValue
 ref_kind refs.Fixed = word words.Fixed
 ref_kind refs.Optional = word words.Optional
 ref_kind refs.Imported = word words.Imported

@@ -3,7 +3,7 @@
 use crate::chart::StateMachine;
 use crate::name::Name;
 use crate::protocol::{Attribute, Usercode};
-use room_kinds::Sequence;
+use room_kinds::{ReferenceKind, Sequence};
 
 /// `eventdriven`, which may be missing, `ActorClass` name `{` interface, structure, behavior `}`
 #[derive(Drop)]
@@ -87,17 +87,10 @@ pub struct ServiceImplementation {
 /// A reference without a word is fixed, and one without a count stands for one actor.
 #[derive(Drop)]
 pub struct ActorRef {
-    pub kind: Option<RefKind>,
+    pub kind: Option<ReferenceKind>,
     pub name: Name,
     pub count: Option<u64>,
     pub class: Name,
-}
-
-#[derive(Clone, Copy, Debug, PartialEq, Eq)]
-pub enum RefKind {
-    Fixed,
-    Optional,
-    Imported,
 }
 
 /// `Binding` side `and` side

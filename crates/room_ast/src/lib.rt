@@ -13,7 +13,7 @@ mod text;
 
 pub use actor::{
     ActorClass, ActorRef, Behavior, Binding, ExternalPort, InterfaceItem, LayerConnection, Places,
-    Port, RefKind, ServiceAccess, ServiceImplementation, ServiceProvision, Side, StructureItem,
+    Port, ServiceAccess, ServiceImplementation, ServiceProvision, Side, StructureItem,
 };
 pub use chart::{
     ChoicePoint, Code, CodeText, Event, EventPort, GraphItem, Point, PointKind, Source, State,

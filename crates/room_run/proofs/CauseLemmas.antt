@@ -1,32 +1,30 @@
 -- From what was read to what runs, and why a call is refused.
-use Rattle.std.proofs.Common.{◌≡◌, ℕ, ◌≤◌, List, length, Option, Some, None, IfSome, sym, subst}
+use Rattle.std.proofs.Common.{◌≡◌, ℕ, ◌≤◌, List, length, Option, Some, None, IfSome, Result, Ok, Err, sym, subst}
+use Rattle.std.specs.Prelude.{IfOk, IfErr}
 use Rattle.room_outside.specs.Shown.{Shown, Keeps}
 use Rattle.room_outside.proofs.ShelfLemmas.{IfSome-before, Rose-before}
-use Rattle.first_form.specs.Text.{IsFirstForm}
 use Rattle.first_form.specs.Lines.{IsLinesOf}
 use Rattle.first_form.specs.declared.model.FirstModel.{FirstModel}
 use Rattle.first_form.specs.declared.model.FirstLine.{FirstLine}
 use Rattle.room_run.specs.Words.{Files, files_named}
-use Rattle.room_run.specs.Causes.{IsModel, IsInjections, TextIs, NamesRun, ModelCauses, InjectionsCauses, injections_unread, injections_long, injections_strange, injections_no_memory, Causes, of_model, of_injections, most_bytes}
+use Rattle.room_run.specs.Models.{IsModel, TextCauses, most_bytes}
+use Rattle.room_run.specs.Causes.{IsInjections, TextIs, NamesRun, ModelCauses, InjectionsCauses, model_refused, injections_unread, injections_long, injections_strange, injections_no_memory, Causes, of_model, of_injections}
 use Rattle.room_run.specs.declared.refusal.Refusal.{Refusal}
 
 -- ---- the model
 
-found_model : (o : Option (List ℕ)) (bytes : List ℕ) (m : FirstModel) → IfSome o (λ text. bytes ≡ text) → length bytes ≤ most_bytes → IsFirstForm bytes m → IfSome o (λ text. IsModel text m)
-found_model None bytes m is few form = tt
-found_model (Some text) bytes m is few form = record { short = subst (λ t. length t ≤ most_bytes) is few; form = subst (λ t. IsFirstForm t m) is form }
+found_fact : (P : List ℕ → Type 0) (o : Option (List ℕ)) (bytes : List ℕ) → IfSome o (λ text. bytes ≡ text) → P bytes → IfSome o P
+found_fact P None bytes is h = tt
+found_fact P (Some text) bytes is h = subst P is h
 
--- the model that was found is that of the text
-pub model_found : (shelf : Shown) (name bytes : List ℕ) (m : FirstModel) → IfSome (shelf.text name) (λ text. bytes ≡ text) → length bytes ≤ most_bytes → IsFirstForm bytes m → TextIs shelf name (λ text. IsModel text m)
-model_found shelf name bytes m is few form = found_model (shelf.text name) bytes m is few form
+-- what was found of a text is so of the one that is shown
+pub judged_model : (shelf : Shown) (name bytes : List ℕ) (r : Result FirstModel Refusal) → IfSome (shelf.text name) (λ text. bytes ≡ text) → IfOk r (λ m. IsModel bytes m) → IfOk r (λ m. TextIs shelf name (λ text. IsModel text m))
+judged_model shelf name bytes (Ok m) is h = found_fact (λ text. IsModel text m) (shelf.text name) bytes is h
+judged_model shelf name bytes (Err why) is h = tt
 
-no_model : (o : Option (List ℕ)) (bytes : List ℕ) → IfSome o (λ text. bytes ≡ text) → ((m : FirstModel) → IsFirstForm bytes m → ⊥) → IfSome o (λ text. (m : FirstModel) → IsModel text m → ⊥)
-no_model None bytes is none = tt
-no_model (Some text) bytes is none = λ m h. none m (subst (λ t. IsFirstForm t m) (sym is) h.form)
-
--- no model has the text
-pub model_none : (before after : Shown) (name bytes : List ℕ) → IfSome (before.text name) (λ text. bytes ≡ text) → ((m : FirstModel) → IsFirstForm bytes m → ⊥) → TextIs before name (λ text. (m : FirstModel) → IsModel text m → ⊥)
-model_none before after name bytes is none = no_model (before.text name) bytes is none
+pub judged_cause : (before after : Shown) (name bytes : List ℕ) (r : Result FirstModel Refusal) → IfSome (before.text name) (λ text. bytes ≡ text) → IfErr r (λ why. TextCauses bytes why) → IfErr r (λ why. ModelCauses before after name why)
+judged_cause before after name bytes (Ok m) is h = tt
+judged_cause before after name bytes (Err why) is h = model_refused why (found_fact (λ text. TextCauses text why) (before.text name) bytes is h)
 
 -- ---- the injections
 
@@ -55,8 +53,8 @@ lines_causes_before {a} {b} {c} {name} k (injections_strange h) = injections_str
 lines_causes_before k injections_no_memory = injections_no_memory
 
 -- the words name files, and the model is refused
-pub model_refused : (before after : Shown) (words : List (List ℕ)) (files : Files) (why : Refusal) → files_named words ≡ Some files → ModelCauses before after files.model why → Causes before after words why
-model_refused before after words files why named h = of_model files named h
+pub model_cause_of : (before after : Shown) (words : List (List ℕ)) (files : Files) (why : Refusal) → files_named words ≡ Some files → ModelCauses before after files.model why → Causes before after words why
+model_cause_of before after words files why named h = of_model files named h
 
 -- the model was read, and the injections are refused
 pub injections_refused : (before middle after : Shown) (words : List (List ℕ)) (files : Files) (m : FirstModel) (why : Refusal) → files_named words ≡ Some files → TextIs before files.model (λ text. IsModel text m) → Keeps before middle → InjectionsCauses middle after files.injections m why → Causes before after words why

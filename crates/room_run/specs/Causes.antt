@@ -1,25 +1,17 @@
 -- Which texts run, and why a call is refused.
-use Rattle.std.specs.Prelude.{◌≡◌, ℕ, ◌<◌, ◌≤◌, List, ◌++◌, ◌∷◌, [], length, Some, None, IfSome, IsSome, codes}
+use Rattle.std.specs.Prelude.{◌≡◌, ℕ, ◌<◌, ◌≤◌, List, ◌∷◌, [], length, Some, None, IfSome, IsSome, codes, decimal}
 use Rattle.room_outside.specs.Faults.{Rose}
 use Rattle.room_outside.specs.Shown.{Shown}
-use Rattle.first_form.specs.Text.{IsFirstForm}
+use Rattle.line_text.specs.Lines.{line}
 use Rattle.first_form.specs.Lines.{IsLinesOf}
 use Rattle.first_form.specs.declared.model.FirstModel.{FirstModel}
 use Rattle.first_form.specs.declared.model.FirstLine.{FirstLine}
 use Rattle.room_run.specs.Words.{Files, files_named}
+use Rattle.room_run.specs.Models.{IsModel, TextCauses, most_bytes}
 use Rattle.room_run.specs.declared.refusal.Refusal.{Refusal}
 use Rattle.room_run.specs.declared.refusal.Refusal.TheVariants as refusals
 use Rattle.room_run.specs.declared.status.Status.{Status}
 use Rattle.room_run.specs.declared.status.Status.TheVariants as statuses
-
--- the most bytes of a text
-abbrev pub most_bytes : ℕ
-most_bytes = 1048576
-
--- the text is that of a model which runs
-pub record IsModel (text : List ℕ) (model : FirstModel) : Type 0 where
-  pub short : length text ≤ most_bytes
-  pub form : IsFirstForm text model
 
 -- the text is that of injections which run on a model
 pub record IsInjections (model : FirstModel) (text : List ℕ) (lines : List FirstLine) : Type 0 where
@@ -49,7 +41,7 @@ RoseAt before after name = Rose (before.faults name) (after.faults name)
 pub data ModelCauses (before after : Shown) (name : List ℕ) : Refusal → Type 0 where
   model_unread : RoseAt before after name → ModelCauses before after name refusals.ReadFault
   model_long : TextIs before name (λ text. most_bytes < length text) → ModelCauses before after name refusals.ModelTooLong
-  model_strange : TextIs before name (λ text. (model : FirstModel) → IsModel text model → ⊥) → ModelCauses before after name refusals.ModelLater
+  model_refused : (why : Refusal) → TextIs before name (λ text. TextCauses text why) → ModelCauses before after name why
   model_no_memory : ModelCauses before after name refusals.Memory
 
 -- why the injections may be refused, whose text is looked for under a name
@@ -71,22 +63,24 @@ pub data Causes (before after : Shown) (words : List (List ℕ)) (why : Refusal)
 abbrev pub status_of : Refusal → Status
 status_of refusals.Words = statuses.WordsRefused
 status_of refusals.ModelTooLong = statuses.ModelRefused
+status_of (refusals.ModelByte offset) = statuses.ModelRefused
+status_of refusals.ModelTooDeep = statuses.ModelRefused
+status_of (refusals.ModelSyntax number) = statuses.ModelRefused
 status_of refusals.ModelLater = statuses.ModelRefused
 status_of refusals.InjectionsTooLong = statuses.InjectionsRefused
 status_of refusals.InjectionsLater = statuses.InjectionsRefused
 status_of refusals.ReadFault = statuses.ReadFault
 status_of refusals.Memory = statuses.Memory
 
--- a text and a line feed
-abbrev pub as_line : List ℕ → List ℕ
-as_line text = text ++ 10 ∷ []
-
--- what is told of a refusal
-unfoldable pub note_of : Refusal → List ℕ
-note_of refusals.Words = as_line (codes "room: words refused")
-note_of refusals.ModelTooLong = as_line (codes "room: model refused: too long")
-note_of refusals.ModelLater = as_line (codes "room: model refused: later")
-note_of refusals.InjectionsTooLong = as_line (codes "room: injections refused: too long")
-note_of refusals.InjectionsLater = as_line (codes "room: injections refused: later")
-note_of refusals.ReadFault = as_line (codes "room: read fault")
-note_of refusals.Memory = as_line (codes "room: memory")
+-- what is told of a refusal: one line, numbers in decimal digits
+abbrev pub note_of : Refusal → List ℕ
+note_of refusals.Words = line (codes "room: words refused" ∷ [])
+note_of refusals.ModelTooLong = line (codes "room: model refused: too long" ∷ [])
+note_of (refusals.ModelByte offset) = line (codes "room: model refused: byte " ∷ decimal offset ∷ [])
+note_of refusals.ModelTooDeep = line (codes "room: model refused: too deep" ∷ [])
+note_of (refusals.ModelSyntax number) = line (codes "room: model refused: syntax " ∷ decimal number ∷ [])
+note_of refusals.ModelLater = line (codes "room: model refused: later" ∷ [])
+note_of refusals.InjectionsTooLong = line (codes "room: injections refused: too long" ∷ [])
+note_of refusals.InjectionsLater = line (codes "room: injections refused: later" ∷ [])
+note_of refusals.ReadFault = line (codes "room: read fault" ∷ [])
+note_of refusals.Memory = line (codes "room: memory" ∷ [])

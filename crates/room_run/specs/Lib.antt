@@ -1,4 +1,6 @@
 pub mod Words
 pub mod Statuses
+pub mod Models
+pub mod Reading
 pub mod Causes
 pub mod Outcome

@@ -5,6 +5,8 @@
 #![tactic(auto)]
 
 mod files;
+mod judge;
+mod note;
 mod prepare;
 mod refusal;
 mod status;

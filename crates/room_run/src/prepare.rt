@@ -3,16 +3,18 @@ ghost use Rattle.std.specs.Prelude.{◌≡◌, ◌≤◌, List, map, length, IfO
 ghost use Rattle.std.specs.String.{string_bytes};
 ghost use Rattle.room_outside.specs.Shown.{Keeps};
 ghost use Rattle.first_form.specs.FirstModel.{MeetsConditions};
-ghost use Rattle.first_form.specs.Text.{HasNames, symbols_of};
+ghost use Rattle.first_form.specs.Names.{IsNamed};
 ghost use Rattle.first_form.specs.Lines.{AreInRange};
-ghost use Rattle.room_run.specs.Causes.{Causes, InjectionsCauses, IsInjections, IsModel, ModelCauses, NamesRun, TextIs};
+ghost use Rattle.room_run.specs.Models.{IsModel};
+ghost use Rattle.room_run.specs.Causes.{Causes, InjectionsCauses, IsInjections, ModelCauses, NamesRun, TextIs};
 ghost use Rattle.room_run.specs.Outcome.{IsRunOf};
 ghost use Rattle.first_form.specs.declared.model.FirstModel.{FirstModel as Model};
 ghost use Rattle.first_form.specs.declared.model.FirstLine.{FirstLine as Line};
 
 use crate::files::files_of;
+use crate::judge::judge;
 use crate::refusal::Refusal;
-use first_form::{FirstFault, FirstLine, FirstModel, read_first, read_first_lines};
+use first_form::{FirstFault, FirstLine, FirstModel, read_first_lines};
 use first_run::{FlatChart, run_first};
 use first_wiring::wiring_of;
 use journal::Journals;
@@ -32,7 +34,7 @@ pub(crate) struct Finished {
 fn read_model<S: Shelf>(alloc: Global, shelf: &mut S, name: &str) -> Result<FirstModel, Refusal>
     ensures ok { IfOk result (λ model. TextIs (S.shown shelf.old) name.now (λ text. IsModel text model)) }
     ensures conditions { IfOk result (λ model. MeetsConditions model) }
-    ensures names { IfOk result (λ model. HasNames (symbols_of model)) }
+    ensures names { IfOk result (λ model. IsNamed model) }
     ensures err { IfErr result (λ why. ModelCauses (S.shown shelf.old) (S.shown shelf.new) name.now why) }
     ensures keeps { Keeps (S.shown shelf.old) (S.shown shelf.new) }
 {
@@ -42,11 +44,7 @@ fn read_model<S: Shelf>(alloc: Global, shelf: &mut S, name: &str) -> Result<Firs
         Err(ReadRefused::TooLong) => return Err(Refusal::ModelTooLong),
         Err(ReadRefused::Memory) => return Err(Refusal::Memory),
     };
-    match read_first(alloc, text.as_slice()) {
-        Ok(model) => Ok(model),
-        Err(FirstFault::Later) => Err(Refusal::ModelLater),
-        Err(FirstFault::Memory) => Err(Refusal::Memory),
-    }
+    judge(alloc, text.as_slice())
 }
 
 /// The injections whose text stands under a name.
@@ -57,7 +55,7 @@ fn read_injections<S: Shelf>(
     model: &FirstModel,
 ) -> Result<Sequence<FirstLine>, Refusal>
     requires conditions { MeetsConditions model.now }
-    requires names { HasNames (symbols_of model.now) }
+    requires names { IsNamed model.now }
     ensures ok { IfOk result (λ lines. TextIs (S.shown shelf.old) name.now (λ text. IsInjections model.now text lines)) }
     ensures few { IfOk result (λ lines. length lines ≤ 10000) }
     ensures in_range { IfOk result (λ lines. AreInRange model.now lines) }
@@ -80,7 +78,7 @@ fn read_injections<S: Shelf>(
 /// The run of a model over lines, which the words named.
 fn run(alloc: Global, model: &FirstModel, lines: &[FirstLine]) -> Result<Finished, AllocError>
     requires conditions { MeetsConditions model.now }
-    requires names { HasNames (symbols_of model.now) }
+    requires names { IsNamed model.now }
     requires few { length lines.now ≤ 10000 }
     requires lines { AreInRange model.now lines.now }
     ensures { IfOk result (λ f. IsRunOf model.now lines.now f.wiring f.journals) }

@@ -1,6 +1,6 @@
 //! Why a call was refused.
 ghost use Rattle.std.specs.Prelude.{◌≡◌};
-ghost use Rattle.room_run.specs.Causes.{note_of, status_of};
+ghost use Rattle.room_run.specs.Causes.{status_of};
 
 use crate::status::Status;
 
@@ -9,6 +9,13 @@ use crate::status::Status;
 pub enum Refusal {
     Words,
     ModelTooLong,
+    /// The model can't be cut into tokens at this byte, counted from 0.
+    ModelByte { offset: usize },
+    /// More braces stand open at some place of the model than may (`room_parser` says how many).
+    ModelTooDeep,
+    /// No model has these tokens. The line, from 1, is that of the first token with which no model
+    /// goes on, or of the end of the text.
+    ModelSyntax { line: u32 },
     ModelLater,
     InjectionsTooLong,
     InjectionsLater,
@@ -22,26 +29,14 @@ impl Refusal {
     {
         match self {
             Refusal::Words => Status::WordsRefused,
-            Refusal::ModelTooLong | Refusal::ModelLater => Status::ModelRefused,
+            Refusal::ModelTooLong => Status::ModelRefused,
+            Refusal::ModelByte { .. } => Status::ModelRefused,
+            Refusal::ModelTooDeep => Status::ModelRefused,
+            Refusal::ModelSyntax { .. } => Status::ModelRefused,
+            Refusal::ModelLater => Status::ModelRefused,
             Refusal::InjectionsTooLong | Refusal::InjectionsLater => Status::InjectionsRefused,
             Refusal::ReadFault => Status::ReadFault,
             Refusal::Memory => Status::Memory,
-        }
-    }
-
-    /// The line that tells of it.
-    #[tactic(auto, unfolding(crate::specs::Causes::note_of))]
-    pub(crate) fn note(self) -> &'static [u8]
-        ensures { result.now ≡ note_of self }
-    {
-        match self {
-            Refusal::Words => b"room: words refused\n",
-            Refusal::ModelTooLong => b"room: model refused: too long\n",
-            Refusal::ModelLater => b"room: model refused: later\n",
-            Refusal::InjectionsTooLong => b"room: injections refused: too long\n",
-            Refusal::InjectionsLater => b"room: injections refused: later\n",
-            Refusal::ReadFault => b"room: read fault\n",
-            Refusal::Memory => b"room: memory\n",
         }
     }
 }

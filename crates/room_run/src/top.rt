@@ -4,18 +4,19 @@ ghost use Rattle.std.specs.String.{string_bytes};
 ghost use Rattle.journal.specs.Text.{text_of};
 ghost use Rattle.room_run.specs.Outcome.{Prints, Outcome, Tells};
 
+use crate::note::write_note;
 use crate::prepare::{Finished, prepare};
 use crate::refusal::Refusal;
 use crate::status::Status;
 use journal::text_to;
-use room_outside::{Gate, Shelf, Sink, write_whole};
+use room_outside::{Gate, Shelf, Sink};
 use std::alloc::Global;
 
 /// Tells why the call was refused, and gives its status.
 fn tell<K: Sink>(why: Refusal, notes: &mut K) -> Status
     ensures { Tells (K.written notes.old) (K.written notes.new) why result }
 {
-    match write_whole(notes, why.note()) {
+    match write_note(why, notes) {
         Ok(()) => why.status(),
         Err(_) => Status::WriteFault,
     }

@@ -4,3 +4,4 @@ pub mod Loop
 pub mod Readers
 pub mod Whole
 pub mod Singles
+pub mod Exact

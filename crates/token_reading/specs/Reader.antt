@@ -1,5 +1,5 @@
 -- Readers of a list. A reader answers what it read and what is left, or None.
-use Rattle.std.specs.Prelude.{◌≡◌, ℕ, zero, suc, List, [], ◌∷◌, ◌++◌, length, Bool, Option, Some, None, option_map, option_and_then, Result, Ok, Err, if◌then◌else◌}
+use Rattle.std.specs.Prelude.{◌≡◌, ℕ, zero, suc, List, [], ◌∷◌, ◌++◌, length, Bool, true, false, Option, Some, None, option_map, option_and_then, Result, Ok, Err, if◌then◌else◌}
 use Rattle.token_reading.specs.declared.fault.ReadFault.{ReadFault}
 use Rattle.token_reading.specs.declared.fault.ReadFault.TheVariants as faults
 
@@ -21,6 +21,16 @@ infixr 30 ◌⊕◌
 abbrev pub ◌⊕◌ : {V A B : Type 0} → Reader V A → Reader V B → Reader V (A × B)
 (p ⊕ q) ts = option_and_then (λ x. option_and_then (λ y. Some ((x.0, y.0), y.1)) (q x.1)) (p ts)
 
+-- one reader that reads nothing of worth, and then another
+infixr 30 ◌▹◌
+abbrev pub ◌▹◌ : {V B : Type 0} → Reader V (Unit {0}) → Reader V B → Reader V B
+(p ▹ q) ts = option_and_then (λ x. q x.1) (p ts)
+
+-- one reader, and then another that reads nothing of worth
+infixr 30 ◌◃◌
+abbrev pub ◌◃◌ : {V A : Type 0} → Reader V A → Reader V (Unit {0}) → Reader V A
+(p ◃ q) ts = option_and_then (λ x. option_map (λ y. (x.0, y.1)) (q x.1)) (p ts)
+
 -- what is read, as another value
 abbrev pub reads_as : {V A B : Type 0} → (A → B) → Reader V A → Reader V B
 reads_as f p ts = option_map (λ x. (f x.0, x.1)) (p ts)
@@ -28,6 +38,10 @@ reads_as f p ts = option_map (λ x. (f x.0, x.1)) (p ts)
 -- what p reads, if the test says that it comes
 unfoldable pub optional : {V A : Type 0} → (List V → Bool) → Reader V A → Reader V (Option A)
 optional here p ts = if here ts then reads_as Some p ts else Some (None, ts)
+
+-- whether what p reads comes, as the test says
+unfoldable pub flag : {V : Type 0} → (List V → Bool) → Reader V (Unit {0}) → Reader V Bool
+flag here p ts = if here ts then reads_as (λ x. true) p ts else Some (false, ts)
 
 -- As often as the test says. The number bounds the turns.
 unfoldable pub many : {V A : Type 0} → (List V → Bool) → Reader V A → ℕ → Reader V (List A)

@@ -1,5 +1,5 @@
 -- Readers of single tokens, and the values of the lexer's tokens.
-use Rattle.std.specs.Prelude.{ℕ, ◌-◌, List, [], ◌∷◌, map, length, take, drop, Option, Some, None, Bool, true, false, ◌==◌, if◌then◌else◌}
+use Rattle.std.specs.Prelude.{ℕ, ◌-◌, List, [], ◌∷◌, map, length, take, drop, Option, Some, None, is_some, option_map, Bool, true, false, ◌==◌, if◌then◌else◌}
 use Rattle.room_lexer.specs.declared.token.Mark.{Mark}
 use Rattle.room_lexer.specs.declared.token.Mark.TheVariants as marks
 use Rattle.room_lexer.specs.declared.word.Word.{Word}
@@ -11,7 +11,7 @@ use Rattle.room_ast.specs.Values.{TokenValue, AWord, AName, ANumber, AString, AB
 use Rattle.room_ast.specs.declared.protocol.PlainValue.{PlainValue}
 use Rattle.room_ast.specs.declared.protocol.PlainValue.TheVariants as plain
 use Rattle.token_reading.specs.Contents.{string_contents, block_contents}
-use Rattle.token_reading.specs.Reader.{Reader}
+use Rattle.token_reading.specs.Reader.{Reader, ◌▹◌, ◌◃◌, all_while}
 use Rattle.token_reading.specs.declared.rest.Rest.{Rest}
 
 -- ---- the value that a token of the lexer has
@@ -173,6 +173,14 @@ mark m ts = if comes m ts then Some (tt, rest_of ts) else None
 unfoldable pub word : Word → Reader TokenValue (Unit {0})
 word w ts = if comes_word w ts then Some (tt, rest_of ts) else None
 
+-- what a word stands for, by a table of words
+unfoldable pub word_as : {A : Type 0} → (Option Word → Option A) → Reader TokenValue A
+word_as table ts = option_map (λ a. (a, rest_of ts)) (table (word_here ts))
+
+-- whether a word of a table comes
+unfoldable pub comes_as : {A : Type 0} → (Option Word → Option A) → List TokenValue → Bool
+comes_as table ts = is_some (table (word_here ts))
+
 -- ---- names, numbers and texts
 
 unfoldable pub name_at : Reader TokenValue (List ℕ)
@@ -214,3 +222,17 @@ comes_string ts = false
 unfoldable pub block_at : Reader TokenValue (List ℕ)
 block_at (ABlock text ∷ ts) = Some (text, ts)
 block_at ts = None
+
+-- ---- what stands in braces
+
+-- whether no closing brace comes
+unfoldable pub before_close : List TokenValue → Bool
+before_close ts = if comes marks.CloseBrace ts then false else true
+
+-- what p reads, as often as the test says, in braces
+abbrev pub braces_while : {A : Type 0} → (List TokenValue → Bool) → Reader TokenValue A → Reader TokenValue (List A)
+braces_while goes_on p = mark marks.OpenBrace ▹ all_while goes_on p ◃ mark marks.CloseBrace
+
+-- what p reads, up to the closing brace
+abbrev pub braces_at : {A : Type 0} → Reader TokenValue A → Reader TokenValue (List A)
+braces_at p = braces_while before_close p

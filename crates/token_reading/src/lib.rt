@@ -4,11 +4,13 @@
 
 mod contents;
 mod fault;
+mod repeat;
 mod rest;
 
 pub use contents::{block_contents, spelled, string_contents};
 pub use fault::ReadFault;
+pub use repeat::{Part, TreePart, braces, each, each_tree};
 pub use rest::{
-    Rest, block, comes, comes_name, comes_string, comes_word, name, next, number, place, skip,
-    string, take_mark, take_word, text, word_here,
+    Rest, before_close, block, comes, comes_name, comes_string, comes_word, name, next, number,
+    place, skip, string, take_mark, take_word, text, word_here, word_if,
 };

@@ -1,7 +1,7 @@
 //! What is left to read, and single tokens of it.
 ghost use Rattle.std.specs.Prelude.{◌≡◌, ◌∷◌, [], MatchOption, IfSome};
-ghost use Rattle.token_reading.specs.Reader.{Gives};
-ghost use Rattle.token_reading.specs.Single.{mark_number, word_number, same_mark, same_word, left, place_of, value_of, text_of, rest_of, comes, comes_word, comes_name, comes_string, word_here, mark as mark_at, word as word_at, name_at, number_at, string_at, block_at};
+ghost use Rattle.token_reading.specs.Reader.{Gives, flag};
+ghost use Rattle.token_reading.specs.Single.{mark_number, word_number, same_mark, same_word, left, place_of, value_of, text_of, rest_of, comes, comes_word, comes_name, comes_string, word_here, before_close, mark as mark_at, word as word_at, name_at, number_at, string_at, block_at};
 
 use crate::contents::{block_contents, string_contents};
 use crate::fault::ReadFault;
@@ -156,6 +156,14 @@ pub fn comes_string(rest: Rest) -> bool
     }
 }
 
+/// Whether no closing brace comes.
+#[tactic(auto, unfolding(crate::specs::Single::before_close))]
+pub fn before_close(rest: Rest) -> bool
+    ensures { result ≡ before_close (left rest.entry) }
+{
+    !comes(rest, Mark::CloseBrace)
+}
+
 /// Reads a mark.
 #[tactic(auto, unfolding(crate::specs::Single::mark))]
 pub fn take_mark<'a>(rest: Rest<'a>, mark: Mark) -> Result<Rest<'a>, ReadFault>
@@ -178,6 +186,18 @@ pub fn take_word<'a>(rest: Rest<'a>, word: Word) -> Result<Rest<'a>, ReadFault>
     } else {
         Err(ReadFault::Syntax(place(rest)))
     }
+}
+
+/// Whether a word comes, which is read then.
+#[tactic(auto, unfolding(crate::specs::Reader::flag))]
+pub fn word_if<'a>(rest: Rest<'a>, word: Word) -> Result<(bool, Rest<'a>), ReadFault>
+    ensures { Gives (λ x. (x.0, left x.1)) result (flag (comes_word word) (word_at word) (left rest.entry)) }
+{
+    if !comes_word(rest, word) {
+        return Ok((false, rest));
+    }
+    let rest = take_word(rest, word)?;
+    Ok((true, rest))
 }
 
 /// Reads a name.

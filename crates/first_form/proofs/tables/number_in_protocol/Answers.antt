@@ -1,7 +1,7 @@
 use Rattle.std.proofs.Common.{◌≡◌, ℕ, List, [], Some, None, refl, sym, ap, ◌∙◌, arith}
 use Rattle.std.specs.Prelude.{position}
 use Rattle.std.specs.List.{slice_index_or}
-use Rattle.first_form.specs.Words.{same}
+use Rattle.name_numbers.specs.Names.{same}
 use Rattle.first_form.specs.FirstModel.{messages_in}
 use Rattle.first_form.proofs.Messages.{in_tables, not_in_tables}
 use Rattle.first_form.proofs.tables.number_in_protocol.Goals as goal

@@ -1,6 +1,6 @@
 use Rattle.std.proofs.Common.{◌≡◌, take}
-use Rattle.first_form.specs.View.{texts}
+use Rattle.name_numbers.specs.Names.{names_of}
 use Rattle.first_wiring.proofs.labels.labels.Given as goal
 
 abbrev pub invariant-loop-name : goal.invariant-loop-name
-invariant-loop-name l = l.all ≡ texts (take l.name-index l.names)
+invariant-loop-name l = l.all ≡ names_of (take l.name-index l.names)

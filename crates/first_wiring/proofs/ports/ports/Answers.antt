@@ -1,6 +1,6 @@
 use Rattle.std.proofs.Common.{List, map, sym, subst}
 use Rattle.first_form.specs.declared.model.Port.{Port}
-use Rattle.first_wiring.specs.Names.{AreNames}
+use Rattle.first_form.specs.Names.{AreNames}
 use Rattle.first_wiring.specs.Wirings.{frame_port, port_of}
 use Rattle.first_wiring.proofs.PortLaws.{port_name, port_protocol, ports_next}
 use Rattle.first_wiring.proofs.ports.ports.Goals as goal

@@ -1,5 +1,6 @@
 use Rattle.std.proofs.lemmas.Result.{err_from_is_err_and}
-use Rattle.journal.proofs.Going.{going_begin, going_on, going_controller, going_controllers_end, going_breaks}
+use Rattle.line_text.proofs.Going.{going_begin, going_on, going_breaks}
+use Rattle.journal.proofs.JournalGoing.{going_controller, going_controllers_end}
 use Rattle.journal.proofs.entries.write_controllers.Goals as goal
 
 pub loop-c-init : goal.loop-c-init

@@ -1,5 +1,6 @@
 use Rattle.std.proofs.lemmas.Result.{err_from_is_err_and}
-use Rattle.journal.proofs.Going.{going_begin, going_on, going_note, going_notes_end, going_breaks}
+use Rattle.line_text.proofs.Going.{going_begin, going_on, going_breaks}
+use Rattle.journal.proofs.JournalGoing.{going_note, going_notes_end}
 use Rattle.journal.proofs.entries.write_notes.Goals as goal
 
 pub loop-note-init : goal.loop-note-init

@@ -1,8 +1,8 @@
 use Rattle.std.proofs.Common.{drop}
 use Rattle.std.specs.List.{flat_map}
-use Rattle.journal.specs.Output.{at_rest}
+use Rattle.line_text.specs.Output.{at_rest}
 use Rattle.journal.specs.Lines.{unposted_line}
-use Rattle.journal.proofs.Going.{Going}
+use Rattle.line_text.proofs.Going.{Going}
 use Rattle.journal.proofs.entries.write_unposted.Given as goal
 
 abbrev pub invariant-loop-number : goal.invariant-loop-number

@@ -1,4 +1,4 @@
-use Rattle.journal.proofs.OutputLemmas.{puts_off}
+use Rattle.line_text.proofs.OutputLemmas.{puts_off}
 use Rattle.journal.proofs.text.text_to.Goals as goal
 
 pub returns-clause-fault : goal.returns-clause-fault

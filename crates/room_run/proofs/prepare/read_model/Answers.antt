@@ -1,6 +1,5 @@
-use Rattle.std.proofs.Common.{◌≤◌, length, arith}
-use Rattle.room_run.specs.Causes.{model_unread, model_long, model_strange, model_no_memory}
-use Rattle.room_run.proofs.CauseLemmas.{model_found, model_none}
+use Rattle.room_run.specs.Causes.{model_unread, model_long, model_no_memory}
+use Rattle.room_run.proofs.CauseLemmas.{judged_model, judged_cause}
 use Rattle.room_run.proofs.prepare.read_model.Goals as goal
 
 pub returns-in-Err-ReadFault-clause-err : goal.returns-in-Err-ReadFault-clause-err
@@ -12,14 +11,9 @@ returns-in-Err-TooLong-clause-err g c = model_long (c.in-Err-TooLong.ensures.too
 pub returns-in-Err-Memory-clause-err : goal.returns-in-Err-Memory-clause-err
 returns-in-Err-Memory-clause-err g c = model_no_memory
 
-pub returns-in-Ok-read_first-clause-ok : goal.returns-in-Ok-read_first-clause-ok
-returns-in-Ok-read_first-clause-ok g c =
-    let short : length c.as_slice.result.now ≤ 1048576 = omega (arith, c.in-Ok.ensures.short, c.as_slice.ensures.len) in
-    model_found (g.S.Shelf.shown c.args.shelf.now) c.args.name.now c.as_slice.result.now c.in-Ok-read_first.model (rw c.as_slice.ensures.value c.in-Ok.ensures.whole) short c.in-Ok-read_first.ensures.found
-
-pub returns-in-Err-Later-clause-err : goal.returns-in-Err-Later-clause-err
-returns-in-Err-Later-clause-err g c =
-    model_strange (model_none (g.S.Shelf.shown c.args.shelf.now) (g.S.Shelf.shown c.read_whole.new.shelf) c.args.name.now c.as_slice.result.now (rw c.as_slice.ensures.value c.in-Ok.ensures.whole) (c.in-Err-Later.ensures.later (cc)))
+pub returns-clause-ok : goal.returns-clause-ok
+returns-clause-ok g c = judged_model (g.S.Shelf.shown c.args.shelf.now) c.args.name.now c.as_slice.result.now c.judge.result (rw c.as_slice.ensures.value c.in-Ok.ensures.whole) c.judge.ensures.ok
 
 pub returns-clause-err : goal.returns-clause-err
-returns-clause-err g c = model_no_memory
+returns-clause-err g c =
+    judged_cause (g.S.Shelf.shown c.args.shelf.now) (g.S.Shelf.shown c.read_whole.new.shelf) c.args.name.now c.as_slice.result.now c.judge.result (rw c.as_slice.ensures.value c.in-Ok.ensures.whole) c.judge.ensures.err

@@ -1,0 +1,2 @@
+pub mod ExactCodes
+pub mod ExactGraphs

@@ -1,0 +1,9 @@
+//! Reading state machines: code, triggers, transitions, states and graphs.
+#![tactic(auto)]
+
+mod codes;
+mod graphs;
+mod transitions;
+mod trigger_lists;
+
+pub use graphs::state_machine;

@@ -1,0 +1,3 @@
+pub mod OpenBraces
+pub mod ExactClasses
+pub mod WhatParsingAnswers

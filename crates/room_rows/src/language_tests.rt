@@ -1,0 +1,114 @@
+//! Models of the whole language: what runs, and how the rest is refused. These cases need the
+//! parser of the whole language.
+use crate::Case;
+use room_run::Status;
+use std::process::Abort;
+use std::test::Fail;
+
+const COMMENTED: &str = "/* a */RoomModel M { // b
+LogicalSystem L {\tSubSystemRef s: S }\r
+SubSystemClass/**/S { ActorRef top: T }
+ActorClass T [ \"c\" ] { Behavior { StateMachine { Transition i: initial -> A { } State A } } }
+} // the end";
+
+const SMALLEST_JOURNAL: &str = "room-journal 1
+controller 0 default
+start top#1 A
+environment
+done
+";
+
+const WITHOUT_LAST_BRACE: &str = "RoomModel M {
+LogicalSystem L { SubSystemRef s: S }
+SubSystemClass S { ActorRef top: T }
+ActorClass T { Behavior { StateMachine { Transition i: initial -> A { } State A } } }
+";
+
+const TWO_ACTOR_CLASSES: &str = "RoomModel M {
+LogicalSystem L { SubSystemRef s: S }
+SubSystemClass S { ActorRef top: T }
+ActorClass U { }
+ActorClass T { Behavior { StateMachine { Transition i: initial -> A { } State A } } }
+}";
+
+const STATE_WITH_ACTION: &str = "RoomModel M {
+LogicalSystem L { SubSystemRef s: S }
+SubSystemClass S { ActorRef top: T }
+ActorClass T { Behavior { StateMachine { Transition i: initial -> A { } State A { entry \"\" } } } }
+}";
+
+/// No class is named U.
+const UNKNOWN_CLASS: &str = "RoomModel M {
+LogicalSystem L { SubSystemRef s: S }
+SubSystemClass S { ActorRef top: U }
+ActorClass T { Behavior { StateMachine { Transition i: initial -> A { } State A } } }
+}";
+
+fn refuses(rt: &(impl Abort + AllocGlobal), model: &str, note: &str) -> Result<(), Fail> {
+    let told = Case::new(model, "").run(rt.alloc())?;
+    assert_eq!(rt; told.status, Status::ModelRefused);
+    assert!(rt; told.out.bytes().is_empty());
+    assert_eq!(rt; told.notes.bytes(), note.as_bytes());
+    Ok(())
+}
+
+#[test]
+fn comments_and_documentation_are_passed_over(rt: HostRuntime) -> Result<(), Fail> {
+    let told = Case::new(COMMENTED, "").run(rt.alloc())?;
+    assert_eq!(rt; told.status, Status::Done);
+    assert_eq!(rt; told.out.bytes(), SMALLEST_JOURNAL.as_bytes());
+    assert!(rt; told.notes.bytes().is_empty());
+    Ok(())
+}
+
+#[test]
+fn what_is_read_and_does_not_run_is_later(rt: HostRuntime) -> Result<(), Fail> {
+    refuses(&rt, TWO_ACTOR_CLASSES, "room: model refused: later\n")?;
+    refuses(&rt, STATE_WITH_ACTION, "room: model refused: later\n")?;
+    refuses(&rt, UNKNOWN_CLASS, "room: model refused: later\n")
+}
+
+#[test]
+fn a_text_that_cannot_be_cut_is_told_by_its_byte(rt: HostRuntime) -> Result<(), Fail> {
+    refuses(&rt, "RoomModel M { $ }", "room: model refused: byte 14\n")?;
+    refuses(&rt, "RoomModel M { \"a", "room: model refused: byte 14\n")?;
+    refuses(&rt, "RoomModel /* a", "room: model refused: byte 10\n")?;
+    refuses(&rt, "9223372036854775808", "room: model refused: byte 0\n")
+}
+
+#[test]
+fn tokens_without_a_model_are_told_by_their_line(rt: HostRuntime) -> Result<(), Fail> {
+    refuses(&rt, "", "room: model refused: syntax 1\n")?;
+    refuses(&rt, WITHOUT_LAST_BRACE, "room: model refused: syntax 5\n")
+}
+
+#[test]
+fn braces_nested_too_deep_are_told_by_name(rt: HostRuntime) -> Result<(), Fail> {
+    let mut text = String::new(rt.alloc());
+    for _ in 0..50_000 {
+        text.push_str("{{{{{{{{{{")?;
+    }
+    refuses(&rt, text.as_str(), "room: model refused: too deep\n")
+}
+
+#[test]
+fn a_note_is_written_in_one_piece(rt: HostRuntime) -> Result<(), Fail> {
+    let case = Case {
+        failing_notes: &[2],
+        ..Case::new("RoomModel M { $ }", "")
+    };
+    let told = case.run(rt.alloc())?;
+    assert_eq!(rt; told.status, Status::ModelRefused);
+    assert_eq!(rt;
+        told.notes.bytes(),
+        b"room: model refused: byte 14\n".as_slice()
+    );
+    let case = Case {
+        failing_notes: &[1],
+        ..Case::new("RoomModel M { $ }", "")
+    };
+    let told = case.run(rt.alloc())?;
+    assert_eq!(rt; told.status, Status::WriteFault);
+    assert!(rt; told.notes.bytes().is_empty());
+    Ok(())
+}

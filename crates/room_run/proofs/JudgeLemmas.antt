@@ -1,0 +1,86 @@
+-- What was read from a text, and what it says of the text.
+use Rattle.std.proofs.Common.{◌≡◌, ℕ, ◌≤◌, List, [], length, true, false, Result, Ok, Err, sym, ap, ◌∙◌, subst}
+use Rattle.std.specs.Global.{Vec}
+use Rattle.room_lexer.specs.Cut.{Piece, CutTo, placed, FailsAt}
+use Rattle.room_lexer.specs.declared.piece.Cause.{Cause}
+use Rattle.room_lexer.specs.declared.fault.LexFault.{LexFault}
+use Rattle.room_lexer.specs.declared.token.Token.{Token}
+use Rattle.room_ast.specs.Trees.{ModelTree}
+use Rattle.room_ast.specs.Tokens.{model_tokens}
+use Rattle.token_reading.specs.Single.{values}
+use Rattle.token_names.specs.Names.{HasNames}
+use Rattle.token_names.proofs.NamesLaw.{named as tokens_named}
+use Rattle.room_ast.specs.Values.{TokenValue}
+use Rattle.room_parser.specs.Parsed.{HasNoModel, IsOnlyModel, IsParsed, opens_too_many}
+use Rattle.room_parser.specs.declared.fault.ParseFault.{ParseFault}
+use Rattle.room_parser.specs.declared.fault.ParseFault.TheVariants as parsing
+use Rattle.first_form.specs.Tree.{IsFirstForm}
+use Rattle.first_form.specs.Names.{IsNamed}
+use Rattle.first_form.specs.declared.model.FirstModel.{FirstModel}
+use Rattle.first_form.proofs.NameLaws.{named}
+use Rattle.room_run.specs.Models.{most_bytes, HasTokens, HasTree, IsModel, IsUncut, NestsTooDeep, HasNoTree, IsStrange, TextCauses, uncut, too_deep, no_tree, strange, no_memory}
+use Rattle.room_run.specs.Reading.{HasItsTokens, HasItsTree}
+use Rattle.room_run.specs.declared.refusal.Refusal.TheVariants as refusals
+
+-- ---- tokens
+
+ok_is : (ts us : List Token) → ◌≡◌ {A = Result (List Token) LexFault} (Ok ts) (Ok us) → ts ≡ us
+ok_is ts us e = cc
+
+-- the tokens of a cut, of which no other cut has others
+pub tokens_found : (text : List ℕ) (tokens : List Token) (ps : List Piece) → CutTo text ps [] → tokens ≡ placed 0 ps → ((qs : List Piece) → CutTo text qs [] → ◌≡◌ {A = Result (List Token) LexFault} (Ok (placed 0 qs)) (Ok tokens)) → HasItsTokens text tokens
+tokens_found text tokens ps cut is only = record {
+  has = record { pieces = ps; cut = cut; placed = is };
+  only = λ others h. h.placed ∙ ok_is (placed 0 h.pieces) tokens (only h.pieces h.cut);
+  names = subst (λ ts. HasNames (values text ts)) (sym is) (tokens_named text ps cut);
+}
+
+pub cut_fails : (text : List ℕ) (cause : Cause) (offset : ℕ) → length text ≤ most_bytes → FailsAt cause offset text → TextCauses text (refusals.ModelByte offset)
+cut_fails text cause offset short fails = uncut offset (record { short = short; cause = cause; fails = fails })
+
+-- ---- the tree
+
+-- the one tree of the tokens is the one of the text
+pub tree_found : (text : List ℕ) (tokens : List Token) (tree : ModelTree) → HasItsTokens text tokens → IsOnlyModel (values text tokens) tree → HasItsTree text tree
+tree_found text tokens tree h one = record {
+  has = record { tokens = tokens; cut = h.has; spelled = one.tokens };
+  only = λ other k. one.only other (k.spelled ∙ ap (values text) (h.only k.tokens k.cut));
+  names = subst HasNames (sym one.tokens) h.names;
+}
+
+parsed_deep : (ts : List TokenValue) (e : ParseFault) → IsParsed ts (Err e) → e ≡ parsing.TooDeep → opens_too_many ts ≡ true
+parsed_deep ts parsing.TooDeep h is = h
+parsed_deep ts (parsing.Syntax line) h is = absurd cc
+parsed_deep ts parsing.Memory h is = absurd cc
+
+-- no model has the tokens, which don't nest too deep
+record IsNoModel (ts : List TokenValue) : Type 0 where
+  none : HasNoModel ts
+  shallow : opens_too_many ts ≡ false
+
+parsed_none : (ts : List TokenValue) (line : ℕ) (e : ParseFault) → IsParsed ts (Err e) → e ≡ parsing.Syntax line → IsNoModel ts
+parsed_none ts line (parsing.Syntax other) h is = record { none = h.0; shallow = h.1 }
+parsed_none ts line parsing.TooDeep h is = absurd cc
+parsed_none ts line parsing.Memory h is = absurd cc
+
+-- the braces of the text nest too deep
+pub nests : (text : List ℕ) (tokens : List Token) (e : ParseFault) → length text ≤ most_bytes → HasItsTokens text tokens → IsParsed (values text tokens) (Err e) → e ≡ parsing.TooDeep → TextCauses text refusals.ModelTooDeep
+nests text tokens e short h parsed is = too_deep (record { short = short; tokens = tokens; cut = h.has; deep = parsed_deep (values text tokens) e parsed is })
+
+-- the text has no tree
+pub no_model : (text : List ℕ) (tokens : List Token) (line : ℕ) (e : ParseFault) → length text ≤ most_bytes → HasItsTokens text tokens → IsParsed (values text tokens) (Err e) → e ≡ parsing.Syntax line → TextCauses text (refusals.ModelSyntax line)
+no_model text tokens line e short h parsed is =
+    let none = parsed_none (values text tokens) line e parsed is in
+    no_tree line (record { short = short; tokens = tokens; cut = h.has; shallow = none.shallow; none = none.none })
+
+-- ---- the model
+
+pub model_judged : (text : List ℕ) (tree : ModelTree) (m : FirstModel) → length text ≤ most_bytes → HasItsTree text tree → IsFirstForm tree m → IsModel text m
+model_judged text tree m short h form = record { short = short; tree = tree; read = h.has; form = form }
+
+pub model_named : (text : List ℕ) (tree : ModelTree) (m : FirstModel) → HasItsTree text tree → IsFirstForm tree m → IsNamed m
+model_named text tree m h form = named m (subst (λ t. HasNames (model_tokens t)) form.tree h.names)
+
+pub model_strange : (text : List ℕ) (tree : ModelTree) → length text ≤ most_bytes → HasItsTree text tree → ((m : FirstModel) → IsFirstForm tree m → ⊥) → TextCauses text refusals.ModelLater
+model_strange text tree short h none =
+    strange (record { short = short; tree = tree; read = h.has; none = λ m k. none m (subst (λ t. IsFirstForm t m) (h.only k.tree k.read) k.form) })

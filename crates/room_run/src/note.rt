@@ -1,0 +1,55 @@
+//! The line that tells of a refusal.
+ghost use Rattle.std.specs.Prelude.{◌∷◌, [], decimal, OnOk, OnErr};
+ghost use Rattle.line_text.specs.Lines.{line};
+ghost use Rattle.line_text.specs.Parts.{part_texts};
+ghost use Rattle.line_text.specs.Output.{Puts, at_rest};
+ghost use Rattle.room_outside.specs.Written.{Appends, BreaksOff};
+ghost use Rattle.room_run.specs.Causes.{note_of};
+
+use crate::refusal::Refusal;
+use line_text::{LineBuffer, Part, write_line};
+use room_outside::{Sink, WriteFault};
+
+/// Writes a line of a text.
+fn write_text<K: Sink>(notes: &mut K, text: &[u8]) -> Result<(), WriteFault>
+    ensures { Puts result (at_rest (K.written notes.old)) (at_rest (K.written notes.new)) (line (text.now ∷ [])) }
+{
+    write_line(&mut LineBuffer::new(), notes, &[Part::Text(text)])
+}
+
+/// Writes a line of a text and a number.
+fn write_number<K: Sink>(notes: &mut K, text: &[u8], number: u64) -> Result<(), WriteFault>
+    ensures { Puts result (at_rest (K.written notes.old)) (at_rest (K.written notes.new)) (line (text.now ∷ decimal number ∷ [])) }
+{
+    let parts = [Part::Text(text), Part::Number(number)];
+    write_line(&mut LineBuffer::new(), notes, &parts)
+}
+
+fn write_refusal<K: Sink>(why: Refusal, notes: &mut K) -> Result<(), WriteFault>
+    ensures { Puts result (at_rest (K.written notes.old)) (at_rest (K.written notes.new)) (note_of why) }
+{
+    match why {
+        Refusal::Words => write_text(notes, b"room: words refused"),
+        Refusal::ModelTooLong => write_text(notes, b"room: model refused: too long"),
+        Refusal::ModelByte { offset } => {
+            write_number(notes, b"room: model refused: byte ", offset as u64)
+        }
+        Refusal::ModelTooDeep => write_text(notes, b"room: model refused: too deep"),
+        Refusal::ModelSyntax { line } => {
+            write_number(notes, b"room: model refused: syntax ", u64::from(line))
+        }
+        Refusal::ModelLater => write_text(notes, b"room: model refused: later"),
+        Refusal::InjectionsTooLong => write_text(notes, b"room: injections refused: too long"),
+        Refusal::InjectionsLater => write_text(notes, b"room: injections refused: later"),
+        Refusal::ReadFault => write_text(notes, b"room: read fault"),
+        Refusal::Memory => write_text(notes, b"room: memory"),
+    }
+}
+
+/// Writes the line that tells of a refusal, in one piece. It takes no memory.
+pub(crate) fn write_note<K: Sink>(why: Refusal, notes: &mut K) -> Result<(), WriteFault>
+    ensures ok { OnOk result (Appends (K.written notes.old) (K.written notes.new) (note_of why)) }
+    ensures fault { OnErr result (BreaksOff (K.written notes.old) (K.written notes.new) (note_of why)) }
+{
+    write_refusal(why, notes)
+}

@@ -1,0 +1,5 @@
+pub mod ExactPorts
+pub mod ExactReferences
+pub mod ExactMappings
+pub mod ExactSubsystems
+pub mod ClosedTurns

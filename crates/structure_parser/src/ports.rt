@@ -1,0 +1,119 @@
+//! Ports and services.
+ghost use Rattle.std.specs.Prelude.{◌≡◌};
+ghost use Rattle.room_lexer.specs.declared.token.Mark.TheVariants as marks;
+ghost use Rattle.token_reading.specs.Reader.{Gives, optional};
+ghost use Rattle.token_reading.specs.Single.{left, comes as comes_at};
+ghost use Rattle.structure_parser.specs.Ports.{place_count_at, places_at, port_at, external_port_at, provision_at, access_at, implementation_at};
+
+use room_ast::{
+    ExternalPort, Places, Port, ServiceAccess, ServiceImplementation, ServiceProvision,
+};
+use room_lexer::{Mark, TokenKind, Word};
+use std::alloc::Global;
+use token_reading::{ReadFault, Rest, comes, next, place, take_mark, take_word, word_if};
+
+/// A number, or `*`
+#[tactic(auto, unfolding(crate::specs::Ports::place_count_at))]
+fn place_count<'a>(rest: Rest<'a>) -> Result<(Places, Rest<'a>), ReadFault>
+    ensures { Gives (λ x. (x.0, left x.1)) result (place_count_at (left rest.entry)) }
+{
+    let Some((token, others)) = next(rest) else {
+        return Err(ReadFault::Syntax(place(rest)));
+    };
+    match token.kind {
+        TokenKind::Number(n) => Ok((Places::Number(n), others)),
+        TokenKind::Mark(Mark::Star) => Ok((Places::Any, others)),
+        _ => Err(ReadFault::Syntax(place(rest))),
+    }
+}
+
+/// How many places a port has, in brackets, if they come.
+#[tactic(auto, unfolding(crate::specs::Ports::places_at, token_reading::specs::Reader::optional))]
+fn places_if<'a>(rest: Rest<'a>) -> Result<(Option<Places>, Rest<'a>), ReadFault>
+    ensures { Gives (λ x. (x.0, left x.1)) result (optional (comes_at marks.OpenBracket) places_at (left rest.entry)) }
+{
+    if !comes(rest, Mark::OpenBracket) {
+        return Ok((None, rest));
+    }
+    let rest = take_mark(rest, Mark::OpenBracket)?;
+    let (places, rest) = place_count(rest)?;
+    let rest = take_mark(rest, Mark::CloseBracket)?;
+    Ok((Some(places), rest))
+}
+
+/// `conjugated`, which may be missing, `Port` name, `[` places `]`, `:` protocol
+#[tactic(auto, unfolding(crate::specs::Ports::port_at))]
+pub fn port<'a>(alloc: Global, rest: Rest<'a>) -> Result<(Port, Rest<'a>), ReadFault>
+    ensures { Gives (λ x. (x.0, left x.1)) result (port_at (left rest.entry)) }
+{
+    let (conjugated, rest) = word_if(rest, Word::Conjugated)?;
+    let rest = take_word(rest, Word::Port)?;
+    let (name, rest) = token_reading::name(alloc, rest)?;
+    let (places, rest) = places_if(rest)?;
+    let rest = take_mark(rest, Mark::Colon)?;
+    let (protocol, rest) = token_reading::name(alloc, rest)?;
+    Ok((
+        Port {
+            conjugated,
+            name,
+            places,
+            protocol,
+        },
+        rest,
+    ))
+}
+
+/// `external` `Port` name
+#[tactic(auto, unfolding(crate::specs::Ports::external_port_at))]
+pub fn external_port<'a>(
+    alloc: Global,
+    rest: Rest<'a>,
+) -> Result<(ExternalPort, Rest<'a>), ReadFault>
+    ensures { Gives (λ x. (x.0, left x.1)) result (external_port_at (left rest.entry)) }
+{
+    let rest = take_word(rest, Word::External)?;
+    let rest = take_word(rest, Word::Port)?;
+    let (name, rest) = token_reading::name(alloc, rest)?;
+    Ok((ExternalPort { name }, rest))
+}
+
+/// `SPP` name `:` protocol
+#[tactic(auto, unfolding(crate::specs::Ports::provision_at))]
+pub fn provision<'a>(
+    alloc: Global,
+    rest: Rest<'a>,
+) -> Result<(ServiceProvision, Rest<'a>), ReadFault>
+    ensures { Gives (λ x. (x.0, left x.1)) result (provision_at (left rest.entry)) }
+{
+    let rest = take_word(rest, Word::Spp)?;
+    let (name, rest) = token_reading::name(alloc, rest)?;
+    let rest = take_mark(rest, Mark::Colon)?;
+    let (protocol, rest) = token_reading::name(alloc, rest)?;
+    Ok((ServiceProvision { name, protocol }, rest))
+}
+
+/// `SAP` name `:` protocol
+#[tactic(auto, unfolding(crate::specs::Ports::access_at))]
+pub fn access<'a>(alloc: Global, rest: Rest<'a>) -> Result<(ServiceAccess, Rest<'a>), ReadFault>
+    ensures { Gives (λ x. (x.0, left x.1)) result (access_at (left rest.entry)) }
+{
+    let rest = take_word(rest, Word::Sap)?;
+    let (name, rest) = token_reading::name(alloc, rest)?;
+    let rest = take_mark(rest, Mark::Colon)?;
+    let (protocol, rest) = token_reading::name(alloc, rest)?;
+    Ok((ServiceAccess { name, protocol }, rest))
+}
+
+/// `ServiceImplementation` `of` name
+#[tactic(auto, unfolding(crate::specs::Ports::implementation_at))]
+pub fn implementation<'a>(
+    alloc: Global,
+    rest: Rest<'a>,
+) -> Result<(ServiceImplementation, Rest<'a>), ReadFault>
+    ensures { Gives (λ x. (x.0, left x.1)) result (implementation_at (left rest.entry)) }
+{
+    let rest = take_word(rest, Word::ServiceImplementation)?;
+    let rest = take_word(rest, Word::Of)?;
+    let (name, rest) = token_reading::name(alloc, rest)?;
+    Ok((ServiceImplementation { name }, rest))
+}

@@ -1,0 +1,2 @@
+pub mod NamesLaw
+pub mod Parts

@@ -1,0 +1,3 @@
+pub mod ExactNames
+pub mod ExactValues
+pub mod ExactProtocols
