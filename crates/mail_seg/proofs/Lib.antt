@@ -1,2 +1,9 @@
-pub mod DrainLemmas
+pub mod CloseLemmas
+pub mod EndLemmas
+pub mod LeftLemmas
+pub mod MakeLemmas
+pub mod PlaceLemmas
+pub mod RowLemmas
 pub mod RuleLemmas
+pub mod SideLemmas
+pub mod TiedLemmas

@@ -1,5 +1,5 @@
 -- Each step keeps the rule of a shared queue.
-use Rattle.std.proofs.Common.{◌≡◌, ◌≢◌, ℕ, zero, suc, ◌+◌, ◌<◌, ◌≤◌, ◌==◌, if◌then◌else◌, Bool, true, false, true≢false, List, [], ◌∷◌, ◌++◌, length, set, sym, refl, ap, ◌∙◌, subst, inl, inr, ◌⊎◌, append_assoc, arith}
+use Rattle.std.proofs.Common.{◌≡◌, ◌≢◌, ℕ, zero, suc, ◌+◌, ◌<◌, ◌≤◌, ◌==◌, if◌then◌else◌, Bool, true, false, true≢false, List, [], ◌∷◌, ◌++◌, length, set, sym, refl, ap, ◌∙◌, subst, inl, inr, ◌⊎◌, append_assoc, length-append, arith}
 use Rattle.std.proofs.lemmas.Bool.{cases_eq, cases_lt, eq-eqb, ne_eqb}
 use Rattle.std.proofs.lemmas.List.{append-nil}
 use mathlib.Core.Option.{some, some-ne-none, some-injective}
@@ -9,7 +9,7 @@ use Rattle.crossbeam_queue.proofs.Lists.{at_set, set_else}
 use Rattle.mail_seg.specs.declared.contents.Contents.{Contents}
 use Rattle.mail_seg.specs.declared.rule.Posted.{Posted}
 use Rattle.mail_seg.specs.declared.rule.PassView.{PassView}
-use Rattle.mail_seg.specs.Rule.{of_party, poster, past_next, keeping_next, taking_in, spent, pushing, popping, Owns, AreBelow, IsReader, Fits, IsInOrder, TakenOf, AllTaken}
+use Rattle.mail_seg.specs.Rule.{of_party, poster, past_next, keeping_next, taking_in, spent, pushing, popping, Owns, AreBelow, IsReader, Fits, IsInOrder, TakenOf, Popped, AllTaken}
 
 -- what stands at a place of a list with one item more
 snoc_split : (l : List PassView) (a b : PassView) (j : ℕ) → get_elem? (l ++ a ∷ []) j ≡ some b → (get_elem? l j ≡ some b) ⊎ ((j ≡ length l) × (a ≡ b))
@@ -148,7 +148,19 @@ pushes n port v p x e from =
 one_reader : {items : List Contents} {views : List PassView} (h : IsInOrder items views) (port j : ℕ) (v u : PassView) → get_elem? views port ≡ some v → get_elem? views j ≡ some u → v.takes ≡ true → u.takes ≡ true → j ≡ port
 one_reader h port j v u at e t t' = ((h.fits j u e).1 t').port_is ∙ sym ((h.fits port v at).1 t).port_is
 
-pub pops : (port : ℕ) (v : PassView) → v.takes ≡ true → Pops IsInOrder port v (λ x w. w ≡ popping v x)
+-- a message in the queue is of a party that has a pass
+has_pass : {reader : ℕ} {writer : ℕ → ℕ} {sent : ℕ → List Contents} {got : List Contents} {port : ℕ} {v : PassView} (x : Contents) (items : List Contents) → IsReader reader writer sent got port v → ((s : ℕ) → of_party s (got ++ x ∷ items) ≡ sent s) → x.from.0 < v.next
+has_pass {sent = sent} {got = got} {v = v} x items r order = elim (cases_lt x.from.0 v.next) [
+  | inl below ↦ below
+  | inr past ↦
+      let none : of_party x.from.0 (got ++ x ∷ items) ≡ [] = order x.from.0 ∙ (r.rest x.from.0 past).1 in
+      let parts : of_party x.from.0 got ++ of_party x.from.0 (x ∷ items) ≡ [] = sym (of_party-append x.from.0 got (x ∷ items)) ∙ none in
+      let own : of_party x.from.0 (x ∷ items) ≡ x ∷ of_party x.from.0 items = rw (eq-eqb x.from.0 x.from.0 refl) refl in
+      let count : length (of_party x.from.0 got ++ x ∷ of_party x.from.0 items) ≡ 0 = ap length (ap (λ l. of_party x.from.0 got ++ l) (sym own) ∙ parts) in
+      absurd (omega (arith, count, length-append (of_party x.from.0 got) (x ∷ of_party x.from.0 items)))
+]
+
+pub pops : (port : ℕ) (v : PassView) → v.takes ≡ true → Pops IsInOrder port v (Popped v)
 pops port v takes = λ x items views h at.
     let mine = h.fits port v at in
     let r = mine.1 takes in (
@@ -163,7 +175,7 @@ pops port v takes = λ x items views h at.
             (mine.0, λ _. record { port_is = r.port_is; got_is = ap (λ l. l ++ x ∷ []) r.got_is; below = r.below; rest = r.rest })
             (λ j u other e. ((h.fits j u e).0, λ t. absurd (other (one_reader h port j v u at e takes t))));
       },
-      refl,
+      (refl, has_pass x items r h.order),
     )
 
 taken_of : (writer : ℕ → ℕ) (sent : ℕ → List Contents) (j : ℕ) (got : List Contents) (ps : List Posted) → ((s : ℕ) → of_party s got ≡ sent s) → Owns writer sent j ps → TakenOf got ps

@@ -1,3 +1,8 @@
 pub mod Addressed
-pub mod Boxes
+pub mod Ends
+pub mod Laws
+pub mod Left
+pub mod Rows
 pub mod Rule
+pub mod Sides
+pub mod Wires

@@ -72,6 +72,10 @@ abbrev pub TakenOf : List Contents → List Posted → Type 0
 TakenOf got [] = Unit {0}
 TakenOf got (p ∷ ps) = (of_party p.party got ≡ p.list) × TakenOf got ps
 
+-- a pop gives a message of a party that has a pass
+abbrev pub Popped : PassView → Contents → PassView → Type 0
+Popped v x w = (w ≡ popping v x) × (x.from.0 < v.next)
+
 -- what a pass that takes knows of a queue that holds nothing
 abbrev pub AllTaken : PassView → List Contents → Type 0
 AllTaken v items = v.takes ≡ true → items ≡ [] → TakenOf v.got v.posts

@@ -77,10 +77,9 @@ impl Outcome<Contents, PassView> for Push {
 pub struct Pop;
 
 impl Outcome<Contents, PassView> for Pop {
-    ghost use Rattle.std.specs.Prelude.{◌≡◌};
-    ghost use Rattle.mail_seg.specs.Rule.{popping};
+    ghost use Rattle.mail_seg.specs.Rule.{Popped};
 
-    ghost then = { λ v x w. w ≡ popping v x };
+    ghost then = { Popped };
 }
 
 impl Lesson<Contents, PassView> for Pop {
