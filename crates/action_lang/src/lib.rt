@@ -1,10 +1,12 @@
-//! The action language: its check against a class, and its evaluator.
+//! The action language: its parser, its check against a class, and its evaluator.
 //!
-//! A program with names is checked against what its class has (`check_action`, `check_cond`), and
-//! then run as often as is wanted (`eval`, `test`). The language is this project's own.
+//! A text is read (`parse_action`, `parse_cond`), checked against what its class has
+//! (`check_action`, `check_cond`), and then run as often as is wanted (`eval`, `test`). The language
+//! is this project's own.
 #![tactic(auto)]
 
 pub use action_check::{ServiceNames, check_action, check_cond};
+pub use action_parse::{parse_action, parse_cond};
 pub use action_program::{
     ActionFault, Argument, BinaryOp, Bound, BoundBranch, BoundExpr, BoundIf, BoundSend, BoundStep,
     BoundStmt, Branch, Effects, Expr, FrameVerb, IfStmt, Moment, Program, SendStmt, Step, Stmt,

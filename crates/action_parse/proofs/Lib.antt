@@ -1,0 +1,5 @@
+pub mod Grouping
+pub mod Derived
+pub mod Complete
+pub mod Steps
+pub mod Judged

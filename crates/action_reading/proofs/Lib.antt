@@ -1,0 +1,9 @@
+pub mod Always
+pub mod ExprSound
+pub mod Turns
+pub mod ExprAgain
+pub mod StmtSound
+pub mod StmtAlways
+pub mod StmtShorter
+pub mod StmtAgain
+pub mod Whole

@@ -1,0 +1,4 @@
+pub mod Tokens
+pub mod Written
+pub mod ExprReading
+pub mod StmtReading
