@@ -1,0 +1,5 @@
+pub mod Chart
+pub mod Named
+pub mod Acting
+pub mod States
+pub mod Valid

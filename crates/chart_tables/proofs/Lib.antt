@@ -1,0 +1,4 @@
+pub mod Trying
+pub mod MindLemmas
+pub mod Walking
+pub mod Chains
