@@ -1,0 +1,5 @@
+pub mod Numerals
+pub mod Fields
+pub mod Messages
+pub mod Drafts
+pub mod Reading

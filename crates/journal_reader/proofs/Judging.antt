@@ -1,0 +1,35 @@
+-- What a text can be the text of.
+use Rattle.std.proofs.Common.{◌≡◌, ℕ, ◌+◌, ◌<◌, ◌≤◌, List, ◌++◌, length, take, sym, ap, ◌∙◌, arith, subst, Option, Some, None, Result, Ok, Err}
+use Rattle.std.proofs.Math.ListN.{length-take}
+use Rattle.room_wiring.specs.declared.tables.Tables.{Tables}
+use Rattle.room_wiring.specs.Consistent.{IsConsistent}
+use Rattle.room_wiring.specs.WellNamed.{IsWellNamed}
+use Rattle.journal.specs.declared.entry.Journals.{Journals}
+use Rattle.journal.specs.Fits.{Fits}
+use Rattle.journal.specs.Text.{text_of}
+use Rattle.journal_lines.specs.Reading.{journals_in}
+use Rattle.journal_texts.specs.InRange.{IsInRange}
+use Rattle.journal_texts.proofs.FieldsBack.{Sized}
+use Rattle.journal_texts.proofs.JournalsBack.{reads_back}
+
+-- journals that have the text are what it is read as
+pub read_is : (t : Tables) (bytes : List ℕ) (found j : Journals) → found ≡ journals_in t bytes → IsConsistent t → IsWellNamed t → Fits t j → IsInRange j → text_of t j ≡ bytes → found ≡ j
+read_is t bytes found j is consistent named fits range text =
+    let sized : Sized t = record { named = named; slots = consistent.slots_numbered; controllers = consistent.controllers_numbered } in
+    is ∙ ap (journals_in t) (sym text) ∙ reads_back t j sized fits range
+
+-- what was read has another text: no journals have this one
+pub other_text : (t : Tables) (bytes : List ℕ) (found j : Journals) → found ≡ journals_in t bytes → IsConsistent t → IsWellNamed t → Fits t j → IsInRange j → text_of t j ≡ bytes → (text_of t found ≡ bytes → ⊥) → ⊥
+other_text t bytes found j is consistent named fits range text differs = differs (ap (text_of t) (read_is t bytes found j is consistent named fits range text) ∙ text)
+
+-- what was read doesn't fit: no journals that fit have this text
+pub none_fit : (t : Tables) (bytes : List ℕ) (found j : Journals) → found ≡ journals_in t bytes → IsConsistent t → IsWellNamed t → Fits t j → IsInRange j → text_of t j ≡ bytes → (Fits t found → ⊥) → ⊥
+none_fit t bytes found j is consistent named fits range text unfit =
+    unfit (subst (Fits t) (sym (read_is t bytes found j is consistent named fits range text)) fits)
+
+-- a text of which a front is as long as these bytes, and more follows, is another one
+pub longer_text : (text bytes front : List ℕ) (n : ℕ) → front ≡ take n text → n < length text → length bytes ≤ length front → text ≡ bytes → ⊥
+longer_text text bytes front n front_is inside long same_text =
+    let front_length : length front ≡ length (take n text) = ap length front_is in
+    let same_length : length text ≡ length bytes = ap length same_text in
+    omega (arith, length-take n text)

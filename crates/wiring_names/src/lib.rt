@@ -1,0 +1,11 @@
+//! The names of a wiring, each found without a search: the paths of its slots, and per class the
+//! names of the ports with their signals and the labels of the states.
+#![tactic(auto)]
+
+mod class_names;
+mod named;
+mod names;
+#[cfg(test)]
+mod tests;
+
+pub use names::Names;
