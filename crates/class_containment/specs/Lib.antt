@@ -1,0 +1,2 @@
+pub mod Containment
+pub mod Walks

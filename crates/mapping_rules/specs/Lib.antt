@@ -1,0 +1,4 @@
+pub mod Walks
+pub mod Places
+pub mod Rules
+pub mod Wireds

@@ -1,0 +1,73 @@
+-- The rules of ROOM models, in order of their numbers.
+use Rattle.std.specs.Prelude.{◌&&◌, Bool, List, [], ◌∷◌, ◌++◌}
+use Rattle.room_ast.specs.Trees.{ModelTree}
+use Rattle.class_tables.specs.Containers.{tables_of}
+use Rattle.structure_check.specs.Rules.{Rule}
+use Rattle.class_rules.specs.Names.{has_one_system, has_class_names, has_part_names, has_message_names, has_field_names}
+use Rattle.class_rules.specs.Types.{has_known_types, has_fitting_values}
+use Rattle.class_rules.specs.Ends.{has_known_protocols, has_own_ports, has_known_actors}
+use Rattle.containment_rules.specs.Circles.{data_is_finite, actors_are_finite}
+use Rattle.class_sizes.specs.Rules.{has_small_classes}
+use Rattle.structure_rules.specs.AnyPlaces.{any_places_at_end_ports}
+use Rattle.structure_rules.specs.Imported.{imported_classes_have_end_ports}
+use Rattle.structure_rules.specs.Replication.{replicates_in_range}
+use Rattle.structure_rules.specs.Subsystems.{subsystem_references_are_plain}
+use Rattle.structure_rules.specs.Threads.{threads_are_few}
+use Rattle.binding_rules.specs.Rules.{any_places_bind_once, binding_sides_agree, binding_sides_exist, layers_are_known}
+use Rattle.mapping_rules.specs.Rules.{mappings_are_allowed, mappings_are_distinct, mappings_are_known}
+
+-- The rules on names.
+unfoldable pub name_rules : List Rule
+name_rules =
+    record { number = 1; keeps = has_one_system } ∷ record { number = 2; keeps = has_class_names } ∷ record { number = 3; keeps = has_part_names }
+    ∷ record { number = 4; keeps = has_message_names } ∷ record { number = 5; keeps = has_field_names } ∷ []
+
+-- The rules on types and data classes.
+unfoldable pub data_rules : List Rule
+data_rules = record { number = 6; keeps = has_known_types } ∷ record { number = 7; keeps = data_is_finite } ∷ record { number = 8; keeps = has_small_classes } ∷ []
+
+-- The rules on initial values, ports and references.
+unfoldable pub end_rules : List Rule
+end_rules =
+    record { number = 9; keeps = has_fitting_values } ∷ record { number = 10; keeps = has_known_protocols } ∷ record { number = 11; keeps = has_own_ports }
+    ∷ record { number = 12; keeps = has_known_actors } ∷ record { number = 13; keeps = actors_are_finite } ∷ []
+
+-- The rules on replication, ports with `[*]`, the references of subsystems and imported classes.
+unfoldable pub place_rules : List Rule
+place_rules =
+    record { number = 14; keeps = λ m. replicates_in_range (tables_of m) } ∷ record { number = 15; keeps = λ m. any_places_at_end_ports (tables_of m) }
+    ∷ record { number = 16; keeps = λ m. subsystem_references_are_plain (tables_of m) } ∷ record { number = 17; keeps = λ m. imported_classes_have_end_ports (tables_of m) } ∷ []
+
+-- The rules on bindings and layer connections.
+unfoldable pub binding_rules : List Rule
+binding_rules =
+    record { number = 18; keeps = binding_sides_exist } ∷ record { number = 19; keeps = binding_sides_agree } ∷ record { number = 20; keeps = any_places_bind_once }
+    ∷ record { number = 21; keeps = layers_are_known } ∷ []
+
+-- Every mapping names a reference path that exists, with indexes in range, and a thread, and no path is mapped twice.
+abbrev pub mappings_hold : ModelTree → Bool
+mappings_hold m = mappings_are_known m && mappings_are_distinct m
+
+-- The rules on threads and mappings.
+unfoldable pub thread_rules : List Rule
+thread_rules = record { number = 22; keeps = threads_are_few } ∷ record { number = 23; keeps = mappings_hold } ∷ record { number = 24; keeps = mappings_are_allowed } ∷ []
+
+-- The rules from bindings on.
+unfoldable pub joint_rules : List Rule
+joint_rules = binding_rules ++ thread_rules
+
+-- The rules from replication on.
+unfoldable pub outer_rules : List Rule
+outer_rules = place_rules ++ joint_rules
+
+-- The rules from initial values on.
+unfoldable pub part_rules : List Rule
+part_rules = end_rules ++ outer_rules
+
+-- The rules behind those on names.
+unfoldable pub later_rules : List Rule
+later_rules = data_rules ++ part_rules
+
+-- All rules that are checked, in order of their numbers.
+abbrev pub all_rules : List Rule
+all_rules = name_rules ++ later_rules

@@ -1,0 +1,5 @@
+pub mod Replication
+pub mod AnyPlaces
+pub mod Subsystems
+pub mod Imported
+pub mod Threads
