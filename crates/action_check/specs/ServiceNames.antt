@@ -1,6 +1,11 @@
 -- Service names, numbered in the order in which they first came.
-use Rattle.std.specs.Prelude.{ℕ, ◌+◌, List, [], ◌∷◌, if◌then◌else◌}
+use Rattle.std.specs.Prelude.{ℕ, ◌+◌, List, [], ◌∷◌, map, if◌then◌else◌}
+use Rattle.std.specs.Global.{Vec}
 use Rattle.room_ast.specs.Found.{same_name}
+
+-- The names that vectors of bytes are.
+abbrev pub texts : List (Vec ℕ) → List (List ℕ)
+texts names = map (λ (name : Vec ℕ). name.items) names
 
 -- The names with one more, where it is new.
 abbrev pub with_name : List (List ℕ) → List ℕ → List (List ℕ)

@@ -1,42 +1,49 @@
 //! The names under which access points and provision points of services meet.
-ghost use Rattle.std.specs.Prelude.{◌≡◌, ◌≤◌, [], length, IfOk, OnOk, OnErr, Err};
-ghost use Rattle.action_check.specs.ServiceNames.{with_name, number_of};
+ghost use Rattle.std.specs.Prelude.{◌≡◌, ◌<◌, ◌≤◌, [], ◌∷◌, ◌++◌, length, Some, None, IfOk, OnOk, OnErr, Err, MatchOption};
+ghost use Rattle.action_check.specs.ServiceNames.{texts, with_name, number_of};
 
 use action_program::ActionFault;
+use indexmap::IndexSet;
 use room_ast::Name;
-use std::alloc::Global;
+use std::alloc::{AllocError, Global};
 use std::marker::Model;
 
 /// The greatest number of a name.
 const MAX_NUMBER: usize = 0xffff_ffff;
 
-/// The number of a name: that of its first place, or the next number.
-fn number_in(names: &[Name], name: &[u8]) -> usize
-    ensures number { result ≡ number_of names.now name.now }
-    ensures within { result ≤ length names.now }
+/// The number of a name, if it has one.
+fn number_in(known: &IndexSet<Vec<u8>>, name: &[u8]) -> Option<usize>
+    ensures { MatchOption result (number_of (texts known.now.keys) name.now ≡ length (texts known.now.keys)) (λ k. (k ≡ number_of (texts known.now.keys) name.now) × (number_of (texts known.now.keys) name.now < length (texts known.now.keys))) }
 {
-    for (i, known) in names.iter().enumerate() {
-        if known.is(name) {
-            return i;
-        }
-    }
-    names.len()
+    known.get_index_of(name)
+}
+
+/// Adds a name that has no number yet. After a refusal nothing has changed.
+fn add(alloc: Global, known: &mut IndexSet<Vec<u8>>, name: &[u8]) -> Result<(), AllocError>
+    requires { length (texts known.old.keys) ≤ number_of (texts known.old.keys) name.now }
+    ensures added { OnOk result (texts known.new.keys ≡ texts known.old.keys ++ name.now ∷ []) }
+    ensures unchanged { OnErr result (known.new.keys ≡ known.old.keys) }
+{
+    let name = Vec::from_slice(alloc, name)?;
+    known.insert(name)?;
+    Ok(())
 }
 
 /// Service names, numbered from 0 in the order in which they first came.
 #[derive(Drop, Debug)]
 pub struct ServiceNames {
-    names: Vec<Name>,
+    known: IndexSet<Vec<u8>>,
 }
 
 impl Model for ServiceNames {
     ghost use Rattle.std.specs.Prelude.{◌≤◌, ◌^◌, List, ℕ, length};
+    ghost use Rattle.action_check.specs.ServiceNames.{texts};
 
     ghost Value = { List (List ℕ) };
 
-    ghost view = { λ s. s.names.items };
+    ghost view = { λ s. texts s.known.keys };
 
-    ghost invariant = { λ s. length s.names.items ≤ 2 ^ 32 };
+    ghost invariant = { λ s. length (texts s.known.keys) ≤ 2 ^ 32 };
 }
 
 impl ServiceNames {
@@ -45,15 +52,15 @@ impl ServiceNames {
         ensures { result ≡ [] }
     {
         ServiceNames {
-            names: Vec::new(alloc),
+            known: IndexSet::new(alloc),
         }
     }
 
     /// The names in the order of their numbers.
-    pub fn names(&self) -> &[Name]
-        ensures { result.now ≡ self.now }
+    pub fn names(&self) -> &[Vec<u8>]
+        ensures { texts result.now ≡ self.now }
     {
-        self.names.as_slice()
+        self.known.as_slice()
     }
 
     /// The number of a name, which is added where it is new. More than 2^32 names are want of
@@ -65,15 +72,14 @@ impl ServiceNames {
         ensures memory { OnErr result (result ≡ Err ActionFault.Memory) }
         ensures unchanged { OnErr result (self.new ≡ self.old) }
     {
-        let number = number_in(self.names.as_slice(), name.as_bytes());
-        if number < self.names.len() {
+        if let Some(number) = number_in(&self.known, name.as_bytes()) {
             return Ok(number as u32);
         }
+        let number = self.known.len();
         if number > MAX_NUMBER {
             return Err(ActionFault::Memory);
         }
-        let name = name.copy(alloc)?;
-        self.names.push(name)?;
+        add(alloc, &mut self.known, name.as_bytes())?;
         Ok(number as u32)
     }
 }

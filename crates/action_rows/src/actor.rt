@@ -6,7 +6,11 @@ use std::alloc::{AllocError, Global};
 fn attribute(alloc: Global, name: &[u8], kind: NumberType) -> Result<ScopeAttribute, AllocError> {
     let mut path = Vec::new(alloc);
     path.push(Name::from_slice(alloc, name)?)?;
-    Ok(ScopeAttribute { path, kind })
+    Ok(ScopeAttribute {
+        path,
+        kind,
+        initial: 0,
+    })
 }
 
 /// A number of an attribute of a data class.

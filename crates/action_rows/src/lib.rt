@@ -9,4 +9,4 @@ mod tests;
 
 pub use actor::class;
 pub use case::{Ran, deep, holds, run, run_with};
-pub use long::{counted, summed};
+pub use long::{counted, listed, passed_over, summed};

@@ -1,10 +1,11 @@
 //! Long runs and long texts, for measurements.
 use crate::actor::class;
+use crate::case::run;
 use action_lang::{
     ActionFault, Effects, Moment, ServiceNames, Vars, check_action, eval, parse_action,
 };
 use room_kinds::{Generation, Incarnation, NumberType, Payload, SlotId};
-use std::alloc::Global;
+use std::alloc::{AllocError, Global};
 
 /// What `x` is after so many runs of a program that adds 1 to it 65,025 times.
 pub fn counted(alloc: Global, runs: u32) -> Result<i64, ActionFault> {
@@ -30,13 +31,37 @@ pub fn counted(alloc: Global, runs: u32) -> Result<i64, ActionFault> {
     Ok(vars.number(0))
 }
 
-/// How many statements the program `x = 1+1+..;` of so many ones has.
-pub fn summed(alloc: Global, ones: u32) -> Result<usize, ActionFault> {
-    let mut text = Vec::from_slice(alloc, b"x = 0")?;
-    for _ in 0..ones {
-        text.extend_from_slice(b"+1")?;
+/// `head`, then `part` so many times, then `end`.
+pub fn repeated(
+    alloc: Global,
+    (head, part, end): (&[u8], &[u8], &[u8]),
+    times: u32,
+) -> Result<Vec<u8>, AllocError> {
+    let mut text = Vec::from_slice(alloc, head)?;
+    for _ in 0..times {
+        text.extend_from_slice(part)?;
     }
-    text.extend_from_slice(b";")?;
-    let program = parse_action(alloc, text.as_slice())?;
-    Ok(program.statements.len())
+    text.extend_from_slice(end)?;
+    Ok(text)
+}
+
+/// What `x` is after the program `x = 0+1+1..;` of so many ones, which is read, checked and run.
+pub fn summed(alloc: Global, ones: u32) -> Result<i64, ActionFault> {
+    let text = repeated(alloc, (b"x = 0", b"+1", b";"), ones)?;
+    let ran = run(alloc, NumberType::Plain, text.as_slice())?;
+    Ok(ran.x)
+}
+
+/// What `x` is after so many conditions of one chain that don't hold, and a last block.
+pub fn passed_over(alloc: Global, conditions: u32) -> Result<i64, ActionFault> {
+    let text = repeated(alloc, (b"", b"if (x) { } else ", b"{ x = 7; }"), conditions)?;
+    let ran = run(alloc, NumberType::Plain, text.as_slice())?;
+    Ok(ran.x)
+}
+
+/// What `x` is after so many statements that add 1 to it.
+pub fn listed(alloc: Global, statements: u32) -> Result<i64, ActionFault> {
+    let text = repeated(alloc, (b"", b"x = x + 1; ", b""), statements)?;
+    let ran = run(alloc, NumberType::Plain, text.as_slice())?;
+    Ok(ran.x)
 }

@@ -1,4 +1,4 @@
-use crate::{deep, holds, run, run_with};
+use crate::{deep, holds, listed, passed_over, run, run_with, summed};
 use action_lang::{ActionFault, parse_action};
 use room_kinds::{Command, FrameCommand, NameCommand, NumberType, Priority};
 use std::process::Abort;
@@ -387,4 +387,14 @@ fn parentheses_and_signs_nest_64_deep(rt: HostRuntime) -> Result<(), Fail> {
 fn chains_do_not_nest(rt: HostRuntime) -> Result<(), Fail> {
     nests(&rt, ("if (x) { } else ", "{ }", ""), 5_000, None)?;
     nests(&rt, ("x = x + 1; ", "", ""), 5_000, None)
+}
+
+// What doesn't nest may be as long as a text of 1 MiB, and longer: it is read, checked, run and let go.
+
+#[test]
+fn long_texts_run(rt: HostRuntime) -> Result<(), Fail> {
+    assert_eq!(rt; summed(rt.alloc(), 500_000)?, 500_000);
+    assert_eq!(rt; passed_over(rt.alloc(), 100_000)?, 7);
+    assert_eq!(rt; listed(rt.alloc(), 100_000)?, 100_000);
+    Ok(())
 }

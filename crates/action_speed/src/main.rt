@@ -1,7 +1,7 @@
 //! Runs the action language at length, for measurements.
 //!
 //! `action_speed run N` runs N times a program of 65,025 additions, and prints their sum;
-//! `action_speed parse N` reads a sum of N ones, and prints how many statements it is.
+//! `action_speed sum N` reads, checks and runs a sum of N ones, and prints it.
 #![tactic(auto)]
 
 use action_rows::{counted, summed};
@@ -17,7 +17,7 @@ fn words_of<R: Env + AllocGlobal>(rt: &R) -> io::Result<Vec<String>> {
 fn main(rt: HostRuntime) -> io::Result<()> {
     let words = words_of(&rt)?;
     let [command, number] = words.as_slice() else {
-        println!(rt; "usage: action_speed run|parse N")?;
+        println!(rt; "usage: action_speed run|sum N")?;
         return Ok(());
     };
     let Ok(number) = number.parse::<u32>() else {
@@ -31,7 +31,7 @@ fn main(rt: HostRuntime) -> io::Result<()> {
         }
     } else {
         match summed(rt.alloc(), number) {
-            Ok(statements) => println!(rt; "{statements}")?,
+            Ok(sum) => println!(rt; "{sum}")?,
             Err(_) => println!(rt; "refused")?,
         }
     }

@@ -4,13 +4,13 @@ use Rattle.room_lexer.specs.declared.token.Mark.TheVariants as marks
 use Rattle.room_lexer.specs.declared.word.Word.{Word}
 use Rattle.room_lexer.specs.declared.word.Word.TheVariants as words
 use Rattle.room_ast.specs.Values.{TokenValue, AWord, AName, ANumber, AString, ABlock, AMark}
-use Rattle.room_ast.specs.Tokens.{each, maybe, name, code_text, code_tokens, word_code, event_port, event, bar_event, trigger, or_trigger, triggers, target, source, transition_body, transition, choice_point, point_word, point}
+use Rattle.room_ast.specs.Tokens.{each, maybe, name, code_text, code_tokens, word_code, event_message, event, bar_event, trigger, or_trigger, triggers, target, source, transition_body, transition, choice_point, point_word, point}
 use Rattle.room_ast.specs.declared.chart.Code.{Code}
 use Rattle.room_ast.specs.declared.chart.Code.TheVariants as codes
 use Rattle.room_ast.specs.declared.chart.CodeText.{CodeText}
 use Rattle.room_ast.specs.declared.chart.CodeText.TheVariants as texts
-use Rattle.room_ast.specs.declared.chart.EventPort.{EventPort}
-use Rattle.room_ast.specs.declared.chart.EventPort.TheVariants as ports
+use Rattle.room_ast.specs.declared.chart.EventMessage.{EventMessage}
+use Rattle.room_ast.specs.declared.chart.EventMessage.TheVariants as messages
 use Rattle.room_ast.specs.declared.chart.PointKind.{PointKind}
 use Rattle.room_ast.specs.declared.chart.PointKind.TheVariants as points
 use Rattle.room_ast.specs.declared.chart.Source.{Source}
@@ -22,7 +22,7 @@ use Rattle.token_reading.specs.Reader.{Reader, ◌⊕◌, ◌▹◌, optional}
 use Rattle.token_reading.specs.Single.{comes, comes_word, comes_name, comes_string, before_close, word, name_at}
 use Rattle.token_reading.proofs.Readers.{taken, Anything}
 use Rattle.token_reading.proofs.Exact.{Exact, mark_exact, word_exact, name_exact, string_exact, block_exact, Exact-then, Exact-⊕, Exact-behind, Exact-before, Exact-as, Exact-maybe, Exact-many, Exact-braces, Exact-where, Exact-word, case_takes, case_again, either_takes}
-use Rattle.chart_parser.specs.Codes.{code_text_at, code_at, word_code_at, event_port_at, event_at, bar_event_at, trigger_at, or_trigger_at, triggers_at, named_from, named_at, target_at, source_at, transition_body_at, transition_at, choice_point_at, point_kind_of, point_at}
+use Rattle.chart_parser.specs.Codes.{code_text_at, code_at, word_code_at, event_message_at, event_at, bar_event_at, trigger_at, or_trigger_at, triggers_at, named_from, named_at, target_at, source_at, transition_body_at, transition_at, choice_point_at, point_kind_of, point_at}
 
 -- ---- code
 
@@ -63,23 +63,23 @@ word_code_exact w = Exact-behind (word_exact w) code_exact
 
 -- ---- triggers
 
-port_takes : (ts : List TokenValue) (z : EventPort × List TokenValue) → event_port_at ts ≡ Some z → ts ≡ event_port z.0 ++ z.1
-unfolding event_port_at
-port_takes (AName n ∷ ts) z e = taken event_port (AName n ∷ ts) (ports.Named n, ts) z refl e
-port_takes (AWord words.Imported ∷ ts) z e = taken event_port (AWord words.Imported ∷ ts) (ports.Imported, ts) z refl e
-port_takes ts z e = absurd cc
+message_takes : (ts : List TokenValue) (z : EventMessage × List TokenValue) → event_message_at ts ≡ Some z → ts ≡ event_message z.0 ++ z.1
+unfolding event_message_at
+message_takes (AName n ∷ ts) z e = taken event_message (AName n ∷ ts) (messages.Named n, ts) z refl e
+message_takes (AWord words.Imported ∷ ts) z e = taken event_message (AWord words.Imported ∷ ts) (messages.Imported, ts) z refl e
+message_takes ts z e = absurd cc
 
-port_again : (p : EventPort) (rest : List TokenValue) → Unit {0} → event_port_at (event_port p ++ rest) ≡ Some (p, rest)
-unfolding event_port_at
-port_again (ports.Named n) rest any = refl
-port_again ports.Imported rest any = refl
+message_again : (p : EventMessage) (rest : List TokenValue) → Unit {0} → event_message_at (event_message p ++ rest) ≡ Some (p, rest)
+unfolding event_message_at
+message_again (messages.Named n) rest any = refl
+message_again messages.Imported rest any = refl
 
-port_exact : Exact event_port_at event_port Anything
-port_exact = record { takes = port_takes; again = port_again }
+message_exact : Exact event_message_at event_message Anything
+message_exact = record { takes = message_takes; again = message_again }
 
 event_exact : Exact event_at event Anything
 unfolding event_at
-event_exact = Exact-as _ (λ e. (e.port, e.signal)) event (Exact-then port_exact (Exact-behind (mark_exact marks.Colon) name_exact)) (λ x. refl) (λ y. refl)
+event_exact = Exact-as _ (λ e. (e.message, e.port)) event (Exact-then message_exact (Exact-behind (mark_exact marks.Colon) name_exact)) (λ x. refl) (λ y. refl)
 
 bar_event_exact : Exact bar_event_at bar_event Anything
 unfolding bar_event_at

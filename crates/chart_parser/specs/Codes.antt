@@ -10,8 +10,8 @@ use Rattle.room_ast.specs.declared.chart.Code.TheVariants as codes
 use Rattle.room_ast.specs.declared.chart.CodeText.{CodeText}
 use Rattle.room_ast.specs.declared.chart.CodeText.TheVariants as texts
 use Rattle.room_ast.specs.declared.chart.Event.{Event}
-use Rattle.room_ast.specs.declared.chart.EventPort.{EventPort}
-use Rattle.room_ast.specs.declared.chart.EventPort.TheVariants as ports
+use Rattle.room_ast.specs.declared.chart.EventMessage.{EventMessage}
+use Rattle.room_ast.specs.declared.chart.EventMessage.TheVariants as messages
 use Rattle.room_ast.specs.declared.chart.Point.{Point}
 use Rattle.room_ast.specs.declared.chart.PointKind.{PointKind}
 use Rattle.room_ast.specs.declared.chart.PointKind.TheVariants as points
@@ -43,14 +43,14 @@ word_code_at w = word w ▹ code_at
 -- ---- triggers
 
 -- name | "imported"
-unfoldable pub event_port_at : Reader TokenValue EventPort
-event_port_at (AName n ∷ ts) = Some (ports.Named n, ts)
-event_port_at (AWord words.Imported ∷ ts) = Some (ports.Imported, ts)
-event_port_at ts = None
+unfoldable pub event_message_at : Reader TokenValue EventMessage
+event_message_at (AName n ∷ ts) = Some (messages.Named n, ts)
+event_message_at (AWord words.Imported ∷ ts) = Some (messages.Imported, ts)
+event_message_at ts = None
 
 -- ( name | "imported" ) ":" name
 unfoldable pub event_at : Reader TokenValue Event
-event_at = reads_as (λ x. record { port = x.0; signal = x.1 }) (event_port_at ⊕ mark marks.Colon ▹ name_at)
+event_at = reads_as (λ x. record { message = x.0; port = x.1 }) (event_message_at ⊕ mark marks.Colon ▹ name_at)
 
 unfoldable pub bar_event_at : Reader TokenValue Event
 bar_event_at = mark marks.Bar ▹ event_at

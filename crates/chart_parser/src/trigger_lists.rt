@@ -4,43 +4,43 @@ ghost use Rattle.room_lexer.specs.declared.token.Mark.TheVariants as marks;
 ghost use Rattle.room_lexer.specs.declared.word.Word.TheVariants as words;
 ghost use Rattle.token_reading.specs.Reader.{Gives, optional};
 ghost use Rattle.token_reading.specs.Single.{left, comes as comes_at, comes_word as comes_word_at};
-ghost use Rattle.chart_parser.specs.Codes.{event_port_at, event_at, bar_event_at, trigger_at, or_trigger_at, triggers_at};
+ghost use Rattle.chart_parser.specs.Codes.{event_message_at, event_at, bar_event_at, trigger_at, or_trigger_at, triggers_at};
 
 use crate::codes::code_if;
-use room_ast::{Event, EventPort, Name, Trigger, Triggers};
+use room_ast::{Event, EventMessage, Name, Trigger, Triggers};
 use room_lexer::{Mark, TokenKind, Word};
 use std::alloc::Global;
 use token_reading::{
     Part, ReadFault, Rest, comes, comes_word, each, name, next, place, take_mark, take_word, text,
 };
 
-/// A port's name, or `imported`
-#[tactic(auto, unfolding(crate::specs::Codes::event_port_at))]
-fn event_port<'a>(alloc: Global, rest: Rest<'a>) -> Result<(EventPort, Rest<'a>), ReadFault>
-    ensures { Gives (λ x. (x.0, left x.1)) result (event_port_at (left rest.entry)) }
+/// A message's name, or `imported`
+#[tactic(auto, unfolding(crate::specs::Codes::event_message_at))]
+fn event_message<'a>(alloc: Global, rest: Rest<'a>) -> Result<(EventMessage, Rest<'a>), ReadFault>
+    ensures { Gives (λ x. (x.0, left x.1)) result (event_message_at (left rest.entry)) }
 {
     let Some((token, others)) = next(rest) else {
         return Err(ReadFault::Syntax(place(rest)));
     };
     match token.kind {
         TokenKind::Ident(None) => {
-            let port = Name::from_slice(alloc, text(rest.bytes, token))?;
-            Ok((EventPort::Named(port), others))
+            let message = Name::from_slice(alloc, text(rest.bytes, token))?;
+            Ok((EventMessage::Named(message), others))
         }
-        TokenKind::Ident(Some(Word::Imported)) => Ok((EventPort::Imported, others)),
+        TokenKind::Ident(Some(Word::Imported)) => Ok((EventMessage::Imported, others)),
         _ => Err(ReadFault::Syntax(place(rest))),
     }
 }
 
-/// A port, or `imported`, `:` signal
+/// A message, or `imported`, `:` port
 #[tactic(auto, unfolding(crate::specs::Codes::event_at))]
 fn event<'a>(alloc: Global, rest: Rest<'a>) -> Result<(Event, Rest<'a>), ReadFault>
     ensures { Gives (λ x. (x.0, left x.1)) result (event_at (left rest.entry)) }
 {
-    let (port, rest) = event_port(alloc, rest)?;
+    let (message, rest) = event_message(alloc, rest)?;
     let rest = take_mark(rest, Mark::Colon)?;
-    let (signal, rest) = name(alloc, rest)?;
-    Ok((Event { port, signal }, rest))
+    let (port, rest) = name(alloc, rest)?;
+    Ok((Event { message, port }, rest))
 }
 
 /// An event behind a bar.

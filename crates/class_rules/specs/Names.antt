@@ -3,6 +3,7 @@ use Rattle.std.specs.Prelude.{ℕ, ◌&&◌, Bool, true, false, not, List, [], �
 use Rattle.std.specs.List.{list_all, list_any, filter_map}
 use Rattle.std.specs.Option.{option_map_or}
 use Rattle.name_numbers.specs.Names.{is_among}
+use Rattle.reserved_names.specs.Words.{type_names, part_words}
 use Rattle.distinct_names.specs.Distinct.{is_distinct}
 use Rattle.room_ast.specs.Trees.{ModelTree, ClassTree, ActorTree}
 use Rattle.room_ast.specs.declared.actor.StructureItem.{StructureItem}
@@ -38,22 +39,11 @@ has_one_system m = is_one_system (subsystem_names m) (systems m)
 
 -- ---- rule 2
 
--- The names of the types of numbers.
-unfoldable pub type_words : List (List ℕ)
-type_words = codes "int8" ∷ codes "int16" ∷ codes "int32" ∷ codes "uint8" ∷ codes "uint16" ∷ codes "uint32" ∷ codes "boolean" ∷ []
-
 -- Rule 2. The names of all classes and of the LogicalSystem are distinct, and none is the name of a type of numbers.
 unfoldable pub has_class_names : ModelTree → Bool
-has_class_names m = is_distinct (class_names m) && not (list_any (is_among type_words) (class_names m))
+has_class_names m = is_distinct (class_names m) && not (list_any (is_among type_names) (class_names m))
 
 -- ---- rule 3
-
--- What no part of an actor class may be called: the port of the frame service, and the words of the action language.
-unfoldable pub part_words : List (List ℕ)
-part_words =
-    codes "frame" ∷ codes "if" ∷ codes "else" ∷ codes "repeat" ∷ codes "at" ∷ codes "defer" ∷ codes "recall" ∷ codes "recallAll" ∷ codes "incarnate"
-    ∷ codes "destroy" ∷ codes "import" ∷ codes "deport" ∷ codes "register" ∷ codes "as" ∷ codes "withdraw" ∷ codes "panic" ∷ codes "high" ∷ codes "general"
-    ∷ codes "low" ∷ codes "background" ∷ codes "true" ∷ codes "false" ∷ codes "data" ∷ codes "place" ∷ codes "self" ∷ []
 
 -- The name that an item of a Structure declares: of a port, a service access point, an attribute or a reference.
 abbrev pub declared_name : StructureItem → Option (List ℕ)

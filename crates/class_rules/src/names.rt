@@ -8,12 +8,14 @@ ghost use Rattle.room_ast.specs.Trees.{class_view, actor_view, model_view};
 ghost use Rattle.model_parts.specs.Classes.{class_name};
 ghost use Rattle.model_parts.specs.Ports.{interface_name};
 ghost use Rattle.model_parts.specs.Types.{as_field};
-ghost use Rattle.class_rules.specs.Names.{type_words, has_class_names, part_words, declared_name, part_names, are_part_names, actor_has_names, has_part_names, message_names, protocol_has_names, has_message_names, data_has_names, has_field_names};
+ghost use Rattle.reserved_names.specs.Words.{type_names, part_words};
+ghost use Rattle.class_rules.specs.Names.{has_class_names, declared_name, part_names, are_part_names, actor_has_names, has_part_names, message_names, protocol_has_names, has_message_names, data_has_names, has_field_names};
 ghost use Rattle.class_rules.specs.Loops.{of_actor, of_protocol, of_data};
 
 use crate::types::messages_of;
 use class_tables::{interface_items, structure_items};
 use distinct_names::are_distinct;
+use reserved_names::{is_part_word, is_type_name};
 use room_ast::{
     ActorClass, Class, DataClass, DataItem, InterfaceItem, Message, Model, Name, ProtocolClass,
     StructureItem,
@@ -35,68 +37,15 @@ pub(crate) fn add_name<'a>(
 
 // ---- words that no class and no part may be called
 
-const TYPE_WORDS: [&[u8]; 7] = [
-    b"int8", b"int16", b"int32", b"uint8", b"uint16", b"uint32", b"boolean",
-];
-
-/// The port of the frame service, and the words of the action language.
-const PART_WORDS: [&[u8]; 25] = [
-    b"frame",
-    b"if",
-    b"else",
-    b"repeat",
-    b"at",
-    b"defer",
-    b"recall",
-    b"recallAll",
-    b"incarnate",
-    b"destroy",
-    b"import",
-    b"deport",
-    b"register",
-    b"as",
-    b"withdraw",
-    b"panic",
-    b"high",
-    b"general",
-    b"low",
-    b"background",
-    b"true",
-    b"false",
-    b"data",
-    b"place",
-    b"self",
-];
-
-fn is_one_of(words: &[&[u8]], name: &[u8]) -> bool
-    ensures { result ≡ list_any (λ w. same name.now w.now) words.now }
-{
-    words.iter().any(|word| name == *word)
-}
-
-#[tactic(auto, unfolding(crate::specs::Names::type_words))]
-fn is_type_word(name: &[u8]) -> bool
-    ensures { result ≡ is_among type_words name.now }
-{
-    is_one_of(&TYPE_WORDS, name)
-}
-
-#[tactic(auto, unfolding(crate::specs::Names::part_words))]
-fn is_part_word(name: &[u8]) -> bool
-    ensures { result ≡ is_among part_words name.now }
-{
-    is_one_of(&PART_WORDS, name)
-}
-
 fn any_type_word(names: &[&[u8]]) -> bool
-    ensures { result ≡ list_any (λ n. is_among type_words n.now) names.now }
+    ensures { result ≡ list_any (λ n. is_among type_names n.now) names.now }
 {
-    names.iter().any(|name| is_type_word(name))
+    names.iter().any(|name| is_type_name(name))
 }
 
 #[tactic(auto, using(crate::proofs::Views::test_any_named))]
 fn has_type_word(names: &[&[u8]]) -> bool
-    ensures { result ≡ list_any (is_among type_words) (names_of names.now) }
+    ensures { result ≡ list_any (is_among type_names) (names_of names.now) }
 {
     any_type_word(names)
 }

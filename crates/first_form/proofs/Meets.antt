@@ -5,7 +5,7 @@ use Rattle.std.specs.List.{list_any, list_all, count_by}
 use Rattle.std.proofs.lemmas.Bool.{and_parts, and_from, not-true, eqb-true, eq-eqb}
 use Rattle.name_numbers.specs.Names.{same, is_among, AreDistinct}
 use Rattle.name_numbers.proofs.Lists.{distinct_tail}
-use Rattle.first_form.specs.Words.{type_names, port_words}
+use Rattle.reserved_names.specs.Words.{type_names, part_words}
 use Rattle.name_numbers.specs.Names.{names_of}
 use Rattle.first_form.specs.FirstModel.{RefersToClasses, HasClassNames, HasStates, HasFew, MeetsConditions, class_names, states_of, ports_of, protocol_names, ends_at_states, is_initial, has_trigger, states_in}
 use Rattle.first_form.specs.Settles.{Settles, Numbered, Tabled, TablesOf, NamesDiffer, HasGoodPorts}
@@ -77,10 +77,10 @@ all_met m references classes states few differ good events = record {
   limits = few;
 }
 
-pub good_ports : (m : FirstModel) (t : Tables) (ps : List Port) (a b : Bool) (r : Answer) → TablesOf m t → ps ≡ ports_of m → a ≡ list_any (λ (p : Port). is_among port_words p.name) ps → b ≡ list_all (λ (p : Port). is_among t.protocols p.protocol) ps
+pub good_ports : (m : FirstModel) (t : Tables) (ps : List Port) (a b : Bool) (r : Answer) → TablesOf m t → ps ≡ ports_of m → a ≡ list_any (λ (p : Port). is_among part_words p.name) ps → b ≡ list_all (λ (p : Port). is_among t.protocols p.protocol) ps
     → Settles r ((not a ≡ true) × (b ≡ true)) → Settles r (HasGoodPorts m)
 good_ports m t ps a b r tables same_ports word known h =
-    let word_of : a ≡ list_any (λ (p : Port). is_among port_words p.name) (ports_of m) = rw same_ports at word in
+    let word_of : a ≡ list_any (λ (p : Port). is_among part_words p.name) (ports_of m) = rw same_ports at word in
     let known_of : b ≡ list_all (λ (p : Port). is_among (protocol_names m) p.protocol) (ports_of m) = known ∙ ap (λ (ns : List (List ℕ)). list_all (λ (p : Port). is_among ns p.protocol) ps) tables.protocols ∙ ap (list_all (λ (p : Port). is_among (protocol_names m) p.protocol)) same_ports in
     settles_as r (λ x. record { free = sym word_of ∙ not-true a x.0; protocols = sym known_of ∙ x.1 }) (λ g. (ap not (word_of ∙ g.free), known_of ∙ g.protocols)) h
 

@@ -11,8 +11,8 @@ use Rattle.room_ast.specs.declared.actor.StructureItem.{StructureItem}
 use Rattle.room_ast.specs.declared.actor.StructureItem.TheVariants as structures
 use Rattle.room_ast.specs.declared.chart.Code.{Code}
 use Rattle.room_ast.specs.declared.chart.Event.{Event}
-use Rattle.room_ast.specs.declared.chart.EventPort.{EventPort}
-use Rattle.room_ast.specs.declared.chart.EventPort.TheVariants as events
+use Rattle.room_ast.specs.declared.chart.EventMessage.{EventMessage}
+use Rattle.room_ast.specs.declared.chart.EventMessage.TheVariants as events
 use Rattle.room_ast.specs.declared.chart.Source.{Source}
 use Rattle.room_ast.specs.declared.chart.Source.TheVariants as sources
 use Rattle.room_ast.specs.declared.chart.Target.{Target}
@@ -136,19 +136,19 @@ abbrev Pair : Type 0
 Pair = List ℕ × List ℕ
 
 abbrev event_node : Pair → Event
-event_node x = record { port = events.Named x.0; signal = x.1 }
+event_node x = record { message = events.Named x.0; port = x.1 }
 
 abbrev trigger_node : Pair → Trigger
 trigger_node x = record { first = event_node x; others = []; guard = None }
 
-event_right : (p : EventPort) (s : List ℕ) (x : Pair) → event_names p s ≡ Some x → record { port = p; signal = s } ≡ event_node x
+event_right : (p : EventMessage) (s : List ℕ) (x : Pair) → event_names p s ≡ Some x → record { message = p; port = s } ≡ event_node x
 event_right events.Imported s x e = absurd cc
 event_right (events.Named m) s x e = let made : (m, s) ≡ x = cc in ap event_node made
 
 only_event_right : (v : Event) (vs : List Event) (g : Option Code) (x : Pair) → only_event v vs g ≡ Some x → record { first = v; others = vs; guard = g } ≡ trigger_node x
 only_event_right v (w ∷ ws) g x e = absurd cc
 only_event_right v [] (Some g) x e = absurd cc
-only_event_right v [] None x e = ap (λ (u : Event). record { first = u; others = []; guard = None }) (event_right v.port v.signal x e)
+only_event_right v [] None x e = ap (λ (u : Event). record { first = u; others = []; guard = None }) (event_right v.message v.port x e)
 
 only_trigger_right : (t : Trigger) (ts : List Trigger) (x : Pair) → only_trigger t ts ≡ Some x → ◌≡◌ {A = Triggers} (record { first = t; others = ts }) (record { first = trigger_node x; others = [] })
 only_trigger_right t (u ∷ us) x e = absurd cc

@@ -3,7 +3,7 @@ use Rattle.std.specs.Prelude.{◌≡◌, ◌≤◌, ℕ, ◌&&◌, nat_le, Bool,
 use Rattle.std.specs.List.{list_any, list_all, count_by, slice_index_or}
 use Rattle.std.specs.Option.{unwrap_or, is_some}
 use Rattle.name_numbers.specs.Names.{same, is_among, AreDistinct}
-use Rattle.first_form.specs.Words.{type_names, port_words}
+use Rattle.reserved_names.specs.Words.{type_names, part_words}
 use Rattle.first_form.specs.declared.model.FirstModel.{FirstModel}
 use Rattle.first_form.specs.declared.model.Protocol.{Protocol}
 use Rattle.first_form.specs.declared.model.Port.{Port}
@@ -104,7 +104,7 @@ pub record HasClassNames (m : FirstModel) : Type 0 where
 -- the port names are distinct, and none is `frame` or a word of the action language
 pub record HasPortNames (m : FirstModel) : Type 0 where
   pub distinct : AreDistinct (port_names m)
-  pub free : list_any (λ (p : Port). is_among port_words p.name) (ports_of m) ≡ false
+  pub free : list_any (λ (p : Port). is_among part_words p.name) (ports_of m) ≡ false
 
 -- the states are distinct, one transition is initial, and transitions go from state to state
 pub record HasStates (m : FirstModel) : Type 0 where

@@ -1,4 +1,3 @@
-pub mod Words
 pub mod FirstModel
 pub mod Tree
 pub mod Grammar

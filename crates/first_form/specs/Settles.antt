@@ -3,7 +3,7 @@ use Rattle.std.specs.Prelude.{◌≡◌, ℕ, true, false, List, map, Result, Ok
 use Rattle.std.specs.List.{list_any, list_all}
 use Rattle.std.specs.Global.{Vec}
 use Rattle.name_numbers.specs.Names.{AreDistinct, is_among}
-use Rattle.first_form.specs.Words.{port_words}
+use Rattle.reserved_names.specs.Words.{part_words}
 use Rattle.first_form.specs.FirstModel.{AreDistinctIn, ports_of, port_names, protocol_names}
 use Rattle.first_form.specs.declared.tables.Tables.{Tables}
 use Rattle.first_form.specs.declared.model.FirstModel.{FirstModel}
@@ -56,5 +56,5 @@ Tabled (Err Later) m = NamesDiffer m → ⊥
 
 -- what the names of the ports and their protocols have to meet
 pub record HasGoodPorts (m : FirstModel) : Type 0 where
-  pub free : list_any (λ (p : Port). is_among port_words p.name) (ports_of m) ≡ false
+  pub free : list_any (λ (p : Port). is_among part_words p.name) (ports_of m) ≡ false
   pub protocols : list_all (λ (p : Port). is_among (protocol_names m) p.protocol) (ports_of m) ≡ true

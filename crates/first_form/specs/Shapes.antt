@@ -10,8 +10,8 @@ use Rattle.room_ast.specs.declared.actor.StructureItem.{StructureItem}
 use Rattle.room_ast.specs.declared.actor.StructureItem.TheVariants as structures
 use Rattle.room_ast.specs.declared.chart.Code.{Code}
 use Rattle.room_ast.specs.declared.chart.Event.{Event}
-use Rattle.room_ast.specs.declared.chart.EventPort.{EventPort}
-use Rattle.room_ast.specs.declared.chart.EventPort.TheVariants as events
+use Rattle.room_ast.specs.declared.chart.EventMessage.{EventMessage}
+use Rattle.room_ast.specs.declared.chart.EventMessage.TheVariants as events
 use Rattle.room_ast.specs.declared.chart.Source.{Source}
 use Rattle.room_ast.specs.declared.chart.Source.TheVariants as sources
 use Rattle.room_ast.specs.declared.chart.Target.{Target}
@@ -115,12 +115,12 @@ braces_in None = Some false
 braces_in (Some b) = is_bare_body b.triggers b.condition b.action
 
 -- the two names of an event
-abbrev pub event_names : EventPort → List ℕ → Option (List ℕ × List ℕ)
+abbrev pub event_names : EventMessage → List ℕ → Option (List ℕ × List ℕ)
 event_names (events.Named message) port = Some (message, port)
 event_names events.Imported port = None
 
 abbrev pub only_event : Event → List Event → Option Code → Option (List ℕ × List ℕ)
-only_event e [] None = event_names e.port e.signal
+only_event e [] None = event_names e.message e.port
 only_event e es guard = None
 
 abbrev pub only_trigger : Trigger → List Trigger → Option (List ℕ × List ℕ)

@@ -6,7 +6,7 @@ use Rattle.room_ast.specs.declared.actor.ActorRef.{ActorRef}
 use Rattle.room_ast.specs.declared.actor.StructureItem.{StructureItem}
 use Rattle.room_ast.specs.declared.actor.StructureItem.TheVariants as structures
 use Rattle.room_ast.specs.declared.chart.Event.{Event}
-use Rattle.room_ast.specs.declared.chart.EventPort.TheVariants as events
+use Rattle.room_ast.specs.declared.chart.EventMessage.TheVariants as events
 use Rattle.room_ast.specs.declared.chart.Source.TheVariants as sources
 use Rattle.room_ast.specs.declared.chart.Target.TheVariants as targets
 use Rattle.room_ast.specs.declared.chart.TransitionBody.{TransitionBody}
@@ -52,10 +52,10 @@ abbrev pub braces_tree : Bool → Option TransitionBody
 braces_tree false = None
 braces_tree true = Some (record { triggers = None; condition = None; action = None })
 
--- `{ triggers { < <message>: <port> > } }`. The tree keeps the two names of an event in their order: what it calls the port of an event is the first.
+-- `{ triggers { < <message>: <port> > } }`
 abbrev pub trigger_tree : List ℕ → List ℕ → Option TransitionBody
 trigger_tree message port =
-    let event : Event = record { port = events.Named message; signal = port } in
+    let event : Event = record { message = events.Named message; port = port } in
     let trigger : Trigger = record { first = event; others = []; guard = None } in
     Some (record { triggers = Some (record { first = trigger; others = [] }); condition = None; action = None })
 

@@ -7,8 +7,8 @@ use crate::fault::FirstFault;
 use crate::find::{FindIn, find_all};
 use crate::model::Item;
 use room_ast::{
-    Event, EventPort, GraphItem, Name, Source, State, Target, Transition, TransitionBody, Trigger,
-    Triggers,
+    Event, EventMessage, GraphItem, Name, Source, State, Target, Transition, TransitionBody,
+    Trigger, Triggers,
 };
 use room_kinds::Sequence;
 use std::alloc::Global;
@@ -36,14 +36,13 @@ fn braces(body: &Option<TransitionBody>) -> Option<bool>
     }
 }
 
-/// The message and the port of an event. A tree keeps the names of an event in their order, so
-/// that what it calls the event's port is the name of the message.
+/// The message and the port of an event.
 fn event_names(event: &Event) -> Option<(&Name, &Name)>
-    ensures { option_map (λ x. (x.0.now, x.1.now)) result ≡ event_names event.now.port event.now.signal }
+    ensures { option_map (λ x. (x.0.now, x.1.now)) result ≡ event_names event.now.message event.now.port }
 {
-    match &event.port {
-        EventPort::Named(message) => Some((message, &event.signal)),
-        EventPort::Imported => None,
+    match &event.message {
+        EventMessage::Named(message) => Some((message, &event.port)),
+        EventMessage::Imported => None,
     }
 }
 

@@ -3,7 +3,7 @@
 ghost use Rattle.std.specs.Prelude.{◌≡◌, ◌∷◌, nat_le, length, true};
 ghost use Rattle.std.specs.List.{list_any, list_all, count_by};
 ghost use Rattle.name_numbers.specs.Names.{is_among, names_of};
-ghost use Rattle.first_form.specs.Words.{type_names, port_words};
+ghost use Rattle.reserved_names.specs.Words.{type_names, part_words};
 ghost use Rattle.first_form.specs.FirstModel.{RefersToClasses, HasClassNames, HasStates, HasFew, MeetsConditions, class_names, states_of, ports_of, ends_at_states, is_initial, has_trigger, most};
 ghost use Rattle.first_form.specs.Settles.{Settles, Collects, TablesOf, HasGoodPorts};
 
@@ -11,8 +11,8 @@ use crate::fault::FirstFault;
 use crate::model::{FirstModel, Item, Port, Protocol};
 use crate::names::{numbers_of, protocol_names, state_names};
 use crate::tables::{Tables, place_of, ports_of, tables_of};
-use crate::words::{is_port_word, is_type_name};
 use name_numbers::Numbers;
+use reserved_names::{is_part_word, is_type_name};
 use std::alloc::Global;
 
 /// The most classes, ports, states and messages of a protocol.
@@ -73,9 +73,9 @@ fn classes(alloc: Global, model: &FirstModel) -> Result<(), FirstFault>
 }
 
 fn has_port_word(ports: &[Port]) -> bool
-    ensures { result ≡ list_any (λ p. is_among port_words p.name) ports.now }
+    ensures { result ≡ list_any (λ p. is_among part_words p.name) ports.now }
 {
-    ports.iter().any(|port| is_port_word(port.name.as_bytes()))
+    ports.iter().any(|port| is_part_word(port.name.as_bytes()))
 }
 
 fn have_protocols(ports: &[Port], protocols: &Numbers) -> bool

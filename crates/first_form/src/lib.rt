@@ -17,7 +17,6 @@ mod model;
 mod names;
 mod protocols;
 mod tables;
-mod words;
 
 pub use fault::FirstFault;
 pub use first::{first_of, laws_of_the_form};

@@ -1,8 +1,6 @@
 //! Reading injections of the first form.
 
 ghost use Rattle.std.specs.Prelude.{◌≡◌, ◌≤◌, ◌⊎◌, ℕ, List, length, IfOk, Ok, Err, option_map};
-ghost use Rattle.std.specs.List.{prefix_len};
-ghost use Rattle.room_lexer.specs.Front.{is_word};
 ghost use Rattle.first_form.specs.FirstModel.{MeetsConditions};
 ghost use Rattle.first_form.specs.Names.{IsNamed};
 ghost use Rattle.first_form.specs.Lines.{IsLinesOf, most_lines};
@@ -15,6 +13,7 @@ use crate::fault::FirstFault;
 use crate::model::{FirstLine, FirstModel};
 use crate::tables::{Tables, place_of, tables_of};
 use room_kinds::Sequence;
+use room_lexer::word_len;
 use std::alloc::Global;
 
 /// The most lines.
@@ -27,20 +26,6 @@ struct Parts<'a> {
     port: &'a [u8],
     message: &'a [u8],
     rest: &'a [u8],
-}
-
-/// Whether a byte may stand in a name, behind its first.
-fn is_word(b: u8) -> bool
-    ensures { result ≡ is_word b }
-{
-    b >= b'a' && b <= b'z' || b >= b'A' && b <= b'Z' || b == b'_' || b >= b'0' && b <= b'9'
-}
-
-fn word_len(bytes: &[u8]) -> usize
-    ensures len { result ≡ prefix_len is_word bytes.now }
-    ensures short { result ≤ length bytes.now }
-{
-    bytes.iter().take_while(|b| is_word(**b)).count()
 }
 
 /// The letters, digits and `_` at the front, and what is behind them.

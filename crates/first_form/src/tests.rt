@@ -1,7 +1,7 @@
 //! Trees of the first form, and what is none. The trees are made by hand.
 use super::*;
 use room_ast::{
-    ActorClass, ActorRef, Behavior, Class, Dotted, Event, EventPort, GraphItem, Import, Message,
+    ActorClass, ActorRef, Behavior, Class, Dotted, Event, EventMessage, GraphItem, Import, Message,
     Model, Name, Parameter, Port as PortNode, ProtocolClass, Source, State, StateMachine,
     StructureItem, Subsystem, SubsystemItem, SubsystemRef, System, Target, Transition,
     TransitionBody, Trigger, Triggers, Usercode,
@@ -86,8 +86,8 @@ fn initial(alloc: Global) -> Result<GraphItem, AllocError> {
 /// `{ triggers { <kick: go> } }`
 fn kick(alloc: Global) -> Result<TransitionBody, AllocError> {
     let event = Event {
-        port: EventPort::Named(name(alloc, "kick")?),
-        signal: name(alloc, "go")?,
+        message: EventMessage::Named(name(alloc, "kick")?),
+        port: name(alloc, "go")?,
     };
     let trigger = Trigger {
         first: event,

@@ -32,8 +32,8 @@ use Rattle.room_ast.specs.declared.chart.Code.TheVariants as code
 use Rattle.room_ast.specs.declared.chart.CodeText.{CodeText}
 use Rattle.room_ast.specs.declared.chart.CodeText.TheVariants as texts
 use Rattle.room_ast.specs.declared.chart.Event.{Event}
-use Rattle.room_ast.specs.declared.chart.EventPort.{EventPort}
-use Rattle.room_ast.specs.declared.chart.EventPort.TheVariants as ports
+use Rattle.room_ast.specs.declared.chart.EventMessage.{EventMessage}
+use Rattle.room_ast.specs.declared.chart.EventMessage.TheVariants as messages
 use Rattle.room_ast.specs.declared.chart.Point.{Point}
 use Rattle.room_ast.specs.declared.chart.PointKind.{PointKind}
 use Rattle.room_ast.specs.declared.chart.PointKind.TheVariants as points
@@ -309,12 +309,12 @@ code_tokens (code.Single t) = code_text t
 abbrev pub word_code : Word → Code → List TokenValue
 word_code w c = word w then code_tokens c
 
-abbrev pub event_port : EventPort → List TokenValue
-event_port (ports.Named n) = name n
-event_port ports.Imported = word words.Imported
+abbrev pub event_message : EventMessage → List TokenValue
+event_message (messages.Named n) = name n
+event_message messages.Imported = word words.Imported
 
 abbrev pub event : Event → List TokenValue
-event e = event_port e.port then mark marks.Colon then name e.signal
+event e = event_message e.message then mark marks.Colon then name e.port
 
 abbrev pub bar_event : Event → List TokenValue
 bar_event e = mark marks.Bar then event e

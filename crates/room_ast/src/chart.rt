@@ -108,17 +108,17 @@ pub struct Trigger {
     pub guard: Option<Code>,
 }
 
-/// A port, or `imported`, `:` signal
+/// A message, or `imported`, `:` port
 #[derive(Drop)]
 pub struct Event {
-    pub port: EventPort,
-    pub signal: Name,
+    pub message: EventMessage,
+    pub port: Name,
 }
 
 #[derive(Drop)]
-pub enum EventPort {
+pub enum EventMessage {
     Named(Name),
-    /// `imported` as a port's name.
+    /// The message `imported` of the port `frame`: its name is a word of the language.
     Imported,
 }
 

@@ -16,7 +16,7 @@ pub use actor::{
     Port, ServiceAccess, ServiceImplementation, ServiceProvision, Side, StructureItem,
 };
 pub use chart::{
-    ChoicePoint, Code, CodeText, Event, EventPort, GraphItem, Point, PointKind, Source, State,
+    ChoicePoint, Code, CodeText, Event, EventMessage, GraphItem, Point, PointKind, Source, State,
     StateBody, StateMachine, Target, Transition, TransitionBody, Trigger, Triggers,
 };
 pub use model::{Class, Dotted, Import, ImportSource, Model};

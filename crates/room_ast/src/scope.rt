@@ -24,6 +24,8 @@ pub struct Scope {
 pub struct ScopeAttribute {
     pub path: Vec<Name>,
     pub kind: NumberType,
+    /// The number with which it begins. It lies in the range of its type.
+    pub initial: i64,
 }
 
 /// A port, service access point or service provision point.

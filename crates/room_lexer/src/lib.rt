@@ -10,6 +10,7 @@ mod word;
 
 pub use cutting::{lex, spans};
 pub use fault::LexFault;
+pub use piece::word_len;
 pub use token::{Mark, Token, TokenKind};
 pub use word::Word;
 

@@ -52,7 +52,8 @@ fn blank_len(bytes: &[u8]) -> usize
     bytes.iter().take_while(|b| is_blank(**b)).count()
 }
 
-fn word_len(bytes: &[u8]) -> usize
+/// How many letters, digits and `_` stand at the front.
+pub fn word_len(bytes: &[u8]) -> usize
     ensures len { result ≡ prefix_len is_word bytes.now }
     ensures short { result ≤ length bytes.now }
 {

@@ -40,6 +40,14 @@ fn file(alloc: Global, name: &str, text: &str) -> Result<(String, Vec<u8>), Allo
 }
 
 impl<'a> Case<'a> {
+    /// The words `check model.room`, and nothing fails.
+    pub fn check(model: &'a str) -> Case<'a> {
+        Case {
+            words: &["check", "model.room"],
+            ..Case::new(model, "")
+        }
+    }
+
     /// The words `run model.room inject.txt`, and nothing fails.
     pub fn new(model: &'a str, injections: &'a str) -> Case<'a> {
         Case {

@@ -64,8 +64,65 @@ fn comments_and_documentation_are_passed_over(rt: HostRuntime) -> Result<(), Fai
 #[test]
 fn what_is_read_and_does_not_run_is_later(rt: HostRuntime) -> Result<(), Fail> {
     refuses(&rt, TWO_ACTOR_CLASSES, "room: model refused: later\n")?;
-    refuses(&rt, STATE_WITH_ACTION, "room: model refused: later\n")?;
-    refuses(&rt, UNKNOWN_CLASS, "room: model refused: later\n")
+    refuses(&rt, STATE_WITH_ACTION, "room: model refused: later\n")
+}
+
+#[test]
+fn a_broken_rule_is_told_before_later(rt: HostRuntime) -> Result<(), Fail> {
+    refuses(&rt, UNKNOWN_CLASS, "room: model refused: rule 12\n")?;
+    refuses(&rt, "RoomModel M { }", "room: model refused: rule 1\n")
+}
+
+fn checks(
+    rt: &(impl Abort + AllocGlobal),
+    case: &Case,
+    status: Status,
+    out: &str,
+    notes: &str,
+) -> Result<(), Fail> {
+    let told = case.run(rt.alloc())?;
+    assert_eq!(rt; told.status, status);
+    assert_eq!(rt; told.out.bytes(), out.as_bytes());
+    assert_eq!(rt; told.notes.bytes(), notes.as_bytes());
+    Ok(())
+}
+
+#[test]
+fn a_model_that_keeps_all_rules_is_ok(rt: HostRuntime) -> Result<(), Fail> {
+    checks(&rt, &Case::check(COMMENTED), Status::Done, "ok\n", "")?;
+    checks(
+        &rt,
+        &Case::check(TWO_ACTOR_CLASSES),
+        Status::Done,
+        "ok\n",
+        "",
+    )?;
+    let rule = "room: model refused: rule 12\n";
+    checks(
+        &rt,
+        &Case::check(UNKNOWN_CLASS),
+        Status::ModelRefused,
+        "",
+        rule,
+    )?;
+    let syntax = "room: model refused: syntax 5\n";
+    checks(
+        &rt,
+        &Case::check(WITHOUT_LAST_BRACE),
+        Status::ModelRefused,
+        "",
+        syntax,
+    )?;
+    let failing = Case {
+        failing_writes: &[1],
+        ..Case::check(COMMENTED)
+    };
+    checks(&rt, &failing, Status::WriteFault, "", "")?;
+    let unread = Case {
+        failing_reads: &[2],
+        ..Case::check(COMMENTED)
+    };
+    checks(&rt, &unread, Status::ReadFault, "", "room: read fault\n")
 }
 
 #[test]

@@ -117,6 +117,8 @@ fn other_words_are_refused(rt: HostRuntime) -> Result<(), Fail> {
     refuses_words(&rt, &["run", "model.room"])?;
     refuses_words(&rt, &["run", "model.room", "inject.txt", "more"])?;
     refuses_words(&rt, &["runs", "model.room", "inject.txt"])?;
+    refuses_words(&rt, &["check", "model.room", "inject.txt"])?;
+    refuses_words(&rt, &["checks", "model.room"])?;
     refuses_words(&rt, &["made", "0"])
 }
 
@@ -136,9 +138,6 @@ fn a_missing_file_is_a_read_fault(rt: HostRuntime) -> Result<(), Fail> {
 
 #[test]
 fn strange_texts_are_refused(rt: HostRuntime) -> Result<(), Fail> {
-    let later = "room: model refused: later\n";
-    let case = Case::new("RoomModel M { }", "");
-    expect(&rt, &case, Status::ModelRefused, "", later)?;
     let later = "room: injections refused: later\n";
     for injections in [
         "top.go kick",

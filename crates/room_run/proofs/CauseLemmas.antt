@@ -6,14 +6,15 @@ use Rattle.room_outside.proofs.ShelfLemmas.{IfSome-before, Rose-before}
 use Rattle.first_form.specs.Lines.{IsLinesOf}
 use Rattle.first_form.specs.declared.model.FirstModel.{FirstModel}
 use Rattle.first_form.specs.declared.model.FirstLine.{FirstLine}
-use Rattle.room_run.specs.Words.{Files, files_named}
-use Rattle.room_run.specs.Models.{IsModel, TextCauses, most_bytes}
-use Rattle.room_run.specs.Causes.{IsInjections, TextIs, NamesRun, ModelCauses, InjectionsCauses, model_refused, injections_unread, injections_long, injections_strange, injections_no_memory, Causes, of_model, of_injections}
+use Rattle.room_run.specs.Words.{Files}
+use Rattle.room_run.specs.Models.{IsModel, most_bytes}
+use Rattle.room_run.specs.Causes.{IsInjections, TextIs, AreOf, ModelCauses, no_text, model_refused, UnreadCauses, InjectionsCauses, injections_unread, injections_long, injections_strange, injections_no_memory, RunCauses, of_injections}
 use Rattle.room_run.specs.declared.refusal.Refusal.{Refusal}
 
 -- ---- the model
 
-found_fact : (P : List ℕ → Type 0) (o : Option (List ℕ)) (bytes : List ℕ) → IfSome o (λ text. bytes ≡ text) → P bytes → IfSome o P
+-- what is so of the bytes that were read is so of the text that is shown
+pub found_fact : (P : List ℕ → Type 0) (o : Option (List ℕ)) (bytes : List ℕ) → IfSome o (λ text. bytes ≡ text) → P bytes → IfSome o P
 found_fact P None bytes is h = tt
 found_fact P (Some text) bytes is h = subst P is h
 
@@ -22,9 +23,13 @@ pub judged_model : (shelf : Shown) (name bytes : List ℕ) (r : Result FirstMode
 judged_model shelf name bytes (Ok m) is h = found_fact (λ text. IsModel text m) (shelf.text name) bytes is h
 judged_model shelf name bytes (Err why) is h = tt
 
-pub judged_cause : (before after : Shown) (name bytes : List ℕ) (r : Result FirstModel Refusal) → IfSome (before.text name) (λ text. bytes ≡ text) → IfErr r (λ why. TextCauses bytes why) → IfErr r (λ why. ModelCauses before after name why)
-judged_cause before after name bytes (Ok m) is h = tt
-judged_cause before after name bytes (Err why) is h = model_refused why (found_fact (λ text. TextCauses text why) (before.text name) bytes is h)
+-- the text was read, and is refused
+pub cause_found : (Of : List ℕ → Refusal → Type 0) (before after : Shown) (name bytes : List ℕ) (why : Refusal) → IfSome (before.text name) (λ text. bytes ≡ text) → Of bytes why → ModelCauses Of before after name why
+cause_found Of before after name bytes why is h = model_refused (found_fact (λ text. Of text why) (before.text name) bytes is h)
+
+pub judged_cause : {A : Type 0} (Of : List ℕ → Refusal → Type 0) (before after : Shown) (name bytes : List ℕ) (r : Result A Refusal) → IfSome (before.text name) (λ text. bytes ≡ text) → IfErr r (λ why. Of bytes why) → IfErr r (λ why. ModelCauses Of before after name why)
+judged_cause Of before after name bytes (Ok m) is h = tt
+judged_cause Of before after name bytes (Err why) is h = cause_found Of before after name bytes why is h
 
 -- ---- the injections
 
@@ -52,16 +57,10 @@ lines_causes_before {a} {b} {c} {name} k (injections_long h) = injections_long (
 lines_causes_before {a} {b} {c} {name} k (injections_strange h) = injections_strange (IfSome-before name _ k h)
 lines_causes_before k injections_no_memory = injections_no_memory
 
--- the words name files, and the model is refused
-pub model_cause_of : (before after : Shown) (words : List (List ℕ)) (files : Files) (why : Refusal) → files_named words ≡ Some files → ModelCauses before after files.model why → Causes before after words why
-model_cause_of before after words files why named h = of_model files named h
-
 -- the model was read, and the injections are refused
-pub injections_refused : (before middle after : Shown) (words : List (List ℕ)) (files : Files) (m : FirstModel) (why : Refusal) → files_named words ≡ Some files → TextIs before files.model (λ text. IsModel text m) → Keeps before middle → InjectionsCauses middle after files.injections m why → Causes before after words why
-injections_refused before middle after words files m why named accepted k h =
-    of_injections files m (record { named = named; accepted = accepted }) (lines_causes_before k h)
+pub injections_refused : (before middle after : Shown) (files : Files) (m : FirstModel) (why : Refusal) → TextIs before files.model (λ text. IsModel text m) → Keeps before middle → InjectionsCauses middle after files.injections m why → RunCauses before after files why
+injections_refused before middle after files m why accepted k h = of_injections m accepted (lines_causes_before k h)
 
 -- both were read
-pub run_named : (before middle : Shown) (words : List (List ℕ)) (files : Files) (m : FirstModel) (lines : List FirstLine) → files_named words ≡ Some files → TextIs before files.model (λ text. IsModel text m) → Keeps before middle → TextIs middle files.injections (λ text. IsInjections m text lines) → NamesRun before words m lines
-run_named before middle words files m lines named accepted k read =
-    record { files = files; model_named = record { named = named; accepted = accepted }; accepted = IfSome-before files.injections _ k read }
+pub both_read : (before middle : Shown) (files : Files) (m : FirstModel) (lines : List FirstLine) → TextIs before files.model (λ text. IsModel text m) → Keeps before middle → TextIs middle files.injections (λ text. IsInjections m text lines) → AreOf before files m lines
+both_read before middle files m lines accepted k read = record { model_accepted = accepted; lines_accepted = IfSome-before files.injections _ k read }

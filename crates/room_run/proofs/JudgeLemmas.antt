@@ -1,5 +1,5 @@
 -- What was read from a text, and what it says of the text.
-use Rattle.std.proofs.Common.{◌≡◌, ℕ, ◌≤◌, List, [], length, true, false, Result, Ok, Err, sym, ap, ◌∙◌, subst}
+use Rattle.std.proofs.Common.{◌≡◌, ℕ, ◌≤◌, List, [], length, true, false, Some, None, Result, Ok, Err, sym, ap, ◌∙◌, subst}
 use Rattle.std.specs.Global.{Vec}
 use Rattle.room_lexer.specs.Cut.{Piece, CutTo, placed, FailsAt}
 use Rattle.room_lexer.specs.declared.piece.Cause.{Cause}
@@ -18,8 +18,14 @@ use Rattle.first_form.specs.Tree.{IsFirstForm}
 use Rattle.first_form.specs.Names.{IsNamed}
 use Rattle.first_form.specs.declared.model.FirstModel.{FirstModel}
 use Rattle.first_form.proofs.NameLaws.{named}
-use Rattle.room_run.specs.Models.{most_bytes, HasTokens, HasTree, IsModel, IsUncut, NestsTooDeep, HasNoTree, IsStrange, TextCauses, uncut, too_deep, no_tree, strange, no_memory}
-use Rattle.room_run.specs.Reading.{HasItsTokens, HasItsTree}
+use Rattle.structure_check.specs.Rules.{IsLowest}
+use Rattle.structure_check.specs.List.{all_rules}
+use Rattle.structure_check.specs.Checks.{TellsLowest}
+use Rattle.structure_check.specs.declared.fault.CheckFault.{CheckFault}
+use Rattle.structure_check.specs.declared.fault.CheckFault.TheVariants as faults
+use Rattle.room_run.specs.Models.{most_bytes, HasTokens, HasTree, IsSound, IsModel, IsUncut, NestsTooDeep, HasNoTree, BreaksRule, IsStrange, SoundCauses, uncut, too_deep, no_tree, breaks_rule, no_memory, TextCauses, strange}
+use Rattle.room_run.specs.Reading.{HasItsTokens, HasItsTree, HasSoundTree, RuleCauses, breaks, no_memory_for_rules}
+use Rattle.room_run.specs.declared.refusal.Refusal.{Refusal}
 use Rattle.room_run.specs.declared.refusal.Refusal.TheVariants as refusals
 
 -- ---- tokens
@@ -35,7 +41,7 @@ tokens_found text tokens ps cut is only = record {
   names = subst (λ ts. HasNames (values text ts)) (sym is) (tokens_named text ps cut);
 }
 
-pub cut_fails : (text : List ℕ) (cause : Cause) (offset : ℕ) → length text ≤ most_bytes → FailsAt cause offset text → TextCauses text (refusals.ModelByte offset)
+pub cut_fails : (text : List ℕ) (cause : Cause) (offset : ℕ) → length text ≤ most_bytes → FailsAt cause offset text → SoundCauses text (refusals.ModelByte offset)
 cut_fails text cause offset short fails = uncut offset (record { short = short; cause = cause; fails = fails })
 
 -- ---- the tree
@@ -64,23 +70,41 @@ parsed_none ts line parsing.TooDeep h is = absurd cc
 parsed_none ts line parsing.Memory h is = absurd cc
 
 -- the braces of the text nest too deep
-pub nests : (text : List ℕ) (tokens : List Token) (e : ParseFault) → length text ≤ most_bytes → HasItsTokens text tokens → IsParsed (values text tokens) (Err e) → e ≡ parsing.TooDeep → TextCauses text refusals.ModelTooDeep
+pub nests : (text : List ℕ) (tokens : List Token) (e : ParseFault) → length text ≤ most_bytes → HasItsTokens text tokens → IsParsed (values text tokens) (Err e) → e ≡ parsing.TooDeep → SoundCauses text refusals.ModelTooDeep
 nests text tokens e short h parsed is = too_deep (record { short = short; tokens = tokens; cut = h.has; deep = parsed_deep (values text tokens) e parsed is })
 
 -- the text has no tree
-pub no_model : (text : List ℕ) (tokens : List Token) (line : ℕ) (e : ParseFault) → length text ≤ most_bytes → HasItsTokens text tokens → IsParsed (values text tokens) (Err e) → e ≡ parsing.Syntax line → TextCauses text (refusals.ModelSyntax line)
+pub no_model : (text : List ℕ) (tokens : List Token) (line : ℕ) (e : ParseFault) → length text ≤ most_bytes → HasItsTokens text tokens → IsParsed (values text tokens) (Err e) → e ≡ parsing.Syntax line → SoundCauses text (refusals.ModelSyntax line)
 no_model text tokens line e short h parsed is =
     let none = parsed_none (values text tokens) line e parsed is in
     no_tree line (record { short = short; tokens = tokens; cut = h.has; shallow = none.shallow; none = none.none })
 
+-- ---- the rules
+
+rule_lowest : (m : ModelTree) (n : ℕ) (e : CheckFault) → TellsLowest m (Err e) → e ≡ faults.Rule n → IsLowest all_rules m (Some n)
+rule_lowest m n (faults.Rule k) h is = let same : k ≡ n = cc in subst (λ x. IsLowest all_rules m (Some x)) same h
+rule_lowest m n faults.Memory h is = absurd cc
+
+-- the lowest rule that is broken was told
+pub rule_told : (m : ModelTree) (n : ℕ) (e : CheckFault) → TellsLowest m (Err e) → e ≡ faults.Rule n → RuleCauses m (refusals.ModelRule n)
+rule_told m n e h is = breaks n (rule_lowest m n e h is)
+
+-- the tree of a text is refused for the same cause as the text
+pub rules_cause : (text : List ℕ) (tree : ModelTree) {why : Refusal} → length text ≤ most_bytes → HasItsTree text tree → RuleCauses tree why → SoundCauses text why
+rules_cause text tree short h (breaks r e) = breaks_rule r (record { short = short; tree = tree; read = h.has; lowest = e })
+rules_cause text tree short h no_memory_for_rules = no_memory
+
 -- ---- the model
 
-pub model_judged : (text : List ℕ) (tree : ModelTree) (m : FirstModel) → length text ≤ most_bytes → HasItsTree text tree → IsFirstForm tree m → IsModel text m
-model_judged text tree m short h form = record { short = short; tree = tree; read = h.has; form = form }
+pub text_sound : (text : List ℕ) (tree : ModelTree) → length text ≤ most_bytes → HasSoundTree text tree → IsSound text
+text_sound text tree short h = record { short = short; tree = tree; read = h.read.has; keeps = h.keeps }
 
-pub model_named : (text : List ℕ) (tree : ModelTree) (m : FirstModel) → HasItsTree text tree → IsFirstForm tree m → IsNamed m
-model_named text tree m h form = named m (subst (λ t. HasNames (model_tokens t)) form.tree h.names)
+pub model_judged : (text : List ℕ) (tree : ModelTree) (m : FirstModel) → length text ≤ most_bytes → HasSoundTree text tree → IsFirstForm tree m → IsModel text m
+model_judged text tree m short h form = record { short = short; tree = tree; read = h.read.has; keeps = h.keeps; form = form }
 
-pub model_strange : (text : List ℕ) (tree : ModelTree) → length text ≤ most_bytes → HasItsTree text tree → ((m : FirstModel) → IsFirstForm tree m → ⊥) → TextCauses text refusals.ModelLater
+pub model_named : (text : List ℕ) (tree : ModelTree) (m : FirstModel) → HasSoundTree text tree → IsFirstForm tree m → IsNamed m
+model_named text tree m h form = named m (subst (λ t. HasNames (model_tokens t)) form.tree h.read.names)
+
+pub model_strange : (text : List ℕ) (tree : ModelTree) → length text ≤ most_bytes → HasSoundTree text tree → ((m : FirstModel) → IsFirstForm tree m → ⊥) → TextCauses text refusals.ModelLater
 model_strange text tree short h none =
-    strange (record { short = short; tree = tree; read = h.has; none = λ m k. none m (subst (λ t. IsFirstForm t m) (h.only k.tree k.read) k.form) })
+    strange (record { sound = text_sound text tree short h; none = λ m k. none m (subst (λ t. IsFirstForm t m) (h.read.only k.tree k.read) k.form) })

@@ -1,13 +1,13 @@
 -- Which texts run, and why a call is refused.
-use Rattle.std.specs.Prelude.{◌≡◌, ℕ, ◌<◌, ◌≤◌, List, ◌∷◌, [], length, Some, None, IfSome, IsSome, codes, decimal}
+use Rattle.std.specs.Prelude.{◌≡◌, ℕ, ◌<◌, ◌≤◌, List, ◌∷◌, [], length, Some, None, IfSome, codes, decimal}
 use Rattle.room_outside.specs.Faults.{Rose}
 use Rattle.room_outside.specs.Shown.{Shown}
 use Rattle.line_text.specs.Lines.{line}
 use Rattle.first_form.specs.Lines.{IsLinesOf}
 use Rattle.first_form.specs.declared.model.FirstModel.{FirstModel}
 use Rattle.first_form.specs.declared.model.FirstLine.{FirstLine}
-use Rattle.room_run.specs.Words.{Files, files_named}
-use Rattle.room_run.specs.Models.{IsModel, TextCauses, most_bytes}
+use Rattle.room_run.specs.Words.{Files, Check, Run, asked_by}
+use Rattle.room_run.specs.Models.{IsModel, SoundCauses, TextCauses, most_bytes}
 use Rattle.room_run.specs.declared.refusal.Refusal.{Refusal}
 use Rattle.room_run.specs.declared.refusal.Refusal.TheVariants as refusals
 use Rattle.room_run.specs.declared.status.Status.{Status}
@@ -22,27 +22,25 @@ pub record IsInjections (model : FirstModel) (text : List ℕ) (lines : List Fir
 abbrev pub TextIs : Shown → List ℕ → (List ℕ → Type 0) → Type 0
 TextIs shelf name P = IfSome (shelf.text name) P
 
--- the words name two files, and the first is that of this model
-pub record NamesModel (shelf : Shown) (words : List (List ℕ)) (files : Files) (model : FirstModel) : Type 0 where
-  pub named : files_named words ≡ Some files
-  pub accepted : TextIs shelf files.model (λ text. IsModel text model)
-
--- the words name two files, of this model and these injections
-pub record NamesRun (shelf : Shown) (words : List (List ℕ)) (model : FirstModel) (lines : List FirstLine) : Type 0 where
-  pub files : Files
-  pub model_named : NamesModel shelf words files model
-  pub accepted : TextIs shelf files.injections (λ text. IsInjections model text lines)
+-- the texts of two files are those of a model which runs, and of injections which run on it
+pub record AreOf (shelf : Shown) (files : Files) (model : FirstModel) (lines : List FirstLine) : Type 0 where
+  pub model_accepted : TextIs shelf files.model (λ text. IsModel text model)
+  pub lines_accepted : TextIs shelf files.injections (λ text. IsInjections model text lines)
 
 -- in a call, the count of read faults of a name rose
 abbrev pub RoseAt : Shown → Shown → List ℕ → Type 0
 RoseAt before after name = Rose (before.faults name) (after.faults name)
 
--- why the model may be refused, whose text is looked for under a name
-pub data ModelCauses (before after : Shown) (name : List ℕ) : Refusal → Type 0 where
-  model_unread : RoseAt before after name → ModelCauses before after name refusals.ReadFault
-  model_long : TextIs before name (λ text. most_bytes < length text) → ModelCauses before after name refusals.ModelTooLong
-  model_refused : (why : Refusal) → TextIs before name (λ text. TextCauses text why) → ModelCauses before after name why
-  model_no_memory : ModelCauses before after name refusals.Memory
+-- why there may be no text of a model, which is looked for under a name
+pub data UnreadCauses (before after : Shown) (name : List ℕ) : Refusal → Type 0 where
+  model_unread : RoseAt before after name → UnreadCauses before after name refusals.ReadFault
+  model_long : TextIs before name (λ text. most_bytes < length text) → UnreadCauses before after name refusals.ModelTooLong
+  model_no_memory : UnreadCauses before after name refusals.Memory
+
+-- why a model may be refused, whose text is looked for under a name, where these are the causes for which a text is refused
+pub data ModelCauses (Of : List ℕ → Refusal → Type 0) (before after : Shown) (name : List ℕ) (why : Refusal) : Type 0 where
+  no_text : UnreadCauses before after name why → ModelCauses Of before after name why
+  model_refused : TextIs before name (λ text. Of text why) → ModelCauses Of before after name why
 
 -- why the injections may be refused, whose text is looked for under a name
 pub data InjectionsCauses (before after : Shown) (name : List ℕ) (model : FirstModel) : Refusal → Type 0 where
@@ -51,13 +49,18 @@ pub data InjectionsCauses (before after : Shown) (name : List ℕ) (model : Firs
   injections_strange : TextIs before name (λ text. (lines : List FirstLine) → IsInjections model text lines → ⊥) → InjectionsCauses before after name model refusals.InjectionsLater
   injections_no_memory : InjectionsCauses before after name model refusals.Memory
 
--- Why a call may be refused. The order is: the words, reading the model, the model, reading the
+-- Why the run of two files may be refused. The order is: reading the model, the model, reading the
 -- injections, the injections, the run.
+pub data RunCauses (before after : Shown) (files : Files) (why : Refusal) : Type 0 where
+  of_model : ModelCauses TextCauses before after files.model why → RunCauses before after files why
+  of_injections : (model : FirstModel) → TextIs before files.model (λ text. IsModel text model) → InjectionsCauses before after files.injections model why → RunCauses before after files why
+  run_no_memory : why ≡ refusals.Memory → RunCauses before after files why
+
+-- why a call may be refused: for its words, or by what they ask for
 pub data Causes (before after : Shown) (words : List (List ℕ)) (why : Refusal) : Type 0 where
-  no_such_words : files_named words ≡ None → why ≡ refusals.Words → Causes before after words why
-  of_model : (files : Files) → files_named words ≡ Some files → ModelCauses before after files.model why → Causes before after words why
-  of_injections : (files : Files) (model : FirstModel) → NamesModel before words files model → InjectionsCauses before after files.injections model why → Causes before after words why
-  no_memory : IsSome (files_named words) → why ≡ refusals.Memory → Causes before after words why
+  no_such_words : asked_by words ≡ None → why ≡ refusals.Words → Causes before after words why
+  of_check : (name : List ℕ) → asked_by words ≡ Some (Check name) → ModelCauses SoundCauses before after name why → Causes before after words why
+  of_run : (files : Files) → asked_by words ≡ Some (Run files) → RunCauses before after files why → Causes before after words why
 
 -- the status of a refusal
 abbrev pub status_of : Refusal → Status
@@ -66,6 +69,7 @@ status_of refusals.ModelTooLong = statuses.ModelRefused
 status_of (refusals.ModelByte offset) = statuses.ModelRefused
 status_of refusals.ModelTooDeep = statuses.ModelRefused
 status_of (refusals.ModelSyntax number) = statuses.ModelRefused
+status_of (refusals.ModelRule number) = statuses.ModelRefused
 status_of refusals.ModelLater = statuses.ModelRefused
 status_of refusals.InjectionsTooLong = statuses.InjectionsRefused
 status_of refusals.InjectionsLater = statuses.InjectionsRefused
@@ -79,6 +83,7 @@ note_of refusals.ModelTooLong = line (codes "room: model refused: too long" ∷ 
 note_of (refusals.ModelByte offset) = line (codes "room: model refused: byte " ∷ decimal offset ∷ [])
 note_of refusals.ModelTooDeep = line (codes "room: model refused: too deep" ∷ [])
 note_of (refusals.ModelSyntax number) = line (codes "room: model refused: syntax " ∷ decimal number ∷ [])
+note_of (refusals.ModelRule number) = line (codes "room: model refused: rule " ∷ decimal number ∷ [])
 note_of refusals.ModelLater = line (codes "room: model refused: later" ∷ [])
 note_of refusals.InjectionsTooLong = line (codes "room: injections refused: too long" ∷ [])
 note_of refusals.InjectionsLater = line (codes "room: injections refused: later" ∷ [])

@@ -1,5 +1,5 @@
--- Which texts are those of models that run, and why others aren't.
-use Rattle.std.specs.Prelude.{◌≡◌, ℕ, ◌≤◌, List, [], length, true, false}
+-- Which texts are those of models that keep all rules, which of them run, and why others don't.
+use Rattle.std.specs.Prelude.{◌≡◌, ℕ, ◌≤◌, List, [], length, true, false, Some, None}
 use Rattle.room_lexer.specs.Cut.{Piece, CutTo, placed, FailsAt}
 use Rattle.room_lexer.specs.declared.piece.Cause.{Cause}
 use Rattle.room_lexer.specs.declared.token.Token.{Token}
@@ -7,6 +7,8 @@ use Rattle.room_ast.specs.Trees.{ModelTree}
 use Rattle.room_ast.specs.Tokens.{model_tokens}
 use Rattle.token_reading.specs.Single.{values}
 use Rattle.room_parser.specs.Parsed.{HasNoModel, opens_too_many}
+use Rattle.structure_check.specs.Rules.{first_broken, IsLowest}
+use Rattle.structure_check.specs.List.{all_rules}
 use Rattle.first_form.specs.Tree.{IsFirstForm}
 use Rattle.first_form.specs.declared.model.FirstModel.{FirstModel}
 use Rattle.room_run.specs.declared.refusal.Refusal.{Refusal}
@@ -28,11 +30,19 @@ pub record HasTree (text : List ℕ) (tree : ModelTree) : Type 0 where
   pub cut : HasTokens text tokens
   pub spelled : model_tokens tree ≡ values text tokens
 
--- the text is that of a model which runs
+-- the text is that of a model which keeps all rules
+pub record IsSound (text : List ℕ) : Type 0 where
+  pub short : length text ≤ most_bytes
+  pub tree : ModelTree
+  pub read : HasTree text tree
+  pub keeps : first_broken all_rules tree ≡ None
+
+-- the text is that of a model which keeps all rules, and runs
 pub record IsModel (text : List ℕ) (model : FirstModel) : Type 0 where
   pub short : length text ≤ most_bytes
   pub tree : ModelTree
   pub read : HasTree text tree
+  pub keeps : first_broken all_rules tree ≡ None
   pub form : IsFirstForm tree model
 
 -- the text can't be cut at this byte, before which it can
@@ -56,17 +66,29 @@ pub record HasNoTree (text : List ℕ) : Type 0 where
   pub shallow : opens_too_many (values text tokens) ≡ false
   pub none : HasNoModel (values text tokens)
 
--- the text has a tree, and is that of no model which runs
-pub record IsStrange (text : List ℕ) : Type 0 where
+-- the text has a tree that breaks the rule of this number, and none of a lower one
+pub record BreaksRule (text : List ℕ) (rule : ℕ) : Type 0 where
   pub short : length text ≤ most_bytes
   pub tree : ModelTree
   pub read : HasTree text tree
+  pub lowest : IsLowest all_rules tree (Some rule)
+
+-- the text is that of a model which keeps all rules, and of none which runs
+pub record IsStrange (text : List ℕ) : Type 0 where
+  pub sound : IsSound text
   pub none : (model : FirstModel) → IsModel text model → ⊥
 
--- Why a text may be refused as a model. The order is: the cut, the braces, the tree, the form.
+-- Why a text may be refused as that of a model which keeps all rules. The order is: the cut, the
+-- braces, the tree, the rules in order of their numbers.
+pub data SoundCauses (text : List ℕ) : Refusal → Type 0 where
+  uncut : (offset : ℕ) → IsUncut text offset → SoundCauses text (refusals.ModelByte offset)
+  too_deep : NestsTooDeep text → SoundCauses text refusals.ModelTooDeep
+  no_tree : (line : ℕ) → HasNoTree text → SoundCauses text (refusals.ModelSyntax line)
+  breaks_rule : (rule : ℕ) → BreaksRule text rule → SoundCauses text (refusals.ModelRule rule)
+  no_memory : SoundCauses text refusals.Memory
+
+-- why a text may be refused as that of a model which runs: for a cause that stands before, or as strange
 pub data TextCauses (text : List ℕ) : Refusal → Type 0 where
-  uncut : (offset : ℕ) → IsUncut text offset → TextCauses text (refusals.ModelByte offset)
-  too_deep : NestsTooDeep text → TextCauses text refusals.ModelTooDeep
-  no_tree : (line : ℕ) → HasNoTree text → TextCauses text (refusals.ModelSyntax line)
+  unsound : (why : Refusal) → SoundCauses text why → TextCauses text why
   strange : IsStrange text → TextCauses text refusals.ModelLater
-  no_memory : TextCauses text refusals.Memory
+  none_for_running : TextCauses text refusals.Memory

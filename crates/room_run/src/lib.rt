@@ -1,10 +1,11 @@
 //! From the words of a command line to the bytes of the journals.
 //!
 //! `room_top` is the whole program over a shelf of texts and two sinks. Its contract is the
-//! headline of the project for the models that run today.
+//! headline of the project for the models that run today, and the exact answer of the check of a
+//! model.
 #![tactic(auto)]
 
-mod files;
+mod asked;
 mod judge;
 mod note;
 mod prepare;

@@ -1,10 +1,11 @@
-//! The line that tells of a refusal.
+//! The lines that the program writes of its own.
 ghost use Rattle.std.specs.Prelude.{◌∷◌, [], decimal, OnOk, OnErr};
 ghost use Rattle.line_text.specs.Lines.{line};
 ghost use Rattle.line_text.specs.Parts.{part_texts};
 ghost use Rattle.line_text.specs.Output.{Puts, at_rest};
 ghost use Rattle.room_outside.specs.Written.{Appends, BreaksOff};
 ghost use Rattle.room_run.specs.Causes.{note_of};
+ghost use Rattle.room_run.specs.Outcome.{accepted};
 
 use crate::refusal::Refusal;
 use line_text::{LineBuffer, Part, write_line};
@@ -38,6 +39,9 @@ fn write_refusal<K: Sink>(why: Refusal, notes: &mut K) -> Result<(), WriteFault>
         Refusal::ModelSyntax { line } => {
             write_number(notes, b"room: model refused: syntax ", u64::from(line))
         }
+        Refusal::ModelRule { rule } => {
+            write_number(notes, b"room: model refused: rule ", u64::from(rule))
+        }
         Refusal::ModelLater => write_text(notes, b"room: model refused: later"),
         Refusal::InjectionsTooLong => write_text(notes, b"room: injections refused: too long"),
         Refusal::InjectionsLater => write_text(notes, b"room: injections refused: later"),
@@ -52,4 +56,12 @@ pub(crate) fn write_note<K: Sink>(why: Refusal, notes: &mut K) -> Result<(), Wri
     ensures fault { OnErr result (BreaksOff (K.written notes.old) (K.written notes.new) (note_of why)) }
 {
     write_refusal(why, notes)
+}
+
+/// Writes the line that says that a model keeps all rules, in one piece. It takes no memory.
+pub(crate) fn write_ok<K: Sink>(out: &mut K) -> Result<(), WriteFault>
+    ensures ok { OnOk result (Appends (K.written out.old) (K.written out.new) accepted) }
+    ensures fault { OnErr result (BreaksOff (K.written out.old) (K.written out.new) accepted) }
+{
+    write_text(out, b"ok")
 }

@@ -1,18 +1,19 @@
 //! A call up to its first written byte.
-ghost use Rattle.std.specs.Prelude.{◌≡◌, ◌≤◌, List, map, length, IfOk, IfErr};
+ghost use Rattle.std.specs.Prelude.{◌≡◌, ◌≤◌, List, map, length, IfOk, IfErr, IfSome, OnOk};
 ghost use Rattle.std.specs.String.{string_bytes};
 ghost use Rattle.room_outside.specs.Shown.{Keeps};
 ghost use Rattle.first_form.specs.FirstModel.{MeetsConditions};
 ghost use Rattle.first_form.specs.Names.{IsNamed};
 ghost use Rattle.first_form.specs.Lines.{AreInRange};
-ghost use Rattle.room_run.specs.Models.{IsModel};
-ghost use Rattle.room_run.specs.Causes.{Causes, InjectionsCauses, IsInjections, ModelCauses, NamesRun, TextIs};
-ghost use Rattle.room_run.specs.Outcome.{IsRunOf};
+ghost use Rattle.room_run.specs.Words.{files_view};
+ghost use Rattle.room_run.specs.Models.{IsSound, IsModel, SoundCauses, TextCauses};
+ghost use Rattle.room_run.specs.Causes.{AreOf, Causes, InjectionsCauses, IsInjections, ModelCauses, RunCauses, TextIs, UnreadCauses};
+ghost use Rattle.room_run.specs.Outcome.{IsRunOf, Answers, answer_text};
 ghost use Rattle.first_form.specs.declared.model.FirstModel.{FirstModel as Model};
 ghost use Rattle.first_form.specs.declared.model.FirstLine.{FirstLine as Line};
 
-use crate::files::files_of;
-use crate::judge::judge;
+use crate::asked::{Asked, Files, asked_by};
+use crate::judge::{judge, sound_tree};
 use crate::refusal::Refusal;
 use first_form::{FirstFault, FirstLine, FirstModel, read_first_lines};
 use first_run::{FlatChart, run_first};
@@ -30,19 +31,56 @@ pub(crate) struct Finished {
     pub(crate) journals: Journals,
 }
 
+/// What the words asked for, and isn't written yet.
+#[derive(Drop)]
+pub(crate) enum Answer {
+    /// The model keeps all rules.
+    Accepted,
+    Ran(Finished),
+}
+
+/// The text of a model under a name.
+fn read_text<S: Shelf>(alloc: Global, shelf: &mut S, name: &str) -> Result<Vec<u8>, Refusal>
+    ensures short { IfOk result (λ v. length v.items ≤ 1048576) }
+    ensures ok { IfOk result (λ v. IfSome ((S.shown shelf.old).text name.now) (λ text. v.items ≡ text)) }
+    ensures err { IfErr result (λ why. UnreadCauses (S.shown shelf.old) (S.shown shelf.new) name.now why) }
+    ensures keeps { Keeps (S.shown shelf.old) (S.shown shelf.new) }
+{
+    match read_whole(alloc, shelf, name) {
+        Ok(text) => Ok(text),
+        Err(ReadRefused::ReadFault) => Err(Refusal::ReadFault),
+        Err(ReadRefused::TooLong) => Err(Refusal::ModelTooLong),
+        Err(ReadRefused::Memory) => Err(Refusal::Memory),
+    }
+}
+
+/// Whether the model whose text stands under a name keeps all rules.
+fn check_model<S: Shelf>(alloc: Global, shelf: &mut S, name: &str) -> Result<(), Refusal>
+    ensures ok { OnOk result (TextIs (S.shown shelf.old) name.now IsSound) }
+    ensures err { IfErr result (λ why. ModelCauses SoundCauses (S.shown shelf.old) (S.shown shelf.new) name.now why) }
+    ensures keeps { Keeps (S.shown shelf.old) (S.shown shelf.new) }
+{
+    let text = match read_text(alloc, shelf, name) {
+        Ok(text) => text,
+        Err(why) => return Err(why),
+    };
+    match sound_tree(alloc, text.as_slice()) {
+        Ok(_) => Ok(()),
+        Err(why) => Err(why),
+    }
+}
+
 /// The model whose text stands under a name.
 fn read_model<S: Shelf>(alloc: Global, shelf: &mut S, name: &str) -> Result<FirstModel, Refusal>
     ensures ok { IfOk result (λ model. TextIs (S.shown shelf.old) name.now (λ text. IsModel text model)) }
     ensures conditions { IfOk result (λ model. MeetsConditions model) }
     ensures names { IfOk result (λ model. IsNamed model) }
-    ensures err { IfErr result (λ why. ModelCauses (S.shown shelf.old) (S.shown shelf.new) name.now why) }
+    ensures err { IfErr result (λ why. ModelCauses TextCauses (S.shown shelf.old) (S.shown shelf.new) name.now why) }
     ensures keeps { Keeps (S.shown shelf.old) (S.shown shelf.new) }
 {
-    let text = match read_whole(alloc, shelf, name) {
+    let text = match read_text(alloc, shelf, name) {
         Ok(text) => text,
-        Err(ReadRefused::ReadFault) => return Err(Refusal::ReadFault),
-        Err(ReadRefused::TooLong) => return Err(Refusal::ModelTooLong),
-        Err(ReadRefused::Memory) => return Err(Refusal::Memory),
+        Err(why) => return Err(why),
     };
     judge(alloc, text.as_slice())
 }
@@ -89,19 +127,12 @@ fn run(alloc: Global, model: &FirstModel, lines: &[FirstLine]) -> Result<Finishe
     Ok(Finished { wiring, journals })
 }
 
-/// All that comes before the first written byte.
-pub(crate) fn prepare<S: Shelf>(
-    alloc: Global,
-    words: &[String],
-    shelf: &mut S,
-) -> Result<Finished, Refusal>
-    ensures ok { IfOk result (λ f. (model : Model) × (lines : List Line) × NamesRun (S.shown shelf.old) (map string_bytes words.now) model lines × IsRunOf model lines f.wiring f.journals) }
-    ensures err { IfErr result (λ why. Causes (S.shown shelf.old) (S.shown shelf.new) (map string_bytes words.now) why) }
+/// The run of the model and the injections of two files.
+fn run_files<S: Shelf>(alloc: Global, shelf: &mut S, files: Files) -> Result<Finished, Refusal>
+    ensures ok { IfOk result (λ f. (model : Model) × (lines : List Line) × AreOf (S.shown shelf.old) (files_view files.entry) model lines × IsRunOf model lines f.wiring f.journals) }
+    ensures err { IfErr result (λ why. RunCauses (S.shown shelf.old) (S.shown shelf.new) (files_view files.entry) why) }
     ensures keeps { Keeps (S.shown shelf.old) (S.shown shelf.new) }
 {
-    let Some(files) = files_of(words) else {
-        return Err(Refusal::Words);
-    };
     let model = match read_model(alloc, shelf, files.model) {
         Ok(model) => model,
         Err(why) => return Err(why),
@@ -113,5 +144,28 @@ pub(crate) fn prepare<S: Shelf>(
     match run(alloc, &model, lines.as_slice()) {
         Ok(finished) => Ok(finished),
         Err(AllocError) => Err(Refusal::Memory),
+    }
+}
+
+/// All that comes before the first written byte.
+pub(crate) fn prepare<S: Shelf>(
+    alloc: Global,
+    words: &[String],
+    shelf: &mut S,
+) -> Result<Answer, Refusal>
+    ensures ok { IfOk result (λ a. Answers (S.shown shelf.old) (map string_bytes words.now) (answer_text a)) }
+    ensures err { IfErr result (λ why. Causes (S.shown shelf.old) (S.shown shelf.new) (map string_bytes words.now) why) }
+    ensures keeps { Keeps (S.shown shelf.old) (S.shown shelf.new) }
+{
+    match asked_by(words) {
+        None => Err(Refusal::Words),
+        Some(Asked::Check(name)) => match check_model(alloc, shelf, name) {
+            Ok(()) => Ok(Answer::Accepted),
+            Err(why) => Err(why),
+        },
+        Some(Asked::Run(files)) => match run_files(alloc, shelf, files) {
+            Ok(finished) => Ok(Answer::Ran(finished)),
+            Err(why) => Err(why),
+        },
     }
 }

@@ -16,6 +16,9 @@ pub enum Refusal {
     /// No model has these tokens. The line, from 1, is that of the first token with which no model
     /// goes on, or of the end of the text.
     ModelSyntax { line: u32 },
+    /// The model breaks the rule of this number, and none of a lower number.
+    ModelRule { rule: u8 },
+    /// The model keeps all rules, and is none that runs today.
     ModelLater,
     InjectionsTooLong,
     InjectionsLater,
@@ -33,6 +36,7 @@ impl Refusal {
             Refusal::ModelByte { .. } => Status::ModelRefused,
             Refusal::ModelTooDeep => Status::ModelRefused,
             Refusal::ModelSyntax { .. } => Status::ModelRefused,
+            Refusal::ModelRule { .. } => Status::ModelRefused,
             Refusal::ModelLater => Status::ModelRefused,
             Refusal::InjectionsTooLong | Refusal::InjectionsLater => Status::InjectionsRefused,
             Refusal::ReadFault => Status::ReadFault,

@@ -1,11 +1,10 @@
 //! The whole program.
 ghost use Rattle.std.specs.Prelude.{◌≡◌, map};
 ghost use Rattle.std.specs.String.{string_bytes};
-ghost use Rattle.journal.specs.Text.{text_of};
-ghost use Rattle.room_run.specs.Outcome.{Prints, Outcome, Tells};
+ghost use Rattle.room_run.specs.Outcome.{Prints, Outcome, Tells, answer_text};
 
-use crate::note::write_note;
-use crate::prepare::{Finished, prepare};
+use crate::note::{write_note, write_ok};
+use crate::prepare::{Answer, prepare};
 use crate::refusal::Refusal;
 use crate::status::Status;
 use journal::text_to;
@@ -22,11 +21,15 @@ fn tell<K: Sink>(why: Refusal, notes: &mut K) -> Status
     }
 }
 
-/// Writes the journals of a run, and gives the status.
-fn print<K: Sink>(finished: &Finished, out: &mut K) -> Status
-    ensures { Prints (K.written out.old) (K.written out.new) (text_of finished.now.wiring finished.now.journals) result }
+/// Writes what the words asked for, and gives the status.
+fn print<K: Sink>(answer: &Answer, out: &mut K) -> Status
+    ensures { Prints (K.written out.old) (K.written out.new) (answer_text answer.now) result }
 {
-    match text_to(&finished.journals, &finished.wiring, out) {
+    let written = match answer {
+        Answer::Accepted => write_ok(out),
+        Answer::Ran(run) => text_to(&run.journals, &run.wiring, out),
+    };
+    match written {
         Ok(()) => Status::Done,
         Err(_) => Status::WriteFault,
     }
@@ -34,10 +37,10 @@ fn print<K: Sink>(finished: &Finished, out: &mut K) -> Status
 
 /// The program over a shelf of texts, standard output and standard error.
 ///
-/// The words `run MODEL INJECT` name a model and injections; every other list of words is refused.
-/// The order is: the words, reading the model, the model, reading the injections, the injections,
-/// the run, writing. After a failed read nothing more is read, and want of memory never comes once
-/// something was written.
+/// The words `check MODEL` ask whether a model keeps all rules, and `run MODEL INJECT` for the run
+/// of a model over injections; every other list of words is refused. The order is: the words,
+/// reading the model, the model, reading the injections, the injections, the run, writing. After a
+/// failed read nothing more is read, and want of memory never comes once something was written.
 pub fn room_top<S: Shelf, K: Sink, G: Gate + Sync>(
     alloc: Global,
     words: &[String],
@@ -49,7 +52,7 @@ pub fn room_top<S: Shelf, K: Sink, G: Gate + Sync>(
     ensures { Outcome (S.shown shelf.old) (S.shown shelf.new) (map string_bytes words.now) (record { out_before = K.written out.old; out_after = K.written out.new; notes_before = K.written notes.old; notes_after = K.written notes.new }) result }
 {
     match prepare(alloc, words, shelf) {
-        Ok(finished) => print(&finished, out),
+        Ok(answer) => print(&answer, out),
         Err(why) => tell(why, notes),
     }
 }

@@ -1,3 +1,5 @@
 pub mod Rules
 pub mod List
+pub mod Classes
 pub mod Checks
+pub mod Ranks

@@ -8,6 +8,7 @@ use Rattle.class_rules.specs.Types.{has_known_types, has_fitting_values}
 use Rattle.class_rules.specs.Ends.{has_known_protocols, has_own_ports, has_known_actors}
 use Rattle.containment_rules.specs.Circles.{data_is_finite, actors_are_finite}
 use Rattle.class_sizes.specs.Rules.{has_small_classes}
+use Rattle.count_rules.specs.Counts.{has_few_parts}
 use Rattle.structure_rules.specs.AnyPlaces.{any_places_at_end_ports}
 use Rattle.structure_rules.specs.Imported.{imported_classes_have_end_ports}
 use Rattle.structure_rules.specs.Replication.{replicates_in_range}
@@ -68,6 +69,14 @@ part_rules = end_rules ++ outer_rules
 unfoldable pub later_rules : List Rule
 later_rules = data_rules ++ part_rules
 
+-- The rules on single parts of a model: all but that on how many parts there are.
+unfoldable pub single_rules : List Rule
+single_rules = name_rules ++ later_rules
+
+-- The rule on how many parts there are.
+unfoldable pub count_rules : List Rule
+count_rules = record { number = 25; keeps = has_few_parts } ∷ []
+
 -- All rules that are checked, in order of their numbers.
 abbrev pub all_rules : List Rule
-all_rules = name_rules ++ later_rules
+all_rules = single_rules ++ count_rules

@@ -1,12 +1,16 @@
 //! Checking a model.
 
-ghost use Rattle.std.specs.Prelude.{◌≡◌, IfOk, List};
+ghost use Rattle.std.specs.Prelude.{◌≡◌, true, IfOk, None, List};
+ghost use Rattle.containment_rules.specs.Circles.{data_is_finite};
 ghost use Rattle.room_ast.specs.Trees.{ModelTree, model_view};
 ghost use Rattle.class_tables.specs.Containers.{tables_of};
 ghost use Rattle.structure_check.specs.Rules.{Rule, first_broken, IsLowest, RiseAbove};
-ghost use Rattle.structure_check.specs.List.{name_rules, data_rules, end_rules, place_rules, binding_rules, mappings_hold, thread_rules, joint_rules, outer_rules, part_rules, later_rules, all_rules};
-ghost use Rattle.structure_check.specs.Checks.{IsChecked};
+ghost use Rattle.structure_check.specs.List.{name_rules, data_rules, end_rules, place_rules, binding_rules, mappings_hold, thread_rules, joint_rules, outer_rules, part_rules, later_rules, single_rules, count_rules, all_rules};
+ghost use Rattle.structure_check.specs.Checks.{IsChecked, TellsLowest};
+ghost use Rattle.structure_check.specs.Classes.{HasClasses};
+ghost use Rattle.structure_check.specs.Ranks.{ReferencesFall};
 
+use crate::checked_model::Checked;
 use crate::fault::CheckFault;
 use binding_rules::{
     any_places_bind_once, binding_sides_agree, binding_sides_exist, layers_are_known,
@@ -15,9 +19,11 @@ use class_rules::{
     has_class_names, has_field_names, has_fitting_values, has_known_actors, has_known_protocols,
     has_known_types, has_message_names, has_one_system, has_own_ports, has_part_names,
 };
+use class_scopes::{actor_classes, scopes_of};
 use class_sizes::has_small_classes;
 use class_tables::{Tables, tables_of};
 use containment_rules::{actors_are_finite, data_is_finite};
+use count_rules::has_few_parts;
 use mapping_rules::{mappings_are_allowed, mappings_are_distinct, mappings_are_known};
 use room_ast::Model;
 use std::alloc::{AllocError, Global};
@@ -25,21 +31,6 @@ use structure_rules::{
     any_places_at_end_ports, imported_classes_have_end_ports, replicates_in_range,
     subsystem_references_are_plain, threads_are_few,
 };
-
-/// A model that breaks none of the rules.
-#[derive(Drop)]
-pub struct Checked<'a> {
-    pub model: &'a Model,
-}
-
-impl<'a> Checked<'a> {
-    /// The model that was checked. It takes no memory.
-    pub fn model(&self) -> &'a Model
-        ensures { result.now ≡ self.now.model.now }
-    {
-        self.model
-    }
-}
 
 /// The first rule on names that a model breaks.
 #[tactic(auto, unfolding(crate::specs::List::name_rules))]
@@ -248,8 +239,41 @@ fn broken_later_rule(
     broken_part_rule(alloc, model, tables)
 }
 
+/// The first of the rules on single parts that a model breaks.
+#[tactic(auto, using(crate::proofs::Laws::broken_first, crate::proofs::Laws::broken_later), unfolding(crate::specs::List::single_rules))]
+fn broken_single_rule(
+    alloc: Global,
+    model: &Model,
+    tables: &Tables,
+) -> Result<Option<u8>, AllocError>
+    requires { tables.now ≡ tables_of (model_view model.now) }
+    ensures { IfOk result (λ n. n ≡ first_broken single_rules (model_view model.now)) }
+{
+    if let Some(rule) = broken_name_rule(alloc, model, tables)? {
+        return Ok(Some(rule));
+    }
+    broken_later_rule(alloc, model, tables)
+}
+
+/// The rule on how many parts there are, if a model breaks it.
+#[tactic(auto, unfolding(crate::specs::List::count_rules))]
+fn broken_count_rule(
+    alloc: Global,
+    model: &Model,
+    tables: &Tables,
+) -> Result<Option<u8>, AllocError>
+    requires tables { tables.now ≡ tables_of (model_view model.now) }
+    requires finite { data_is_finite (model_view model.now) ≡ true }
+    ensures { IfOk result (λ n. n ≡ first_broken count_rules (model_view model.now)) }
+{
+    if !has_few_parts(alloc, model, tables)? {
+        return Ok(Some(25));
+    }
+    Ok(None)
+}
+
 /// The lowest rule that a model breaks, by its tables.
-#[tactic(auto, using(crate::proofs::Laws::broken_first, crate::proofs::Laws::broken_later))]
+#[tactic(auto, using(crate::proofs::Laws::broken_first, crate::proofs::Laws::broken_later, crate::proofs::KeptRules::keeps_finite))]
 fn lowest_broken_rule(
     alloc: Global,
     model: &Model,
@@ -258,28 +282,62 @@ fn lowest_broken_rule(
     requires { tables.now ≡ tables_of (model_view model.now) }
     ensures { IfOk result (λ n. n ≡ first_broken all_rules (model_view model.now)) }
 {
-    if let Some(rule) = broken_name_rule(alloc, model, tables)? {
+    if let Some(rule) = broken_single_rule(alloc, model, tables)? {
         return Ok(Some(rule));
     }
-    broken_later_rule(alloc, model, tables)
+    broken_count_rule(alloc, model, tables)
 }
 
-/// The lowest rule that a model breaks.
-fn broken_rule(alloc: Global, model: &Model) -> Result<Option<u8>, AllocError>
-    ensures { IfOk result (λ n. n ≡ first_broken all_rules (model_view model.now)) }
+/// A model that breaks no rule, with what its actor classes can name.
+#[tactic(auto, using(crate::proofs::KeptRules::all_finite, crate::proofs::KeptRules::all_fitting, crate::proofs::KeptRules::all_few))]
+fn scoped<'a>(alloc: Global, model: &'a Model, tables: &Tables) -> Result<Checked<'a>, AllocError>
+    requires tables { tables.now ≡ tables_of (model_view model.now) }
+    requires kept { first_broken all_rules (model_view model.now) ≡ None }
+    ensures model { IfOk result (λ c. model_view c.model.now ≡ model_view model.entry.now) }
+    ensures classes { IfOk result (λ c. HasClasses c) }
+{
+    let classes = actor_classes(alloc, model.classes.as_slice())?;
+    let scopes = scopes_of(alloc, model, tables)?;
+    Ok(Checked {
+        model,
+        classes,
+        scopes,
+    })
+}
+
+/// The answer for a model that breaks no rule.
+fn kept<'a>(alloc: Global, model: &'a Model, tables: &Tables) -> Result<Checked<'a>, CheckFault>
+    requires tables { tables.now ≡ tables_of (model_view model.now) }
+    requires kept { first_broken all_rules (model_view model.now) ≡ None }
+    ensures answer { IsChecked (model_view model.entry.now) result }
+    ensures lowest { TellsLowest (model_view model.entry.now) result }
+    ensures references { IfOk result (λ c. ReferencesFall (model_view model.entry.now)) }
+{
+    let checked = scoped(alloc, model, tables)?;
+    Ok(checked)
+}
+
+/// The answer for a model, by its tables.
+fn judged<'a>(alloc: Global, model: &'a Model, tables: &Tables) -> Result<Checked<'a>, CheckFault>
+    requires { tables.now ≡ tables_of (model_view model.now) }
+    ensures answer { IsChecked (model_view model.entry.now) result }
+    ensures lowest { TellsLowest (model_view model.entry.now) result }
+    ensures references { IfOk result (λ c. ReferencesFall (model_view model.entry.now)) }
+{
+    match lowest_broken_rule(alloc, model, tables)? {
+        Some(rule) => Err(CheckFault::Rule(rule)),
+        None => kept(alloc, model, tables),
+    }
+}
+
+/// Checks a model. It takes time in proportion to the model and to the scopes of its classes.
+pub fn check<'a>(alloc: Global, model: &'a Model) -> Result<Checked<'a>, CheckFault>
+    ensures answer { IsChecked (model_view model.entry.now) result }
+    ensures lowest { TellsLowest (model_view model.entry.now) result }
+    ensures references { IfOk result (λ c. ReferencesFall (model_view model.entry.now)) }
 {
     let tables = tables_of(alloc, model)?;
-    lowest_broken_rule(alloc, model, &tables)
-}
-
-/// Checks a model. It takes time in proportion to the model.
-pub fn check<'a>(alloc: Global, model: &'a Model) -> Result<Checked<'a>, CheckFault>
-    ensures { IsChecked (model_view model.now) result }
-{
-    match broken_rule(alloc, model)? {
-        Some(rule) => Err(CheckFault::Rule(rule)),
-        None => Ok(Checked { model }),
-    }
+    judged(alloc, model, &tables)
 }
 
 /// The first rule that is broken, of rules whose numbers rise, is the lowest one broken.

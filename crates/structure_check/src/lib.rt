@@ -2,8 +2,10 @@
 //! that it breaks.
 #![tactic(auto)]
 
+mod checked_model;
 mod checking;
 mod fault;
 
-pub use checking::{Checked, check, lowest_is_found};
+pub use checked_model::Checked;
+pub use checking::{check, lowest_is_found};
 pub use fault::CheckFault;

@@ -1,10 +1,10 @@
 use Rattle.room_ast.specs.Trees.{model_view}
-use Rattle.room_run.specs.Models.{no_memory}
-use Rattle.room_run.proofs.JudgeLemmas.{model_judged, model_named, model_strange}
+use Rattle.room_run.specs.Models.{unsound, none_for_running}
+use Rattle.room_run.proofs.JudgeLemmas.{model_named, model_strange}
 use Rattle.room_run.proofs.judge.judge.Goals as goal
 
-pub returns-in-Ok-first_of-clause-ok : goal.returns-in-Ok-first_of-clause-ok
-returns-in-Ok-first_of-clause-ok c = model_judged c.args.text.now (model_view c.in-Ok.tree) c.in-Ok-first_of.model c.requires c.in-Ok.ensures.ok c.in-Ok-first_of.ensures.found
+pub returns-in-Err-clause-err : goal.returns-in-Err-clause-err
+returns-in-Err-clause-err c = unsound c.in-Err.why c.in-Err.ensures.err
 
 pub returns-in-Ok-first_of-clause-names : goal.returns-in-Ok-first_of-clause-names
 returns-in-Ok-first_of-clause-names c = model_named c.args.text.now (model_view c.in-Ok.tree) c.in-Ok-first_of.model c.in-Ok.ensures.ok c.in-Ok-first_of.ensures.found
@@ -13,4 +13,4 @@ pub returns-in-Err-Later-clause-err : goal.returns-in-Err-Later-clause-err
 returns-in-Err-Later-clause-err c = model_strange c.args.text.now (model_view c.in-Ok.tree) c.requires c.in-Ok.ensures.ok (c.in-Err-Later.ensures.later (cc))
 
 pub returns-clause-err : goal.returns-clause-err
-returns-clause-err c = no_memory
+returns-clause-err c = none_for_running

@@ -1,22 +1,29 @@
-use Rattle.room_run.specs.Words.{Files}
-use Rattle.room_run.proofs.CauseLemmas.{model_cause_of, injections_refused, run_named}
+use Rattle.std.proofs.Common.{◌≡◌, Some, refl, sym, ap, ◌∙◌}
+use Rattle.room_run.specs.Words.{asked_view, files_view}
+use Rattle.room_run.specs.Causes.{of_check, of_run}
+use Rattle.room_run.specs.Outcome.{says_ok, says_run}
+use Rattle.room_run.specs.declared.asked.Asked.{Asked}
+use Rattle.room_run.specs.declared.asked.Asked.TheVariants as code
+use Rattle.room_run.proofs.OutcomeLemmas.{text_is}
 use Rattle.room_run.proofs.prepare.prepare.Goals as goal
+
+pub returns-in-Ok-clause-ok : goal.returns-in-Ok-clause-ok
+returns-in-Ok-clause-ok g c =
+    let is : c.in-Some-Check.field-0 ≡ code.Check c.in-Some-Check.name = cc in
+    says_ok c.in-Some-Check.name.now (sym c.in-Some-Check.ensures ∙ ap (λ (a : Asked). Some (asked_view a)) is) c.in-Ok.ensures.ok refl
 
 pub returns-in-Err-clause-err : goal.returns-in-Err-clause-err
 returns-in-Err-clause-err g c =
-    let files : Files = record { model = c.in-Some.files.model.now; injections = c.in-Some.files.injections.now } in
-    model_cause_of (g.S.Shelf.shown c.args.shelf.now) (g.S.Shelf.shown c.read_model.new.shelf) _ files c.in-Err.why c.in-Some.ensures.some c.in-Err.ensures.err
+    let is : c.in-Some-Check.field-0 ≡ code.Check c.in-Some-Check.name = cc in
+    of_check c.in-Some-Check.name.now (sym c.in-Some-Check.ensures ∙ ap (λ (a : Asked). Some (asked_view a)) is) c.in-Err.ensures.err
 
-pub returns-in-Err-read_injections-clause-err : goal.returns-in-Err-read_injections-clause-err
-returns-in-Err-read_injections-clause-err g c =
-    let files : Files = record { model = c.in-Some.files.model.now; injections = c.in-Some.files.injections.now } in
-    injections_refused (g.S.Shelf.shown c.args.shelf.now) (g.S.Shelf.shown c.read_model.new.shelf) (g.S.Shelf.shown c.read_injections.new.shelf) _ files c.in-Ok.model c.in-Err-read_injections.why c.in-Some.ensures.some c.in-Ok.ensures.ok c.read_model.ensures.keeps c.in-Err-read_injections.ensures.err
+pub returns-in-Ok-run_files-clause-ok : goal.returns-in-Ok-run_files-clause-ok
+returns-in-Ok-run_files-clause-ok g c =
+    let x = c.in-Ok-run_files.ensures.ok in
+    let is : c.in-Some-Run.field-0 ≡ code.Run c.in-Some-Run.files = cc in
+    says_run (files_view c.in-Some-Run.files) x.0 x.1 (sym c.in-Some-Run.ensures ∙ ap (λ (a : Asked). Some (asked_view a)) is) x.2 (text_is x.0 x.1 _ _ x.3)
 
-pub returns-in-Ok-run-clause-ok : goal.returns-in-Ok-run-clause-ok
-returns-in-Ok-run-clause-ok g c =
-    let files : Files = record { model = c.in-Some.files.model.now; injections = c.in-Some.files.injections.now } in (
-      c.in-Ok.model,
-      c.in-Ok-read_injections.lines,
-      run_named (g.S.Shelf.shown c.args.shelf.now) (g.S.Shelf.shown c.read_model.new.shelf) _ files c.in-Ok.model c.in-Ok-read_injections.lines c.in-Some.ensures.some c.in-Ok.ensures.ok c.read_model.ensures.keeps c.in-Ok-read_injections.ensures.ok,
-      rw c.as_slice.ensures at c.in-Ok-run.ensures,
-    )
+pub returns-in-Err-run_files-clause-err : goal.returns-in-Err-run_files-clause-err
+returns-in-Err-run_files-clause-err g c =
+    let is : c.in-Some-Run.field-0 ≡ code.Run c.in-Some-Run.files = cc in
+    of_run (files_view c.in-Some-Run.files) (sym c.in-Some-Run.ensures ∙ ap (λ (a : Asked). Some (asked_view a)) is) c.in-Err-run_files.ensures.err

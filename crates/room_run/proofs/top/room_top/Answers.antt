@@ -1,10 +1,10 @@
+use Rattle.room_run.specs.Outcome.{answer_text}
 use Rattle.room_run.proofs.OutcomeLemmas.{printed_outcome, told_outcome}
 use Rattle.room_run.proofs.top.room_top.Goals as goal
 
 pub returns-in-Ok : goal.returns-in-Ok
 returns-in-Ok g c =
-    let x = c.in-Ok.ensures.ok in
-    printed_outcome (g.S.Shelf.shown c.args.shelf.now) (g.S.Shelf.shown c.prepare.new.shelf) _ (g.K.Sink.written c.args.out.now) (g.K.Sink.written c.print.new.out) (g.K.Sink.written c.args.notes.now) x.0 x.1 c.in-Ok.finished.wiring c.in-Ok.finished.journals c.print.result x.2 x.3 c.print.ensures
+    printed_outcome (g.S.Shelf.shown c.args.shelf.now) (g.S.Shelf.shown c.prepare.new.shelf) _ (g.K.Sink.written c.args.out.now) (g.K.Sink.written c.print.new.out) (g.K.Sink.written c.args.notes.now) (answer_text c.in-Ok.answer) c.print.result c.in-Ok.ensures.ok c.print.ensures
 
 pub returns-in-Err : goal.returns-in-Err
 returns-in-Err g c =

@@ -1,0 +1,6 @@
+pub mod Lists
+pub mod WalkLaws
+pub mod ClassLaws
+pub mod SignalLaws
+pub mod PortLaws
+pub mod ScopeLaws

@@ -1,0 +1,7 @@
+pub mod Views
+pub mod Scopes
+pub mod Fields
+pub mod Walks
+pub mod Signals
+pub mod Making
+pub mod Tables
