@@ -1,0 +1,4 @@
+pub mod Read
+pub mod Joined
+pub mod Lists
+pub mod MarkLaws

@@ -1,0 +1,4 @@
+pub mod Naming
+pub mod States
+pub mod NodeKinds
+pub mod Compiling

@@ -1,0 +1,6 @@
+pub mod KeyLaws
+pub mod StepLaws
+pub mod Members
+pub mod Linking
+pub mod Onward
+pub mod CircleLaws

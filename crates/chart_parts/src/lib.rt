@@ -1,0 +1,2 @@
+//! When tables are those of a chart, part by part: definitions alone.
+#![tactic(auto)]

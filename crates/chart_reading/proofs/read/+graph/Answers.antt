@@ -1,0 +1,25 @@
+use Rattle.std.proofs.Common.{List, map, ap, ◌∙◌, arith}
+use Rattle.room_ast.specs.declared.chart.GraphItem.{GraphItem}
+use Rattle.room_ast.specs.ChartTree.{item_view, graph_view}
+use Rattle.chart_codes.specs.Progress.{progress}
+use Rattle.chart_reading.specs.Around.{around}
+use Rattle.chart_reading.specs.Reading.{piece_of}
+use Rattle.chart_reading.specs.Views.{around_view, piece_view}
+use Rattle.chart_reading.proofs.Steps.{items_begin, items_next, items_end}
+use Rattle.chart_reading.proofs.read.+graph.Goals as goal
+
+pub read_graph-loop-item-init : goal.read_graph-loop-item-init
+read_graph-loop-item-init t c =
+    items_begin c.args.scope.now c.args.items.now.items (around_view c.in_ok-around.around) c.args.owner.now (piece_view c.begun-piece.result c.args.names.now) (progress c.args.marks c.args.names.now)
+    (c.in_ok-around.ensures ∙ ap (λ (xs : List GraphItem). around (map item_view xs)) c.as_slice.ensures.value) (c.begun-piece.ensures c.args.names.now)
+
+pub read_graph-loop-item-preserved : goal.read_graph-loop-item-preserved
+read_graph-loop-item-preserved t c =
+    let is = rw c.deref-item-items.ensures.value at c.item-item.is in
+    items_next c.args.scope.now c.args.items.now.items c.loop-item.item-index c.item-item.result (around_view c.in_ok-around.around) c.args.owner.now (piece_view c.loop-item.piece c.loop-item.names) (piece_view c.add_item.new.piece c.add_item.new.names)
+    (piece_of c.args.scope.now (graph_view c.args.items.now.items) c.args.owner.now (progress c.args.marks c.args.names.now)) (omega arith) is c.loop-item.invariant c.in_ok-add_item.ensures
+
+pub read_graph-returns : goal.read_graph-returns
+read_graph-returns t c =
+    items_end c.args.scope.now c.args.items.now.items c.loop-item.item-index (around_view c.in_ok-around.around) c.args.owner.now (piece_view c.loop-item.piece c.loop-item.names)
+    (piece_of c.args.scope.now (graph_view c.args.items.now.items) c.args.owner.now (progress c.args.marks c.args.names.now)) (omega arith) c.loop-item.invariant

@@ -1,0 +1,3 @@
+pub mod Around
+pub mod Reading
+pub mod Views

@@ -1,0 +1,15 @@
+//! The chart that a state machine's text writes.
+//!
+//! Every text writes a chart: what a name means is settled here, and whether it names anything is
+//! judged on the chart. Programs are bound to the class in the order of the text, since the names
+//! of services are numbered as they come.
+#![tactic(auto)]
+
+mod around;
+mod piece;
+mod read;
+mod terminals;
+mod transitions;
+mod written;
+
+pub use written::{Written, write_chart};

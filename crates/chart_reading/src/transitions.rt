@@ -1,0 +1,49 @@
+//! Transitions.
+ghost use Rattle.std.specs.Prelude.{◌≡◌, IfOk, OnOk};
+ghost use Rattle.chart_graphs.specs.Views.{transition_view};
+ghost use Rattle.chart_codes.specs.Progress.{progress};
+ghost use Rattle.chart_reading.specs.Reading.{after_transition, transition_of};
+ghost use Rattle.chart_reading.specs.Views.{around_view};
+
+use crate::around::Around;
+use crate::terminals::{source, target};
+use action_check::ServiceNames;
+use chart_codes::{Marks, action, guard, no_action, triggers};
+use chart_graphs::Transition;
+use room_ast::Scope;
+use std::alloc::{AllocError, Global};
+
+/// A transition among these names. Its guards and its condition are read before its action.
+pub(crate) fn transition(
+    alloc: Global,
+    written: &room_ast::Transition,
+    around: &Around,
+    scope: &Scope,
+    names: &mut ServiceNames,
+    marks: &mut Marks,
+) -> Result<Transition, AllocError>
+    ensures transition { IfOk result (λ t. transition_view t ≡ transition_of scope.now (around_view around.now) (progress marks.old names.old) written.now) }
+    ensures met { OnOk result (progress marks.new names.new ≡ after_transition scope.now (progress marks.old names.old) written.now.body) }
+{
+    let source = source(alloc, &written.source, around)?;
+    let target = target(alloc, &written.target, around)?;
+    let Some(body) = &written.body else {
+        return Ok(Transition {
+            source,
+            target,
+            triggers: Vec::new(alloc),
+            condition: None,
+            action: no_action(alloc),
+        });
+    };
+    let triggers = triggers(alloc, &body.triggers, scope, marks)?;
+    let condition = guard(alloc, &body.condition, scope, marks)?;
+    let action = action(alloc, &body.action, scope, names, marks)?;
+    Ok(Transition {
+        source,
+        target,
+        triggers,
+        condition,
+        action,
+    })
+}
