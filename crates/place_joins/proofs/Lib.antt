@@ -1,0 +1,3 @@
+pub mod PlaceSteps
+pub mod JoinedLaw
+pub mod AcrossLaw

@@ -1,0 +1,56 @@
+//! What lies across each face.
+ghost use Rattle.std.specs.Prelude.{◌≡◌, IfOk, if◌then◌else◌};
+ghost use Rattle.face_chains.specs.Chains.{IsInvolution};
+ghost use Rattle.place_rules.specs.Partners.{is_relay_role, across_places};
+
+use place_rules::{Place, Role};
+use std::alloc::{AllocError, Global};
+
+pub(crate) fn is_relay_role(role: Role) -> bool
+    ensures { result ≡ is_relay_role role }
+{
+    match role {
+        Role::Relay => true,
+        Role::End => false,
+        Role::Socket => false,
+    }
+}
+
+/// What lies across a face of a place with this role.
+fn across_face(role: Role, face: u32, other: u32) -> u32
+    ensures { result ≡ (if is_relay_role role then other else face) }
+{
+    if is_relay_role(role) { other } else { face }
+}
+
+/// The faces across all faces.
+fn across_row(alloc: Global, places: &[Place]) -> Result<Vec<u32>, AllocError>
+    ensures { IfOk result (λ v. v.items ≡ across_places places.now) }
+{
+    let mut across = Vec::new(alloc);
+    let mut face = 0u32;
+    for place in places {
+        let Some(inner) = face.checked_add(1) else {
+            return Err(AllocError);
+        };
+        let Some(next) = face.checked_add(2) else {
+            return Err(AllocError);
+        };
+        let outside = across_face(place.role, face, inner);
+        let inside = across_face(place.role, inner, face);
+        across.push(outside)?;
+        across.push(inside)?;
+        face = next;
+    }
+    Ok(across)
+}
+
+/// For each face of each place the face across it: the place's other face where the place passes
+/// messages on, and itself elsewhere. It takes time in proportion to the places.
+pub fn across_faces(alloc: Global, places: &[Place]) -> Result<Vec<u32>, AllocError>
+    ensures row { IfOk result (λ v. v.items ≡ across_places places.now) }
+    ensures involution { IfOk result (λ v. IsInvolution v.items) }
+{
+    let across = across_row(alloc, places)?;
+    Ok(across)
+}

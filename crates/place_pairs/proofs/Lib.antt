@@ -1,0 +1,3 @@
+pub mod LayerSteps
+pub mod BindingSteps
+pub mod ClassSteps

@@ -1,0 +1,2 @@
+pub mod RelayExample
+pub mod SmallExamples

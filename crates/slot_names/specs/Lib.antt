@@ -1,0 +1,4 @@
+pub mod Ways
+pub mod Wireds
+pub mod Names
+pub mod Found

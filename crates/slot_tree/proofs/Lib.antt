@@ -1,0 +1,6 @@
+pub mod Orders
+pub mod Depths
+pub mod Placed
+pub mod Growing
+pub mod PlaceSums
+pub mod KnownSlots

@@ -1,0 +1,4 @@
+pub mod Ascii
+pub mod KindLaws
+pub mod Turns
+pub mod Named
