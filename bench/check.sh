@@ -30,7 +30,7 @@ classes() {
 }
 
 ports() {
-    model_of "$1" "${head}ActorClass A { Structure {\n" 'Port p#: P\n' '} }\n}'
+    model_of "$1" "${head}ActorClass A { Structure {\n" 'Port a_port_that_has_a_longer_name_#: P\n' '} }\n}'
 }
 
 bindings() {

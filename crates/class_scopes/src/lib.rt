@@ -3,6 +3,7 @@
 #![tactic(auto)]
 
 mod fields;
+mod limit;
 mod numbers;
 mod ports;
 mod protocols;

@@ -19,6 +19,7 @@ ghost use Rattle.class_scopes.specs.Tables.{AreTables};
 ghost use Rattle.class_scopes.specs.Views.{scope_view};
 
 use crate::fields::fields_of_classes;
+use crate::limit::messages_fit;
 use crate::numbers::attributes_of;
 use crate::ports::{SignalTable, ports_in};
 use crate::protocols::{frame_only, no_signals, signals_of_classes};
@@ -113,8 +114,8 @@ fn tables_with<'a>(
     })
 }
 
-/// The tables of a model.
-fn scope_tables<'a>(
+/// The tables of a model, however many messages its ports have.
+fn all_tables<'a>(
     alloc: Global,
     model: &'a Model,
     tables: &Tables,
@@ -134,6 +135,25 @@ fn scope_tables<'a>(
         &tables.names.data_classes,
         kinds,
     )
+}
+
+/// The tables of a model, where its ports have few enough messages to give each port its own.
+fn scope_tables<'a>(
+    alloc: Global,
+    model: &'a Model,
+    tables: &Tables,
+) -> Result<ScopeTables<'a>, AllocError>
+    requires tables { tables.now ≡ tables_of (model_view model.now) }
+    requires finite { data_is_finite (model_view model.now) ≡ true }
+    requires few { has_few_parts (model_view model.now) ≡ true }
+    ensures tables { IfOk result (λ t. AreTables (model_view model.entry.now) (tables_view t)) }
+    ensures frame { IfOk result (λ t. HasFrame t.signals) }
+{
+    let made = all_tables(alloc, model, tables)?;
+    if !messages_fit(tables.actors.as_slice(), &made.signals) {
+        return Err(AllocError);
+    }
+    Ok(made)
 }
 
 // ---- scopes
@@ -206,7 +226,8 @@ fn scopes_by<'a>(
 /// What the actions of each actor class can name, by its number. The model keeps the rules that no
 /// data class contains itself, that initial values lie in range and that its parts are few. It takes
 /// time and memory in proportion to the model and to what it makes: each port has the messages of its
-/// protocol, and each number of an attribute its dotted name.
+/// protocol, and each number of an attribute its dotted name. Ports that have more than 4,000,000
+/// messages together are want of memory.
 pub fn scopes_of(alloc: Global, model: &Model, tables: &Tables) -> Result<Vec<Scope>, AllocError>
     requires tables { tables.now ≡ tables_of (model_view model.now) }
     requires finite { data_is_finite (model_view model.now) ≡ true }

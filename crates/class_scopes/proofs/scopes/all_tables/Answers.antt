@@ -2,7 +2,7 @@ use Rattle.std.proofs.Common.{map, ap}
 use Rattle.room_ast.specs.Trees.{class_view, model_view}
 use Rattle.class_sizes.proofs.RuleLaws.{none_is_finite}
 use Rattle.class_scopes.proofs.ScopeLaws.{names_of_tables, protocols_few, kinds_for, no_kinds_of, made_tables}
-use Rattle.class_scopes.proofs.scopes.scope_tables.Goals as goal
+use Rattle.class_scopes.proofs.scopes.all_tables.Goals as goal
 
 pub unreachable-requires : goal.unreachable-requires
 unreachable-requires c =
