@@ -1,0 +1,10 @@
+pub mod Sums
+pub mod Keeping
+pub mod Ending
+pub mod Turning
+pub mod Adding
+pub mod OnceFetched
+pub mod Standing
+pub mod Losing
+pub mod Computing
+pub mod Owning

@@ -1,0 +1,10 @@
+pub mod Alone
+pub mod Switch
+pub mod Choice
+pub mod History
+pub mod Numbers
+pub mod SideBySide
+pub mod Exchanged
+pub mod SecondPlug
+pub mod Ends
+pub mod Quiet
