@@ -1,0 +1,11 @@
+use Rattle.std.proofs.Common.{arith, map}
+use Rattle.chart_nodes.specs.Steps.{step_view}
+use Rattle.chart_compile.proofs.Making.{are_made, made_size}
+use Rattle.chart_compile.proofs.assemble.node_rows.Goals as goal
+
+pub fill_up-requires : goal.fill_up-requires
+fill_up-requires c = omega (arith, c.requires.enough, made_size c.args.states.now c.args.nodes.now (map step_view c.args.steps.now) c.args.targets.now c.in_ok-made.made.items c.requires.numbered c.in_ok-made.ensures)
+
+pub returns : goal.returns
+returns c =
+    are_made c.args.states.now c.args.nodes.now (map step_view c.args.steps.now) c.args.targets.now c.args.count c.in_ok-made.made.items c.fill_up.new.nodes.items c.requires.numbered c.requires.keyed c.in_ok-made.ensures c.in_ok-fill_up.ensures.same c.in_ok-fill_up.ensures.size

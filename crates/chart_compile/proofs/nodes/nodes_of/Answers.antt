@@ -1,0 +1,23 @@
+use Rattle.std.proofs.Common.{List, ℕ, map, subst, sym, take}
+use Rattle.chart_plan.specs.Same.{Each}
+use Rattle.chart_nodes.specs.Steps.{StepTree, step_view}
+use Rattle.chart_places.specs.Groups.{picked}
+use Rattle.chart_parts.specs.Nodes.{IsNode}
+use Rattle.chart_rows.proofs.Listing.{each_start_plain, taken_all}
+use Rattle.chart_compile.proofs.Making.{picked_next}
+use Rattle.chart_compile.proofs.nodes.nodes_of.Goals as goal
+
+pub loop-number-init : goal.loop-number-init
+loop-number-init c = each_start_plain (IsNode c.args.states.now c.args.nodes.now (map step_view c.args.steps.now)) c.new-made.result.items c.new-made.ensures.items
+
+pub loop-number-preserved : goal.loop-number-preserved
+loop-number-preserved c =
+    let steps = map step_view c.args.steps.now in
+    let targets = c.args.targets.now in
+    let i = c.loop-number.number-index in
+    subst (λ (l : List StepTree). Each (IsNode c.args.states.now c.args.nodes.now steps) c.add_node.new.made.items l) (sym (picked_next steps targets i c.loop-number-test.true)) (c.in_ok-add_node.ensures (picked steps (take i targets)) c.loop-number.invariant)
+
+pub returns : goal.returns
+returns c =
+    let steps = map step_view c.args.steps.now in
+    subst (λ (l : List ℕ). Each (IsNode c.args.states.now c.args.nodes.now steps) c.loop-number.made.items (picked steps l)) (taken_all c.args.targets.now c.loop-number.number-index c.loop-number-test.false) c.loop-number.invariant

@@ -1,0 +1,21 @@
+use Rattle.std.proofs.Common.{◌∙◌, ◌∷◌, [], ap, sym}
+use Rattle.name_numbers.specs.Names.{same}
+use Rattle.chart_nodes.specs.Keys.{codes}
+use Rattle.chart_nodes.specs.Steps.{step_view}
+use Rattle.chart_compile.proofs.Making.{first_there, none_left, still_none}
+use Rattle.chart_compile.proofs.start.initial_arrow.Goals as goal
+
+pub returns-then-begins_at : goal.returns-then-begins_at
+returns-then-begins_at c =
+    let s = c.step-item.result in
+    let key = c.as_slice.ensures.value ∙ c.in_ok-key.ensures in
+    first_there step_view c.args.nodes.now (0 ∷ codes []) c.args.steps.now c.loop-step.step-index s c.in_ok-arrow.arrow c.loop-step-test.true c.step-item.is c.loop-step.invariant (ap (λ k. same (step_view s).origin k) (sym key) ∙ sym c.begins_at.ensures ∙ c.if-begins_at.true) c.in_ok-arrow.ensures
+
+pub loop-step-preserved : goal.loop-step-preserved
+loop-step-preserved c =
+    let s = c.step-item.result in
+    let key = c.as_slice.ensures.value ∙ c.in_ok-key.ensures in
+    still_none step_view (0 ∷ codes []) c.args.steps.now c.loop-step.step-index s c.loop-step-test.true c.step-item.is c.loop-step.invariant (ap (λ k. same (step_view s).origin k) (sym key) ∙ sym c.begins_at.ensures ∙ c.if-begins_at.false)
+
+pub unreachable-requires : goal.unreachable-requires
+unreachable-requires c = none_left step_view (0 ∷ codes []) c.args.steps.now c.loop-step.step-index c.loop-step-test.false c.loop-step.invariant c.requires

@@ -1,0 +1,112 @@
+//! Tables from the steps and the states of a chart.
+ghost use Rattle.std.specs.Prelude.{◌≡◌, ◌<◌, ◌≤◌, ◌∷◌, [], ℕ, List, length, map, IfOk};
+ghost use Rattle.class_containment.specs.Containment.{NoneContainsItself};
+ghost use Rattle.chart_plan.specs.Same.{Each};
+ghost use Rattle.chart_nodes.specs.Keys.{codes};
+ghost use Rattle.chart_nodes.specs.Steps.{step_view};
+ghost use Rattle.chart_nodes.specs.Circles.{parts_of};
+ghost use Rattle.chart_places.specs.Places.{place_view};
+ghost use Rattle.chart_parts.specs.Parts.{IsRow, IsShared, from_key};
+ghost use Rattle.chart_numbers.specs.Order.{AreNumbered};
+ghost use Rattle.chart_compile.specs.Joined.{AreKeyed, AreMade, AreOf};
+
+use crate::nodes::{fill_up, nodes_of};
+use crate::start::initial_arrow;
+use chart_nodes::Step;
+use chart_numbers::number_nodes;
+use chart_places::{Place, group_by};
+use chart_rows::{rows_of, shared_of};
+use chart_tables::{Arrow, Node, Row, Tables};
+use name_numbers::Numbers;
+use room_kinds::Sequence;
+use std::alloc::{AllocError, Global};
+
+/// The rows of states.
+fn state_rows<'b, 'p, 's, 'g, 'n>(
+    alloc: Global,
+    states: &Numbers<'s>,
+    graphs: &Numbers<'g>,
+    nodes: &Numbers<'n>,
+    steps: &[Step<'b>],
+    places: &[Place<'p>],
+) -> Result<Vec<Row>, AllocError>
+    requires { length states.now ≡ length places.now }
+    ensures { IfOk result (λ rows. Each (IsRow states.now graphs.now nodes.now (map step_view steps.now)) rows.items (map place_view places.now)) }
+{
+    let own = group_by(alloc, states, places.len(), steps)?;
+    let rows = rows_of(alloc, states, graphs, nodes, steps, own.as_slice(), places)?;
+    Ok(rows)
+}
+
+/// For each graph the transitions from its transition points.
+fn shared_rows<'b, 'g, 'n>(
+    alloc: Global,
+    graphs: &Numbers<'g>,
+    nodes: &Numbers<'n>,
+    steps: &[Step<'b>],
+    keys: &[Sequence<u8>],
+) -> Result<Vec<Vec<Arrow>>, AllocError>
+    requires { graphs.now ≡ keys.now }
+    ensures { IfOk result (λ shared. Each (IsShared nodes.now (map step_view steps.now)) shared.items keys.now) }
+{
+    let groups = group_by(alloc, graphs, keys.len(), steps)?;
+    let shared = shared_of(alloc, graphs, nodes, steps, groups.as_slice(), keys)?;
+    Ok(shared)
+}
+
+/// The nodes that the steps with some numbers lead to, and then nodes to which nothing leads, so many
+/// in all.
+fn node_rows<'b, 's, 'n>(
+    alloc: Global,
+    states: &Numbers<'s>,
+    nodes: &Numbers<'n>,
+    steps: &[Step<'b>],
+    targets: &[usize],
+    count: usize,
+) -> Result<Vec<Node>, AllocError>
+    requires numbered { AreNumbered (map step_view steps.now) nodes.now targets.now }
+    requires keyed { AreKeyed (map step_view steps.now) }
+    requires enough { length nodes.now ≤ count }
+    ensures { IfOk result (λ made. AreMade states.now nodes.now (map step_view steps.now) targets.now count made.items) }
+{
+    let groups = group_by(alloc, nodes, targets.len(), steps)?;
+    let mut made = nodes_of(alloc, states, nodes, steps, groups.as_slice(), targets)?;
+    fill_up(&mut made, count)?;
+    Ok(made)
+}
+
+/// The tables of steps and states, with so many nodes.
+pub fn assemble<'b, 'p, 's, 'g>(
+    alloc: Global,
+    states: &Numbers<'s>,
+    graphs: &Numbers<'g>,
+    keys: &[Sequence<u8>],
+    steps: &[Step<'b>],
+    places: &[Place<'p>],
+    count: usize,
+    values: &[i64],
+) -> Result<Tables, AllocError>
+    requires states_are { length states.now ≡ length places.now }
+    requires graphs_are { graphs.now ≡ keys.now }
+    requires keyed { AreKeyed (map step_view steps.now) }
+    requires no_circle { NoneContainsItself (parts_of (map step_view steps.now)) }
+    requires enough { (keys : List (List ℕ)) (targets : List ℕ) → AreNumbered (map step_view steps.now) keys targets → length keys ≤ count }
+    requires starts { 0 < length (from_key (0 ∷ codes []) (map step_view steps.now)) }
+    ensures tables { IfOk result (λ v. AreOf states.now graphs.now (map step_view steps.now) (map place_view places.now) count v) }
+    ensures values { IfOk result (λ v. v.values.items ≡ values.now) }
+{
+    let mut nodes = Numbers::new(alloc);
+    let targets = number_nodes(alloc, steps, &mut nodes)?;
+    let rows = state_rows(alloc, states, graphs, &nodes, steps, places)?;
+    let shared = shared_rows(alloc, graphs, &nodes, steps, keys)?;
+    let made = node_rows(alloc, states, &nodes, steps, targets.as_slice(), count)?;
+    let initial = initial_arrow(alloc, &nodes, steps)?;
+    let copies = Vec::from_slice(alloc, values)?;
+    Ok(Tables {
+        states: rows,
+        graphs: shared,
+        nodes: made,
+        initial,
+        values: copies,
+    })
+}

@@ -1,0 +1,88 @@
+//! The nodes of the tables.
+ghost use Rattle.std.specs.Prelude.{◌≡◌, ◌≤◌, length, map, IfOk, OnOk};
+ghost use Rattle.chart_plan.specs.Same.{Each};
+ghost use Rattle.chart_nodes.specs.Steps.{step_view};
+ghost use Rattle.chart_places.specs.Groups.{IsGrouped, picked};
+ghost use Rattle.chart_parts.specs.Parts.{target_of};
+ghost use Rattle.chart_parts.specs.Nodes.{IsNode};
+ghost use Rattle.chart_compile.specs.Joined.{AddsNode, AreKeyed, SameNodes};
+
+use chart_kinds::make_node;
+use chart_nodes::Step;
+use chart_rows::{step_at, steps_at};
+use chart_tables::Node;
+use name_numbers::Numbers;
+use room_kinds::Sequence;
+use std::alloc::{AllocError, Global};
+
+/// The node that a step leads to.
+fn node_after<'b, 's, 'n>(
+    alloc: Global,
+    states: &Numbers<'s>,
+    nodes: &Numbers<'n>,
+    steps: &[Step<'b>],
+    groups: &[Sequence<usize>],
+    step: &Step<'b>,
+) -> Result<Node, AllocError>
+    requires grouped { IsGrouped nodes.now groups.now (map step_view steps.now) }
+    requires keyed { (step_view step.now).target ≡ target_of (step_view step.now) }
+    ensures { IfOk result (λ n. IsNode states.now nodes.now (map step_view steps.now) n (step_view step.now)) }
+{
+    let group = steps_at(nodes, groups, step.target.as_slice())?;
+    let node = make_node(alloc, states, nodes, steps, group, step)?;
+    Ok(node)
+}
+
+/// Adds the node that the step with a number leads to, if there is such a step.
+fn add_node<'b, 's, 'n>(
+    alloc: Global,
+    states: &Numbers<'s>,
+    nodes: &Numbers<'n>,
+    steps: &[Step<'b>],
+    groups: &[Sequence<usize>],
+    number: usize,
+    made: &mut Vec<Node>,
+) -> Result<(), AllocError>
+    requires grouped { IsGrouped nodes.now groups.now (map step_view steps.now) }
+    requires keyed { AreKeyed (map step_view steps.now) }
+    ensures { OnOk result (AddsNode states.now nodes.now (map step_view steps.now) number made.old.items made.new.items) }
+{
+    let Some(step) = step_at(steps, number) else {
+        return Ok(());
+    };
+    let node = node_after(alloc, states, nodes, steps, groups, step)?;
+    made.push(node)?;
+    Ok(())
+}
+
+/// The nodes that the steps with some numbers lead to, in their order.
+pub fn nodes_of<'b, 's, 'n>(
+    alloc: Global,
+    states: &Numbers<'s>,
+    nodes: &Numbers<'n>,
+    steps: &[Step<'b>],
+    groups: &[Sequence<usize>],
+    targets: &[usize],
+) -> Result<Vec<Node>, AllocError>
+    requires grouped { IsGrouped nodes.now groups.now (map step_view steps.now) }
+    requires keyed { AreKeyed (map step_view steps.now) }
+    ensures { IfOk result (λ made. Each (IsNode states.now nodes.now (map step_view steps.now)) made.items (picked (map step_view steps.now) targets.now)) }
+{
+    let mut made = Vec::new(alloc);
+    for number in targets {
+        add_node(alloc, states, nodes, steps, groups, *number, &mut made)?;
+    }
+    Ok(made)
+}
+
+/// Adds nodes to which nothing leads, until there are so many.
+pub fn fill_up(nodes: &mut Vec<Node>, count: usize) -> Result<(), AllocError>
+    requires { length nodes.old.items ≤ count }
+    ensures same { OnOk result (SameNodes nodes.old.items nodes.new.items) }
+    ensures size { OnOk result (length nodes.new.items ≡ count) }
+{
+    for _i in nodes.len()..count {
+        nodes.push(Node::Simple(0))?;
+    }
+    Ok(())
+}

@@ -1,0 +1,39 @@
+//! The initial transition of the tables.
+ghost use Rattle.std.specs.Prelude.{◌≡◌, ◌<◌, ◌∷◌, [], Some, length, map, IfOk};
+ghost use Rattle.name_numbers.specs.Names.{same};
+ghost use Rattle.chart_nodes.specs.Keys.{codes};
+ghost use Rattle.chart_nodes.specs.Steps.{step_view};
+ghost use Rattle.chart_parts.specs.Parts.{from_key};
+ghost use Rattle.chart_parts.specs.Nodes.{IsFirst};
+
+use chart_nodes::{Step, plain_key};
+use chart_rows::make_arrow;
+use chart_tables::Arrow;
+use name_numbers::Numbers;
+use std::alloc::{AllocError, Global};
+
+/// Whether a step begins at the place with a key.
+fn begins_at<'b>(step: &Step<'b>, key: &[u8]) -> bool
+    ensures { result ≡ same (step_view step.now).origin key.now }
+{
+    step.origin.as_slice() == key
+}
+
+/// The arrow of the initial transition of the top graph.
+pub fn initial_arrow<'b, 'n>(
+    alloc: Global,
+    nodes: &Numbers<'n>,
+    steps: &[Step<'b>],
+) -> Result<Arrow, AllocError>
+    requires { 0 < length (from_key (0 ∷ codes []) (map step_view steps.now)) }
+    ensures { IfOk result (λ arrow. IsFirst nodes.now (Some arrow) (from_key (0 ∷ codes []) (map step_view steps.now))) }
+{
+    let key = plain_key(alloc, 0, &[])?;
+    for step in steps {
+        if begins_at(step, key.as_slice()) {
+            let arrow = make_arrow(alloc, nodes, step)?;
+            return Ok(arrow);
+        }
+    }
+    unreachable!()
+}

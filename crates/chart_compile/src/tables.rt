@@ -1,0 +1,50 @@
+//! Compiling a chart.
+ghost use Rattle.std.specs.Prelude.{IfOk};
+ghost use Rattle.chart_model.specs.Valid.{IsValid};
+ghost use Rattle.chart_graphs.specs.Views.{chart_view};
+ghost use Rattle.chart_parts.specs.Compiled.{Compiles};
+
+use crate::assemble::assemble;
+use chart_graphs::Chart;
+use chart_nodes::steps_of;
+use chart_numbers::{count_nodes, state_keys, state_numbers};
+use chart_places::{graph_keys, numbers_of, places_of};
+use chart_tables::Tables;
+use std::alloc::{AllocError, Global};
+
+/// The most states of a chart: a state's number has 16 bits.
+const MOST_STATES: usize = 65535;
+
+/// The tables of a valid chart: a machine over them does what the chart says. It takes time in
+/// proportion to the transitions and states of the chart and the names of their paths.
+///
+/// It answers as where memory runs out where the chart has more than 65,535 states, graphs or nodes
+/// to which transitions lead, and where two of its graphs have one path, which no text writes.
+pub fn compile(alloc: Global, chart: &Chart) -> Result<Tables, AllocError>
+    requires { IsValid (chart_view chart.now) }
+    ensures { IfOk result (λ t. Compiles t (chart_view chart.now)) }
+{
+    let Some(count) = count_nodes(&chart.graphs) else {
+        return Err(AllocError);
+    };
+    let steps = steps_of(alloc, chart)?;
+    let graph_keys = graph_keys(alloc, &chart.graphs)?;
+    let graphs = numbers_of(alloc, graph_keys.as_slice())?;
+    let places = places_of(alloc, chart, &graphs)?;
+    if places.len() > MOST_STATES {
+        return Err(AllocError);
+    }
+    let state_keys = state_keys(alloc, places.as_slice())?;
+    let states = state_numbers(alloc, state_keys.as_slice())?;
+    let tables = assemble(
+        alloc,
+        &states,
+        &graphs,
+        graph_keys.as_slice(),
+        steps.as_slice(),
+        places.as_slice(),
+        count,
+        chart.values.as_slice(),
+    )?;
+    Ok(tables)
+}

@@ -1,0 +1,4 @@
+pub mod Members
+pub mod Ordering
+pub mod Distinct
+pub mod Counting
