@@ -1,0 +1,9 @@
+pub mod Children
+pub mod Rows
+pub mod Faces
+pub mod Uses
+pub mod Containers
+pub mod Services
+pub mod LayerPairs
+pub mod Whole
+pub mod Many

@@ -1,0 +1,4 @@
+pub mod Numbers
+pub mod Finite
+pub mod Services
+pub mod Plans

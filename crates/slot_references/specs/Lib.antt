@@ -1,0 +1,2 @@
+pub mod Referred
+pub mod Types

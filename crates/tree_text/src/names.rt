@@ -1,0 +1,74 @@
+//! What the wiring calls its slots, classes and ports. What it doesn't have is called nothing.
+ghost use Rattle.std.specs.Prelude.{◌≡◌, ◌<◌, length, IfSome};
+ghost use Rattle.std.specs.Option.{option_copied};
+ghost use Rattle.room_wiring.specs.Slots.{slot_at, class_of};
+ghost use Rattle.tree_text.specs.Names.{path_text, class_text, port_text, kind_text};
+
+use room_kinds::{ReferenceKind, SlotId};
+use room_wiring::{ClassNames, Slot, Wiring};
+
+fn slot(wiring: &Wiring, s: SlotId) -> Option<&Slot>
+    ensures slot { option_copied result ≡ slot_at wiring.now s.0 }
+    ensures known { IfSome result (λ x. x.now.class < length wiring.now.classes) }
+{
+    if u32::from(s.0) < wiring.slot_count() {
+        Some(wiring.slot(s))
+    } else {
+        None
+    }
+}
+
+/// The path of a slot.
+#[tactic(auto, unfolding(crate::specs::Names::path_text))]
+pub fn path(wiring: &Wiring, s: SlotId) -> &[u8]
+    ensures { result.now ≡ path_text wiring.now s.0 }
+{
+    match slot(wiring, s) {
+        Some(slot) => slot.path.as_bytes(),
+        None => b"",
+    }
+}
+
+#[tactic(auto, unfolding(room_wiring::specs::Slots::class_of))]
+fn class(wiring: &Wiring, s: SlotId) -> Option<&ClassNames>
+    ensures { option_copied result ≡ class_of wiring.now s.0 }
+{
+    match slot(wiring, s) {
+        Some(slot) => Some(wiring.class(slot.class)),
+        None => None,
+    }
+}
+
+/// The name of a port of a slot.
+#[tactic(auto, unfolding(crate::specs::Names::port_text))]
+pub fn port_name(wiring: &Wiring, s: SlotId, port: u16) -> &[u8]
+    ensures { result.now ≡ port_text wiring.now s.0 port }
+{
+    match class(wiring, s) {
+        Some(class) => match class.ports.as_slice().get(usize::from(port)) {
+            Some(port) => port.name.as_bytes(),
+            None => b"",
+        },
+        None => b"",
+    }
+}
+
+/// The name of a class.
+#[tactic(auto, unfolding(crate::specs::Names::class_text))]
+pub fn class_name(wiring: &Wiring, class: u16) -> &[u8]
+    requires { class < length wiring.now.classes }
+    ensures { result.now ≡ class_text wiring.now class }
+{
+    wiring.class(class).name.as_bytes()
+}
+
+/// The word for the kind of a slot.
+pub fn kind_word(kind: ReferenceKind) -> &'static [u8]
+    ensures { result.now ≡ kind_text kind }
+{
+    match kind {
+        ReferenceKind::Fixed => b"fixed",
+        ReferenceKind::Optional => b"optional",
+        ReferenceKind::Imported => b"imported",
+    }
+}
