@@ -1,0 +1,4 @@
+pub mod FieldCuts
+pub mod TextCuts
+pub mod Values
+pub mod Loads

@@ -1,0 +1,4 @@
+pub mod LineCuts
+pub mod GuessLemmas
+pub mod PortLemmas
+pub mod FittingLaws

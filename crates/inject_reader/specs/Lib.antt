@@ -1,0 +1,5 @@
+pub mod Meaning
+pub mod Answer
+pub mod Gives
+pub mod Guesses
+pub mod Fitting

@@ -1,0 +1,10 @@
+//! The name table: services, where service provision points and service access points meet by name
+//! (ROOM has layer connections; meeting by name at run time is this project's own).
+#![tactic(auto)]
+
+mod entries;
+mod linking;
+mod name_service;
+mod service;
+
+pub use name_service::NameService;
