@@ -1,5 +1,5 @@
 -- What was read from a text, and what it says of the text.
-use Rattle.std.proofs.Common.{◌≡◌, ℕ, ◌≤◌, List, [], length, true, false, Some, None, Result, Ok, Err, sym, ap, ◌∙◌, subst}
+use Rattle.std.proofs.Common.{◌≡◌, ℕ, ◌≤◌, List, [], length, true, false, Option, Some, None, Result, Ok, Err, sym, ap, ◌∙◌, subst}
 use Rattle.std.specs.Global.{Vec}
 use Rattle.room_lexer.specs.Cut.{Piece, CutTo, placed, FailsAt}
 use Rattle.room_lexer.specs.declared.piece.Cause.{Cause}
@@ -18,13 +18,18 @@ use Rattle.first_form.specs.Tree.{IsFirstForm}
 use Rattle.first_form.specs.Names.{IsNamed}
 use Rattle.first_form.specs.declared.model.FirstModel.{FirstModel}
 use Rattle.first_form.proofs.NameLaws.{named}
-use Rattle.structure_check.specs.Rules.{IsLowest}
+use Rattle.structure_check.specs.Rules.{first_broken, IsLowest}
 use Rattle.structure_check.specs.List.{all_rules}
 use Rattle.structure_check.specs.Checks.{TellsLowest}
 use Rattle.structure_check.specs.declared.fault.CheckFault.{CheckFault}
 use Rattle.structure_check.specs.declared.fault.CheckFault.TheVariants as faults
-use Rattle.room_run.specs.Models.{most_bytes, HasTokens, HasTree, IsSound, IsModel, IsUncut, NestsTooDeep, HasNoTree, BreaksRule, IsStrange, SoundCauses, uncut, too_deep, no_tree, breaks_rule, no_memory, TextCauses, strange}
-use Rattle.room_run.specs.Reading.{HasItsTokens, HasItsTree, HasSoundTree, RuleCauses, breaks, no_memory_for_rules}
+use Rattle.chart_model.specs.Chart.{Chart}
+use Rattle.model_charts.specs.Charts.{HasCharts, HasFaultyChart}
+use Rattle.model_charts.specs.Reads.{ReadsCharts}
+use Rattle.model_charts.specs.declared.fault.ChartsFault.{ChartsFault}
+use Rattle.model_charts.specs.declared.fault.ChartsFault.TheVariants as chart_faults
+use Rattle.room_run.specs.Models.{most_bytes, HasTokens, HasTree, IsSoundTree, IsSound, IsModel, IsUncut, NestsTooDeep, HasNoTree, BreaksRule, IsStrange, SoundCauses, uncut, too_deep, no_tree, breaks_rule, bad_chart, no_memory, TextCauses, strange}
+use Rattle.room_run.specs.Reading.{HasItsTokens, HasItsTree, HasSoundTree, TreeCauses, breaks, faulty, no_memory_for_tree}
 use Rattle.room_run.specs.declared.refusal.Refusal.{Refusal}
 use Rattle.room_run.specs.declared.refusal.Refusal.TheVariants as refusals
 
@@ -86,21 +91,40 @@ rule_lowest m n (faults.Rule k) h is = let same : k ≡ n = cc in subst (λ x. I
 rule_lowest m n faults.Memory h is = absurd cc
 
 -- the lowest rule that is broken was told
-pub rule_told : (m : ModelTree) (n : ℕ) (e : CheckFault) → TellsLowest m (Err e) → e ≡ faults.Rule n → RuleCauses m (refusals.ModelRule n)
+pub rule_told : (m : ModelTree) (n : ℕ) (e : CheckFault) → TellsLowest m (Err e) → e ≡ faults.Rule n → TreeCauses m (refusals.ModelRule n)
 rule_told m n e h is = breaks n (rule_lowest m n e h is)
 
+-- ---- the charts
+
+-- where no chart has a fault
+pub charts_kept : (m : ModelTree) (charts : List (Option Chart)) → first_broken all_rules m ≡ None → HasCharts m charts → IsSoundTree m
+charts_kept m charts keeps h = record { keeps = keeps; charts = charts; faultless = h }
+
+chart_first : (m : ModelTree) (class : List ℕ) (n : ℕ) (e : ChartsFault) → ReadsCharts m (Err e) → e ≡ chart_faults.Chart class n → HasFaultyChart m class n
+chart_first m class n (chart_faults.Chart c k) h is =
+    let same : c ≡ class = cc in let number : k ≡ n = cc in
+    subst (λ d. HasFaultyChart m d n) same (subst (λ x. HasFaultyChart m c x) number h)
+chart_first m class n chart_faults.Memory h is = absurd cc
+
+-- the first class whose chart has a fault was told
+pub chart_told : (m : ModelTree) (class : List ℕ) (n : ℕ) (e : ChartsFault) → first_broken all_rules m ≡ None → ReadsCharts m (Err e) → e ≡ chart_faults.Chart class n → TreeCauses m (refusals.ModelChart class n)
+chart_told m class n e keeps h is = faulty class n keeps (chart_first m class n e h is)
+
+-- ---- the tree
+
 -- the tree of a text is refused for the same cause as the text
-pub rules_cause : (text : List ℕ) (tree : ModelTree) {why : Refusal} → length text ≤ most_bytes → HasItsTree text tree → RuleCauses tree why → SoundCauses text why
-rules_cause text tree short h (breaks r e) = breaks_rule r (record { short = short; tree = tree; read = h.has; lowest = e })
-rules_cause text tree short h no_memory_for_rules = no_memory
+pub tree_cause : (text : List ℕ) (tree : ModelTree) {why : Refusal} → length text ≤ most_bytes → HasItsTree text tree → TreeCauses tree why → SoundCauses text why
+tree_cause text tree short h (breaks r e) = breaks_rule r (record { short = short; tree = tree; read = h.has; lowest = e })
+tree_cause text tree short h (faulty class n keeps e) = bad_chart class n (record { short = short; tree = tree; read = h.has; keeps = keeps; first = e })
+tree_cause text tree short h no_memory_for_tree = no_memory
 
 -- ---- the model
 
 pub text_sound : (text : List ℕ) (tree : ModelTree) → length text ≤ most_bytes → HasSoundTree text tree → IsSound text
-text_sound text tree short h = record { short = short; tree = tree; read = h.read.has; keeps = h.keeps }
+text_sound text tree short h = record { short = short; tree = tree; read = h.read.has; sound = h.sound }
 
 pub model_judged : (text : List ℕ) (tree : ModelTree) (m : FirstModel) → length text ≤ most_bytes → HasSoundTree text tree → IsFirstForm tree m → IsModel text m
-model_judged text tree m short h form = record { short = short; tree = tree; read = h.read.has; keeps = h.keeps; form = form }
+model_judged text tree m short h form = record { short = short; tree = tree; read = h.read.has; sound = h.sound; form = form }
 
 pub model_named : (text : List ℕ) (tree : ModelTree) (m : FirstModel) → HasSoundTree text tree → IsFirstForm tree m → IsNamed m
 model_named text tree m h form = named m (subst (λ t. HasNames (model_tokens t)) form.tree h.read.names)

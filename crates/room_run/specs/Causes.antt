@@ -70,13 +70,14 @@ status_of (refusals.ModelByte offset) = statuses.ModelRefused
 status_of refusals.ModelTooDeep = statuses.ModelRefused
 status_of (refusals.ModelSyntax number) = statuses.ModelRefused
 status_of (refusals.ModelRule number) = statuses.ModelRefused
+status_of (refusals.ModelChart class number) = statuses.ModelRefused
 status_of refusals.ModelLater = statuses.ModelRefused
 status_of refusals.InjectionsTooLong = statuses.InjectionsRefused
 status_of refusals.InjectionsLater = statuses.InjectionsRefused
 status_of refusals.ReadFault = statuses.ReadFault
 status_of refusals.Memory = statuses.Memory
 
--- what is told of a refusal: one line, numbers in decimal digits
+-- what is told of a refusal: one line, names as they stand and numbers in decimal digits
 abbrev pub note_of : Refusal → List ℕ
 note_of refusals.Words = line (codes "room: words refused" ∷ [])
 note_of refusals.ModelTooLong = line (codes "room: model refused: too long" ∷ [])
@@ -84,6 +85,7 @@ note_of (refusals.ModelByte offset) = line (codes "room: model refused: byte " �
 note_of refusals.ModelTooDeep = line (codes "room: model refused: too deep" ∷ [])
 note_of (refusals.ModelSyntax number) = line (codes "room: model refused: syntax " ∷ decimal number ∷ [])
 note_of (refusals.ModelRule number) = line (codes "room: model refused: rule " ∷ decimal number ∷ [])
+note_of (refusals.ModelChart class number) = line (codes "room: model refused: chart " ∷ class ∷ codes " " ∷ decimal number ∷ [])
 note_of refusals.ModelLater = line (codes "room: model refused: later" ∷ [])
 note_of refusals.InjectionsTooLong = line (codes "room: injections refused: too long" ∷ [])
 note_of refusals.InjectionsLater = line (codes "room: injections refused: later" ∷ [])

@@ -1,5 +1,5 @@
--- Which texts are those of models that keep all rules, which of them run, and why others don't.
-use Rattle.std.specs.Prelude.{◌≡◌, ℕ, ◌≤◌, List, [], length, true, false, Some, None}
+-- Which texts are those of models that keep all rules and whose charts have no fault, which of them run, and why others don't.
+use Rattle.std.specs.Prelude.{◌≡◌, ℕ, ◌≤◌, List, [], length, true, false, Option, Some, None}
 use Rattle.room_lexer.specs.Cut.{Piece, CutTo, placed, FailsAt}
 use Rattle.room_lexer.specs.declared.piece.Cause.{Cause}
 use Rattle.room_lexer.specs.declared.token.Token.{Token}
@@ -9,6 +9,8 @@ use Rattle.token_reading.specs.Single.{values}
 use Rattle.room_parser.specs.Parsed.{HasNoModel, opens_too_many}
 use Rattle.structure_check.specs.Rules.{first_broken, IsLowest}
 use Rattle.structure_check.specs.List.{all_rules}
+use Rattle.chart_model.specs.Chart.{Chart}
+use Rattle.model_charts.specs.Charts.{HasCharts, HasFaultyChart}
 use Rattle.first_form.specs.Tree.{IsFirstForm}
 use Rattle.first_form.specs.declared.model.FirstModel.{FirstModel}
 use Rattle.room_run.specs.declared.refusal.Refusal.{Refusal}
@@ -30,19 +32,25 @@ pub record HasTree (text : List ℕ) (tree : ModelTree) : Type 0 where
   pub cut : HasTokens text tokens
   pub spelled : model_tokens tree ≡ values text tokens
 
--- the text is that of a model which keeps all rules
+-- the tree is that of a model which keeps all rules, and no chart of its actor classes has a fault
+pub record IsSoundTree (tree : ModelTree) : Type 0 where
+  pub keeps : first_broken all_rules tree ≡ None
+  pub charts : List (Option Chart)
+  pub faultless : HasCharts tree charts
+
+-- the text is that of a model which keeps all rules and whose charts have no fault
 pub record IsSound (text : List ℕ) : Type 0 where
   pub short : length text ≤ most_bytes
   pub tree : ModelTree
   pub read : HasTree text tree
-  pub keeps : first_broken all_rules tree ≡ None
+  pub sound : IsSoundTree tree
 
--- the text is that of a model which keeps all rules, and runs
+-- the text is that of such a model, which runs
 pub record IsModel (text : List ℕ) (model : FirstModel) : Type 0 where
   pub short : length text ≤ most_bytes
   pub tree : ModelTree
   pub read : HasTree text tree
-  pub keeps : first_broken all_rules tree ≡ None
+  pub sound : IsSoundTree tree
   pub form : IsFirstForm tree model
 
 -- the text can't be cut at this byte, before which it can
@@ -73,18 +81,28 @@ pub record BreaksRule (text : List ℕ) (rule : ℕ) : Type 0 where
   pub read : HasTree text tree
   pub lowest : IsLowest all_rules tree (Some rule)
 
--- the text is that of a model which keeps all rules, and of none which runs
+-- the text has a tree that keeps all rules, and the actor class of this name is the first whose chart has a fault; the lowest one has this number
+pub record HasBadChart (text : List ℕ) (class : List ℕ) (number : ℕ) : Type 0 where
+  pub short : length text ≤ most_bytes
+  pub tree : ModelTree
+  pub read : HasTree text tree
+  pub keeps : first_broken all_rules tree ≡ None
+  pub first : HasFaultyChart tree class number
+
+-- the text is that of a model which keeps all rules and whose charts have no fault, and of none which runs
 pub record IsStrange (text : List ℕ) : Type 0 where
   pub sound : IsSound text
   pub none : (model : FirstModel) → IsModel text model → ⊥
 
--- Why a text may be refused as that of a model which keeps all rules. The order is: the cut, the
--- braces, the tree, the rules in order of their numbers.
+-- Why a text may be refused as that of a model which keeps all rules and whose charts have no fault.
+-- The order is: the cut, the braces, the tree, the rules in order of their numbers, the charts of the
+-- actor classes in order of declaration.
 pub data SoundCauses (text : List ℕ) : Refusal → Type 0 where
   uncut : (offset : ℕ) → IsUncut text offset → SoundCauses text (refusals.ModelByte offset)
   too_deep : NestsTooDeep text → SoundCauses text refusals.ModelTooDeep
   no_tree : (line : ℕ) → HasNoTree text → SoundCauses text (refusals.ModelSyntax line)
   breaks_rule : (rule : ℕ) → BreaksRule text rule → SoundCauses text (refusals.ModelRule rule)
+  bad_chart : (class : List ℕ) (number : ℕ) → HasBadChart text class number → SoundCauses text (refusals.ModelChart class number)
   no_memory : SoundCauses text refusals.Memory
 
 -- why a text may be refused as that of a model which runs: for a cause that stands before, or as strange

@@ -29,11 +29,11 @@ pub record IsRunOf (model : FirstModel) (lines : List FirstLine) (names : Tables
 unfoldable pub printed : FirstModel → List FirstLine → List ℕ
 printed model lines = text_of (wiring_of model) (journals_of (chart_of model) lines)
 
--- the line that says that a model keeps all rules
+-- the line that says that a model keeps all rules and that its charts have no fault
 abbrev pub accepted : List ℕ
 accepted = line (codes "ok" ∷ [])
 
--- What the words ask for, as a text: `ok` of a model that keeps all rules, or the journals of a run.
+-- What the words ask for, as a text: `ok` of a model that keeps all rules and whose charts have no fault, or the journals of a run.
 pub data Answers (shelf : Shown) (words : List (List ℕ)) (text : List ℕ) : Type 0 where
   says_ok : (name : List ℕ) → asked_by words ≡ Some (Check name) → TextIs shelf name IsSound → text ≡ accepted → Answers shelf words text
   says_run : (files : Files) (model : FirstModel) (lines : List FirstLine) → asked_by words ≡ Some (Run files) → AreOf shelf files model lines → text ≡ printed model lines → Answers shelf words text

@@ -1,13 +1,16 @@
 -- What is known of tokens and trees that were read from a text.
 use Rattle.std.specs.Prelude.{◌≡◌, ℕ, List, Some, None}
 use Rattle.room_lexer.specs.declared.token.Token.{Token}
-use Rattle.room_ast.specs.Trees.{ModelTree}
+use Rattle.room_ast.specs.Trees.{ModelTree, model_view}
 use Rattle.room_ast.specs.Tokens.{model_tokens}
 use Rattle.token_reading.specs.Single.{values}
 use Rattle.token_names.specs.Names.{HasNames}
 use Rattle.structure_check.specs.Rules.{first_broken, IsLowest}
 use Rattle.structure_check.specs.List.{all_rules}
-use Rattle.room_run.specs.Models.{HasTokens, HasTree}
+use Rattle.structure_check.specs.Classes.{HasClasses}
+use Rattle.structure_check.specs.declared.checked_model.Checked.{Checked}
+use Rattle.model_charts.specs.Charts.{HasFaultyChart}
+use Rattle.room_run.specs.Models.{HasTokens, HasTree, IsSoundTree}
 use Rattle.room_run.specs.declared.refusal.Refusal.{Refusal}
 use Rattle.room_run.specs.declared.refusal.Refusal.TheVariants as refusals
 
@@ -23,12 +26,19 @@ pub record HasItsTree (text : List ℕ) (tree : ModelTree) : Type 0 where
   pub only : (other : ModelTree) → HasTree text other → other ≡ tree
   pub names : HasNames (model_tokens tree)
 
--- the text has this tree and no other, its names are names of the language, and it keeps all rules
+-- the text has this tree and no other, its names are names of the language, it keeps all rules, and its charts have no fault
 pub record HasSoundTree (text : List ℕ) (tree : ModelTree) : Type 0 where
   pub read : HasItsTree text tree
-  pub keeps : first_broken all_rules tree ≡ None
+  pub sound : IsSoundTree tree
 
--- why a tree may be refused: the lowest rule that it breaks, or want of memory
-pub data RuleCauses (tree : ModelTree) : Refusal → Type 0 where
-  breaks : (rule : ℕ) → IsLowest all_rules tree (Some rule) → RuleCauses tree (refusals.ModelRule rule)
-  no_memory_for_rules : RuleCauses tree refusals.Memory
+-- the tree keeps all rules, and this is what was kept of it when they were checked
+pub record IsCheckedFor (tree : ModelTree) (checked : Checked) : Type 0 where
+  pub keeps : first_broken all_rules tree ≡ None
+  pub model : model_view checked.model.now ≡ tree
+  pub classes : HasClasses checked
+
+-- why a tree may be refused: the lowest rule that it breaks, the first chart that has a fault where it keeps all rules, or want of memory
+pub data TreeCauses (tree : ModelTree) : Refusal → Type 0 where
+  breaks : (rule : ℕ) → IsLowest all_rules tree (Some rule) → TreeCauses tree (refusals.ModelRule rule)
+  faulty : (class : List ℕ) (number : ℕ) → first_broken all_rules tree ≡ None → HasFaultyChart tree class number → TreeCauses tree (refusals.ModelChart class number)
+  no_memory_for_tree : TreeCauses tree refusals.Memory

@@ -19,7 +19,7 @@ pub data Asked : Type 0 where
 abbrev pub is_word : List ℕ → List ℕ → Bool
 is_word = pointwise nat_eq
 
--- `check MODEL` asks whether a model keeps all rules, `run MODEL INJECT` for the run of a model over injections; no other list of words asks for anything
+-- `check MODEL` asks whether a model keeps all rules and its charts have no fault, `run MODEL INJECT` for the run of a model over injections; no other list of words asks for anything
 abbrev pub asked_by : List (List ℕ) → Option Asked
 asked_by (command ∷ model ∷ []) = if is_word command (codes "check") then Some (Check model) else None
 asked_by (command ∷ model ∷ injections ∷ []) = if is_word command (codes "run") then Some (Run (record { model = model; injections = injections })) else None

@@ -13,7 +13,7 @@ pub(crate) struct Files<'a> {
 /// What is asked for.
 #[derive(Clone, Copy)]
 pub(crate) enum Asked<'a> {
-    /// Whether the model of this file keeps all rules.
+    /// Whether the model of this file keeps all rules, and its charts have no fault.
     Check(&'a str),
     /// The run of a model over injections.
     Run(Files<'a>),

@@ -2,19 +2,21 @@
 ghost use Rattle.std.specs.Prelude.{◌≡◌, ◌≤◌, length, map, IfOk, IfErr, OnOk, None};
 ghost use Rattle.room_ast.specs.Trees.{model_view};
 ghost use Rattle.structure_check.specs.Rules.{first_broken};
+ghost use Rattle.structure_check.specs.Classes.{HasClasses};
 ghost use Rattle.structure_check.specs.List.{all_rules};
 ghost use Rattle.first_form.specs.FirstModel.{MeetsConditions};
 ghost use Rattle.first_form.specs.Names.{IsNamed};
-ghost use Rattle.room_run.specs.Models.{IsModel, SoundCauses, TextCauses};
-ghost use Rattle.room_run.specs.Reading.{HasItsTokens, HasItsTree, HasSoundTree, RuleCauses};
+ghost use Rattle.room_run.specs.Models.{IsModel, IsSoundTree, SoundCauses, TextCauses};
+ghost use Rattle.room_run.specs.Reading.{HasItsTokens, HasItsTree, HasSoundTree, IsCheckedFor, TreeCauses};
 
 use crate::refusal::Refusal;
 use first_form::{FirstFault, FirstModel, first_of};
+use model_charts::{ChartsFault, charts_of};
 use room_ast::Model;
 use room_lexer::{LexFault, Token, lex};
 use room_parser::{ParseFault, parse};
 use std::alloc::Global;
-use structure_check::{CheckFault, check};
+use structure_check::{CheckFault, Checked, check};
 
 /// The tokens of a text.
 fn read_tokens(alloc: Global, text: &[u8]) -> Result<Vec<Token>, Refusal>
@@ -50,21 +52,45 @@ fn read_tree(alloc: Global, text: &[u8]) -> Result<Model, Refusal>
     }
 }
 
-/// Whether a tree keeps all rules.
-fn keep_rules(alloc: Global, tree: &Model) -> Result<(), Refusal>
-    ensures ok { OnOk result (first_broken all_rules (model_view tree.now) ≡ None) }
-    ensures err { IfErr result (λ why. RuleCauses (model_view tree.now) why) }
+/// What is kept of a tree that keeps all rules.
+fn keep_rules(alloc: Global, tree: &Model) -> Result<Checked<'_>, Refusal>
+    ensures ok { IfOk result (λ c. IsCheckedFor (model_view tree.entry.now) c) }
+    ensures err { IfErr result (λ why. TreeCauses (model_view tree.entry.now) why) }
 {
-    let Err(fault) = check(alloc, tree) else {
-        return Ok(());
-    };
-    match fault {
-        CheckFault::Rule(rule) => Err(Refusal::ModelRule { rule }),
-        CheckFault::Memory => Err(Refusal::Memory),
+    match check(alloc, tree) {
+        Ok(checked) => Ok(checked),
+        Err(CheckFault::Rule(rule)) => Err(Refusal::ModelRule { rule }),
+        Err(CheckFault::Memory) => Err(Refusal::Memory),
     }
 }
 
-/// The syntax tree of a text, where it keeps all rules.
+/// Whether the charts of a model that keeps all rules have no fault.
+fn keep_charts(alloc: Global, checked: &Checked) -> Result<(), Refusal>
+    requires rules { first_broken all_rules (model_view checked.now.model.now) ≡ None }
+    requires classes { HasClasses checked.now }
+    ensures ok { OnOk result (IsSoundTree (model_view checked.now.model.now)) }
+    ensures err { IfErr result (λ why. TreeCauses (model_view checked.now.model.now) why) }
+{
+    match charts_of(alloc, checked) {
+        Ok(_charts) => Ok(()),
+        Err(ChartsFault::Chart { class, number }) => Err(Refusal::ModelChart { class, number }),
+        Err(ChartsFault::Memory) => Err(Refusal::Memory),
+    }
+}
+
+/// Whether a tree keeps all rules, and its charts have no fault.
+fn judge_tree(alloc: Global, tree: &Model) -> Result<(), Refusal>
+    ensures ok { OnOk result (IsSoundTree (model_view tree.now)) }
+    ensures err { IfErr result (λ why. TreeCauses (model_view tree.now) why) }
+{
+    let checked = match keep_rules(alloc, tree) {
+        Ok(checked) => checked,
+        Err(why) => return Err(why),
+    };
+    keep_charts(alloc, &checked)
+}
+
+/// The syntax tree of a text, where it keeps all rules and its charts have no fault.
 pub(crate) fn sound_tree(alloc: Global, text: &[u8]) -> Result<Model, Refusal>
     requires { length text.now ≤ 1048576 }
     ensures ok { IfOk result (λ tree. HasSoundTree text.now (model_view tree)) }
@@ -74,13 +100,13 @@ pub(crate) fn sound_tree(alloc: Global, text: &[u8]) -> Result<Model, Refusal>
         Ok(tree) => tree,
         Err(why) => return Err(why),
     };
-    match keep_rules(alloc, &tree) {
+    match judge_tree(alloc, &tree) {
         Ok(()) => Ok(tree),
         Err(why) => Err(why),
     }
 }
 
-/// The model of a text, where it keeps all rules and is one that runs.
+/// The model of a text, where it keeps all rules, its charts have no fault, and it is one that runs.
 pub(crate) fn judge(alloc: Global, text: &[u8]) -> Result<FirstModel, Refusal>
     requires { length text.now ≤ 1048576 }
     ensures ok { IfOk result (λ model. IsModel text.now model) }

@@ -1,5 +1,5 @@
 //! The lines that the program writes of its own.
-ghost use Rattle.std.specs.Prelude.{◌∷◌, [], decimal, OnOk, OnErr};
+ghost use Rattle.std.specs.Prelude.{◌∷◌, [], codes, decimal, OnOk, OnErr};
 ghost use Rattle.line_text.specs.Lines.{line};
 ghost use Rattle.line_text.specs.Parts.{part_texts};
 ghost use Rattle.line_text.specs.Output.{Puts, at_rest};
@@ -26,22 +26,46 @@ fn write_number<K: Sink>(notes: &mut K, text: &[u8], number: u64) -> Result<(), 
     write_line(&mut LineBuffer::new(), notes, &parts)
 }
 
-fn write_refusal<K: Sink>(why: Refusal, notes: &mut K) -> Result<(), WriteFault>
-    ensures { Puts result (at_rest (K.written notes.old)) (at_rest (K.written notes.new)) (note_of why) }
+/// Writes a line of a text, the name of a class and a number.
+fn write_class<'a, K: Sink>(
+    notes: &mut K,
+    text: &'a [u8],
+    class: &'a [u8],
+    number: u64,
+) -> Result<(), WriteFault>
+    ensures { Puts result (at_rest (K.written notes.old)) (at_rest (K.written notes.new)) (line (text.now ∷ class.now ∷ codes " " ∷ decimal number ∷ [])) }
+{
+    let parts = [
+        Part::Text(text),
+        Part::Text(class),
+        Part::Text(b" "),
+        Part::Number(number),
+    ];
+    write_line(&mut LineBuffer::new(), notes, &parts)
+}
+
+fn write_refusal<K: Sink>(why: &Refusal, notes: &mut K) -> Result<(), WriteFault>
+    ensures { Puts result (at_rest (K.written notes.old)) (at_rest (K.written notes.new)) (note_of why.now) }
 {
     match why {
         Refusal::Words => write_text(notes, b"room: words refused"),
         Refusal::ModelTooLong => write_text(notes, b"room: model refused: too long"),
         Refusal::ModelByte { offset } => {
-            write_number(notes, b"room: model refused: byte ", offset as u64)
+            write_number(notes, b"room: model refused: byte ", *offset as u64)
         }
         Refusal::ModelTooDeep => write_text(notes, b"room: model refused: too deep"),
         Refusal::ModelSyntax { line } => {
-            write_number(notes, b"room: model refused: syntax ", u64::from(line))
+            write_number(notes, b"room: model refused: syntax ", u64::from(*line))
         }
         Refusal::ModelRule { rule } => {
-            write_number(notes, b"room: model refused: rule ", u64::from(rule))
+            write_number(notes, b"room: model refused: rule ", u64::from(*rule))
         }
+        Refusal::ModelChart { class, number } => write_class(
+            notes,
+            b"room: model refused: chart ",
+            class.as_bytes(),
+            u64::from(*number),
+        ),
         Refusal::ModelLater => write_text(notes, b"room: model refused: later"),
         Refusal::InjectionsTooLong => write_text(notes, b"room: injections refused: too long"),
         Refusal::InjectionsLater => write_text(notes, b"room: injections refused: later"),
@@ -50,15 +74,17 @@ fn write_refusal<K: Sink>(why: Refusal, notes: &mut K) -> Result<(), WriteFault>
     }
 }
 
-/// Writes the line that tells of a refusal, in one piece. It takes no memory.
-pub(crate) fn write_note<K: Sink>(why: Refusal, notes: &mut K) -> Result<(), WriteFault>
-    ensures ok { OnOk result (Appends (K.written notes.old) (K.written notes.new) (note_of why)) }
-    ensures fault { OnErr result (BreaksOff (K.written notes.old) (K.written notes.new) (note_of why)) }
+/// Writes the line that tells of a refusal, in one piece where a piece of 4,096 bytes holds it. It
+/// takes no memory.
+pub(crate) fn write_note<K: Sink>(why: &Refusal, notes: &mut K) -> Result<(), WriteFault>
+    ensures ok { OnOk result (Appends (K.written notes.old) (K.written notes.new) (note_of why.now)) }
+    ensures fault { OnErr result (BreaksOff (K.written notes.old) (K.written notes.new) (note_of why.now)) }
 {
     write_refusal(why, notes)
 }
 
-/// Writes the line that says that a model keeps all rules, in one piece. It takes no memory.
+/// Writes the line that says that a model keeps all rules and that its charts have no fault, in one
+/// piece. It takes no memory.
 pub(crate) fn write_ok<K: Sink>(out: &mut K) -> Result<(), WriteFault>
     ensures ok { OnOk result (Appends (K.written out.old) (K.written out.new) accepted) }
     ensures fault { OnErr result (BreaksOff (K.written out.old) (K.written out.new) accepted) }

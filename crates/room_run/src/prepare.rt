@@ -34,7 +34,7 @@ pub(crate) struct Finished {
 /// What the words asked for, and isn't written yet.
 #[derive(Drop)]
 pub(crate) enum Answer {
-    /// The model keeps all rules.
+    /// The model keeps all rules, and its charts have no fault.
     Accepted,
     Ran(Finished),
 }
@@ -54,7 +54,7 @@ fn read_text<S: Shelf>(alloc: Global, shelf: &mut S, name: &str) -> Result<Vec<u
     }
 }
 
-/// Whether the model whose text stands under a name keeps all rules.
+/// Whether the model whose text stands under a name keeps all rules, and its charts have no fault.
 fn check_model<S: Shelf>(alloc: Global, shelf: &mut S, name: &str) -> Result<(), Refusal>
     ensures ok { OnOk result (TextIs (S.shown shelf.old) name.now IsSound) }
     ensures err { IfErr result (λ why. ModelCauses SoundCauses (S.shown shelf.old) (S.shown shelf.new) name.now why) }

@@ -3,9 +3,10 @@ ghost use Rattle.std.specs.Prelude.{◌≡◌};
 ghost use Rattle.room_run.specs.Causes.{status_of};
 
 use crate::status::Status;
+use room_ast::Name;
 
 /// Why a call was refused, before anything was written.
-#[derive(Clone, Copy, Debug, PartialEq, Eq)]
+#[derive(Debug, Drop)]
 pub enum Refusal {
     Words,
     ModelTooLong,
@@ -18,7 +19,10 @@ pub enum Refusal {
     ModelSyntax { line: u32 },
     /// The model breaks the rule of this number, and none of a lower number.
     ModelRule { rule: u8 },
-    /// The model keeps all rules, and is none that runs today.
+    /// The model keeps all rules, and the actor class of this name is the first whose chart has a
+    /// fault; the lowest one has this number, 1 to 8.
+    ModelChart { class: Name, number: u8 },
+    /// The model keeps all rules and its charts have no fault, and it is none that runs today.
     ModelLater,
     InjectionsTooLong,
     InjectionsLater,
@@ -27,8 +31,8 @@ pub enum Refusal {
 }
 
 impl Refusal {
-    pub(crate) fn status(self) -> Status
-        ensures { result ≡ status_of self }
+    pub(crate) fn status(&self) -> Status
+        ensures { result ≡ status_of self.now }
     {
         match self {
             Refusal::Words => Status::WordsRefused,
@@ -37,6 +41,7 @@ impl Refusal {
             Refusal::ModelTooDeep => Status::ModelRefused,
             Refusal::ModelSyntax { .. } => Status::ModelRefused,
             Refusal::ModelRule { .. } => Status::ModelRefused,
+            Refusal::ModelChart { .. } => Status::ModelRefused,
             Refusal::ModelLater => Status::ModelRefused,
             Refusal::InjectionsTooLong | Refusal::InjectionsLater => Status::InjectionsRefused,
             Refusal::ReadFault => Status::ReadFault,

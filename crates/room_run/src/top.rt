@@ -15,7 +15,7 @@ use std::alloc::Global;
 fn tell<K: Sink>(why: Refusal, notes: &mut K) -> Status
     ensures { Tells (K.written notes.old) (K.written notes.new) why result }
 {
-    match write_note(why, notes) {
+    match write_note(&why, notes) {
         Ok(()) => why.status(),
         Err(_) => Status::WriteFault,
     }
@@ -37,8 +37,8 @@ fn print<K: Sink>(answer: &Answer, out: &mut K) -> Status
 
 /// The program over a shelf of texts, standard output and standard error.
 ///
-/// The words `check MODEL` ask whether a model keeps all rules, and `run MODEL INJECT` for the run
-/// of a model over injections; every other list of words is refused. The order is: the words,
+/// The words `check MODEL` ask whether a model keeps all rules and its charts have no fault, and
+/// `run MODEL INJECT` for the run of a model over injections; every other list of words is refused. The order is: the words,
 /// reading the model, the model, reading the injections, the injections, the run, writing. After a
 /// failed read nothing more is read, and want of memory never comes once something was written.
 pub fn room_top<S: Shelf, K: Sink, G: Gate + Sync>(

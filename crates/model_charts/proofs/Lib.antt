@@ -1,0 +1,3 @@
+pub mod Few
+pub mod Steps
+pub mod One

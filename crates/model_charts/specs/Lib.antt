@@ -1,0 +1,5 @@
+pub mod Written
+pub mod Charts
+pub mod Making
+pub mod Reads
+pub mod Laws

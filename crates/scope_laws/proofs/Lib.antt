@@ -1,0 +1,4 @@
+pub mod Found
+pub mod Programs
+pub mod Codes
+pub mod Reading
