@@ -55,10 +55,6 @@ fn main(rt: HostRuntime) -> io::Result<()> {
     let timed = asked.is_some();
 
     let start = Instant::now(&rt)?;
-    let came = alone::<MailLocal>(alloc, 5, count);
-    report(&rt, "MailLocal, to itself", start, timed, came)?;
-
-    let start = Instant::now(&rt)?;
     let came = alone::<MailLanes>(alloc, 5, count);
     report(&rt, "MailLanes, to itself", start, timed, came)?;
 
@@ -72,5 +68,10 @@ fn main(rt: HostRuntime) -> io::Result<()> {
 
     let start = Instant::now(&rt)?;
     let came = shared_two(&rt, alloc, count);
-    report(&rt, "MailSeg, to another", start, timed, came)
+    report(&rt, "MailSeg, to another", start, timed, came)?;
+
+    // This mailbox keeps what it carried, so it comes last: to free that would be counted for the next.
+    let start = Instant::now(&rt)?;
+    let came = alone::<MailLocal>(alloc, 5, count);
+    report(&rt, "MailLocal, to itself", start, timed, came)
 }

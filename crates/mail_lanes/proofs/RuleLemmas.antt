@@ -5,7 +5,7 @@ use mathlib.Core.Option.{some, some-ne-none}
 use lib.ListN.{get_elem?}
 use Rattle.crossbeam_deque.specs.Tasks.{Pushes, Takes, Finds, Forks, Merges, Learns}
 use Rattle.crossbeam_deque.proofs.Lists.{at_set, at_snoc}
-use Rattle.mail_lanes.specs.declared.contents.Contents.{Contents}
+use Rattle.room_kinds.specs.declared.message.Msg.{Msg}
 use Rattle.mail_lanes.specs.declared.rule.LaneView.{LaneView}
 use Rattle.mail_lanes.specs.Rule.{lane_view, Fits, InOrder}
 
@@ -26,7 +26,7 @@ all_set F views port w mine others j u e = ⊎_elim (λ (x : (j ≡ port) × (w 
 pub begins : InOrder [] (lane_view true true [] [] ∷ [])
 begins = (0, 0, [], [], refl, all_set (Fits 0 0 [] []) (lane_view true true [] [] ∷ []) 0 (lane_view true true [] []) ((λ _. (refl, refl)), λ _. (refl, refl)) (λ j u other e. absurd (other (at_end [] _ u j (λ x. some-ne-none u (sym x)) e))))
 
-pub sends : (port : ℕ) (v : LaneView) (xs : List Contents) → v.pushes ≡ true → Pushes InOrder port v xs (λ w. w ≡ lane_view v.pushes v.takes (v.sent ++ xs) v.got)
+pub sends : (port : ℕ) (v : LaneView) (xs : List Msg) → v.pushes ≡ true → Pushes InOrder port v xs (λ w. w ≡ lane_view v.pushes v.takes (v.sent ++ xs) v.got)
 sends port v xs may items views h at = let w : LaneView = lane_view v.pushes v.takes (v.sent ++ xs) v.got in let mine = h.5 port v at in let sent = h.2 ++ xs in (
   w,
   (
@@ -61,7 +61,7 @@ pub totals : (port : ℕ) (v : LaneView) → v.pushes ≡ true → v.takes ≡ t
 totals port v a b items views h at = let mine = h.5 port v at in (mine.0 a).1 ∙ h.4 ∙ ap (λ l. l ++ items) (sym (mine.1 b).1)
 
 pub owns : (port : ℕ) (v : LaneView) → v.pushes ≡ true → v.takes ≡ true →
-    Takes InOrder port v 1 (λ xs w. (w ≡ lane_view v.pushes v.takes v.sent (v.got ++ xs)) × (rest : List Contents) × (v.sent ≡ (v.got ++ xs) ++ rest))
+    Takes InOrder port v 1 (λ xs w. (w ≡ lane_view v.pushes v.takes v.sent (v.got ++ xs)) × (rest : List Msg) × (v.sent ≡ (v.got ++ xs) ++ rest))
 owns port v a b xs items views least most h at =
     let base = gets port v b xs items views least most h at in
     (base.0, base.1, (base.2, items, totals port v a b (xs ++ items) views h at ∙ sym (append_assoc v.got xs items)))

@@ -2,15 +2,15 @@
 use Rattle.std.specs.Prelude.{◌≡◌, ℕ, Bool, true, List, ◌++◌}
 use mathlib.Core.Option.{some}
 use lib.ListN.{get_elem?}
-use Rattle.mail_lanes.specs.declared.contents.Contents.{Contents}
+use Rattle.room_kinds.specs.declared.message.Msg.{Msg}
 use Rattle.mail_lanes.specs.declared.rule.LaneView.{LaneView}
 
-abbrev pub lane_view : Bool → Bool → List Contents → List Contents → LaneView
+abbrev pub lane_view : Bool → Bool → List Msg → List Msg → LaneView
 lane_view a b sent got = record { pushes = a; takes = b; sent = sent; got = got }
 
-abbrev pub Fits : ℕ → ℕ → List Contents → List Contents → ℕ → LaneView → Type 0
+abbrev pub Fits : ℕ → ℕ → List Msg → List Msg → ℕ → LaneView → Type 0
 Fits writer reader sent got port v = (v.pushes ≡ true → (port ≡ writer) × (v.sent ≡ sent)) × (v.takes ≡ true → (port ≡ reader) × (v.got ≡ got))
 
-abbrev pub InOrder : List Contents → List LaneView → Type 0
-InOrder items views = (writer : ℕ) × (reader : ℕ) × (sent : List Contents) × (got : List Contents) × (sent ≡ got ++ items)
+abbrev pub InOrder : List Msg → List LaneView → Type 0
+InOrder items views = (writer : ℕ) × (reader : ℕ) × (sent : List Msg) × (got : List Msg) × (sent ≡ got ++ items)
     × ((port : ℕ) (v : LaneView) → get_elem? views port ≡ some v → Fits writer reader sent got port v)

@@ -2,15 +2,15 @@
 ghost use Rattle.std.specs.Prelude.{◌≡◌, true, false, [], ◌∷◌, ◌++◌, ◌<◌, length, OnOk, OnErr, IfOk, IfErr, MatchOption};
 ghost use Rattle.crossbeam_deque.specs.Handles.{worker_deque, worker_view, worker_flavor, stealer_deque, stealer_flavor, view, IsPassOf};
 
-use crate::contents::Contents;
+use crate::address::addressed;
 use crate::rule::{Got, LaneRule, LaneView, Own, Sent};
 use crossbeam_deque::{Pass, Steal, Stealer, Worker};
 use room_kinds::Msg;
 use std::alloc::Global;
 
-pub(crate) type Owner = Worker<Contents, Global, LaneView, LaneRule>;
+pub(crate) type Owner = Worker<Msg, Global, LaneView, LaneRule>;
 
-pub(crate) type Thief = Stealer<Contents, Global, LaneView, LaneRule>;
+pub(crate) type Thief = Stealer<Msg, Global, LaneView, LaneRule>;
 
 /// The sender's end.
 #[derive(Drop)]
@@ -30,7 +30,7 @@ pub struct Inlet {
     pub(crate) to: u8,
     pub(crate) prio: u8,
     pub(crate) thief: Thief,
-    pub(crate) pass: Pass<Contents, LaneView>,
+    pub(crate) pass: Pass<Msg, LaneView>,
     ghost fits: { IsPassOf (stealer_deque thief) pass },
     ghost fifo: { stealer_flavor thief ≡ 0 },
     ghost takes: { (view pass).takes ≡ true },
@@ -48,9 +48,9 @@ impl Outlet {
         ensures err { OnErr result (out_lane self.new ≡ out_lane self.old) }
         ensures back { IfErr result (λ x. x ≡ m) }
     {
-        match self.owner.push_as::<Sent>(Contents::new(m)) {
+        match self.owner.push_as::<Sent>(m) {
             Ok(()) => Ok(()),
-            Err(contents) => Err(contents.address(self.from, self.to, self.prio)),
+            Err(m) => Err(m),
         }
     }
 
@@ -63,7 +63,7 @@ impl Outlet {
         ensures within { length (out_lane self.new).taken ≤ length (out_lane self.new).posted }
     {
         match self.owner.pop_as::<Own>() {
-            Some(contents) => Some(contents.address(self.from, self.to, self.prio)),
+            Some(m) => Some(addressed(m, self.from, self.to, self.prio)),
             None => None,
         }
     }
@@ -81,7 +81,7 @@ impl Inlet {
         ensures is_for { MatchOption result (Unit {0}) (λ m. IsFor self.old.from self.old.to self.old.prio m) }
     {
         match self.thief.steal_as::<Got>(&mut self.pass) {
-            Steal::Success(contents) => Some(contents.address(self.from, self.to, self.prio)),
+            Steal::Success(m) => Some(addressed(m, self.from, self.to, self.prio)),
             Steal::Empty => None,
             Steal::Retry => None,
         }

@@ -1,8 +1,8 @@
 //! Mail among threads: a deque for each lane.
 #![tactic(auto)]
 
+mod address;
 mod close;
-pub mod contents;
 pub mod ends;
 pub mod lane;
 pub mod mail;

@@ -2,21 +2,21 @@
 ghost use Rattle.std.specs.Prelude.{◌≡◌, ◌++◌, ◌≤◌, List, length, true, false, []};
 ghost use Rattle.mail_lanes.specs.Rule.{lane_view, InOrder};
 
-use crate::contents::Contents;
 use crossbeam_deque::protocol::{Join, Outcome, Protocol, Split};
+use room_kinds::Msg;
 use std::collections::LinkedList;
 
 /// What a pass may do, what it pushed and what it took. No value of it is made.
 pub struct LaneView {
     pub pushes: bool,
     pub takes: bool,
-    pub sent: LinkedList<Contents>,
-    pub got: LinkedList<Contents>,
+    pub sent: LinkedList<Msg>,
+    pub got: LinkedList<Msg>,
 }
 
 pub struct LaneRule;
 
-impl Protocol<Contents, LaneView> for LaneRule {
+impl Protocol<Msg, LaneView> for LaneRule {
     ghost use Rattle.std.specs.Prelude.{true, false, []};
     ghost use Rattle.mail_lanes.specs.Rule.{lane_view, InOrder};
 
@@ -50,25 +50,25 @@ impl Join<LaneView> for Roles {
 /// A push.
 pub struct Sent;
 
-impl Outcome<Contents, LaneView> for Sent {
+impl Outcome<Msg, LaneView> for Sent {
     ghost then = { λ v xs w. w ≡ lane_view v.pushes v.takes (v.sent ++ xs) v.got };
 }
 
 /// A steal.
 pub struct Got;
 
-impl Outcome<Contents, LaneView> for Got {
+impl Outcome<Msg, LaneView> for Got {
     ghost then = { λ v xs w. w ≡ lane_view v.pushes v.takes v.sent (v.got ++ xs) };
 }
 
 /// A pop of one that alone pushes and takes.
 pub struct Own;
 
-impl Outcome<Contents, LaneView> for Own {
+impl Outcome<Msg, LaneView> for Own {
     ghost use Rattle.std.specs.Prelude.{List};
-    ghost use Rattle.mail_lanes.specs.declared.contents.Contents.{Contents};
+    ghost use Rattle.room_kinds.specs.declared.message.Msg.{Msg};
 
-    ghost then = { λ v xs w. (w ≡ lane_view v.pushes v.takes v.sent (v.got ++ xs)) × (rest : List Contents) × (v.sent ≡ (v.got ++ xs) ++ rest) };
+    ghost then = { λ v xs w. (w ≡ lane_view v.pushes v.takes v.sent (v.got ++ xs)) × (rest : List Msg) × (v.sent ≡ (v.got ++ xs) ++ rest) };
 
     ghost empty = { λ v. v.sent ≡ v.got };
 }
