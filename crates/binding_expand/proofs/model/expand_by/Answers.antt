@@ -1,0 +1,23 @@
+use Rattle.std.proofs.lemmas.Result.{err_from_is_err_and}
+use Rattle.room_ast.specs.Trees.{model_view}
+use Rattle.structure_check.proofs.KeptRules.{all_finite, all_few}
+use Rattle.wired_laws.proofs.Few.{numbered_from_few}
+use Rattle.binding_expand.proofs.Whole.{are_wired, places_told, wiring_told}
+use Rattle.binding_expand.proofs.model.expand_by.Goals as goal
+
+pub slots_within-requires-clause-finite : goal.slots_within-requires-clause-finite
+slots_within-requires-clause-finite c = all_finite (model_view c.args.model.now) c.requires.rules
+
+pub slots_within-requires-clause-numbered : goal.slots_within-requires-clause-numbered
+slots_within-requires-clause-numbered c = numbered_from_few (model_view c.args.model.now) (all_few (model_view c.args.model.now) c.requires.rules)
+
+pub returns-in_err-places : goal.returns-in_err-places
+returns-in_err-places c =
+    let p = err_from_is_err_and c.from_residual-in_err-places.result c.from_residual-in_err-places.ensures.1 in
+    rw (p.1, p.2) (places_told (model_view c.args.model.now) c.requires.rules c.in_ok-slots.slots c.as_slice.result.now c.in_err-places.field-0.0 c.in_ok-slots.ensures c.as_slice.ensures c.in_err-places.ensures)
+
+pub wiring_with-requires-clause-wired : goal.wiring_with-requires-clause-wired
+wiring_with-requires-clause-wired c = are_wired (model_view c.args.model.now) c.requires.rules c.in_ok-slots.slots c.in_ok-slots.ensures
+
+pub returns : goal.returns
+returns c = wiring_told (model_view c.args.model.now) c.requires.rules c.in_ok-slots.slots c.as_slice.result.now c.in_ok-places.places c.in_ok-wiring.wiring c.in_ok-slots.ensures c.as_slice.ensures c.in_ok-places.ensures c.in_ok-wiring.ensures

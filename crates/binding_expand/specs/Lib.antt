@@ -1,0 +1,4 @@
+pub mod Wirings
+pub mod Faults
+pub mod Answers
+pub mod Steps

@@ -1,0 +1,63 @@
+-- What is known between the steps to a wiring.
+use Rattle.std.specs.Prelude.{◌≡◌, ◌<◌, ◌≤◌, Bool, true, false, List, length, Result, Ok, Err}
+use Rattle.room_ast.specs.Trees.{ModelTree}
+use Rattle.room_wiring.specs.declared.slot.Slot.{Slot}
+use Rattle.room_wiring.specs.declared.tables.Tables.{Tables}
+use Rattle.structure_plan.specs.Plans.{plan_of}
+use Rattle.structure_plan.specs.declared.plan.StructurePlan.{StructurePlan}
+use Rattle.class_rules.specs.Ends.{has_known_actors}
+use Rattle.structure_rules.specs.Threads.{threads_are_few}
+use Rattle.slot_tree.specs.Places.{has_too_many_places}
+use Rattle.wired_slots.specs.Answers.{slots_in, wired}
+use Rattle.wired_slots.specs.declared.slots.WiredSlots.{WiredSlots}
+use Rattle.place_rules.specs.Layers.{layer_joins}
+use Rattle.place_rules.specs.Pairs.{lacks_place}
+use Rattle.place_rules.specs.Partners.{has_socket_pair, has_socket_away}
+use Rattle.wired_places.specs.Wired.{places_in, partners_in, ArePlacesOf}
+use Rattle.wired_places.specs.declared.places.WiredPlaces.{WiredPlaces}
+use Rattle.told_controllers.specs.Told.{SaysWhoIsTold}
+use Rattle.wiring_tables.specs.Assembled.{assembled}
+use Rattle.binding_expand.specs.declared.fault.WiringFault.{WiringFault}
+use Rattle.binding_expand.specs.declared.fault.WiringFault.TheVariants as faults
+
+-- Slots of a model whose references name actor classes, with few threads, and no more than 4,096.
+pub record AreWired (w : WiredSlots) : Type 0 where
+  pub model : ModelTree
+  pub known : has_known_actors model ≡ true
+  pub threads : threads_are_few model ≡ true
+  pub is : w ≡ wired model
+  pub few : length (slots_in model) ≤ 4096
+
+-- The slots of a model, within the limits; or the limit that they pass.
+abbrev pub FindsSlots : ModelTree → Result WiredSlots WiringFault → Type 0
+FindsSlots m (Ok w) = (w ≡ wired m) × (length (slots_in m) ≤ 4096) × (has_too_many_places (plan_of m) (slots_in m) ≡ false)
+FindsSlots m (Err faults.TooManySlots) = 4096 < length (slots_in m)
+FindsSlots m (Err faults.TooManyPlaces) = (length (slots_in m) ≤ 4096) × (has_too_many_places (plan_of m) (slots_in m) ≡ true)
+FindsSlots m (Err faults.NoFreePlace) = ⊥
+FindsSlots m (Err faults.SocketPair) = ⊥
+FindsSlots m (Err faults.SocketAway) = ⊥
+FindsSlots m (Err faults.Memory) = Unit {0}
+
+-- By their partners, two sockets are joined.
+abbrev pub pairs_sockets : StructurePlan → List Slot → Bool
+pairs_sockets plan slots = has_socket_pair (places_in plan slots) (partners_in plan slots)
+
+-- By their partners, an end place is joined to a socket of another owner.
+abbrev pub joins_away : StructurePlan → List Slot → Bool
+joins_away plan slots = has_socket_away slots (places_in plan slots) (partners_in plan slots)
+
+-- The places of slots, without a fault; or the first fault that their bindings and partners show.
+abbrev pub FindsPlaces : StructurePlan → List Slot → Result WiredPlaces WiringFault → Type 0
+FindsPlaces plan slots (Ok p) = ArePlacesOf plan slots p × (pairs_sockets plan slots ≡ false) × (joins_away plan slots ≡ false)
+FindsPlaces plan slots (Err faults.TooManySlots) = ⊥
+FindsPlaces plan slots (Err faults.TooManyPlaces) = ⊥
+FindsPlaces plan slots (Err faults.NoFreePlace) = lacks_place plan slots ≡ true
+FindsPlaces plan slots (Err faults.SocketPair) = (lacks_place plan slots ≡ false) × (pairs_sockets plan slots ≡ true)
+FindsPlaces plan slots (Err faults.SocketAway) = (lacks_place plan slots ≡ false) × (pairs_sockets plan slots ≡ false) × (joins_away plan slots ≡ true)
+FindsPlaces plan slots (Err faults.Memory) = Unit {0}
+
+-- The tables of these slots, with the partners of their places and with answers on who is told.
+pub record Completes (w : WiredSlots) (t : Tables) : Type 0 where
+  pub told : List (List Bool)
+  pub is : t ≡ assembled w (layer_joins w.plan w.slots) (partners_in w.plan w.slots) told
+  pub says : SaysWhoIsTold w.slots (places_in w.plan w.slots) (partners_in w.plan w.slots) (length w.controllers) told

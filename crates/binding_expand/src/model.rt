@@ -1,0 +1,62 @@
+//! From a model to its wiring, step by step.
+ghost use Rattle.std.specs.Prelude.{◌≡◌, None, true, IfOk};
+ghost use Rattle.room_ast.specs.Trees.{model_view};
+ghost use Rattle.class_tables.specs.Containers.{tables_of};
+ghost use Rattle.containment_rules.specs.Circles.{data_is_finite};
+ghost use Rattle.slot_tree.specs.Placing.{IsNumbered};
+ghost use Rattle.structure_check.specs.List.{all_rules};
+ghost use Rattle.structure_check.specs.Rules.{first_broken};
+ghost use Rattle.structure_plan.specs.Plans.{plan_of};
+ghost use Rattle.binding_expand.specs.Answers.{Expands, Fits};
+ghost use Rattle.binding_expand.specs.Steps.{FindsSlots};
+
+use crate::fault::WiringFault;
+use crate::joined::joined_places;
+use crate::tables::wiring_with;
+use class_tables::{Tables, tables_of};
+use room_ast::Model;
+use room_wiring::Wiring;
+use std::alloc::Global;
+use structure_check::Checked;
+use wired_slots::{SlotFault, WiredSlots, wired_slots};
+
+/// The slots of a model, within the limits.
+fn slots_within(alloc: Global, model: &Model, tables: &Tables) -> Result<WiredSlots, WiringFault>
+    requires tables { tables.now ≡ tables_of (model_view model.now) }
+    requires finite { data_is_finite (model_view model.now) ≡ true }
+    requires numbered { IsNumbered (plan_of (model_view model.now)) }
+    ensures { FindsSlots (model_view model.now) result }
+{
+    match wired_slots(alloc, model, tables) {
+        Ok(slots) => Ok(slots),
+        Err(SlotFault::TooManySlots) => Err(WiringFault::TooManySlots),
+        Err(SlotFault::TooManyPlaces) => Err(WiringFault::TooManyPlaces),
+        Err(SlotFault::Memory) => Err(WiringFault::Memory),
+    }
+}
+
+/// The wiring of a model that keeps all rules, where these are its tables.
+fn expand_by(alloc: Global, model: &Model, tables: &Tables) -> Result<Wiring, WiringFault>
+    requires tables { tables.now ≡ tables_of (model_view model.now) }
+    requires rules { first_broken all_rules (model_view model.now) ≡ None }
+    ensures { Expands (model_view model.now) result }
+{
+    let slots = slots_within(alloc, model, tables)?;
+    let places = joined_places(alloc, &slots.plan, slots.slots.as_slice())?;
+    let wiring = wiring_with(alloc, slots, places)?;
+    Ok(wiring)
+}
+
+/// The wiring of a model that keeps all rules: its slots, controllers and classes by number, the places
+/// of all ports, what each is joined to, and who is told of whom. Else the lowest fault that it has. A
+/// model of too many slots or places is refused before anything large is made. It takes time in
+/// proportion to the model, and to its slots, their ports and places; for each service access point to
+/// the depth of its slot at most, and for who is told to the slots times the controllers.
+pub fn expand(alloc: Global, checked: &Checked) -> Result<Wiring, WiringFault>
+    requires { first_broken all_rules (model_view checked.now.model.now) ≡ None }
+    ensures expands { Expands (model_view checked.now.model.now) result }
+    ensures fits { IfOk result (λ t. Fits t) }
+{
+    let tables = tables_of(alloc, checked.model)?;
+    expand_by(alloc, checked.model, &tables)
+}
