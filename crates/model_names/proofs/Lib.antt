@@ -1,0 +1,4 @@
+pub mod Lists
+pub mod Signals
+pub mod Ports
+pub mod Models
