@@ -48,6 +48,14 @@ impl<'a> Case<'a> {
         }
     }
 
+    /// The words `tree model.room`, and nothing fails.
+    pub fn tree(model: &'a str) -> Case<'a> {
+        Case {
+            words: &["tree", "model.room"],
+            ..Case::new(model, "")
+        }
+    }
+
     /// The words `run model.room inject.txt`, and nothing fails.
     pub fn new(model: &'a str, injections: &'a str) -> Case<'a> {
         Case {

@@ -37,6 +37,37 @@ SubSystemClass S { ActorRef top: T }
 ActorClass T { Behavior { StateMachine { Transition i: initial -> A { } State A { entry \"\" } } } }
 }";
 
+/// Two pairs at most come from c.r, whose places lead on to those of the actor inside.
+const RELAYS: &str = "RoomModel M {
+LogicalSystem L { SubSystemRef s: S }
+SubSystemClass S { ActorRef top: T }
+ProtocolClass PP { incoming { Message ping(int32) } outgoing { Message pong(int32) } }
+ActorClass A { Interface { Port p[2]: PP } Structure { external Port p } }
+ActorClass B { Interface { conjugated Port p: PP } Structure { external Port p } }
+ActorClass C { Interface { Port r[2]: PP } Structure { ActorRef a: A Binding r and a.p } }
+ActorClass T { Structure { ActorRef c: C ActorRef b[3]: B Binding c.r and b.p } }
+}";
+
+const RELAYS_TREE: &str = "slot 0 0 fixed top T
+slot 1 0 fixed top/c C
+slot 2 0 fixed top/c/a A
+slot 3 0 fixed top/b:0 B
+slot 4 0 fixed top/b:1 B
+slot 5 0 fixed top/b:2 B
+join top/c/a.p[0] top/b:0.p[0]
+join top/c/a.p[1] top/b:1.p[0]
+";
+
+/// The second binding finds no free place at b.
+const NO_FREE_PLACE: &str = "RoomModel M {
+LogicalSystem L { SubSystemRef s: S }
+SubSystemClass S { ActorRef top: T }
+ProtocolClass PP { incoming { Message ping(int32) } outgoing { Message pong(int32) } }
+ActorClass A { Interface { Port p: PP } Structure { external Port p } }
+ActorClass B { Interface { conjugated Port p: PP } Structure { external Port p } }
+ActorClass T { Structure { ActorRef a[2]: A ActorRef b: B Binding a.p and b.p Binding a.p and b.p } }
+}";
+
 /// No class is named U.
 const UNKNOWN_CLASS: &str = "RoomModel M {
 LogicalSystem L { SubSystemRef s: S }
@@ -123,6 +154,26 @@ fn a_model_that_keeps_all_rules_is_ok(rt: HostRuntime) -> Result<(), Fail> {
         ..Case::check(COMMENTED)
     };
     checks(&rt, &unread, Status::ReadFault, "", "room: read fault\n")
+}
+
+#[test]
+fn slots_and_joined_places_are_told(rt: HostRuntime) -> Result<(), Fail> {
+    checks(&rt, &Case::tree(RELAYS), Status::Done, RELAYS_TREE, "")?;
+    let failing = Case {
+        failing_writes: &[2],
+        ..Case::tree(RELAYS)
+    };
+    let first = "slot 0 0 fixed top T\n";
+    checks(&rt, &failing, Status::WriteFault, first, "")
+}
+
+#[test]
+fn a_fault_of_the_wiring_is_told_by_its_number(rt: HostRuntime) -> Result<(), Fail> {
+    let wiring = "room: model refused: wiring 3\n";
+    let refused = Status::ModelRefused;
+    checks(&rt, &Case::check(NO_FREE_PLACE), refused, "", wiring)?;
+    checks(&rt, &Case::tree(NO_FREE_PLACE), refused, "", wiring)?;
+    refuses(&rt, NO_FREE_PLACE, wiring)
 }
 
 #[test]

@@ -119,6 +119,8 @@ fn other_words_are_refused(rt: HostRuntime) -> Result<(), Fail> {
     refuses_words(&rt, &["runs", "model.room", "inject.txt"])?;
     refuses_words(&rt, &["check", "model.room", "inject.txt"])?;
     refuses_words(&rt, &["checks", "model.room"])?;
+    refuses_words(&rt, &["tree", "model.room", "inject.txt"])?;
+    refuses_words(&rt, &["trees", "model.room"])?;
     refuses_words(&rt, &["made", "0"])
 }
 
@@ -136,17 +138,40 @@ fn a_missing_file_is_a_read_fault(rt: HostRuntime) -> Result<(), Fail> {
     misses_a_file(&rt, &["run", "model.room", "nowhere.txt"])
 }
 
+fn refuses_lines(
+    rt: &(impl Abort + AllocGlobal),
+    injections: &str,
+    note: &str,
+) -> Result<(), Fail> {
+    let case = Case::new(SWITCH, injections);
+    expect(rt, &case, Status::InjectionsRefused, "", note)
+}
+
 #[test]
-fn strange_texts_are_refused(rt: HostRuntime) -> Result<(), Fail> {
+fn lines_that_do_not_run_yet_are_later(rt: HostRuntime) -> Result<(), Fail> {
     let later = "room: injections refused: later\n";
-    for injections in [
-        "top.go kick",
-        "top.go nope\n",
-        "top.go  kick\n",
-        "a.go kick\n",
-    ] {
-        let case = Case::new(SWITCH, injections);
-        expect(&rt, &case, Status::InjectionsRefused, "", later)?;
-    }
-    Ok(())
+    refuses_lines(&rt, "top.go kick", later)?;
+    refuses_lines(&rt, "top.go  kick\n", later)?;
+    refuses_lines(&rt, "settle\n", later)
+}
+
+#[test]
+fn faulty_lines_are_told_by_their_codes(rt: HostRuntime) -> Result<(), Fail> {
+    refuses_lines(
+        &rt,
+        "top.go kick at now\n",
+        "room: injections refused: line 1 1\n",
+    )?;
+    refuses_lines(&rt, "a.go kick\n", "room: injections refused: line 1 2\n")?;
+    refuses_lines(&rt, "top.zz kick\n", "room: injections refused: line 1 3\n")?;
+    refuses_lines(
+        &rt,
+        "top.go kick\ntop.go nope\n",
+        "room: injections refused: line 2 4\n",
+    )?;
+    refuses_lines(
+        &rt,
+        "top.go kick 1\n",
+        "room: injections refused: line 1 5\n",
+    )
 }

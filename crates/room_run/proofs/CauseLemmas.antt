@@ -7,9 +7,17 @@ use Rattle.first_form.specs.Lines.{IsLinesOf}
 use Rattle.first_form.specs.declared.model.FirstModel.{FirstModel}
 use Rattle.first_form.specs.declared.model.FirstLine.{FirstLine}
 use Rattle.room_run.specs.Words.{Files}
-use Rattle.room_run.specs.Models.{IsModel, most_bytes}
-use Rattle.room_run.specs.Causes.{IsInjections, TextIs, AreOf, ModelCauses, no_text, model_refused, UnreadCauses, InjectionsCauses, injections_unread, injections_long, injections_strange, injections_no_memory, RunCauses, of_injections}
+use Rattle.room_wiring.specs.declared.tables.Tables.{Tables}
+use Rattle.room_run.specs.Models.{IsModel, IsSound, most_bytes}
+use Rattle.first_wiring.specs.Wirings.{wiring_of}
+use Rattle.inject_lines.specs.declared.accepted.Line.{Line}
+use Rattle.inject_reader.specs.Answer.{answer}
+use Rattle.inject_reader.specs.Gives.{Fails}
+use Rattle.inject_reader.specs.declared.fault.InjectFault.{InjectFault}
+use Rattle.inject_reader.specs.declared.fault.InjectFault.TheVariants as inject_faults
+use Rattle.room_run.specs.Causes.{IsInjections, TextIs, AreOf, ModelCauses, no_text, model_refused, UnreadCauses, LinesCauses, faulty_line, strange_lines, no_memory_for_lines, refusal_of_lines, InjectionsCauses, injections_unread, injections_long, injections_refused, injections_no_memory, RunCauses, of_injections}
 use Rattle.room_run.specs.declared.refusal.Refusal.{Refusal}
+use Rattle.room_run.specs.declared.refusal.Refusal.TheVariants as refusals
 
 -- ---- the model
 
@@ -23,6 +31,14 @@ pub judged_model : (shelf : Shown) (name bytes : List ℕ) (r : Result FirstMode
 judged_model shelf name bytes (Ok m) is h = found_fact (λ text. IsModel text m) (shelf.text name) bytes is h
 judged_model shelf name bytes (Err why) is h = tt
 
+some_wiring : (o : Option (List ℕ)) (w : Tables) → IfSome o (λ text. IsSound text w) → IfSome o (λ text. (x : Tables) × IsSound text x)
+some_wiring None w h = tt
+some_wiring (Some text) w h = (w, h)
+
+-- what has this wiring has a wiring
+pub model_sound : (shelf : Shown) (name : List ℕ) (w : Tables) → TextIs shelf name (λ text. IsSound text w) → TextIs shelf name (λ text. (x : Tables) × IsSound text x)
+model_sound shelf name w h = some_wiring (shelf.text name) w h
+
 -- the text was read, and is refused
 pub cause_found : (Of : List ℕ → Refusal → Type 0) (before after : Shown) (name bytes : List ℕ) (why : Refusal) → IfSome (before.text name) (λ text. bytes ≡ text) → Of bytes why → ModelCauses Of before after name why
 cause_found Of before after name bytes why is h = model_refused (found_fact (λ text. Of text why) (before.text name) bytes is h)
@@ -33,33 +49,37 @@ judged_cause Of before after name bytes (Err why) is h = cause_found Of before a
 
 -- ---- the injections
 
-found_lines : (o : Option (List ℕ)) (bytes : List ℕ) (m : FirstModel) (lines : List FirstLine) → IfSome o (λ text. bytes ≡ text) → length bytes ≤ most_bytes → IsLinesOf m bytes lines → IfSome o (λ text. IsInjections m text lines)
-found_lines None bytes m lines is few form = tt
-found_lines (Some text) bytes m lines is few form = record { short = subst (λ t. length t ≤ most_bytes) is few; form = subst (λ t. IsLinesOf m t lines) is form }
+-- what was found of the lines is so of the text that is shown
+pub found_lines : (shelf : Shown) (name bytes : List ℕ) (m : FirstModel) (r : Result (List FirstLine) Refusal) → IfSome (shelf.text name) (λ text. bytes ≡ text) → IfOk r (λ lines. IsInjections m bytes lines) → IfOk r (λ lines. TextIs shelf name (λ text. IsInjections m text lines))
+found_lines shelf name bytes m (Ok lines) is h = found_fact (λ text. IsInjections m text lines) (shelf.text name) bytes is h
+found_lines shelf name bytes m (Err why) is h = tt
 
--- the lines that were found are those of the text
-pub lines_found : (shelf : Shown) (name bytes : List ℕ) (m : FirstModel) (lines : List FirstLine) → IfSome (shelf.text name) (λ text. bytes ≡ text) → length bytes ≤ most_bytes → IsLinesOf m bytes lines → TextIs shelf name (λ text. IsInjections m text lines)
-lines_found shelf name bytes m lines is few form = found_lines (shelf.text name) bytes m lines is few form
+-- the text was read, and its lines are refused
+pub lines_cause : (before after : Shown) (name bytes : List ℕ) (m : FirstModel) (r : Result (List FirstLine) Refusal) → IfSome (before.text name) (λ text. bytes ≡ text) → IfErr r (λ why. LinesCauses m bytes why) → IfErr r (λ why. InjectionsCauses before after name m why)
+lines_cause before after name bytes m (Ok lines) is h = tt
+lines_cause before after name bytes m (Err why) is h =
+    injections_refused (found_fact (λ text. LinesCauses m text why) (before.text name) bytes is h)
 
-no_lines : (o : Option (List ℕ)) (bytes : List ℕ) (m : FirstModel) → IfSome o (λ text. bytes ≡ text) → ((lines : List FirstLine) → IsLinesOf m bytes lines → ⊥) → IfSome o (λ text. (lines : List FirstLine) → IsInjections m text lines → ⊥)
-no_lines None bytes m is none = tt
-no_lines (Some text) bytes m is none = λ lines h. none lines (subst (λ t. IsLinesOf m t lines) (sym is) h.form)
+-- a line is faulty
+pub line_told : (m : FirstModel) (bytes : List ℕ) (e : InjectFault) → length bytes ≤ most_bytes → Fails e (answer (wiring_of m) bytes) → LinesCauses m bytes (refusal_of_lines e)
+line_told m bytes (inject_faults.Code n code) short h = faulty_line n code (record { short = short; faulty = h })
+line_told m bytes inject_faults.Memory short h = no_memory_for_lines
 
--- no lines have the text
-pub lines_none : (shelf : Shown) (name bytes : List ℕ) (m : FirstModel) → IfSome (shelf.text name) (λ text. bytes ≡ text) → ((lines : List FirstLine) → IsLinesOf m bytes lines → ⊥) → TextIs shelf name (λ text. (lines : List FirstLine) → IsInjections m text lines → ⊥)
-lines_none shelf name bytes m is none = no_lines (shelf.text name) bytes m is none
+-- no line is faulty, and no lines of those that run have the text
+pub lines_strange : (m : FirstModel) (bytes : List ℕ) (accepted : List Line) → answer (wiring_of m) bytes ≡ Ok accepted → ((lines : List FirstLine) → IsLinesOf m bytes lines → ⊥) → LinesCauses m bytes refusals.InjectionsLater
+lines_strange m bytes accepted read none = strange_lines (record { accepted = accepted; faultless = read; none = λ lines h. none lines h.form })
 
 -- ---- both
 
 lines_causes_before : {a b c : Shown} {name : List ℕ} {m : FirstModel} {why : Refusal} → Keeps a b → InjectionsCauses b c name m why → InjectionsCauses a c name m why
-lines_causes_before {a} {b} {c} {name} k (injections_unread r) = injections_unread (Rose-before name k r)
-lines_causes_before {a} {b} {c} {name} k (injections_long h) = injections_long (IfSome-before name _ k h)
-lines_causes_before {a} {b} {c} {name} k (injections_strange h) = injections_strange (IfSome-before name _ k h)
-lines_causes_before k injections_no_memory = injections_no_memory
+lines_causes_before {a} {b} {c} {name} k (injections_unread r is) = injections_unread (Rose-before name k r) is
+lines_causes_before {a} {b} {c} {name} k (injections_long h is) = injections_long (IfSome-before name _ k h) is
+lines_causes_before {a} {b} {c} {name} k (injections_refused h) = injections_refused (IfSome-before name _ k h)
+lines_causes_before k (injections_no_memory is) = injections_no_memory is
 
 -- the model was read, and the injections are refused
-pub injections_refused : (before middle after : Shown) (files : Files) (m : FirstModel) (why : Refusal) → TextIs before files.model (λ text. IsModel text m) → Keeps before middle → InjectionsCauses middle after files.injections m why → RunCauses before after files why
-injections_refused before middle after files m why accepted k h = of_injections m accepted (lines_causes_before k h)
+pub refused_lines : (before middle after : Shown) (files : Files) (m : FirstModel) (why : Refusal) → TextIs before files.model (λ text. IsModel text m) → Keeps before middle → InjectionsCauses middle after files.injections m why → RunCauses before after files why
+refused_lines before middle after files m why accepted k h = of_injections m accepted (lines_causes_before k h)
 
 -- both were read
 pub both_read : (before middle : Shown) (files : Files) (m : FirstModel) (lines : List FirstLine) → TextIs before files.model (λ text. IsModel text m) → Keeps before middle → TextIs middle files.injections (λ text. IsInjections m text lines) → AreOf before files m lines

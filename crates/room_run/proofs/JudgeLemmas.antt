@@ -1,5 +1,5 @@
 -- What was read from a text, and what it says of the text.
-use Rattle.std.proofs.Common.{◌≡◌, ℕ, ◌≤◌, List, [], length, true, false, Option, Some, None, Result, Ok, Err, sym, ap, ◌∙◌, subst}
+use Rattle.std.proofs.Common.{◌≡◌, ℕ, ◌≤◌, List, [], length, true, false, Option, Some, None, Result, Ok, Err, refl, sym, ap, ◌∙◌, subst}
 use Rattle.std.specs.Global.{Vec}
 use Rattle.room_lexer.specs.Cut.{Piece, CutTo, placed, FailsAt}
 use Rattle.room_lexer.specs.declared.piece.Cause.{Cause}
@@ -28,8 +28,13 @@ use Rattle.model_charts.specs.Charts.{HasCharts, HasFaultyChart}
 use Rattle.model_charts.specs.Reads.{ReadsCharts}
 use Rattle.model_charts.specs.declared.fault.ChartsFault.{ChartsFault}
 use Rattle.model_charts.specs.declared.fault.ChartsFault.TheVariants as chart_faults
-use Rattle.room_run.specs.Models.{most_bytes, HasTokens, HasTree, IsSoundTree, IsSound, IsModel, IsUncut, NestsTooDeep, HasNoTree, BreaksRule, IsStrange, SoundCauses, uncut, too_deep, no_tree, breaks_rule, bad_chart, no_memory, TextCauses, strange}
-use Rattle.room_run.specs.Reading.{HasItsTokens, HasItsTree, HasSoundTree, TreeCauses, breaks, faulty, no_memory_for_tree}
+use Rattle.room_wiring.specs.declared.tables.Tables.{Tables}
+use Rattle.binding_expand.specs.Answers.{Expands}
+use Rattle.binding_expand.specs.Faults.{number}
+use Rattle.binding_expand.specs.declared.fault.WiringFault.{WiringFault}
+use Rattle.binding_expand.specs.declared.fault.WiringFault.TheVariants as wiring_faults
+use Rattle.room_run.specs.Models.{most_bytes, HasTokens, HasTree, IsSoundTree, IsSound, IsModel, IsUncut, NestsTooDeep, HasNoTree, BreaksRule, HasGoodCharts, IsGoodWiring, IsStrange, SoundCauses, uncut, too_deep, no_tree, breaks_rule, bad_wiring, bad_chart, no_memory, TextCauses, strange}
+use Rattle.room_run.specs.Reading.{HasItsTokens, HasItsTree, HasSoundTree, ChartCauses, first_faulty, no_memory_for_charts, TreeCauses, breaks, miswired, faulty, no_memory_for_tree, refusal_of}
 use Rattle.room_run.specs.declared.refusal.Refusal.{Refusal}
 use Rattle.room_run.specs.declared.refusal.Refusal.TheVariants as refusals
 
@@ -94,11 +99,26 @@ rule_lowest m n faults.Memory h is = absurd cc
 pub rule_told : (m : ModelTree) (n : ℕ) (e : CheckFault) → TellsLowest m (Err e) → e ≡ faults.Rule n → TreeCauses m (refusals.ModelRule n)
 rule_told m n e h is = breaks n (rule_lowest m n e h is)
 
+-- ---- the wiring
+
+-- what is answered of the wiring
+pub wiring_kept : (m : ModelTree) (w : Tables) → Expands m (Ok w) → IsGoodWiring m w
+wiring_kept m w h = record { wired = h.0; flawless = h.1 }
+
+-- the lowest fault of the wiring was told
+pub wiring_refused : (m : ModelTree) (e : WiringFault) → first_broken all_rules m ≡ None → Expands m (Err e) → TreeCauses m (refusal_of e)
+wiring_refused m wiring_faults.TooManySlots keeps h = miswired wiring_faults.TooManySlots keeps h
+wiring_refused m wiring_faults.TooManyPlaces keeps h = miswired wiring_faults.TooManyPlaces keeps h
+wiring_refused m wiring_faults.NoFreePlace keeps h = miswired wiring_faults.NoFreePlace keeps h
+wiring_refused m wiring_faults.SocketPair keeps h = miswired wiring_faults.SocketPair keeps h
+wiring_refused m wiring_faults.SocketAway keeps h = miswired wiring_faults.SocketAway keeps h
+wiring_refused m wiring_faults.Memory keeps h = no_memory_for_tree
+
 -- ---- the charts
 
 -- where no chart has a fault
-pub charts_kept : (m : ModelTree) (charts : List (Option Chart)) → first_broken all_rules m ≡ None → HasCharts m charts → IsSoundTree m
-charts_kept m charts keeps h = record { keeps = keeps; charts = charts; faultless = h }
+pub charts_kept : (m : ModelTree) (charts : List (Option Chart)) → HasCharts m charts → HasGoodCharts m
+charts_kept m charts h = record { charts = charts; faultless = h }
 
 chart_first : (m : ModelTree) (class : List ℕ) (n : ℕ) (e : ChartsFault) → ReadsCharts m (Err e) → e ≡ chart_faults.Chart class n → HasFaultyChart m class n
 chart_first m class n (chart_faults.Chart c k) h is =
@@ -107,28 +127,36 @@ chart_first m class n (chart_faults.Chart c k) h is =
 chart_first m class n chart_faults.Memory h is = absurd cc
 
 -- the first class whose chart has a fault was told
-pub chart_told : (m : ModelTree) (class : List ℕ) (n : ℕ) (e : ChartsFault) → first_broken all_rules m ≡ None → ReadsCharts m (Err e) → e ≡ chart_faults.Chart class n → TreeCauses m (refusals.ModelChart class n)
-chart_told m class n e keeps h is = faulty class n keeps (chart_first m class n e h is)
+pub chart_told : (m : ModelTree) (class : List ℕ) (n : ℕ) (e : ChartsFault) → ReadsCharts m (Err e) → e ≡ chart_faults.Chart class n → ChartCauses m (refusals.ModelChart class n)
+chart_told m class n e h is = first_faulty class n (chart_first m class n e h is)
 
 -- ---- the tree
+
+chart_cause : (text : List ℕ) (tree : ModelTree) (wiring : Tables) {why : Refusal} → length text ≤ most_bytes → HasItsTree text tree → first_broken all_rules tree ≡ None → IsGoodWiring tree wiring → ChartCauses tree why → SoundCauses text why
+chart_cause text tree wiring short h keeps wired (first_faulty class n e) =
+    bad_chart class n (record { short = short; tree = tree; read = h.has; keeps = keeps; wiring = wiring; wired = wired; first = e })
+chart_cause text tree wiring short h keeps wired no_memory_for_charts = no_memory
 
 -- the tree of a text is refused for the same cause as the text
 pub tree_cause : (text : List ℕ) (tree : ModelTree) {why : Refusal} → length text ≤ most_bytes → HasItsTree text tree → TreeCauses tree why → SoundCauses text why
 tree_cause text tree short h (breaks r e) = breaks_rule r (record { short = short; tree = tree; read = h.has; lowest = e })
-tree_cause text tree short h (faulty class n keeps e) = bad_chart class n (record { short = short; tree = tree; read = h.has; keeps = keeps; first = e })
+tree_cause text tree short h (miswired fault keeps e) =
+    bad_wiring (number fault) (record { short = short; tree = tree; read = h.has; keeps = keeps; fault = fault; number_is = refl; lowest = e })
+tree_cause text tree short h (faulty wiring keeps wired e) = chart_cause text tree wiring short h keeps wired e
 tree_cause text tree short h no_memory_for_tree = no_memory
 
 -- ---- the model
 
-pub text_sound : (text : List ℕ) (tree : ModelTree) → length text ≤ most_bytes → HasSoundTree text tree → IsSound text
-text_sound text tree short h = record { short = short; tree = tree; read = h.read.has; sound = h.sound }
+pub text_sound : (text : List ℕ) (tree : ModelTree) (wiring : Tables) → length text ≤ most_bytes → HasSoundTree text tree wiring → IsSound text wiring
+text_sound text tree wiring short h = record { short = short; tree = tree; read = h.read.has; sound = h.sound }
 
-pub model_judged : (text : List ℕ) (tree : ModelTree) (m : FirstModel) → length text ≤ most_bytes → HasSoundTree text tree → IsFirstForm tree m → IsModel text m
-model_judged text tree m short h form = record { short = short; tree = tree; read = h.read.has; sound = h.sound; form = form }
+pub model_judged : (text : List ℕ) (tree : ModelTree) (wiring : Tables) (m : FirstModel) → length text ≤ most_bytes → HasSoundTree text tree wiring → IsFirstForm tree m → IsModel text m
+model_judged text tree wiring m short h form =
+    record { short = short; tree = tree; read = h.read.has; wiring = wiring; sound = h.sound; form = form }
 
-pub model_named : (text : List ℕ) (tree : ModelTree) (m : FirstModel) → HasSoundTree text tree → IsFirstForm tree m → IsNamed m
-model_named text tree m h form = named m (subst (λ t. HasNames (model_tokens t)) form.tree h.read.names)
+pub model_named : (text : List ℕ) (tree : ModelTree) (wiring : Tables) (m : FirstModel) → HasSoundTree text tree wiring → IsFirstForm tree m → IsNamed m
+model_named text tree wiring m h form = named m (subst (λ t. HasNames (model_tokens t)) form.tree h.read.names)
 
-pub model_strange : (text : List ℕ) (tree : ModelTree) → length text ≤ most_bytes → HasSoundTree text tree → ((m : FirstModel) → IsFirstForm tree m → ⊥) → TextCauses text refusals.ModelLater
-model_strange text tree short h none =
-    strange (record { sound = text_sound text tree short h; none = λ m k. none m (subst (λ t. IsFirstForm t m) (h.read.only k.tree k.read) k.form) })
+pub model_strange : (text : List ℕ) (tree : ModelTree) (wiring : Tables) → length text ≤ most_bytes → HasSoundTree text tree wiring → ((m : FirstModel) → IsFirstForm tree m → ⊥) → TextCauses text refusals.ModelLater
+model_strange text tree wiring short h none =
+    strange (record { wiring = wiring; sound = text_sound text tree wiring short h; none = λ m k. none m (subst (λ t. IsFirstForm t m) (h.read.only k.tree k.read) k.form) })

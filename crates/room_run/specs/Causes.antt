@@ -1,12 +1,17 @@
 -- Which texts run, and why a call is refused.
-use Rattle.std.specs.Prelude.{◌≡◌, ℕ, ◌<◌, ◌≤◌, List, ◌∷◌, [], length, Some, None, IfSome, codes, decimal}
+use Rattle.std.specs.Prelude.{◌≡◌, ℕ, ◌<◌, ◌≤◌, List, ◌∷◌, [], length, Some, None, IfSome, Ok, Err, codes, decimal}
 use Rattle.room_outside.specs.Faults.{Rose}
 use Rattle.room_outside.specs.Shown.{Shown}
 use Rattle.line_text.specs.Lines.{line}
 use Rattle.first_form.specs.Lines.{IsLinesOf}
 use Rattle.first_form.specs.declared.model.FirstModel.{FirstModel}
 use Rattle.first_form.specs.declared.model.FirstLine.{FirstLine}
-use Rattle.room_run.specs.Words.{Files, Check, Run, asked_by}
+use Rattle.first_wiring.specs.Wirings.{wiring_of}
+use Rattle.inject_lines.specs.declared.accepted.Line.{Line}
+use Rattle.inject_reader.specs.Answer.{answer}
+use Rattle.inject_reader.specs.declared.fault.InjectFault.{InjectFault}
+use Rattle.inject_reader.specs.declared.fault.InjectFault.TheVariants as faults
+use Rattle.room_run.specs.Words.{Files, Check, Tree, Run, asked_by}
 use Rattle.room_run.specs.Models.{IsModel, SoundCauses, TextCauses, most_bytes}
 use Rattle.room_run.specs.declared.refusal.Refusal.{Refusal}
 use Rattle.room_run.specs.declared.refusal.Refusal.TheVariants as refusals
@@ -17,6 +22,17 @@ use Rattle.room_run.specs.declared.status.Status.TheVariants as statuses
 pub record IsInjections (model : FirstModel) (text : List ℕ) (lines : List FirstLine) : Type 0 where
   pub short : length text ≤ most_bytes
   pub form : IsLinesOf model text lines
+
+-- over the names of the model's wiring, the line of this number is the first faulty one of the text, and this is its lowest code
+pub record HasBadLine (model : FirstModel) (text : List ℕ) (number code : ℕ) : Type 0 where
+  pub short : length text ≤ most_bytes
+  pub faulty : answer (wiring_of model) text ≡ Err (number, code)
+
+-- the text has no faulty line, and it is that of no injections which run on the model
+pub record AreStrangeLines (model : FirstModel) (text : List ℕ) : Type 0 where
+  pub accepted : List Line
+  pub faultless : answer (wiring_of model) text ≡ Ok accepted
+  pub none : (lines : List FirstLine) → IsInjections model text lines → ⊥
 
 -- where the shelf tells the text under a name, it is so
 abbrev pub TextIs : Shown → List ℕ → (List ℕ → Type 0) → Type 0
@@ -42,12 +58,23 @@ pub data ModelCauses (Of : List ℕ → Refusal → Type 0) (before after : Show
   no_text : UnreadCauses before after name why → ModelCauses Of before after name why
   model_refused : TextIs before name (λ text. Of text why) → ModelCauses Of before after name why
 
+-- why injections are refused whose lines have this fault
+abbrev pub refusal_of_lines : InjectFault → Refusal
+refusal_of_lines (faults.Code number code) = refusals.InjectionsLine number code
+refusal_of_lines faults.Memory = refusals.Memory
+
+-- why a text of injections may be refused
+pub data LinesCauses (model : FirstModel) (text : List ℕ) : Refusal → Type 0 where
+  faulty_line : (number code : ℕ) → HasBadLine model text number code → LinesCauses model text (refusals.InjectionsLine number code)
+  strange_lines : AreStrangeLines model text → LinesCauses model text refusals.InjectionsLater
+  no_memory_for_lines : LinesCauses model text refusals.Memory
+
 -- why the injections may be refused, whose text is looked for under a name
-pub data InjectionsCauses (before after : Shown) (name : List ℕ) (model : FirstModel) : Refusal → Type 0 where
-  injections_unread : RoseAt before after name → InjectionsCauses before after name model refusals.ReadFault
-  injections_long : TextIs before name (λ text. most_bytes < length text) → InjectionsCauses before after name model refusals.InjectionsTooLong
-  injections_strange : TextIs before name (λ text. (lines : List FirstLine) → IsInjections model text lines → ⊥) → InjectionsCauses before after name model refusals.InjectionsLater
-  injections_no_memory : InjectionsCauses before after name model refusals.Memory
+pub data InjectionsCauses (before after : Shown) (name : List ℕ) (model : FirstModel) (why : Refusal) : Type 0 where
+  injections_unread : RoseAt before after name → why ≡ refusals.ReadFault → InjectionsCauses before after name model why
+  injections_long : TextIs before name (λ text. most_bytes < length text) → why ≡ refusals.InjectionsTooLong → InjectionsCauses before after name model why
+  injections_refused : TextIs before name (λ text. LinesCauses model text why) → InjectionsCauses before after name model why
+  injections_no_memory : why ≡ refusals.Memory → InjectionsCauses before after name model why
 
 -- Why the run of two files may be refused. The order is: reading the model, the model, reading the
 -- injections, the injections, the run.
@@ -60,6 +87,7 @@ pub data RunCauses (before after : Shown) (files : Files) (why : Refusal) : Type
 pub data Causes (before after : Shown) (words : List (List ℕ)) (why : Refusal) : Type 0 where
   no_such_words : asked_by words ≡ None → why ≡ refusals.Words → Causes before after words why
   of_check : (name : List ℕ) → asked_by words ≡ Some (Check name) → ModelCauses SoundCauses before after name why → Causes before after words why
+  of_tree : (name : List ℕ) → asked_by words ≡ Some (Tree name) → ModelCauses SoundCauses before after name why → Causes before after words why
   of_run : (files : Files) → asked_by words ≡ Some (Run files) → RunCauses before after files why → Causes before after words why
 
 -- the status of a refusal
@@ -70,9 +98,11 @@ status_of (refusals.ModelByte offset) = statuses.ModelRefused
 status_of refusals.ModelTooDeep = statuses.ModelRefused
 status_of (refusals.ModelSyntax number) = statuses.ModelRefused
 status_of (refusals.ModelRule number) = statuses.ModelRefused
+status_of (refusals.ModelWiring number) = statuses.ModelRefused
 status_of (refusals.ModelChart class number) = statuses.ModelRefused
 status_of refusals.ModelLater = statuses.ModelRefused
 status_of refusals.InjectionsTooLong = statuses.InjectionsRefused
+status_of (refusals.InjectionsLine number code) = statuses.InjectionsRefused
 status_of refusals.InjectionsLater = statuses.InjectionsRefused
 status_of refusals.ReadFault = statuses.ReadFault
 status_of refusals.Memory = statuses.Memory
@@ -85,9 +115,11 @@ note_of (refusals.ModelByte offset) = line (codes "room: model refused: byte " �
 note_of refusals.ModelTooDeep = line (codes "room: model refused: too deep" ∷ [])
 note_of (refusals.ModelSyntax number) = line (codes "room: model refused: syntax " ∷ decimal number ∷ [])
 note_of (refusals.ModelRule number) = line (codes "room: model refused: rule " ∷ decimal number ∷ [])
+note_of (refusals.ModelWiring number) = line (codes "room: model refused: wiring " ∷ decimal number ∷ [])
 note_of (refusals.ModelChart class number) = line (codes "room: model refused: chart " ∷ class ∷ codes " " ∷ decimal number ∷ [])
 note_of refusals.ModelLater = line (codes "room: model refused: later" ∷ [])
 note_of refusals.InjectionsTooLong = line (codes "room: injections refused: too long" ∷ [])
+note_of (refusals.InjectionsLine number code) = line (codes "room: injections refused: line " ∷ decimal number ∷ codes " " ∷ decimal code ∷ [])
 note_of refusals.InjectionsLater = line (codes "room: injections refused: later" ∷ [])
 note_of refusals.ReadFault = line (codes "room: read fault" ∷ [])
 note_of refusals.Memory = line (codes "room: memory" ∷ [])

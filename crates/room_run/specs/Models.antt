@@ -1,4 +1,4 @@
--- Which texts are those of models that keep all rules and whose charts have no fault, which of them run, and why others don't.
+-- Which texts are those of models that keep all rules and whose wiring and charts have no fault, which of them run, and why others don't.
 use Rattle.std.specs.Prelude.{◌≡◌, ℕ, ◌≤◌, List, [], length, true, false, Option, Some, None}
 use Rattle.room_lexer.specs.Cut.{Piece, CutTo, placed, FailsAt}
 use Rattle.room_lexer.specs.declared.piece.Cause.{Cause}
@@ -11,6 +11,10 @@ use Rattle.structure_check.specs.Rules.{first_broken, IsLowest}
 use Rattle.structure_check.specs.List.{all_rules}
 use Rattle.chart_model.specs.Chart.{Chart}
 use Rattle.model_charts.specs.Charts.{HasCharts, HasFaultyChart}
+use Rattle.room_wiring.specs.declared.tables.Tables.{Tables}
+use Rattle.binding_expand.specs.Wirings.{IsWiringOf}
+use Rattle.binding_expand.specs.Faults.{HasNoFault, IsLowestFault, number as number_of}
+use Rattle.binding_expand.specs.declared.fault.WiringFault.{WiringFault}
 use Rattle.first_form.specs.Tree.{IsFirstForm}
 use Rattle.first_form.specs.declared.model.FirstModel.{FirstModel}
 use Rattle.room_run.specs.declared.refusal.Refusal.{Refusal}
@@ -32,25 +36,36 @@ pub record HasTree (text : List ℕ) (tree : ModelTree) : Type 0 where
   pub cut : HasTokens text tokens
   pub spelled : model_tokens tree ≡ values text tokens
 
--- the tree is that of a model which keeps all rules, and no chart of its actor classes has a fault
-pub record IsSoundTree (tree : ModelTree) : Type 0 where
-  pub keeps : first_broken all_rules tree ≡ None
+-- no chart of the actor classes of this model has a fault
+pub record HasGoodCharts (tree : ModelTree) : Type 0 where
   pub charts : List (Option Chart)
   pub faultless : HasCharts tree charts
 
--- the text is that of a model which keeps all rules and whose charts have no fault
-pub record IsSound (text : List ℕ) : Type 0 where
+-- this is the wiring of this model, which has no fault
+pub record IsGoodWiring (tree : ModelTree) (wiring : Tables) : Type 0 where
+  pub wired : IsWiringOf tree wiring
+  pub flawless : HasNoFault tree
+
+-- the tree is that of a model which keeps all rules, this is its wiring, which has no fault, and no chart of its actor classes has a fault
+pub record IsSoundTree (tree : ModelTree) (wiring : Tables) : Type 0 where
+  pub keeps : first_broken all_rules tree ≡ None
+  pub wired : IsGoodWiring tree wiring
+  pub charts : HasGoodCharts tree
+
+-- the text is that of a model which keeps all rules and whose charts have no fault, and this is its wiring
+pub record IsSound (text : List ℕ) (wiring : Tables) : Type 0 where
   pub short : length text ≤ most_bytes
   pub tree : ModelTree
   pub read : HasTree text tree
-  pub sound : IsSoundTree tree
+  pub sound : IsSoundTree tree wiring
 
 -- the text is that of such a model, which runs
 pub record IsModel (text : List ℕ) (model : FirstModel) : Type 0 where
   pub short : length text ≤ most_bytes
   pub tree : ModelTree
   pub read : HasTree text tree
-  pub sound : IsSoundTree tree
+  pub wiring : Tables
+  pub sound : IsSoundTree tree wiring
   pub form : IsFirstForm tree model
 
 -- the text can't be cut at this byte, before which it can
@@ -81,27 +96,41 @@ pub record BreaksRule (text : List ℕ) (rule : ℕ) : Type 0 where
   pub read : HasTree text tree
   pub lowest : IsLowest all_rules tree (Some rule)
 
--- the text has a tree that keeps all rules, and the actor class of this name is the first whose chart has a fault; the lowest one has this number
+-- the text has a tree that keeps all rules, and the lowest fault of its wiring has this number
+pub record HasBadWiring (text : List ℕ) (number : ℕ) : Type 0 where
+  pub short : length text ≤ most_bytes
+  pub tree : ModelTree
+  pub read : HasTree text tree
+  pub keeps : first_broken all_rules tree ≡ None
+  pub fault : WiringFault
+  pub number_is : number ≡ number_of fault
+  pub lowest : IsLowestFault tree fault
+
+-- the text has a tree that keeps all rules and has a wiring, and the actor class of this name is the first whose chart has a fault; the lowest one has this number
 pub record HasBadChart (text : List ℕ) (class : List ℕ) (number : ℕ) : Type 0 where
   pub short : length text ≤ most_bytes
   pub tree : ModelTree
   pub read : HasTree text tree
   pub keeps : first_broken all_rules tree ≡ None
+  pub wiring : Tables
+  pub wired : IsGoodWiring tree wiring
   pub first : HasFaultyChart tree class number
 
--- the text is that of a model which keeps all rules and whose charts have no fault, and of none which runs
+-- the text is that of a model which keeps all rules and whose wiring and charts have no fault, and of none which runs
 pub record IsStrange (text : List ℕ) : Type 0 where
-  pub sound : IsSound text
+  pub wiring : Tables
+  pub sound : IsSound text wiring
   pub none : (model : FirstModel) → IsModel text model → ⊥
 
--- Why a text may be refused as that of a model which keeps all rules and whose charts have no fault.
--- The order is: the cut, the braces, the tree, the rules in order of their numbers, the charts of the
--- actor classes in order of declaration.
+-- Why a text may be refused as that of a model which keeps all rules and whose wiring and charts have
+-- no fault. The order is: the cut, the braces, the tree, the rules in order of their numbers, the wiring,
+-- the charts of the actor classes in order of declaration.
 pub data SoundCauses (text : List ℕ) : Refusal → Type 0 where
   uncut : (offset : ℕ) → IsUncut text offset → SoundCauses text (refusals.ModelByte offset)
   too_deep : NestsTooDeep text → SoundCauses text refusals.ModelTooDeep
   no_tree : (line : ℕ) → HasNoTree text → SoundCauses text (refusals.ModelSyntax line)
   breaks_rule : (rule : ℕ) → BreaksRule text rule → SoundCauses text (refusals.ModelRule rule)
+  bad_wiring : (number : ℕ) → HasBadWiring text number → SoundCauses text (refusals.ModelWiring number)
   bad_chart : (class : List ℕ) (number : ℕ) → HasBadChart text class number → SoundCauses text (refusals.ModelChart class number)
   no_memory : SoundCauses text refusals.Memory
 

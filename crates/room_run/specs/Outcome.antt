@@ -11,7 +11,8 @@ use Rattle.first_wiring.specs.Wirings.{wiring_of}
 use Rattle.journal.specs.Text.{text_of}
 use Rattle.journal.specs.declared.entry.Journals.{Journals}
 use Rattle.room_wiring.specs.declared.tables.Tables.{Tables}
-use Rattle.room_run.specs.Words.{Files, Check, Run, asked_by}
+use Rattle.tree_text.specs.Text.{tree_text}
+use Rattle.room_run.specs.Words.{Files, Check, Tree, Run, asked_by}
 use Rattle.room_run.specs.Models.{IsSound}
 use Rattle.room_run.specs.Causes.{Causes, AreOf, TextIs, status_of, note_of}
 use Rattle.room_run.specs.declared.prepare.Answer.{Answer}
@@ -29,18 +30,20 @@ pub record IsRunOf (model : FirstModel) (lines : List FirstLine) (names : Tables
 unfoldable pub printed : FirstModel → List FirstLine → List ℕ
 printed model lines = text_of (wiring_of model) (journals_of (chart_of model) lines)
 
--- the line that says that a model keeps all rules and that its charts have no fault
+-- the line that says that a model keeps all rules and that its wiring and charts have no fault
 abbrev pub accepted : List ℕ
 accepted = line (codes "ok" ∷ [])
 
--- What the words ask for, as a text: `ok` of a model that keeps all rules and whose charts have no fault, or the journals of a run.
+-- What the words ask for, as a text: `ok` of a model that keeps all rules and whose wiring and charts have no fault, the slots and joined places of such a model, or the journals of a run.
 pub data Answers (shelf : Shown) (words : List (List ℕ)) (text : List ℕ) : Type 0 where
-  says_ok : (name : List ℕ) → asked_by words ≡ Some (Check name) → TextIs shelf name IsSound → text ≡ accepted → Answers shelf words text
+  says_ok : (name : List ℕ) → asked_by words ≡ Some (Check name) → TextIs shelf name (λ bytes. (wiring : Tables) × IsSound bytes wiring) → text ≡ accepted → Answers shelf words text
+  says_tree : (name : List ℕ) (wiring : Tables) → asked_by words ≡ Some (Tree name) → TextIs shelf name (λ bytes. IsSound bytes wiring) → text ≡ tree_text wiring → Answers shelf words text
   says_run : (files : Files) (model : FirstModel) (lines : List FirstLine) → asked_by words ≡ Some (Run files) → AreOf shelf files model lines → text ≡ printed model lines → Answers shelf words text
 
 -- the text of what the program has found out
 abbrev pub answer_text : Answer → List ℕ
 answer_text answers.Accepted = accepted
+answer_text (answers.Wired wiring) = tree_text wiring
 answer_text (answers.Ran run) = text_of run.wiring run.journals
 
 -- a text was written, or writing it broke off

@@ -9,8 +9,12 @@ use Rattle.structure_check.specs.Rules.{first_broken, IsLowest}
 use Rattle.structure_check.specs.List.{all_rules}
 use Rattle.structure_check.specs.Classes.{HasClasses}
 use Rattle.structure_check.specs.declared.checked_model.Checked.{Checked}
+use Rattle.room_wiring.specs.declared.tables.Tables.{Tables}
+use Rattle.binding_expand.specs.Faults.{IsLowestFault, number}
+use Rattle.binding_expand.specs.declared.fault.WiringFault.{WiringFault}
+use Rattle.binding_expand.specs.declared.fault.WiringFault.TheVariants as faults
 use Rattle.model_charts.specs.Charts.{HasFaultyChart}
-use Rattle.room_run.specs.Models.{HasTokens, HasTree, IsSoundTree}
+use Rattle.room_run.specs.Models.{HasTokens, HasTree, IsGoodWiring, IsSoundTree}
 use Rattle.room_run.specs.declared.refusal.Refusal.{Refusal}
 use Rattle.room_run.specs.declared.refusal.Refusal.TheVariants as refusals
 
@@ -26,10 +30,10 @@ pub record HasItsTree (text : List ℕ) (tree : ModelTree) : Type 0 where
   pub only : (other : ModelTree) → HasTree text other → other ≡ tree
   pub names : HasNames (model_tokens tree)
 
--- the text has this tree and no other, its names are names of the language, it keeps all rules, and its charts have no fault
-pub record HasSoundTree (text : List ℕ) (tree : ModelTree) : Type 0 where
+-- the text has this tree and no other, its names are names of the language, it keeps all rules, this is its wiring, and its charts have no fault
+pub record HasSoundTree (text : List ℕ) (tree : ModelTree) (wiring : Tables) : Type 0 where
   pub read : HasItsTree text tree
-  pub sound : IsSoundTree tree
+  pub sound : IsSoundTree tree wiring
 
 -- the tree keeps all rules, and this is what was kept of it when they were checked
 pub record IsCheckedFor (tree : ModelTree) (checked : Checked) : Type 0 where
@@ -37,8 +41,23 @@ pub record IsCheckedFor (tree : ModelTree) (checked : Checked) : Type 0 where
   pub model : model_view checked.model.now ≡ tree
   pub classes : HasClasses checked
 
--- why a tree may be refused: the lowest rule that it breaks, the first chart that has a fault where it keeps all rules, or want of memory
+-- why a tree is refused whose wiring has this fault
+abbrev pub refusal_of : WiringFault → Refusal
+refusal_of faults.Memory = refusals.Memory
+refusal_of faults.TooManySlots = refusals.ModelWiring (number faults.TooManySlots)
+refusal_of faults.TooManyPlaces = refusals.ModelWiring (number faults.TooManyPlaces)
+refusal_of faults.NoFreePlace = refusals.ModelWiring (number faults.NoFreePlace)
+refusal_of faults.SocketPair = refusals.ModelWiring (number faults.SocketPair)
+refusal_of faults.SocketAway = refusals.ModelWiring (number faults.SocketAway)
+
+-- why the charts of a tree may be refused: the first that has a fault, or want of memory
+pub data ChartCauses (tree : ModelTree) : Refusal → Type 0 where
+  first_faulty : (class : List ℕ) (number : ℕ) → HasFaultyChart tree class number → ChartCauses tree (refusals.ModelChart class number)
+  no_memory_for_charts : ChartCauses tree refusals.Memory
+
+-- why a tree may be refused: the lowest rule that it breaks; where it keeps all rules, the lowest fault of its wiring; where it has a wiring, the first chart that has a fault; or want of memory
 pub data TreeCauses (tree : ModelTree) : Refusal → Type 0 where
   breaks : (rule : ℕ) → IsLowest all_rules tree (Some rule) → TreeCauses tree (refusals.ModelRule rule)
-  faulty : (class : List ℕ) (number : ℕ) → first_broken all_rules tree ≡ None → HasFaultyChart tree class number → TreeCauses tree (refusals.ModelChart class number)
+  miswired : (fault : WiringFault) → first_broken all_rules tree ≡ None → IsLowestFault tree fault → TreeCauses tree (refusals.ModelWiring (number fault))
+  faulty : {why : Refusal} (wiring : Tables) → first_broken all_rules tree ≡ None → IsGoodWiring tree wiring → ChartCauses tree why → TreeCauses tree why
   no_memory_for_tree : TreeCauses tree refusals.Memory

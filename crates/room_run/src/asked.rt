@@ -13,8 +13,10 @@ pub(crate) struct Files<'a> {
 /// What is asked for.
 #[derive(Clone, Copy)]
 pub(crate) enum Asked<'a> {
-    /// Whether the model of this file keeps all rules, and its charts have no fault.
+    /// Whether the model of this file keeps all rules, and its wiring and charts have no fault.
     Check(&'a str),
+    /// The slots and joined places of the model of this file.
+    Tree(&'a str),
     /// The run of a model over injections.
     Run(Files<'a>),
 }
@@ -25,6 +27,7 @@ pub(crate) fn asked_by(words: &[String]) -> Option<Asked<'_>>
 {
     match words {
         [command, model] if command.as_str() == "check" => Some(Asked::Check(model.as_str())),
+        [command, model] if command.as_str() == "tree" => Some(Asked::Tree(model.as_str())),
         [command, model, injections] if command.as_str() == "run" => Some(Asked::Run(Files {
             model: model.as_str(),
             injections: injections.as_str(),

@@ -6,15 +6,17 @@ ghost use Rattle.structure_check.specs.Classes.{HasClasses};
 ghost use Rattle.structure_check.specs.List.{all_rules};
 ghost use Rattle.first_form.specs.FirstModel.{MeetsConditions};
 ghost use Rattle.first_form.specs.Names.{IsNamed};
-ghost use Rattle.room_run.specs.Models.{IsModel, IsSoundTree, SoundCauses, TextCauses};
-ghost use Rattle.room_run.specs.Reading.{HasItsTokens, HasItsTree, HasSoundTree, IsCheckedFor, TreeCauses};
+ghost use Rattle.room_run.specs.Models.{HasGoodCharts, IsGoodWiring, IsModel, IsSoundTree, SoundCauses, TextCauses};
+ghost use Rattle.room_run.specs.Reading.{ChartCauses, HasItsTokens, HasItsTree, HasSoundTree, IsCheckedFor, TreeCauses, refusal_of};
 
 use crate::refusal::Refusal;
+use binding_expand::{WiringFault, expand};
 use first_form::{FirstFault, FirstModel, first_of};
 use model_charts::{ChartsFault, charts_of};
 use room_ast::Model;
 use room_lexer::{LexFault, Token, lex};
 use room_parser::{ParseFault, parse};
+use room_wiring::Wiring;
 use std::alloc::Global;
 use structure_check::{CheckFault, Checked, check};
 
@@ -64,12 +66,40 @@ fn keep_rules(alloc: Global, tree: &Model) -> Result<Checked<'_>, Refusal>
     }
 }
 
+/// Why a model is refused whose wiring has this fault.
+fn refusal_of(fault: WiringFault) -> Refusal
+    ensures { result ≡ refusal_of fault }
+{
+    match fault {
+        WiringFault::Memory => Refusal::Memory,
+        WiringFault::TooManySlots
+        | WiringFault::TooManyPlaces
+        | WiringFault::NoFreePlace
+        | WiringFault::SocketPair
+        | WiringFault::SocketAway => Refusal::ModelWiring {
+            number: fault.number(),
+        },
+    }
+}
+
+/// The wiring of a model that keeps all rules.
+fn keep_wiring(alloc: Global, checked: &Checked) -> Result<Wiring, Refusal>
+    requires { first_broken all_rules (model_view checked.now.model.now) ≡ None }
+    ensures ok { IfOk result (λ w. IsGoodWiring (model_view checked.now.model.now) w) }
+    ensures err { IfErr result (λ why. TreeCauses (model_view checked.now.model.now) why) }
+{
+    match expand(alloc, checked) {
+        Ok(wiring) => Ok(wiring),
+        Err(fault) => Err(refusal_of(fault)),
+    }
+}
+
 /// Whether the charts of a model that keeps all rules have no fault.
 fn keep_charts(alloc: Global, checked: &Checked) -> Result<(), Refusal>
     requires rules { first_broken all_rules (model_view checked.now.model.now) ≡ None }
     requires classes { HasClasses checked.now }
-    ensures ok { OnOk result (IsSoundTree (model_view checked.now.model.now)) }
-    ensures err { IfErr result (λ why. TreeCauses (model_view checked.now.model.now) why) }
+    ensures ok { OnOk result (HasGoodCharts (model_view checked.now.model.now)) }
+    ensures err { IfErr result (λ why. ChartCauses (model_view checked.now.model.now) why) }
 {
     match charts_of(alloc, checked) {
         Ok(_charts) => Ok(()),
@@ -78,22 +108,36 @@ fn keep_charts(alloc: Global, checked: &Checked) -> Result<(), Refusal>
     }
 }
 
-/// Whether a tree keeps all rules, and its charts have no fault.
-fn judge_tree(alloc: Global, tree: &Model) -> Result<(), Refusal>
-    ensures ok { OnOk result (IsSoundTree (model_view tree.now)) }
+/// The wiring of a tree, where it keeps all rules and its wiring and charts have no fault.
+fn judge_tree(alloc: Global, tree: &Model) -> Result<Wiring, Refusal>
+    ensures ok { IfOk result (λ w. IsSoundTree (model_view tree.now) w) }
     ensures err { IfErr result (λ why. TreeCauses (model_view tree.now) why) }
 {
     let checked = match keep_rules(alloc, tree) {
         Ok(checked) => checked,
         Err(why) => return Err(why),
     };
-    keep_charts(alloc, &checked)
+    let wiring = match keep_wiring(alloc, &checked) {
+        Ok(wiring) => wiring,
+        Err(why) => return Err(why),
+    };
+    match keep_charts(alloc, &checked) {
+        Ok(()) => Ok(wiring),
+        Err(why) => Err(why),
+    }
 }
 
-/// The syntax tree of a text, where it keeps all rules and its charts have no fault.
-pub(crate) fn sound_tree(alloc: Global, text: &[u8]) -> Result<Model, Refusal>
+/// A model that keeps all rules and whose charts have no fault.
+#[derive(Drop)]
+pub(crate) struct SoundModel {
+    pub(crate) tree: Model,
+    pub(crate) wiring: Wiring,
+}
+
+/// The model of a text, where it keeps all rules and its wiring and charts have no fault.
+pub(crate) fn sound_model(alloc: Global, text: &[u8]) -> Result<SoundModel, Refusal>
     requires { length text.now ≤ 1048576 }
-    ensures ok { IfOk result (λ tree. HasSoundTree text.now (model_view tree)) }
+    ensures ok { IfOk result (λ s. HasSoundTree text.now (model_view s.tree) s.wiring) }
     ensures err { IfErr result (λ why. SoundCauses text.now why) }
 {
     let tree = match read_tree(alloc, text) {
@@ -101,23 +145,24 @@ pub(crate) fn sound_tree(alloc: Global, text: &[u8]) -> Result<Model, Refusal>
         Err(why) => return Err(why),
     };
     match judge_tree(alloc, &tree) {
-        Ok(()) => Ok(tree),
+        Ok(wiring) => Ok(SoundModel { tree, wiring }),
         Err(why) => Err(why),
     }
 }
 
-/// The model of a text, where it keeps all rules, its charts have no fault, and it is one that runs.
+/// The model of a text, where it keeps all rules, its wiring and charts have no fault, and it is one
+/// that runs.
 pub(crate) fn judge(alloc: Global, text: &[u8]) -> Result<FirstModel, Refusal>
     requires { length text.now ≤ 1048576 }
     ensures ok { IfOk result (λ model. IsModel text.now model) }
     ensures names { IfOk result (λ model. IsNamed model) }
     ensures err { IfErr result (λ why. TextCauses text.now why) }
 {
-    let tree = match sound_tree(alloc, text) {
-        Ok(tree) => tree,
+    let sound = match sound_model(alloc, text) {
+        Ok(sound) => sound,
         Err(why) => return Err(why),
     };
-    match first_of(alloc, &tree) {
+    match first_of(alloc, &sound.tree) {
         Ok(model) => Ok(model),
         Err(FirstFault::Later) => Err(Refusal::ModelLater),
         Err(FirstFault::Memory) => Err(Refusal::Memory),

@@ -2,7 +2,7 @@
 //!
 //! `room_top` is the whole program over a shelf of texts and two sinks. Its contract is the
 //! headline of the project for the models that run today, and the exact answer of the check of a
-//! model.
+//! model and of the text of its wiring.
 #![tactic(auto)]
 
 mod asked;

@@ -44,6 +44,19 @@ fn write_class<'a, K: Sink>(
     write_line(&mut LineBuffer::new(), notes, &parts)
 }
 
+/// Writes a line of a text and two numbers.
+fn write_place<K: Sink>(notes: &mut K, text: &[u8], number: u32, code: u8) -> Result<(), WriteFault>
+    ensures { Puts result (at_rest (K.written notes.old)) (at_rest (K.written notes.new)) (line (text.now ∷ decimal number ∷ codes " " ∷ decimal code ∷ [])) }
+{
+    let parts = [
+        Part::Text(text),
+        Part::Number(u64::from(number)),
+        Part::Text(b" "),
+        Part::Number(u64::from(code)),
+    ];
+    write_line(&mut LineBuffer::new(), notes, &parts)
+}
+
 fn write_refusal<K: Sink>(why: &Refusal, notes: &mut K) -> Result<(), WriteFault>
     ensures { Puts result (at_rest (K.written notes.old)) (at_rest (K.written notes.new)) (note_of why.now) }
 {
@@ -60,6 +73,9 @@ fn write_refusal<K: Sink>(why: &Refusal, notes: &mut K) -> Result<(), WriteFault
         Refusal::ModelRule { rule } => {
             write_number(notes, b"room: model refused: rule ", u64::from(*rule))
         }
+        Refusal::ModelWiring { number } => {
+            write_number(notes, b"room: model refused: wiring ", u64::from(*number))
+        }
         Refusal::ModelChart { class, number } => write_class(
             notes,
             b"room: model refused: chart ",
@@ -68,6 +84,9 @@ fn write_refusal<K: Sink>(why: &Refusal, notes: &mut K) -> Result<(), WriteFault
         ),
         Refusal::ModelLater => write_text(notes, b"room: model refused: later"),
         Refusal::InjectionsTooLong => write_text(notes, b"room: injections refused: too long"),
+        Refusal::InjectionsLine { line, code } => {
+            write_place(notes, b"room: injections refused: line ", *line, *code)
+        }
         Refusal::InjectionsLater => write_text(notes, b"room: injections refused: later"),
         Refusal::ReadFault => write_text(notes, b"room: read fault"),
         Refusal::Memory => write_text(notes, b"room: memory"),
@@ -83,8 +102,8 @@ pub(crate) fn write_note<K: Sink>(why: &Refusal, notes: &mut K) -> Result<(), Wr
     write_refusal(why, notes)
 }
 
-/// Writes the line that says that a model keeps all rules and that its charts have no fault, in one
-/// piece. It takes no memory.
+/// Writes the line that says that a model keeps all rules and that its wiring and charts have no fault,
+/// in one piece. It takes no memory.
 pub(crate) fn write_ok<K: Sink>(out: &mut K) -> Result<(), WriteFault>
     ensures ok { OnOk result (Appends (K.written out.old) (K.written out.new) accepted) }
     ensures fault { OnErr result (BreaksOff (K.written out.old) (K.written out.new) accepted) }

@@ -1,5 +1,5 @@
 //! A call up to its first written byte.
-ghost use Rattle.std.specs.Prelude.{◌≡◌, ◌≤◌, List, map, length, IfOk, IfErr, IfSome, OnOk};
+ghost use Rattle.std.specs.Prelude.{◌≡◌, ◌≤◌, List, map, length, IfOk, IfErr, IfSome};
 ghost use Rattle.std.specs.String.{string_bytes};
 ghost use Rattle.room_outside.specs.Shown.{Keeps};
 ghost use Rattle.first_form.specs.FirstModel.{MeetsConditions};
@@ -7,17 +7,18 @@ ghost use Rattle.first_form.specs.Names.{IsNamed};
 ghost use Rattle.first_form.specs.Lines.{AreInRange};
 ghost use Rattle.room_run.specs.Words.{files_view};
 ghost use Rattle.room_run.specs.Models.{IsSound, IsModel, SoundCauses, TextCauses};
-ghost use Rattle.room_run.specs.Causes.{AreOf, Causes, InjectionsCauses, IsInjections, ModelCauses, RunCauses, TextIs, UnreadCauses};
+ghost use Rattle.room_run.specs.Causes.{AreOf, Causes, InjectionsCauses, IsInjections, LinesCauses, ModelCauses, RunCauses, TextIs, UnreadCauses, refusal_of_lines};
 ghost use Rattle.room_run.specs.Outcome.{IsRunOf, Answers, answer_text};
 ghost use Rattle.first_form.specs.declared.model.FirstModel.{FirstModel as Model};
 ghost use Rattle.first_form.specs.declared.model.FirstLine.{FirstLine as Line};
 
 use crate::asked::{Asked, Files, asked_by};
-use crate::judge::{judge, sound_tree};
+use crate::judge::{judge, sound_model};
 use crate::refusal::Refusal;
 use first_form::{FirstFault, FirstLine, FirstModel, read_first_lines};
 use first_run::{FlatChart, run_first};
 use first_wiring::wiring_of;
+use inject_reader::InjectFault;
 use journal::Journals;
 use room_kinds::Sequence;
 use room_outside::{ReadRefused, Shelf, read_whole};
@@ -34,8 +35,10 @@ pub(crate) struct Finished {
 /// What the words asked for, and isn't written yet.
 #[derive(Drop)]
 pub(crate) enum Answer {
-    /// The model keeps all rules, and its charts have no fault.
+    /// The model keeps all rules, and its wiring and charts have no fault.
     Accepted,
+    /// The wiring of such a model.
+    Wired(Wiring),
     Ran(Finished),
 }
 
@@ -54,9 +57,10 @@ fn read_text<S: Shelf>(alloc: Global, shelf: &mut S, name: &str) -> Result<Vec<u
     }
 }
 
-/// Whether the model whose text stands under a name keeps all rules, and its charts have no fault.
-fn check_model<S: Shelf>(alloc: Global, shelf: &mut S, name: &str) -> Result<(), Refusal>
-    ensures ok { OnOk result (TextIs (S.shown shelf.old) name.now IsSound) }
+/// The wiring of the model whose text stands under a name, where it keeps all rules and its wiring and
+/// charts have no fault.
+fn read_wiring<S: Shelf>(alloc: Global, shelf: &mut S, name: &str) -> Result<Wiring, Refusal>
+    ensures ok { IfOk result (λ w. TextIs (S.shown shelf.old) name.now (λ text. IsSound text w)) }
     ensures err { IfErr result (λ why. ModelCauses SoundCauses (S.shown shelf.old) (S.shown shelf.new) name.now why) }
     ensures keeps { Keeps (S.shown shelf.old) (S.shown shelf.new) }
 {
@@ -64,8 +68,8 @@ fn check_model<S: Shelf>(alloc: Global, shelf: &mut S, name: &str) -> Result<(),
         Ok(text) => text,
         Err(why) => return Err(why),
     };
-    match sound_tree(alloc, text.as_slice()) {
-        Ok(_) => Ok(()),
+    match sound_model(alloc, text.as_slice()) {
+        Ok(sound) => Ok(sound.wiring),
         Err(why) => Err(why),
     }
 }
@@ -83,6 +87,45 @@ fn read_model<S: Shelf>(alloc: Global, shelf: &mut S, name: &str) -> Result<Firs
         Err(why) => return Err(why),
     };
     judge(alloc, text.as_slice())
+}
+
+/// Why injections are refused whose lines have this fault.
+fn refusal_of_lines(fault: InjectFault) -> Refusal
+    ensures { result ≡ refusal_of_lines fault }
+{
+    match fault {
+        InjectFault::Code { line, code } => Refusal::InjectionsLine { line, code },
+        InjectFault::Memory => Refusal::Memory,
+    }
+}
+
+/// The lines of a text of injections, where none is faulty and they run on the model.
+fn judge_lines(
+    alloc: Global,
+    text: &[u8],
+    model: &FirstModel,
+) -> Result<Sequence<FirstLine>, Refusal>
+    requires short { length text.now ≤ 1048576 }
+    requires conditions { MeetsConditions model.now }
+    requires names { IsNamed model.now }
+    ensures ok { IfOk result (λ lines. IsInjections model.now text.now lines) }
+    ensures few { IfOk result (λ lines. length lines ≤ 10000) }
+    ensures in_range { IfOk result (λ lines. AreInRange model.now lines) }
+    ensures err { IfErr result (λ why. LinesCauses model.now text.now why) }
+{
+    let wiring = match wiring_of(alloc, model) {
+        Ok(wiring) => wiring,
+        Err(AllocError) => return Err(Refusal::Memory),
+    };
+    match inject_reader::read_injections(alloc, text, &wiring) {
+        Ok(_lines) => {}
+        Err(fault) => return Err(refusal_of_lines(fault)),
+    }
+    match read_first_lines(alloc, text, model) {
+        Ok(lines) => Ok(lines),
+        Err(FirstFault::Later) => Err(Refusal::InjectionsLater),
+        Err(FirstFault::Memory) => Err(Refusal::Memory),
+    }
 }
 
 /// The injections whose text stands under a name.
@@ -106,11 +149,7 @@ fn read_injections<S: Shelf>(
         Err(ReadRefused::TooLong) => return Err(Refusal::InjectionsTooLong),
         Err(ReadRefused::Memory) => return Err(Refusal::Memory),
     };
-    match read_first_lines(alloc, text.as_slice(), model) {
-        Ok(lines) => Ok(lines),
-        Err(FirstFault::Later) => Err(Refusal::InjectionsLater),
-        Err(FirstFault::Memory) => Err(Refusal::Memory),
-    }
+    judge_lines(alloc, text.as_slice(), model)
 }
 
 /// The run of a model over lines, which the words named.
@@ -159,8 +198,12 @@ pub(crate) fn prepare<S: Shelf>(
 {
     match asked_by(words) {
         None => Err(Refusal::Words),
-        Some(Asked::Check(name)) => match check_model(alloc, shelf, name) {
-            Ok(()) => Ok(Answer::Accepted),
+        Some(Asked::Check(name)) => match read_wiring(alloc, shelf, name) {
+            Ok(_wiring) => Ok(Answer::Accepted),
+            Err(why) => Err(why),
+        },
+        Some(Asked::Tree(name)) => match read_wiring(alloc, shelf, name) {
+            Ok(wiring) => Ok(Answer::Wired(wiring)),
             Err(why) => Err(why),
         },
         Some(Asked::Run(files)) => match run_files(alloc, shelf, files) {

@@ -19,12 +19,20 @@ pub enum Refusal {
     ModelSyntax { line: u32 },
     /// The model breaks the rule of this number, and none of a lower number.
     ModelRule { rule: u8 },
-    /// The model keeps all rules, and the actor class of this name is the first whose chart has a
-    /// fault; the lowest one has this number, 1 to 8.
+    /// The model keeps all rules, and its wiring has the fault of this number, 1 to 5, and none of
+    /// a lower number.
+    ModelWiring { number: u8 },
+    /// The model keeps all rules, its wiring has no fault, and the actor class of this name is the
+    /// first whose chart has a fault; the lowest one has this number, 1 to 8.
     ModelChart { class: Name, number: u8 },
-    /// The model keeps all rules and its charts have no fault, and it is none that runs today.
+    /// The model keeps all rules, its wiring and its charts have no fault, and it is none that runs
+    /// today.
     ModelLater,
     InjectionsTooLong,
+    /// The line of this number, from 1, is the first of the injections that is faulty; its lowest
+    /// code is this one, 1 to 5. Code 6, at line 10,001, says that there are more lines than may be.
+    InjectionsLine { line: u32, code: u8 },
+    /// The injections have no faulty line, and they are none that run today.
     InjectionsLater,
     ReadFault,
     Memory,
@@ -41,9 +49,12 @@ impl Refusal {
             Refusal::ModelTooDeep => Status::ModelRefused,
             Refusal::ModelSyntax { .. } => Status::ModelRefused,
             Refusal::ModelRule { .. } => Status::ModelRefused,
+            Refusal::ModelWiring { .. } => Status::ModelRefused,
             Refusal::ModelChart { .. } => Status::ModelRefused,
             Refusal::ModelLater => Status::ModelRefused,
-            Refusal::InjectionsTooLong | Refusal::InjectionsLater => Status::InjectionsRefused,
+            Refusal::InjectionsTooLong => Status::InjectionsRefused,
+            Refusal::InjectionsLine { .. } => Status::InjectionsRefused,
+            Refusal::InjectionsLater => Status::InjectionsRefused,
             Refusal::ReadFault => Status::ReadFault,
             Refusal::Memory => Status::Memory,
         }

@@ -10,6 +10,7 @@ use crate::status::Status;
 use journal::text_to;
 use room_outside::{Gate, Shelf, Sink};
 use std::alloc::Global;
+use tree_text::expand_text;
 
 /// Tells why the call was refused, and gives its status.
 fn tell<K: Sink>(why: Refusal, notes: &mut K) -> Status
@@ -27,6 +28,7 @@ fn print<K: Sink>(answer: &Answer, out: &mut K) -> Status
 {
     let written = match answer {
         Answer::Accepted => write_ok(out),
+        Answer::Wired(wiring) => expand_text(wiring, out),
         Answer::Ran(run) => text_to(&run.journals, &run.wiring, out),
     };
     match written {
@@ -37,10 +39,12 @@ fn print<K: Sink>(answer: &Answer, out: &mut K) -> Status
 
 /// The program over a shelf of texts, standard output and standard error.
 ///
-/// The words `check MODEL` ask whether a model keeps all rules and its charts have no fault, and
-/// `run MODEL INJECT` for the run of a model over injections; every other list of words is refused. The order is: the words,
-/// reading the model, the model, reading the injections, the injections, the run, writing. After a
-/// failed read nothing more is read, and want of memory never comes once something was written.
+/// The words `check MODEL` ask whether a model keeps all rules and its wiring and charts have no fault,
+/// `tree MODEL` for the slots and the joined places of such a model, and `run MODEL INJECT` for the run
+/// of a model over injections; every other list of words is refused. The order is: the words, reading
+/// the model, the model (its text, its rules, its wiring, its charts), reading the injections, the
+/// injections, the run, writing. After a failed read nothing more is read, and want of memory never
+/// comes once something was written.
 pub fn room_top<S: Shelf, K: Sink, G: Gate + Sync>(
     alloc: Global,
     words: &[String],

@@ -1,21 +1,32 @@
 use Rattle.std.proofs.Common.{◌≡◌, Some, refl, sym, ap, ◌∙◌}
 use Rattle.room_run.specs.Words.{asked_view, files_view}
-use Rattle.room_run.specs.Causes.{of_check, of_run}
-use Rattle.room_run.specs.Outcome.{says_ok, says_run}
+use Rattle.room_run.specs.Causes.{of_check, of_tree, of_run}
+use Rattle.room_run.specs.Outcome.{says_ok, says_tree, says_run}
 use Rattle.room_run.specs.declared.asked.Asked.{Asked}
 use Rattle.room_run.specs.declared.asked.Asked.TheVariants as code
+use Rattle.room_run.proofs.CauseLemmas.{model_sound}
 use Rattle.room_run.proofs.OutcomeLemmas.{text_is}
 use Rattle.room_run.proofs.prepare.prepare.Goals as goal
 
 pub returns-in-Ok-clause-ok : goal.returns-in-Ok-clause-ok
 returns-in-Ok-clause-ok g c =
     let is : c.in-Some-Check.field-0 ≡ code.Check c.in-Some-Check.name = cc in
-    says_ok c.in-Some-Check.name.now (sym c.in-Some-Check.ensures ∙ ap (λ (a : Asked). Some (asked_view a)) is) c.in-Ok.ensures.ok refl
+    says_ok c.in-Some-Check.name.now (sym c.in-Some-Check.ensures ∙ ap (λ (a : Asked). Some (asked_view a)) is) (model_sound (g.S.Shelf.shown c.args.shelf.now) c.in-Some-Check.name.now c.in-Ok._wiring c.in-Ok.ensures.ok) refl
 
 pub returns-in-Err-clause-err : goal.returns-in-Err-clause-err
 returns-in-Err-clause-err g c =
     let is : c.in-Some-Check.field-0 ≡ code.Check c.in-Some-Check.name = cc in
     of_check c.in-Some-Check.name.now (sym c.in-Some-Check.ensures ∙ ap (λ (a : Asked). Some (asked_view a)) is) c.in-Err.ensures.err
+
+pub returns-in-Ok-read_wiring-clause-ok : goal.returns-in-Ok-read_wiring-clause-ok
+returns-in-Ok-read_wiring-clause-ok g c =
+    let is : c.in-Some-Tree.field-0 ≡ code.Tree c.in-Some-Tree.name = cc in
+    says_tree c.in-Some-Tree.name.now c.in-Ok-read_wiring.wiring (sym c.in-Some-Tree.ensures ∙ ap (λ (a : Asked). Some (asked_view a)) is) c.in-Ok-read_wiring.ensures.ok refl
+
+pub returns-in-Err-read_wiring-clause-err : goal.returns-in-Err-read_wiring-clause-err
+returns-in-Err-read_wiring-clause-err g c =
+    let is : c.in-Some-Tree.field-0 ≡ code.Tree c.in-Some-Tree.name = cc in
+    of_tree c.in-Some-Tree.name.now (sym c.in-Some-Tree.ensures ∙ ap (λ (a : Asked). Some (asked_view a)) is) c.in-Err-read_wiring.ensures.err
 
 pub returns-in-Ok-run_files-clause-ok : goal.returns-in-Ok-run_files-clause-ok
 returns-in-Ok-run_files-clause-ok g c =
