@@ -1,0 +1,4 @@
+pub mod ByPlace
+pub mod ByPort
+pub mod Duties
+pub mod Withdrawn
