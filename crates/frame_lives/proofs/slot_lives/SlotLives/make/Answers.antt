@@ -1,0 +1,48 @@
+use Rattle.std.proofs.Common.{ℕ, List, [], ◌∷◌, ◌++◌, pos, sym, subst}
+use Rattle.room_kinds.specs.declared.message.Msg.{Msg}
+use Rattle.room_kinds.specs.declared.numbers.Incarnation.{Incarnation}
+use Rattle.actor_duties.specs.Lives.{announces}
+use Rattle.slot_runs.specs.Runs.{IsNextMade}
+use Rattle.frame_lives.specs.Shown.{shown}
+use Rattle.frame_lives.proofs.Making.{Making, making_begun, making_on, making_done}
+use Rattle.frame_lives.proofs.slot_lives.SlotLives.make.Goals as goal
+
+pub loop-next-init : goal.loop-next-init
+loop-next-init c =
+    let t = c.args.wiring.now in
+    let me = c.args.me.0 in
+    let o = c.args.slot.0 in
+    let e = c.end-end.result in
+    let k = shown c.args.self.now in
+    let out = c.args.out.now in
+    subst (λ (n : ℕ). Making t me o e k k out out c.new-made.result n) (sym c.from-next.ensures)
+    (subst (λ (made : List Incarnation). Making t me o e k k out out made o) (sym c.new-made.ensures)
+    (making_begun t c.requires.order me o e k out c.end-end.ensures.run))
+
+pub loop-next-preserved : goal.loop-next-preserved
+loop-next-preserved c =
+    let t = c.args.wiring.now in
+    let me = c.args.me.0 in
+    let o = c.args.slot.0 in
+    let e = c.end-end.result in
+    let old = shown c.args.self.now in
+    let after = shown c.raise-actor.new.self in
+    let before = c.args.out.now in
+    let x = c.raise-actor.result in
+    let n = c.loop-next.next in
+    let m = c.next_made-next.result in
+    let next = subst (λ (z : ℕ). IsNextMade t o z n m) (sym c.end-end.ensures.end) c.next_made-next.ensures in
+    subst (λ (ms : List Msg). Making t me o e old after before ms c.push.new.self m) (sym c.in_ok-announce.ensures)
+    (subst (λ (made : List Incarnation). Making t me o e old after before (c.loop-next.out ++ announces t me x (pos 1)) made m) (sym c.in_ok-push.ensures.ok)
+    (making_on t me o e old (shown c.loop-next.self) after before c.loop-next.out c.loop-next.made n m x
+    c.loop-next.invariant c.loop-next-test.true next c.raise-actor.ensures.actor c.raise-actor.ensures.now))
+
+pub returns-clause-known : goal.returns-clause-known
+returns-clause-known c =
+    (making_done c.args.wiring.now c.requires.order c.args.me.0 c.args.slot.0 c.end-end.result (shown c.args.self.now) (shown c.loop-next.self)
+    c.args.out.now c.loop-next.out c.loop-next.made c.loop-next.next c.end-end.ensures.run c.loop-next-test.false c.loop-next.invariant).known
+
+pub returns-clause-made : goal.returns-clause-made
+returns-clause-made c =
+    (making_done c.args.wiring.now c.requires.order c.args.me.0 c.args.slot.0 c.end-end.result (shown c.args.self.now) (shown c.loop-next.self)
+    c.args.out.now c.loop-next.out c.loop-next.made c.loop-next.next c.end-end.ensures.run c.loop-next-test.false c.loop-next.invariant).made_is

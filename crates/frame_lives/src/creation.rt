@@ -1,0 +1,126 @@
+//! Create: an actor is made in an optional slot, with all that is fixed in it.
+ghost use Rattle.std.specs.Prelude.{◌≡◌, ◌++◌, ◌<◌, ℕ, pos, length, map, IfOk, OnOk};
+ghost use Rattle.std.specs.List.{flat_map};
+ghost use Rattle.room_kinds.specs.declared.system.SysKind.{SysKind};
+ghost use Rattle.actor_duties.specs.Words.{frame_at};
+ghost use Rattle.actor_duties.specs.Messages.{reply, coded};
+ghost use Rattle.actor_duties.specs.Lives.{create, announces, last_of, lives_made, made_slots};
+ghost use Rattle.service_messages.specs.Shown.{code_of};
+ghost use Rattle.frame_lives.specs.Shown.{shown, with_lives};
+ghost use Rattle.slot_runs.specs.Runs.{IsDepthFirst, AreRunEnds};
+ghost use Rattle.frame_lives.specs.Done.{done_of, only_answers};
+
+use crate::done::DutyDone;
+use crate::slot_lives::SlotLives;
+use frame_messages::{announce, frame_at, frame_of, reply, whose};
+use room_kinds::{
+    ControllerId, Endpoint, Generation, Incarnation, Msg, Outbox, Payload, Sequence, SlotId,
+    SysKind,
+};
+use room_wiring::Wiring;
+use service_messages::Code;
+use slot_runs::SlotRuns;
+use std::alloc::{AllocError, Global};
+
+impl SlotLives {
+    /// Makes an actor in a slot and in all slots that it reaches by fixed references, in slot order,
+    /// each with its next generation, and announces each. The time is in proportion to what is made.
+    #[tactic(auto, using(crate::proofs::Making::making_room, crate::proofs::Making::making_slots))]
+    fn make(
+        &mut self,
+        alloc: Global,
+        wiring: &Wiring,
+        runs: &SlotRuns,
+        me: ControllerId,
+        slot: SlotId,
+        out: &mut Outbox,
+    ) -> Result<Sequence<Incarnation>, AllocError>
+        requires order { IsDepthFirst wiring.now }
+        requires runs { AreRunEnds wiring.now runs.now }
+        requires there { slot.0 < length wiring.now.slots }
+        requires whole { (shown self.old).slots ≡ length wiring.now.slots }
+        requires room { (s : ℕ) → (shown self.old).lives.generation s < 4294967295 }
+        ensures known { OnOk result (shown self.new ≡ with_lives (shown self.old) (lives_made wiring.now slot.0 (shown self.old).lives)) }
+        ensures made { IfOk result (λ made. made ≡ map (last_of (lives_made wiring.now slot.0 (shown self.old).lives)) (made_slots wiring.now slot.0)) }
+        ensures sent { IfOk result (λ made. out.new ≡ out.old ++ flat_map (λ i. announces wiring.now me.0 i (pos 1)) made) }
+    {
+        let end = runs.end(wiring, slot);
+        let mut made = Sequence::new(alloc);
+        let mut next = u32::from(slot.0);
+        while next < end {
+            let here = SlotId(next as u16);
+            let actor = self.raise(here);
+            announce(alloc, wiring, me, actor, 1, out)?;
+            made.push(actor)?;
+            next = runs.next_made(wiring, slot, here);
+        }
+        Ok(made)
+    }
+
+    /// A Create from the container `from` for its optional slot `slot`: where the container doesn't live
+    /// it is refused with code 3, and where an actor lives in the slot with code 1; else an actor is made,
+    /// with all that is fixed in it.
+    #[tactic(auto, unfolding(actor_duties::specs::Lives::create, actor_duties::specs::Lives::made))]
+    pub fn create(
+        &mut self,
+        alloc: Global,
+        wiring: &Wiring,
+        runs: &SlotRuns,
+        me: ControllerId,
+        m: &Msg,
+        slot: SlotId,
+        from: Endpoint,
+        out: &mut Outbox,
+    ) -> Result<DutyDone, AllocError>
+        requires order { IsDepthFirst wiring.now }
+        requires runs { AreRunEnds wiring.now runs.now }
+        requires there { slot.0 < length wiring.now.slots }
+        requires whole { (shown self.old).slots ≡ length wiring.now.slots }
+        requires room { (s : ℕ) → (shown self.old).lives.generation s < 4294967295 }
+        ensures known { OnOk result (shown self.new ≡ with_lives (shown self.old) ((create wiring.now me.0 (shown self.old).lives m.now slot.0 from).lives)) }
+        ensures sent { OnOk result (out.new ≡ out.old ++ (create wiring.now me.0 (shown self.old).lives m.now slot.0 from).sent) }
+        ensures done { IfOk result (λ d. d ≡ done_of (create wiring.now me.0 (shown self.old).lives m.now slot.0 from)) }
+    {
+        if !self.counts_as_live(wiring, me, whose(from)) {
+            return refused(alloc, me, m, slot, from, Code::NotHere);
+        }
+        if self.lives(slot) {
+            return refused(alloc, me, m, slot, from, Code::Occupied);
+        }
+        let made = self.make(alloc, wiring, runs, me, slot, out)?;
+        let actor = frame_of(self.last_of(slot));
+        let last = reply(
+            me,
+            m,
+            SysKind::CreateDone,
+            actor,
+            from,
+            Payload::empty(alloc),
+        );
+        Ok(DutyDone {
+            made,
+            ended: Sequence::new(alloc),
+            last: Some(last),
+        })
+    }
+}
+
+/// A Create that is refused.
+fn refused(
+    alloc: Global,
+    me: ControllerId,
+    m: &Msg,
+    slot: SlotId,
+    from: Endpoint,
+    code: Code,
+) -> Result<DutyDone, AllocError>
+    ensures { IfOk result (λ d. d ≡ only_answers (reply me.0 m.now SysKind.CreateRefused (frame_at slot.0 0) from (coded (code_of code)))) }
+{
+    let payload = Payload::from_slice(alloc, &[i64::from(code.number())])?;
+    let here = frame_at(slot, Generation(0));
+    Ok(DutyDone {
+        made: Sequence::new(alloc),
+        ended: Sequence::new(alloc),
+        last: Some(reply(me, m, SysKind::CreateRefused, here, from, payload)),
+    })
+}

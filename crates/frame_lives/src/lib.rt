@@ -1,0 +1,15 @@
+//! What a controller knows of the actors in slots: the last generation of each of its own slots and
+//! whether it lives, and the directory, in which it keeps what the owners of other slots tell. Actors
+//! are made and ended here (ROOM: Selic, Gullekson and Ward 1994; generations and directories are this
+//! project's own).
+#![tactic(auto)]
+
+mod creation;
+mod done;
+mod ending;
+mod row;
+mod slot_lives;
+
+pub use done::DutyDone;
+pub use row::Row;
+pub use slot_lives::SlotLives;

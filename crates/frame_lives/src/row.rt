@@ -1,0 +1,17 @@
+//! What is known of one slot.
+
+/// The last generation of an own slot, 0 before the first, and whether it lives; and the generation that
+/// the owner of another slot told last, 0 for none.
+#[derive(Clone, Copy, Debug)]
+pub struct Row {
+    pub generation: u32,
+    pub lives: bool,
+    pub told: u32,
+}
+
+/// A slot in which nothing ever stood.
+pub const NO_ROW: Row = Row {
+    generation: 0,
+    lives: false,
+    told: 0,
+};

@@ -1,0 +1,198 @@
+//! The table of slots.
+ghost use Rattle.std.specs.Prelude.{◌≡◌, ◌+◌, ◌<◌, ℕ};
+ghost use Rattle.actor_duties.specs.Words.{updated, incarnation};
+ghost use Rattle.actor_duties.specs.Lives.{is_live, counts_as_live, last_of, announce};
+ghost use Rattle.frame_lives.specs.Known.{live_in, known_in, some_generation};
+ghost use Rattle.frame_lives.specs.Shown.{shown, with_lives, with_told, with_row};
+ghost use Rattle.frame_lives.specs.Steps.{raised, ended};
+
+use crate::row::{NO_ROW, Row};
+use room_kinds::{ControllerId, Generation, Incarnation, SlotId};
+use room_wiring::Wiring;
+use service_messages::is_own;
+use std::marker::Model;
+
+/// What a controller knows of the actors in slots: a row for each slot. What the rows say (`shown`) is
+/// the lives of the controller's own slots and the directory of the others. No look-up takes memory.
+#[derive(Drop, Debug)]
+pub struct SlotLives {
+    rows: Vec<Row>,
+}
+
+impl Model for SlotLives {
+    ghost use Rattle.std.specs.Prelude.{List};
+    ghost use Rattle.frame_lives.specs.declared.row.Row.{Row};
+
+    ghost Value = { List Row };
+
+    ghost view = { λ x. x.rows.items };
+}
+
+impl SlotLives {
+    /// The table with these rows, for the slots from 0 on.
+    pub fn new(rows: Vec<Row>) -> SlotLives
+        ensures { result ≡ rows.items }
+    {
+        SlotLives { rows }
+    }
+
+    #[tactic(auto, unfolding(crate::specs::Shown::shown))]
+    fn row(&self, slot: SlotId) -> Row
+        ensures generation { result.generation ≡ (shown self.now).lives.generation slot.0 }
+        ensures lives { result.lives ≡ (shown self.now).lives.lives slot.0 }
+        ensures told { result.told ≡ (shown self.now).told slot.0 }
+    {
+        self.rows
+            .get(usize::from(slot.0))
+            .copied()
+            .unwrap_or(NO_ROW)
+    }
+
+    #[tactic(auto, using(crate::proofs::Rows::shown_set), unfolding(crate::specs::Shown::shown))]
+    fn set_row(&mut self, slot: SlotId, row: Row)
+        requires { slot.0 < (shown self.old).slots }
+        ensures { shown self.new ≡ with_row slot.0 row (shown self.old) }
+    {
+        self.rows[usize::from(slot.0)] = row;
+    }
+
+    /// The generation that lives in a slot of the controller's own.
+    pub fn live(&self, slot: SlotId) -> Option<Generation>
+        ensures { result ≡ live_in (shown self.now).lives slot.0 }
+    {
+        let row = self.row(slot);
+        if row.lives {
+            Some(Generation(row.generation))
+        } else {
+            None
+        }
+    }
+
+    /// Whether an actor lives in a slot of the controller's own.
+    pub fn lives(&self, slot: SlotId) -> bool
+        ensures { result ≡ (shown self.now).lives.lives slot.0 }
+    {
+        self.row(slot).lives
+    }
+
+    /// The actor that stands in a slot of the controller's own, or stood there last.
+    pub fn last_of(&self, slot: SlotId) -> Incarnation
+        ensures { result ≡ last_of (shown self.now).lives slot.0 }
+    {
+        Incarnation {
+            slot,
+            generation: Generation(self.row(slot).generation),
+        }
+    }
+
+    /// Whether this actor lives.
+    pub fn is_live(&self, actor: Incarnation) -> bool
+        ensures { result ≡ is_live (shown self.now).lives actor }
+    {
+        let row = self.row(actor.slot);
+        row.lives && row.generation == actor.generation.0
+    }
+
+    /// Whether a container lives, as its part's owner sees it: one that another controller owns lives from
+    /// the start to the end.
+    pub fn counts_as_live(&self, wiring: &Wiring, me: ControllerId, actor: Incarnation) -> bool
+        ensures { result ≡ counts_as_live wiring.now me.0 (shown self.now).lives actor }
+    {
+        if is_own(wiring, me, actor.slot) {
+            self.is_live(actor)
+        } else {
+            true
+        }
+    }
+
+    /// The generation that is known in a slot: what lives there if it is the controller's own, else what
+    /// its owner told last.
+    #[tactic(auto, unfolding(crate::specs::Known::known_in))]
+    pub fn known(&self, wiring: &Wiring, me: ControllerId, slot: SlotId) -> Option<Generation>
+        ensures { result ≡ some_generation (known_in wiring.now me.0 (shown self.now) slot.0) }
+    {
+        let row = self.row(slot);
+        let generation = if !is_own(wiring, me, slot) {
+            row.told
+        } else if row.lives {
+            row.generation
+        } else {
+            0
+        };
+        if generation == 0 {
+            None
+        } else {
+            Some(Generation(generation))
+        }
+    }
+
+    /// An actor is made in a slot, with the next generation.
+    #[tactic(auto, using(crate::proofs::Rows::row_of_lives))]
+    pub fn raise(&mut self, slot: SlotId) -> Incarnation
+        requires there { slot.0 < (shown self.old).slots }
+        requires room { (shown self.old).lives.generation slot.0 < 4294967295 }
+        ensures actor { result ≡ incarnation slot.0 ((shown self.old).lives.generation slot.0 + 1) }
+        ensures now { shown self.new ≡ with_lives (shown self.old) (raised slot.0 (shown self.old).lives) }
+    {
+        let row = self.row(slot);
+        let generation = row.generation + 1;
+        self.set_row(
+            slot,
+            Row {
+                generation,
+                lives: true,
+                told: row.told,
+            },
+        );
+        Incarnation {
+            slot,
+            generation: Generation(generation),
+        }
+    }
+
+    /// The actor of a slot has ended.
+    #[tactic(auto, using(crate::proofs::Rows::row_of_end))]
+    pub fn end(&mut self, slot: SlotId)
+        requires { slot.0 < (shown self.old).slots }
+        ensures { shown self.new ≡ with_lives (shown self.old) (ended slot.0 (shown self.old).lives) }
+    {
+        let row = self.row(slot);
+        self.set_row(
+            slot,
+            Row {
+                generation: row.generation,
+                lives: false,
+                told: row.told,
+            },
+        );
+    }
+
+    #[tactic(auto, using(crate::proofs::Rows::row_of_told))]
+    fn tell(&mut self, slot: SlotId, generation: u32)
+        requires { slot.0 < (shown self.old).slots }
+        ensures { shown self.new ≡ with_told (shown self.old) (updated (shown self.old).told slot.0 generation) }
+    {
+        let row = self.row(slot);
+        self.set_row(
+            slot,
+            Row {
+                generation: row.generation,
+                lives: row.lives,
+                told: generation,
+            },
+        );
+    }
+
+    /// The owner of an actor's slot says that the actor came up (1) or went down (0).
+    #[tactic(auto, unfolding(actor_duties::specs::Lives::announce))]
+    pub fn hear(&mut self, actor: Incarnation, up: u64)
+        requires { actor.slot.0 < (shown self.old).slots }
+        ensures { shown self.new ≡ with_told (shown self.old) (announce (shown self.old).told actor up) }
+    {
+        if up == 1 {
+            self.tell(actor.slot, actor.generation.0);
+        } else if up == 0 {
+            self.tell(actor.slot, 0);
+        }
+    }
+}

@@ -1,0 +1,4 @@
+pub mod RunLemmas
+pub mod Made
+pub mod Kept
+pub mod Sought
