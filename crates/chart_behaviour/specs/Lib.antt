@@ -1,0 +1,3 @@
+pub mod ModelCharts
+pub mod Asked
+pub mod Laws

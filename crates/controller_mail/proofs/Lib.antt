@@ -1,0 +1,3 @@
+pub mod Pendings
+pub mod Mails
+pub mod Replaying

@@ -1,0 +1,3 @@
+pub mod MailState
+pub mod Steps
+pub mod Laws

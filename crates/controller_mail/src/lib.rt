@@ -1,0 +1,20 @@
+//! A controller's mail between its mailboxes and its turns, and what the environment posts.
+//!
+//! A controller fetches messages into pending lists, takes a turn for one message at a time, and posts
+//! what its actors send (ROOM: Selic, Gullekson and Ward 1994). Each event has a stamp of the
+//! controller's logical clock (Lamport 1978) and an entry in its journal. The contracts are the events
+//! of `actor_merge`, one by one; the laws say that the journal's entries always leave just this mail.
+#![tactic(auto)]
+
+mod clock;
+mod controller_mail;
+mod environment;
+mod laws;
+mod pending;
+mod queue;
+#[cfg(test)]
+mod tests;
+
+pub use controller_mail::{ControllerMail, Treatment};
+pub use environment::Environment;
+pub use laws::{environment_leaves, mail_leaves};
