@@ -33,8 +33,7 @@ pub trait Peers {
     fn link_count(&self, slot: SlotId, port: u16) -> usize
         ensures { result ≡ length ((links_of self.now).linked slot.0 port) };
 
-    /// The place of one of the links of a port.
+    /// The place of one of the links of a port. Nothing is said of an index behind the last link.
     fn linked_place(&self, slot: SlotId, port: u16, index: usize) -> u32
-        requires { index < length ((links_of self.now).linked slot.0 port) }
-        ensures { result ≡ slice_index (map (λ (x : Link). x.place) ((links_of self.now).linked slot.0 port)) index };
+        ensures { index < length ((links_of self.now).linked slot.0 port) → result ≡ slice_index (map (λ (x : Link). x.place) ((links_of self.now).linked slot.0 port)) index };
 }

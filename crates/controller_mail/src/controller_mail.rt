@@ -192,10 +192,11 @@ impl ControllerMail {
     }
 
     /// The journal, and the messages that wait for their turn: those of lower priorities first, and of
-    /// one priority the oldest first. After want of memory both are given up.
+    /// one priority the oldest first. There are six priorities. After want of memory both are given up.
     pub fn finish(self) -> Result<(Journal, Vec<Msg>), AllocError>
         ensures journal { IfOk result (λ parts. parts.0 ≡ self.journal) }
         ensures pending { IfOk result (λ parts. parts.1.items ≡ messages_in self.pending) }
+        ensures six { IfOk result (λ parts. length self.pending ≡ 6) }
     {
         let pending = self.pending.into_messages(self.alloc)?;
         Ok((Sequence::from(self.journal), pending))

@@ -1,5 +1,5 @@
 //! The messages that wait for their turn, by priority.
-ghost use Rattle.std.specs.Prelude.{◌≡◌, ◌<◌, ◌∷◌, ◌++◌, [], replicate, OnOk, OnErr, IfOk, MatchOption, All, None, position};
+ghost use Rattle.std.specs.Prelude.{◌≡◌, ◌<◌, ◌∷◌, ◌++◌, [], length, replicate, OnOk, OnErr, IfOk, MatchOption, All, None, position};
 ghost use Rattle.room_kinds.specs.declared.message.Msg.{Msg};
 ghost use Rattle.std.specs.List.{list_any};
 ghost use Rattle.actor_merge.specs.Parties.{put, put_back, next_of};
@@ -107,7 +107,8 @@ impl Pending {
 
     /// All messages, those of lower priorities first, and of one priority the oldest first.
     pub(crate) fn into_messages(self, alloc: Global) -> Result<Vec<Msg>, AllocError>
-        ensures { IfOk result (λ all. all.items ≡ messages_in self) }
+        ensures all { IfOk result (λ all. all.items ≡ messages_in self) }
+        ensures six { IfOk result (λ all. length self ≡ 6) }
     {
         let Pending { lists } = self;
         all_messages(alloc, lists)

@@ -31,10 +31,11 @@ ActorClass U { }
 ActorClass T { Behavior { StateMachine { Transition i: initial -> A { } State A } } }
 }";
 
-const STATE_WITH_ACTION: &str = "RoomModel M {
+const STATE_THAT_CREATES: &str = "RoomModel M {
 LogicalSystem L { SubSystemRef s: S }
 SubSystemClass S { ActorRef top: T }
-ActorClass T { Behavior { StateMachine { Transition i: initial -> A { } State A { entry \"\" } } } }
+ActorClass U { }
+ActorClass T { Structure { optional ActorRef o: U } Behavior { StateMachine { Transition i: initial -> A { } State A { entry \"if (1) { incarnate o; }\" } } } }
 }";
 
 /// Two pairs at most come from c.r, whose places lead on to those of the actor inside.
@@ -94,8 +95,14 @@ fn comments_and_documentation_are_passed_over(rt: HostRuntime) -> Result<(), Fai
 
 #[test]
 fn what_is_read_and_does_not_run_is_later(rt: HostRuntime) -> Result<(), Fail> {
-    refuses(&rt, TWO_ACTOR_CLASSES, "room: model refused: later\n")?;
-    refuses(&rt, STATE_WITH_ACTION, "room: model refused: later\n")
+    refuses(&rt, STATE_THAT_CREATES, "room: model refused: later\n")?;
+    checks(
+        &rt,
+        &Case::check(STATE_THAT_CREATES),
+        Status::Done,
+        "ok\n",
+        "",
+    )
 }
 
 #[test]

@@ -7,6 +7,8 @@ mod case;
 #[cfg(test)]
 mod language_tests;
 #[cfg(test)]
+mod run_tests;
+#[cfg(test)]
 mod tests;
 
 pub use case::{Case, Told};

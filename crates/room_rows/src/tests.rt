@@ -148,11 +148,13 @@ fn refuses_lines(
 }
 
 #[test]
-fn lines_that_do_not_run_yet_are_later(rt: HostRuntime) -> Result<(), Fail> {
-    let later = "room: injections refused: later\n";
-    refuses_lines(&rt, "top.go kick", later)?;
-    refuses_lines(&rt, "top.go  kick\n", later)?;
-    refuses_lines(&rt, "settle\n", later)
+fn lines_are_read_in_all_their_forms(rt: HostRuntime) -> Result<(), Fail> {
+    let case = Case::new(
+        SWITCH,
+        "# a comment\n\ntop.go[0]  stop at general\ntop.go kick",
+    );
+    let journal = SWITCH_JOURNAL;
+    expect(&rt, &case, Status::Done, journal, "")
 }
 
 #[test]

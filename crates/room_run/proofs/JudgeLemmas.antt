@@ -14,10 +14,13 @@ use Rattle.room_ast.specs.Values.{TokenValue}
 use Rattle.room_parser.specs.Parsed.{HasNoModel, IsOnlyModel, IsParsed, opens_too_many}
 use Rattle.room_parser.specs.declared.fault.ParseFault.{ParseFault}
 use Rattle.room_parser.specs.declared.fault.ParseFault.TheVariants as parsing
-use Rattle.first_form.specs.Tree.{IsFirstForm}
-use Rattle.first_form.specs.Names.{IsNamed}
-use Rattle.first_form.specs.declared.model.FirstModel.{FirstModel}
-use Rattle.first_form.proofs.NameLaws.{named}
+use Rattle.service_words.specs.Asked.{asks_services}
+use Rattle.model_plants.specs.Shown.{ShowCharts}
+use Rattle.model_plants.proofs.Tabled.{all_sound}
+use Rattle.slot_runs.specs.Runs.{IsDepthFirst}
+use Rattle.wiring_order.proofs.Ordered.{model_depth_first}
+use Rattle.controller_actors.specs.Plants.{IsPlant}
+use Rattle.controller_actors.specs.declared.plant.Plant.{Plant}
 use Rattle.structure_check.specs.Rules.{first_broken, IsLowest}
 use Rattle.structure_check.specs.List.{all_rules}
 use Rattle.structure_check.specs.Checks.{TellsLowest}
@@ -33,8 +36,8 @@ use Rattle.binding_expand.specs.Answers.{Expands}
 use Rattle.binding_expand.specs.Faults.{number}
 use Rattle.binding_expand.specs.declared.fault.WiringFault.{WiringFault}
 use Rattle.binding_expand.specs.declared.fault.WiringFault.TheVariants as wiring_faults
-use Rattle.room_run.specs.Models.{most_bytes, HasTokens, HasTree, IsSoundTree, IsSound, IsModel, IsUncut, NestsTooDeep, HasNoTree, BreaksRule, HasGoodCharts, IsGoodWiring, IsStrange, SoundCauses, uncut, too_deep, no_tree, breaks_rule, bad_wiring, bad_chart, no_memory, TextCauses, strange}
-use Rattle.room_run.specs.Reading.{HasItsTokens, HasItsTree, HasSoundTree, ChartCauses, first_faulty, no_memory_for_charts, TreeCauses, breaks, miswired, faulty, no_memory_for_tree, refusal_of}
+use Rattle.room_run.specs.Models.{most_bytes, HasTokens, HasTree, IsSoundTree, IsSoundText, IsModel, IsUncut, NestsTooDeep, HasNoTree, BreaksRule, IsGoodWiring, IsStrange, SoundCauses, uncut, too_deep, no_tree, breaks_rule, bad_wiring, bad_chart, no_memory, TextCauses, strange}
+use Rattle.room_run.specs.Reading.{HasItsTokens, HasItsTree, ChartCauses, first_faulty, no_memory_for_charts, TreeCauses, breaks, miswired, faulty, no_memory_for_tree, refusal_of}
 use Rattle.room_run.specs.declared.refusal.Refusal.{Refusal}
 use Rattle.room_run.specs.declared.refusal.Refusal.TheVariants as refusals
 
@@ -116,10 +119,6 @@ wiring_refused m wiring_faults.Memory keeps h = no_memory_for_tree
 
 -- ---- the charts
 
--- where no chart has a fault
-pub charts_kept : (m : ModelTree) (charts : List (Option Chart)) → HasCharts m charts → HasGoodCharts m
-charts_kept m charts h = record { charts = charts; faultless = h }
-
 chart_first : (m : ModelTree) (class : List ℕ) (n : ℕ) (e : ChartsFault) → ReadsCharts m (Err e) → e ≡ chart_faults.Chart class n → HasFaultyChart m class n
 chart_first m class n (chart_faults.Chart c k) h is =
     let same : c ≡ class = cc in let number : k ≡ n = cc in
@@ -147,16 +146,19 @@ tree_cause text tree short h no_memory_for_tree = no_memory
 
 -- ---- the model
 
-pub text_sound : (text : List ℕ) (tree : ModelTree) (wiring : Tables) → length text ≤ most_bytes → HasSoundTree text tree wiring → IsSound text wiring
-text_sound text tree wiring short h = record { short = short; tree = tree; read = h.read.has; sound = h.sound }
+pub text_sound : (text : List ℕ) (tree : ModelTree) (wiring : Tables) (charts : List (Option Chart)) → length text ≤ most_bytes → HasItsTree text tree → IsSoundTree tree wiring charts → IsSoundText text wiring charts
+text_sound text tree wiring charts short h sound = record { short = short; tree = tree; read = h.has; sound = sound }
 
-pub model_judged : (text : List ℕ) (tree : ModelTree) (wiring : Tables) (m : FirstModel) → length text ≤ most_bytes → HasSoundTree text tree wiring → IsFirstForm tree m → IsModel text m
-model_judged text tree wiring m short h form =
-    record { short = short; tree = tree; read = h.read.has; wiring = wiring; sound = h.sound; form = form }
+-- the plant of a text that asks for no services
+pub model_judged : (text : List ℕ) (wiring : Tables) (charts : List (Option Chart)) (p : Plant) → IsSoundText text wiring charts → asks_services charts ≡ false → p.wiring ≡ wiring → ShowCharts p.tables.items charts → IsModel text p
+model_judged text wiring charts p is plain wired shown = record { charts = charts; is = subst (λ w. IsSoundText text w charts) (sym wired) is; plain = plain; tables = shown }
 
-pub model_named : (text : List ℕ) (tree : ModelTree) (wiring : Tables) (m : FirstModel) → HasSoundTree text tree wiring → IsFirstForm tree m → IsNamed m
-model_named text tree wiring m h form = named m (subst (λ t. HasNames (model_tokens t)) form.tree h.read.names)
+pub model_strange : (text : List ℕ) (wiring : Tables) (charts : List (Option Chart)) → IsSoundText text wiring charts → asks_services charts ≡ true → TextCauses text refusals.ModelLater
+model_strange text wiring charts is asks = strange (record { wiring = wiring; charts = charts; is = is; asks = asks })
 
-pub model_strange : (text : List ℕ) (tree : ModelTree) (wiring : Tables) → length text ≤ most_bytes → HasSoundTree text tree wiring → ((m : FirstModel) → IsFirstForm tree m → ⊥) → TextCauses text refusals.ModelLater
-model_strange text tree wiring short h none =
-    strange (record { wiring = wiring; sound = text_sound text tree wiring short h; none = λ m k. none m (subst (λ t. IsFirstForm t m) (h.read.only k.tree k.read) k.form) })
+-- controllers run on a plant of a sound text
+pub plant_runs : (text : List ℕ) (wiring : Tables) (charts : List (Option Chart)) (p : Plant) → IsSoundText text wiring charts → p.wiring ≡ wiring → ShowCharts p.tables.items charts → IsPlant p
+plant_runs text wiring charts p is wired shown = record {
+  sound = λ class v at. all_sound p.tables.items charts shown class v at;
+  order = subst IsDepthFirst (sym wired) (model_depth_first is.tree wiring is.sound.wired.wired.slots);
+}

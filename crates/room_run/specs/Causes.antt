@@ -3,10 +3,8 @@ use Rattle.std.specs.Prelude.{◌≡◌, ℕ, ◌<◌, ◌≤◌, List, ◌∷�
 use Rattle.room_outside.specs.Faults.{Rose}
 use Rattle.room_outside.specs.Shown.{Shown}
 use Rattle.line_text.specs.Lines.{line}
-use Rattle.first_form.specs.Lines.{IsLinesOf}
-use Rattle.first_form.specs.declared.model.FirstModel.{FirstModel}
-use Rattle.first_form.specs.declared.model.FirstLine.{FirstLine}
-use Rattle.first_wiring.specs.Wirings.{wiring_of}
+use Rattle.room_wiring.specs.declared.tables.Tables.{Tables}
+use Rattle.controller_actors.specs.declared.plant.Plant.{Plant}
 use Rattle.inject_lines.specs.declared.accepted.Line.{Line}
 use Rattle.inject_reader.specs.Answer.{answer}
 use Rattle.inject_reader.specs.declared.fault.InjectFault.{InjectFault}
@@ -18,30 +16,24 @@ use Rattle.room_run.specs.declared.refusal.Refusal.TheVariants as refusals
 use Rattle.room_run.specs.declared.status.Status.{Status}
 use Rattle.room_run.specs.declared.status.Status.TheVariants as statuses
 
--- the text is that of injections which run on a model
-pub record IsInjections (model : FirstModel) (text : List ℕ) (lines : List FirstLine) : Type 0 where
+-- the text is that of injections, and these are its lines over the names of this wiring
+pub record IsInjections (wiring : Tables) (text : List ℕ) (lines : List Line) : Type 0 where
   pub short : length text ≤ most_bytes
-  pub form : IsLinesOf model text lines
+  pub accepted : answer wiring text ≡ Ok lines
 
--- over the names of the model's wiring, the line of this number is the first faulty one of the text, and this is its lowest code
-pub record HasBadLine (model : FirstModel) (text : List ℕ) (number code : ℕ) : Type 0 where
+-- over the names of this wiring, the line of this number is the first faulty one of the text, and this is its lowest code
+pub record HasBadLine (wiring : Tables) (text : List ℕ) (number code : ℕ) : Type 0 where
   pub short : length text ≤ most_bytes
-  pub faulty : answer (wiring_of model) text ≡ Err (number, code)
-
--- the text has no faulty line, and it is that of no injections which run on the model
-pub record AreStrangeLines (model : FirstModel) (text : List ℕ) : Type 0 where
-  pub accepted : List Line
-  pub faultless : answer (wiring_of model) text ≡ Ok accepted
-  pub none : (lines : List FirstLine) → IsInjections model text lines → ⊥
+  pub faulty : answer wiring text ≡ Err (number, code)
 
 -- where the shelf tells the text under a name, it is so
 abbrev pub TextIs : Shown → List ℕ → (List ℕ → Type 0) → Type 0
 TextIs shelf name P = IfSome (shelf.text name) P
 
--- the texts of two files are those of a model which runs, and of injections which run on it
-pub record AreOf (shelf : Shown) (files : Files) (model : FirstModel) (lines : List FirstLine) : Type 0 where
-  pub model_accepted : TextIs shelf files.model (λ text. IsModel text model)
-  pub lines_accepted : TextIs shelf files.injections (λ text. IsInjections model text lines)
+-- the texts of two files are those of a model which runs as this plant, and of injections with these lines
+pub record AreOf (shelf : Shown) (files : Files) (plant : Plant) (lines : List Line) : Type 0 where
+  pub model_accepted : TextIs shelf files.model (λ text. IsModel text plant)
+  pub lines_accepted : TextIs shelf files.injections (λ text. IsInjections plant.wiring text lines)
 
 -- in a call, the count of read faults of a name rose
 abbrev pub RoseAt : Shown → Shown → List ℕ → Type 0
@@ -64,23 +56,22 @@ refusal_of_lines (faults.Code number code) = refusals.InjectionsLine number code
 refusal_of_lines faults.Memory = refusals.Memory
 
 -- why a text of injections may be refused
-pub data LinesCauses (model : FirstModel) (text : List ℕ) : Refusal → Type 0 where
-  faulty_line : (number code : ℕ) → HasBadLine model text number code → LinesCauses model text (refusals.InjectionsLine number code)
-  strange_lines : AreStrangeLines model text → LinesCauses model text refusals.InjectionsLater
-  no_memory_for_lines : LinesCauses model text refusals.Memory
+pub data LinesCauses (wiring : Tables) (text : List ℕ) : Refusal → Type 0 where
+  faulty_line : (number code : ℕ) → HasBadLine wiring text number code → LinesCauses wiring text (refusals.InjectionsLine number code)
+  no_memory_for_lines : LinesCauses wiring text refusals.Memory
 
 -- why the injections may be refused, whose text is looked for under a name
-pub data InjectionsCauses (before after : Shown) (name : List ℕ) (model : FirstModel) (why : Refusal) : Type 0 where
-  injections_unread : RoseAt before after name → why ≡ refusals.ReadFault → InjectionsCauses before after name model why
-  injections_long : TextIs before name (λ text. most_bytes < length text) → why ≡ refusals.InjectionsTooLong → InjectionsCauses before after name model why
-  injections_refused : TextIs before name (λ text. LinesCauses model text why) → InjectionsCauses before after name model why
-  injections_no_memory : why ≡ refusals.Memory → InjectionsCauses before after name model why
+pub data InjectionsCauses (before after : Shown) (name : List ℕ) (wiring : Tables) (why : Refusal) : Type 0 where
+  injections_unread : RoseAt before after name → why ≡ refusals.ReadFault → InjectionsCauses before after name wiring why
+  injections_long : TextIs before name (λ text. most_bytes < length text) → why ≡ refusals.InjectionsTooLong → InjectionsCauses before after name wiring why
+  injections_refused : TextIs before name (λ text. LinesCauses wiring text why) → InjectionsCauses before after name wiring why
+  injections_no_memory : why ≡ refusals.Memory → InjectionsCauses before after name wiring why
 
 -- Why the run of two files may be refused. The order is: reading the model, the model, reading the
 -- injections, the injections, the run.
 pub data RunCauses (before after : Shown) (files : Files) (why : Refusal) : Type 0 where
   of_model : ModelCauses TextCauses before after files.model why → RunCauses before after files why
-  of_injections : (model : FirstModel) → TextIs before files.model (λ text. IsModel text model) → InjectionsCauses before after files.injections model why → RunCauses before after files why
+  of_injections : (plant : Plant) → TextIs before files.model (λ text. IsModel text plant) → InjectionsCauses before after files.injections plant.wiring why → RunCauses before after files why
   run_no_memory : why ≡ refusals.Memory → RunCauses before after files why
 
 -- why a call may be refused: for its words, or by what they ask for
@@ -88,7 +79,7 @@ pub data Causes (before after : Shown) (words : List (List ℕ)) (why : Refusal)
   no_such_words : asked_by words ≡ None → why ≡ refusals.Words → Causes before after words why
   of_check : (name : List ℕ) → asked_by words ≡ Some (Check name) → ModelCauses SoundCauses before after name why → Causes before after words why
   of_tree : (name : List ℕ) → asked_by words ≡ Some (Tree name) → ModelCauses SoundCauses before after name why → Causes before after words why
-  of_run : (files : Files) → asked_by words ≡ Some (Run files) → RunCauses before after files why → Causes before after words why
+  of_run : (files : Files) (fuel : ℕ) → asked_by words ≡ Some (Run files fuel) → RunCauses before after files why → Causes before after words why
 
 -- the status of a refusal
 abbrev pub status_of : Refusal → Status
@@ -103,7 +94,6 @@ status_of (refusals.ModelChart class number) = statuses.ModelRefused
 status_of refusals.ModelLater = statuses.ModelRefused
 status_of refusals.InjectionsTooLong = statuses.InjectionsRefused
 status_of (refusals.InjectionsLine number code) = statuses.InjectionsRefused
-status_of refusals.InjectionsLater = statuses.InjectionsRefused
 status_of refusals.ReadFault = statuses.ReadFault
 status_of refusals.Memory = statuses.Memory
 
@@ -120,6 +110,5 @@ note_of (refusals.ModelChart class number) = line (codes "room: model refused: c
 note_of refusals.ModelLater = line (codes "room: model refused: later" ∷ [])
 note_of refusals.InjectionsTooLong = line (codes "room: injections refused: too long" ∷ [])
 note_of (refusals.InjectionsLine number code) = line (codes "room: injections refused: line " ∷ decimal number ∷ codes " " ∷ decimal code ∷ [])
-note_of refusals.InjectionsLater = line (codes "room: injections refused: later" ∷ [])
 note_of refusals.ReadFault = line (codes "room: read fault" ∷ [])
 note_of refusals.Memory = line (codes "room: memory" ∷ [])

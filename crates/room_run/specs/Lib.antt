@@ -4,3 +4,4 @@ pub mod Models
 pub mod Reading
 pub mod Causes
 pub mod Outcome
+pub mod Finished

@@ -15,8 +15,9 @@ use Rattle.room_wiring.specs.declared.tables.Tables.{Tables}
 use Rattle.binding_expand.specs.Wirings.{IsWiringOf}
 use Rattle.binding_expand.specs.Faults.{HasNoFault, IsLowestFault, number as number_of}
 use Rattle.binding_expand.specs.declared.fault.WiringFault.{WiringFault}
-use Rattle.first_form.specs.Tree.{IsFirstForm}
-use Rattle.first_form.specs.declared.model.FirstModel.{FirstModel}
+use Rattle.service_words.specs.Asked.{asks_services}
+use Rattle.model_plants.specs.Shown.{ShowCharts}
+use Rattle.controller_actors.specs.declared.plant.Plant.{Plant}
 use Rattle.room_run.specs.declared.refusal.Refusal.{Refusal}
 use Rattle.room_run.specs.declared.refusal.Refusal.TheVariants as refusals
 
@@ -36,37 +37,35 @@ pub record HasTree (text : List ℕ) (tree : ModelTree) : Type 0 where
   pub cut : HasTokens text tokens
   pub spelled : model_tokens tree ≡ values text tokens
 
--- no chart of the actor classes of this model has a fault
-pub record HasGoodCharts (tree : ModelTree) : Type 0 where
-  pub charts : List (Option Chart)
-  pub faultless : HasCharts tree charts
-
 -- this is the wiring of this model, which has no fault
 pub record IsGoodWiring (tree : ModelTree) (wiring : Tables) : Type 0 where
   pub wired : IsWiringOf tree wiring
   pub flawless : HasNoFault tree
 
--- the tree is that of a model which keeps all rules, this is its wiring, which has no fault, and no chart of its actor classes has a fault
-pub record IsSoundTree (tree : ModelTree) (wiring : Tables) : Type 0 where
+-- the tree is that of a model which keeps all rules, this is its wiring, which has no fault, and these are the charts of its actor classes, none of which has a fault
+pub record IsSoundTree (tree : ModelTree) (wiring : Tables) (charts : List (Option Chart)) : Type 0 where
   pub keeps : first_broken all_rules tree ≡ None
   pub wired : IsGoodWiring tree wiring
-  pub charts : HasGoodCharts tree
+  pub faultless : HasCharts tree charts
+
+-- the text is that of such a model, with this wiring and these charts
+pub record IsSoundText (text : List ℕ) (wiring : Tables) (charts : List (Option Chart)) : Type 0 where
+  pub short : length text ≤ most_bytes
+  pub tree : ModelTree
+  pub read : HasTree text tree
+  pub sound : IsSoundTree tree wiring charts
 
 -- the text is that of a model which keeps all rules and whose charts have no fault, and this is its wiring
 pub record IsSound (text : List ℕ) (wiring : Tables) : Type 0 where
-  pub short : length text ≤ most_bytes
-  pub tree : ModelTree
-  pub read : HasTree text tree
-  pub sound : IsSoundTree tree wiring
+  pub charts : List (Option Chart)
+  pub is : IsSoundText text wiring charts
 
--- the text is that of such a model, which runs
-pub record IsModel (text : List ℕ) (model : FirstModel) : Type 0 where
-  pub short : length text ≤ most_bytes
-  pub tree : ModelTree
-  pub read : HasTree text tree
-  pub wiring : Tables
-  pub sound : IsSoundTree tree wiring
-  pub form : IsFirstForm tree model
+-- the text is that of such a model, whose actors ask neither the frame service nor the layer service for anything; the plant has its wiring, and for each actor class the tables that show its chart
+pub record IsModel (text : List ℕ) (plant : Plant) : Type 0 where
+  pub charts : List (Option Chart)
+  pub is : IsSoundText text plant.wiring charts
+  pub plain : asks_services charts ≡ false
+  pub tables : ShowCharts plant.tables.items charts
 
 -- the text can't be cut at this byte, before which it can
 pub record IsUncut (text : List ℕ) (offset : ℕ) : Type 0 where
@@ -116,11 +115,12 @@ pub record HasBadChart (text : List ℕ) (class : List ℕ) (number : ℕ) : Typ
   pub wired : IsGoodWiring tree wiring
   pub first : HasFaultyChart tree class number
 
--- the text is that of a model which keeps all rules and whose wiring and charts have no fault, and of none which runs
+-- the text is that of a model which keeps all rules and whose wiring and charts have no fault, and an action of which asks the frame service or the layer service for something
 pub record IsStrange (text : List ℕ) : Type 0 where
   pub wiring : Tables
-  pub sound : IsSound text wiring
-  pub none : (model : FirstModel) → IsModel text model → ⊥
+  pub charts : List (Option Chart)
+  pub is : IsSoundText text wiring charts
+  pub asks : asks_services charts ≡ true
 
 -- Why a text may be refused as that of a model which keeps all rules and whose wiring and charts have
 -- no fault. The order is: the cut, the braces, the tree, the rules in order of their numbers, the wiring,

@@ -1,15 +1,13 @@
 -- How a call ends, and what it wrote.
-use Rattle.std.specs.Prelude.{◌≡◌, ℕ, List, [], ◌∷◌, Some, codes}
+use Rattle.std.specs.Prelude.{◌≡◌, ℕ, List, [], ◌∷◌, Bool, Some, codes, if◌then◌else◌}
 use Rattle.room_outside.specs.Shown.{Shown}
 use Rattle.room_outside.specs.Written.{Written, Appends, BreaksOff}
 use Rattle.line_text.specs.Lines.{line}
-use Rattle.first_form.specs.declared.model.FirstModel.{FirstModel}
-use Rattle.first_form.specs.declared.model.FirstLine.{FirstLine}
-use Rattle.first_run.specs.Runs.{journals_of}
-use Rattle.first_run.specs.Charts.{chart_of}
-use Rattle.first_wiring.specs.Wirings.{wiring_of}
 use Rattle.journal.specs.Text.{text_of}
 use Rattle.journal.specs.declared.entry.Journals.{Journals}
+use Rattle.inject_lines.specs.declared.accepted.Line.{Line}
+use Rattle.controller_actors.specs.declared.plant.Plant.{Plant}
+use Rattle.run_ends.specs.Runs.{IsRun}
 use Rattle.room_wiring.specs.declared.tables.Tables.{Tables}
 use Rattle.tree_text.specs.Text.{tree_text}
 use Rattle.room_run.specs.Words.{Files, Check, Tree, Run, asked_by}
@@ -21,24 +19,20 @@ use Rattle.room_run.specs.declared.refusal.Refusal.{Refusal}
 use Rattle.room_run.specs.declared.status.Status.{Status}
 use Rattle.room_run.specs.declared.status.Status.TheVariants as statuses
 
--- a model's run over lines: its names, and the journals
-pub record IsRunOf (model : FirstModel) (lines : List FirstLine) (names : Tables) (entries : Journals) : Type 0 where
-  pub wiring : names ≡ wiring_of model
-  pub journals : entries ≡ journals_of (chart_of model) lines
-
--- the text of the journals of a model's run over these lines
-unfoldable pub printed : FirstModel → List FirstLine → List ℕ
-printed model lines = text_of (wiring_of model) (journals_of (chart_of model) lines)
-
 -- the line that says that a model keeps all rules and that its wiring and charts have no fault
 abbrev pub accepted : List ℕ
 accepted = line (codes "ok" ∷ [])
 
--- What the words ask for, as a text: `ok` of a model that keeps all rules and whose wiring and charts have no fault, the slots and joined places of such a model, or the journals of a run.
-pub data Answers (shelf : Shown) (words : List (List ℕ)) (text : List ℕ) : Type 0 where
-  says_ok : (name : List ℕ) → asked_by words ≡ Some (Check name) → TextIs shelf name (λ bytes. (wiring : Tables) × IsSound bytes wiring) → text ≡ accepted → Answers shelf words text
-  says_tree : (name : List ℕ) (wiring : Tables) → asked_by words ≡ Some (Tree name) → TextIs shelf name (λ bytes. IsSound bytes wiring) → text ≡ tree_text wiring → Answers shelf words text
-  says_run : (files : Files) (model : FirstModel) (lines : List FirstLine) → asked_by words ≡ Some (Run files) → AreOf shelf files model lines → text ≡ printed model lines → Answers shelf words text
+-- how a run ended: done, or by its fuel
+abbrev pub status_of_run : Bool → Status
+status_of_run done = if done then statuses.Done else statuses.Spent
+
+-- THE HEADLINE. What the words ask for, as a text with the status of a call that writes it whole: `ok` of a model that keeps all rules and whose wiring and charts have no fault; the slots and joined places of such a model; or the text of one journal for each controller and one for the environment, which are those of a run of the model over the lines (`IsRun`: each controller's journal is the replay of its own fetches, run to completion; merged by stamp they are one run of the world; what is taken in each lane is a prefix of what was sent, and all of it where the run is done).
+pub data Answers (shelf : Shown) (words : List (List ℕ)) (text : List ℕ) (status : Status) : Type 0 where
+  says_ok : (name : List ℕ) → asked_by words ≡ Some (Check name) → TextIs shelf name (λ bytes. (wiring : Tables) × IsSound bytes wiring) → text ≡ accepted → status ≡ statuses.Done → Answers shelf words text status
+  says_tree : (name : List ℕ) (wiring : Tables) → asked_by words ≡ Some (Tree name) → TextIs shelf name (λ bytes. IsSound bytes wiring) → text ≡ tree_text wiring → status ≡ statuses.Done → Answers shelf words text status
+  says_run : (files : Files) (fuel : ℕ) (plant : Plant) (lines : List Line) (journals : Journals) → asked_by words ≡ Some (Run files fuel) → AreOf shelf files plant lines → IsRun plant lines fuel journals
+      → text ≡ text_of plant.wiring journals → status ≡ status_of_run journals.done → Answers shelf words text status
 
 -- the text of what the program has found out
 abbrev pub answer_text : Answer → List ℕ
@@ -46,10 +40,16 @@ answer_text answers.Accepted = accepted
 answer_text (answers.Wired wiring) = tree_text wiring
 answer_text (answers.Ran run) = text_of run.wiring run.journals
 
--- a text was written, or writing it broke off
-pub data Prints (before after : Written) (text : List ℕ) (status : Status) : Type 0 where
-  written : status ≡ statuses.Done → Appends before after text → Prints before after text status
-  cut : status ≡ statuses.WriteFault → BreaksOff before after text → Prints before after text status
+-- the status where that text is written whole
+abbrev pub answer_status : Answer → Status
+answer_status answers.Accepted = statuses.Done
+answer_status (answers.Wired wiring) = statuses.Done
+answer_status (answers.Ran run) = status_of_run run.journals.done
+
+-- a text was written, which has this status, or writing it broke off
+pub data Prints (before after : Written) (text : List ℕ) (wanted status : Status) : Type 0 where
+  written : status ≡ wanted → Appends before after text → Prints before after text wanted status
+  cut : status ≡ statuses.WriteFault → BreaksOff before after text → Prints before after text wanted status
 
 -- a refusal was told, or telling it broke off
 pub data Tells (before after : Written) (why : Refusal) (status : Status) : Type 0 where
@@ -66,7 +66,7 @@ pub record Streams : Type 0 where
 -- A call ends in one of four ways: the whole answer is written; writing it breaks off; it is
 -- refused, for a cause that holds, with one line; or writing that line breaks off.
 pub data Outcome (before after : Shown) (words : List (List ℕ)) (streams : Streams) (status : Status) : Type 0 where
-  whole : (text : List ℕ) → Answers before words text → status ≡ statuses.Done → Appends streams.out_before streams.out_after text → Appends streams.notes_before streams.notes_after [] → Outcome before after words streams status
-  cut_short : (text : List ℕ) → Answers before words text → status ≡ statuses.WriteFault → BreaksOff streams.out_before streams.out_after text → Appends streams.notes_before streams.notes_after [] → Outcome before after words streams status
+  whole : (text : List ℕ) → Answers before words text status → Appends streams.out_before streams.out_after text → Appends streams.notes_before streams.notes_after [] → Outcome before after words streams status
+  cut_short : (text : List ℕ) (wanted : Status) → Answers before words text wanted → status ≡ statuses.WriteFault → BreaksOff streams.out_before streams.out_after text → Appends streams.notes_before streams.notes_after [] → Outcome before after words streams status
   refused : (why : Refusal) → Causes before after words why → status ≡ status_of why → Appends streams.out_before streams.out_after [] → Appends streams.notes_before streams.notes_after (note_of why) → Outcome before after words streams status
   refused_unheard : (why : Refusal) → Causes before after words why → status ≡ statuses.WriteFault → Appends streams.out_before streams.out_after [] → BreaksOff streams.notes_before streams.notes_after (note_of why) → Outcome before after words streams status

@@ -14,7 +14,7 @@ use Rattle.binding_expand.specs.Faults.{IsLowestFault, number}
 use Rattle.binding_expand.specs.declared.fault.WiringFault.{WiringFault}
 use Rattle.binding_expand.specs.declared.fault.WiringFault.TheVariants as faults
 use Rattle.model_charts.specs.Charts.{HasFaultyChart}
-use Rattle.room_run.specs.Models.{HasTokens, HasTree, IsGoodWiring, IsSoundTree}
+use Rattle.room_run.specs.Models.{HasTokens, HasTree, IsGoodWiring}
 use Rattle.room_run.specs.declared.refusal.Refusal.{Refusal}
 use Rattle.room_run.specs.declared.refusal.Refusal.TheVariants as refusals
 
@@ -29,11 +29,6 @@ pub record HasItsTree (text : List ℕ) (tree : ModelTree) : Type 0 where
   pub has : HasTree text tree
   pub only : (other : ModelTree) → HasTree text other → other ≡ tree
   pub names : HasNames (model_tokens tree)
-
--- the text has this tree and no other, its names are names of the language, it keeps all rules, this is its wiring, and its charts have no fault
-pub record HasSoundTree (text : List ℕ) (tree : ModelTree) (wiring : Tables) : Type 0 where
-  pub read : HasItsTree text tree
-  pub sound : IsSoundTree tree wiring
 
 -- the tree keeps all rules, and this is what was kept of it when they were checked
 pub record IsCheckedFor (tree : ModelTree) (checked : Checked) : Type 0 where

@@ -1,6 +1,8 @@
 -- What the words of a call ask for.
-use Rattle.std.specs.Prelude.{ℕ, List, [], ◌∷◌, Bool, Option, Some, None, if◌then◌else◌, nat_eq, codes}
+use Rattle.std.specs.Prelude.{ℕ, List, [], ◌∷◌, Bool, ◌==◌, ◌&&◌, nat_le, Option, Some, None, option_map, if◌then◌else◌, nat_eq, codes}
 use lib.Pointwise.{pointwise}
+use Rattle.inject_lines.specs.Texts.{are_digits}
+use Rattle.inject_lines.specs.Numerals.{value_of}
 use Rattle.room_run.specs.declared.asked.Asked.{Asked as CodeAsked}
 use Rattle.room_run.specs.declared.asked.Asked.TheVariants as code
 use Rattle.room_run.specs.declared.asked.Files.{Files as CodeFiles}
@@ -14,7 +16,7 @@ pub record Files : Type 0 where
 pub data Asked : Type 0 where
   Check : (model : List ℕ) → Asked
   Tree : (model : List ℕ) → Asked
-  Run : (files : Files) → Asked
+  Run : (files : Files) (fuel : ℕ) → Asked
 
 -- whether a word is this one
 abbrev pub is_word : List ℕ → List ℕ → Bool
@@ -27,10 +29,37 @@ asked_of command model =
     else if is_word command (codes "tree") then Some (Tree model)
     else None
 
--- `check MODEL` asks whether a model keeps all rules and its wiring and charts have no fault, `tree MODEL` for its slots and joined places, `run MODEL INJECT` for the run of a model over injections; no other list of words asks for anything
+-- the fuel of a run whose words name none
+abbrev pub usual_fuel : ℕ
+usual_fuel = 10000
+
+-- the number of digits, where it is at most 100,000
+abbrev pub fuel_in : List ℕ → Option ℕ
+fuel_in digits = if are_digits digits && nat_le (value_of digits) 100000 then Some (value_of digits) else None
+
+-- the fuel that a word names: digits without a leading zero, whose number is at most 100,000
+unfoldable pub fuel_of : List ℕ → Option ℕ
+fuel_of [] = None
+fuel_of (b ∷ bs) = if b == 48 then None else fuel_in (b ∷ bs)
+
+-- a run of these files
+abbrev pub run_asked : List ℕ → List ℕ → ℕ → Asked
+run_asked model injections fuel = Run (record { model = model; injections = injections }) fuel
+
+-- what three words ask for
+abbrev pub asked_of_files : List ℕ → List ℕ → List ℕ → Option Asked
+asked_of_files command model injections = if is_word command (codes "run") then Some (run_asked model injections usual_fuel) else None
+
+-- what five words ask for
+abbrev pub asked_with : List ℕ → List ℕ → List ℕ → List ℕ → List ℕ → Option Asked
+asked_with command model injections flag fuel =
+    if is_word command (codes "run") && is_word flag (codes "--fuel") then option_map (run_asked model injections) (fuel_of fuel) else None
+
+-- `check MODEL` asks whether a model keeps all rules and its wiring and charts have no fault, `tree MODEL` for its slots and joined places, `run MODEL INJECT` for the run of a model over injections with the usual fuel, and `run MODEL INJECT --fuel N` for the same with this one; no other list of words asks for anything
 abbrev pub asked_by : List (List ℕ) → Option Asked
 asked_by (command ∷ model ∷ []) = asked_of command model
-asked_by (command ∷ model ∷ injections ∷ []) = if is_word command (codes "run") then Some (Run (record { model = model; injections = injections })) else None
+asked_by (command ∷ model ∷ injections ∷ []) = asked_of_files command model injections
+asked_by (command ∷ model ∷ injections ∷ flag ∷ fuel ∷ []) = asked_with command model injections flag fuel
 asked_by words = None
 
 -- the names that the code keeps
@@ -40,4 +69,4 @@ files_view files = record { model = files.model.now; injections = files.injectio
 abbrev pub asked_view : CodeAsked → Asked
 asked_view (code.Check name) = Check name.now
 asked_view (code.Tree name) = Tree name.now
-asked_view (code.Run files) = Run (files_view files)
+asked_view (code.Run files fuel) = Run (files_view files) fuel

@@ -1,23 +1,27 @@
-//! From the text of a model to its tree, and to the model that runs.
-ghost use Rattle.std.specs.Prelude.{◌≡◌, ◌≤◌, length, map, IfOk, IfErr, OnOk, None};
+//! From the text of a model to its tree, its wiring and its charts, and to the plant that runs.
+ghost use Rattle.std.specs.Prelude.{◌≡◌, ◌≤◌, length, map, option_map, IfOk, IfErr, None};
 ghost use Rattle.room_ast.specs.Trees.{model_view};
 ghost use Rattle.structure_check.specs.Rules.{first_broken};
 ghost use Rattle.structure_check.specs.Classes.{HasClasses};
 ghost use Rattle.structure_check.specs.List.{all_rules};
-ghost use Rattle.first_form.specs.FirstModel.{MeetsConditions};
-ghost use Rattle.first_form.specs.Names.{IsNamed};
-ghost use Rattle.room_run.specs.Models.{HasGoodCharts, IsGoodWiring, IsModel, IsSoundTree, SoundCauses, TextCauses};
-ghost use Rattle.room_run.specs.Reading.{ChartCauses, HasItsTokens, HasItsTree, HasSoundTree, IsCheckedFor, TreeCauses, refusal_of};
+ghost use Rattle.chart_graphs.specs.Views.{chart_view};
+ghost use Rattle.model_charts.specs.Charts.{AreValid, HasCharts};
+ghost use Rattle.controller_actors.specs.Plants.{IsPlant};
+ghost use Rattle.room_run.specs.Models.{IsGoodWiring, IsModel, IsSoundText, IsSoundTree, SoundCauses, TextCauses};
+ghost use Rattle.room_run.specs.Reading.{ChartCauses, HasItsTokens, HasItsTree, IsCheckedFor, TreeCauses, refusal_of};
 
 use crate::refusal::Refusal;
 use binding_expand::{WiringFault, expand};
-use first_form::{FirstFault, FirstModel, first_of};
+use chart_graphs::Chart;
+use controller::Plant;
 use model_charts::{ChartsFault, charts_of};
+use model_plants::plant_of;
 use room_ast::Model;
 use room_lexer::{LexFault, Token, lex};
 use room_parser::{ParseFault, parse};
 use room_wiring::Wiring;
-use std::alloc::Global;
+use service_words::asks_services;
+use std::alloc::{AllocError, Global};
 use structure_check::{CheckFault, Checked, check};
 
 /// The tokens of a text.
@@ -94,23 +98,32 @@ fn keep_wiring(alloc: Global, checked: &Checked) -> Result<Wiring, Refusal>
     }
 }
 
-/// Whether the charts of a model that keeps all rules have no fault.
-fn keep_charts(alloc: Global, checked: &Checked) -> Result<(), Refusal>
+/// The charts of a model that keeps all rules, where none has a fault.
+fn keep_charts(alloc: Global, checked: &Checked) -> Result<Vec<Option<Chart>>, Refusal>
     requires rules { first_broken all_rules (model_view checked.now.model.now) ≡ None }
     requires classes { HasClasses checked.now }
-    ensures ok { OnOk result (HasGoodCharts (model_view checked.now.model.now)) }
+    ensures ok { IfOk result (λ v. HasCharts (model_view checked.now.model.now) (map (option_map chart_view) v.items)) }
+    ensures valid { IfOk result (λ v. AreValid (map (option_map chart_view) v.items)) }
     ensures err { IfErr result (λ why. ChartCauses (model_view checked.now.model.now) why) }
 {
     match charts_of(alloc, checked) {
-        Ok(_charts) => Ok(()),
+        Ok(charts) => Ok(charts),
         Err(ChartsFault::Chart { class, number }) => Err(Refusal::ModelChart { class, number }),
         Err(ChartsFault::Memory) => Err(Refusal::Memory),
     }
 }
 
-/// The wiring of a tree, where it keeps all rules and its wiring and charts have no fault.
-fn judge_tree(alloc: Global, tree: &Model) -> Result<Wiring, Refusal>
-    ensures ok { IfOk result (λ w. IsSoundTree (model_view tree.now) w) }
+/// The wiring and the charts of a model that keeps all rules, none of which has a fault.
+#[derive(Drop)]
+pub(crate) struct SoundModel {
+    pub(crate) wiring: Wiring,
+    pub(crate) charts: Vec<Option<Chart>>,
+}
+
+/// The wiring and the charts of a tree, where it keeps all rules and they have no fault.
+fn judge_tree(alloc: Global, tree: &Model) -> Result<SoundModel, Refusal>
+    ensures ok { IfOk result (λ s. IsSoundTree (model_view tree.now) s.wiring (map (option_map chart_view) s.charts.items)) }
+    ensures valid { IfOk result (λ s. AreValid (map (option_map chart_view) s.charts.items)) }
     ensures err { IfErr result (λ why. TreeCauses (model_view tree.now) why) }
 {
     let checked = match keep_rules(alloc, tree) {
@@ -122,22 +135,16 @@ fn judge_tree(alloc: Global, tree: &Model) -> Result<Wiring, Refusal>
         Err(why) => return Err(why),
     };
     match keep_charts(alloc, &checked) {
-        Ok(()) => Ok(wiring),
+        Ok(charts) => Ok(SoundModel { wiring, charts }),
         Err(why) => Err(why),
     }
-}
-
-/// A model that keeps all rules and whose charts have no fault.
-#[derive(Drop)]
-pub(crate) struct SoundModel {
-    pub(crate) tree: Model,
-    pub(crate) wiring: Wiring,
 }
 
 /// The model of a text, where it keeps all rules and its wiring and charts have no fault.
 pub(crate) fn sound_model(alloc: Global, text: &[u8]) -> Result<SoundModel, Refusal>
     requires { length text.now ≤ 1048576 }
-    ensures ok { IfOk result (λ s. HasSoundTree text.now (model_view s.tree) s.wiring) }
+    ensures ok { IfOk result (λ s. IsSoundText text.now s.wiring (map (option_map chart_view) s.charts.items)) }
+    ensures valid { IfOk result (λ s. AreValid (map (option_map chart_view) s.charts.items)) }
     ensures err { IfErr result (λ why. SoundCauses text.now why) }
 {
     let tree = match read_tree(alloc, text) {
@@ -145,26 +152,28 @@ pub(crate) fn sound_model(alloc: Global, text: &[u8]) -> Result<SoundModel, Refu
         Err(why) => return Err(why),
     };
     match judge_tree(alloc, &tree) {
-        Ok(wiring) => Ok(SoundModel { tree, wiring }),
+        Ok(sound) => Ok(sound),
         Err(why) => Err(why),
     }
 }
 
-/// The model of a text, where it keeps all rules, its wiring and charts have no fault, and it is one
-/// that runs.
-pub(crate) fn judge(alloc: Global, text: &[u8]) -> Result<FirstModel, Refusal>
+/// The plant of a text, where it is that of a model which keeps all rules, whose wiring and charts have no
+/// fault, and whose actions ask neither the frame service nor the layer service for anything.
+pub(crate) fn judge(alloc: Global, text: &[u8]) -> Result<Plant, Refusal>
     requires { length text.now ≤ 1048576 }
-    ensures ok { IfOk result (λ model. IsModel text.now model) }
-    ensures names { IfOk result (λ model. IsNamed model) }
+    ensures ok { IfOk result (λ plant. IsModel text.now plant) }
+    ensures plant { IfOk result (λ plant. IsPlant plant) }
     ensures err { IfErr result (λ why. TextCauses text.now why) }
 {
     let sound = match sound_model(alloc, text) {
         Ok(sound) => sound,
         Err(why) => return Err(why),
     };
-    match first_of(alloc, &sound.tree) {
-        Ok(model) => Ok(model),
-        Err(FirstFault::Later) => Err(Refusal::ModelLater),
-        Err(FirstFault::Memory) => Err(Refusal::Memory),
+    if asks_services(&sound.charts) {
+        return Err(Refusal::ModelLater);
+    }
+    match plant_of(alloc, sound.wiring, &sound.charts) {
+        Ok(plant) => Ok(plant),
+        Err(AllocError) => Err(Refusal::Memory),
     }
 }

@@ -1,8 +1,8 @@
 //! From the words of a command line to the bytes of the journals.
 //!
 //! `room_top` is the whole program over a shelf of texts and two sinks. Its contract is the
-//! headline of the project for the models that run today, and the exact answer of the check of a
-//! model and of the text of its wiring.
+//! headline of the project for the models that run today (all but those whose actions create, destroy,
+//! lend or register actors), and the exact answer of the check of a model and of the text of its wiring.
 #![tactic(auto)]
 
 mod asked;

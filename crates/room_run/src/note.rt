@@ -87,7 +87,6 @@ fn write_refusal<K: Sink>(why: &Refusal, notes: &mut K) -> Result<(), WriteFault
         Refusal::InjectionsLine { line, code } => {
             write_place(notes, b"room: injections refused: line ", *line, *code)
         }
-        Refusal::InjectionsLater => write_text(notes, b"room: injections refused: later"),
         Refusal::ReadFault => write_text(notes, b"room: read fault"),
         Refusal::Memory => write_text(notes, b"room: memory"),
     }

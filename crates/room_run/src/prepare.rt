@@ -1,26 +1,24 @@
 //! A call up to its first written byte.
-ghost use Rattle.std.specs.Prelude.{◌≡◌, ◌≤◌, List, map, length, IfOk, IfErr, IfSome};
+ghost use Rattle.std.specs.Prelude.{◌≡◌, ◌≤◌, ℕ, List, map, length, IfOk, IfErr, IfSome};
 ghost use Rattle.std.specs.String.{string_bytes};
 ghost use Rattle.room_outside.specs.Shown.{Keeps};
-ghost use Rattle.first_form.specs.FirstModel.{MeetsConditions};
-ghost use Rattle.first_form.specs.Names.{IsNamed};
-ghost use Rattle.first_form.specs.Lines.{AreInRange};
+ghost use Rattle.controller_actors.specs.Plants.{IsPlant};
+ghost use Rattle.controller_actors.specs.declared.plant.Plant.{Plant as RunPlant};
+ghost use Rattle.inject_lines.specs.declared.accepted.Line.{Line as InjectedLine};
 ghost use Rattle.room_run.specs.Words.{files_view};
 ghost use Rattle.room_run.specs.Models.{IsSound, IsModel, SoundCauses, TextCauses};
 ghost use Rattle.room_run.specs.Causes.{AreOf, Causes, InjectionsCauses, IsInjections, LinesCauses, ModelCauses, RunCauses, TextIs, UnreadCauses, refusal_of_lines};
-ghost use Rattle.room_run.specs.Outcome.{IsRunOf, Answers, answer_text};
-ghost use Rattle.first_form.specs.declared.model.FirstModel.{FirstModel as Model};
-ghost use Rattle.first_form.specs.declared.model.FirstLine.{FirstLine as Line};
+ghost use Rattle.room_run.specs.Outcome.{Answers, answer_status, answer_text};
+ghost use Rattle.room_run.specs.Finished.{Finishes};
 
 use crate::asked::{Asked, Files, asked_by};
 use crate::judge::{judge, sound_model};
 use crate::refusal::Refusal;
-use first_form::{FirstFault, FirstLine, FirstModel, read_first_lines};
-use first_run::{FlatChart, run_first};
-use first_wiring::wiring_of;
+use controller::Plant;
+use inject_lines::Line;
 use inject_reader::InjectFault;
 use journal::Journals;
-use room_kinds::Sequence;
+use local_run::run_local;
 use room_outside::{ReadRefused, Shelf, read_whole};
 use room_wiring::Wiring;
 use std::alloc::{AllocError, Global};
@@ -74,11 +72,10 @@ fn read_wiring<S: Shelf>(alloc: Global, shelf: &mut S, name: &str) -> Result<Wir
     }
 }
 
-/// The model whose text stands under a name.
-fn read_model<S: Shelf>(alloc: Global, shelf: &mut S, name: &str) -> Result<FirstModel, Refusal>
-    ensures ok { IfOk result (λ model. TextIs (S.shown shelf.old) name.now (λ text. IsModel text model)) }
-    ensures conditions { IfOk result (λ model. MeetsConditions model) }
-    ensures names { IfOk result (λ model. IsNamed model) }
+/// The plant of the model whose text stands under a name.
+fn read_model<S: Shelf>(alloc: Global, shelf: &mut S, name: &str) -> Result<Plant, Refusal>
+    ensures ok { IfOk result (λ plant. TextIs (S.shown shelf.old) name.now (λ text. IsModel text plant)) }
+    ensures plant { IfOk result (λ plant. IsPlant plant) }
     ensures err { IfErr result (λ why. ModelCauses TextCauses (S.shown shelf.old) (S.shown shelf.new) name.now why) }
     ensures keeps { Keeps (S.shown shelf.old) (S.shown shelf.new) }
 {
@@ -99,32 +96,15 @@ fn refusal_of_lines(fault: InjectFault) -> Refusal
     }
 }
 
-/// The lines of a text of injections, where none is faulty and they run on the model.
-fn judge_lines(
-    alloc: Global,
-    text: &[u8],
-    model: &FirstModel,
-) -> Result<Sequence<FirstLine>, Refusal>
+/// The lines of a text of injections over the names of a wiring, where none is faulty.
+fn judge_lines(alloc: Global, text: &[u8], wiring: &Wiring) -> Result<Vec<Line>, Refusal>
     requires short { length text.now ≤ 1048576 }
-    requires conditions { MeetsConditions model.now }
-    requires names { IsNamed model.now }
-    ensures ok { IfOk result (λ lines. IsInjections model.now text.now lines) }
-    ensures few { IfOk result (λ lines. length lines ≤ 10000) }
-    ensures in_range { IfOk result (λ lines. AreInRange model.now lines) }
-    ensures err { IfErr result (λ why. LinesCauses model.now text.now why) }
+    ensures ok { IfOk result (λ lines. IsInjections wiring.now text.now lines.items) }
+    ensures err { IfErr result (λ why. LinesCauses wiring.now text.now why) }
 {
-    let wiring = match wiring_of(alloc, model) {
-        Ok(wiring) => wiring,
-        Err(AllocError) => return Err(Refusal::Memory),
-    };
-    match inject_reader::read_injections(alloc, text, &wiring) {
-        Ok(_lines) => {}
-        Err(fault) => return Err(refusal_of_lines(fault)),
-    }
-    match read_first_lines(alloc, text, model) {
+    match inject_reader::read_injections(alloc, text, wiring) {
         Ok(lines) => Ok(lines),
-        Err(FirstFault::Later) => Err(Refusal::InjectionsLater),
-        Err(FirstFault::Memory) => Err(Refusal::Memory),
+        Err(fault) => Err(refusal_of_lines(fault)),
     }
 }
 
@@ -133,14 +113,10 @@ fn read_injections<S: Shelf>(
     alloc: Global,
     shelf: &mut S,
     name: &str,
-    model: &FirstModel,
-) -> Result<Sequence<FirstLine>, Refusal>
-    requires conditions { MeetsConditions model.now }
-    requires names { IsNamed model.now }
-    ensures ok { IfOk result (λ lines. TextIs (S.shown shelf.old) name.now (λ text. IsInjections model.now text lines)) }
-    ensures few { IfOk result (λ lines. length lines ≤ 10000) }
-    ensures in_range { IfOk result (λ lines. AreInRange model.now lines) }
-    ensures err { IfErr result (λ why. InjectionsCauses (S.shown shelf.old) (S.shown shelf.new) name.now model.now why) }
+    wiring: &Wiring,
+) -> Result<Vec<Line>, Refusal>
+    ensures ok { IfOk result (λ lines. TextIs (S.shown shelf.old) name.now (λ text. IsInjections wiring.now text lines.items)) }
+    ensures err { IfErr result (λ why. InjectionsCauses (S.shown shelf.old) (S.shown shelf.new) name.now wiring.now why) }
     ensures keeps { Keeps (S.shown shelf.old) (S.shown shelf.new) }
 {
     let text = match read_whole(alloc, shelf, name) {
@@ -149,38 +125,41 @@ fn read_injections<S: Shelf>(
         Err(ReadRefused::TooLong) => return Err(Refusal::InjectionsTooLong),
         Err(ReadRefused::Memory) => return Err(Refusal::Memory),
     };
-    judge_lines(alloc, text.as_slice(), model)
+    judge_lines(alloc, text.as_slice(), wiring)
 }
 
-/// The run of a model over lines, which the words named.
-fn run(alloc: Global, model: &FirstModel, lines: &[FirstLine]) -> Result<Finished, AllocError>
-    requires conditions { MeetsConditions model.now }
-    requires names { IsNamed model.now }
-    requires few { length lines.now ≤ 10000 }
-    requires lines { AreInRange model.now lines.now }
-    ensures { IfOk result (λ f. IsRunOf model.now lines.now f.wiring f.journals) }
+/// The run of a plant over lines, which the words named.
+fn run(alloc: Global, plant: Plant, lines: &[Line], fuel: u64) -> Result<Finished, AllocError>
+    requires { IsPlant plant }
+    ensures { IfOk result (λ f. Finishes plant lines.now fuel f) }
 {
-    let wiring = wiring_of(alloc, model)?;
-    let chart = FlatChart::of(alloc, model)?;
-    let journals = run_first(alloc, &chart, lines)?;
-    Ok(Finished { wiring, journals })
+    let journals = run_local(alloc, &plant, lines, fuel)?;
+    Ok(Finished {
+        wiring: plant.wiring,
+        journals,
+    })
 }
 
-/// The run of the model and the injections of two files.
-fn run_files<S: Shelf>(alloc: Global, shelf: &mut S, files: Files) -> Result<Finished, Refusal>
-    ensures ok { IfOk result (λ f. (model : Model) × (lines : List Line) × AreOf (S.shown shelf.old) (files_view files.entry) model lines × IsRunOf model lines f.wiring f.journals) }
+/// The run of the model and the injections of two files, each controller with so much fuel.
+fn run_files<S: Shelf>(
+    alloc: Global,
+    shelf: &mut S,
+    files: Files,
+    fuel: u64,
+) -> Result<Finished, Refusal>
+    ensures ok { IfOk result (λ f. (plant : RunPlant) × (lines : List InjectedLine) × AreOf (S.shown shelf.old) (files_view files.entry) plant lines × Finishes plant lines fuel f) }
     ensures err { IfErr result (λ why. RunCauses (S.shown shelf.old) (S.shown shelf.new) (files_view files.entry) why) }
     ensures keeps { Keeps (S.shown shelf.old) (S.shown shelf.new) }
 {
-    let model = match read_model(alloc, shelf, files.model) {
-        Ok(model) => model,
+    let plant = match read_model(alloc, shelf, files.model) {
+        Ok(plant) => plant,
         Err(why) => return Err(why),
     };
-    let lines = match read_injections(alloc, shelf, files.injections, &model) {
+    let lines = match read_injections(alloc, shelf, files.injections, &plant.wiring) {
         Ok(lines) => lines,
         Err(why) => return Err(why),
     };
-    match run(alloc, &model, lines.as_slice()) {
+    match run(alloc, plant, lines.as_slice(), fuel) {
         Ok(finished) => Ok(finished),
         Err(AllocError) => Err(Refusal::Memory),
     }
@@ -192,7 +171,7 @@ pub(crate) fn prepare<S: Shelf>(
     words: &[String],
     shelf: &mut S,
 ) -> Result<Answer, Refusal>
-    ensures ok { IfOk result (λ a. Answers (S.shown shelf.old) (map string_bytes words.now) (answer_text a)) }
+    ensures ok { IfOk result (λ a. Answers (S.shown shelf.old) (map string_bytes words.now) (answer_text a) (answer_status a)) }
     ensures err { IfErr result (λ why. Causes (S.shown shelf.old) (S.shown shelf.new) (map string_bytes words.now) why) }
     ensures keeps { Keeps (S.shown shelf.old) (S.shown shelf.new) }
 {
@@ -206,7 +185,7 @@ pub(crate) fn prepare<S: Shelf>(
             Ok(wiring) => Ok(Answer::Wired(wiring)),
             Err(why) => Err(why),
         },
-        Some(Asked::Run(files)) => match run_files(alloc, shelf, files) {
+        Some(Asked::Run(files, fuel)) => match run_files(alloc, shelf, files, fuel) {
             Ok(finished) => Ok(Answer::Ran(finished)),
             Err(why) => Err(why),
         },

@@ -25,15 +25,13 @@ pub enum Refusal {
     /// The model keeps all rules, its wiring has no fault, and the actor class of this name is the
     /// first whose chart has a fault; the lowest one has this number, 1 to 8.
     ModelChart { class: Name, number: u8 },
-    /// The model keeps all rules, its wiring and its charts have no fault, and it is none that runs
-    /// today.
+    /// The model keeps all rules, its wiring and its charts have no fault, and an action of it has
+    /// `incarnate`, `destroy`, `import`, `deport`, `register` or `withdraw`, which don't run yet.
     ModelLater,
     InjectionsTooLong,
     /// The line of this number, from 1, is the first of the injections that is faulty; its lowest
     /// code is this one, 1 to 5. Code 6, at line 10,001, says that there are more lines than may be.
     InjectionsLine { line: u32, code: u8 },
-    /// The injections have no faulty line, and they are none that run today.
-    InjectionsLater,
     ReadFault,
     Memory,
 }
@@ -54,7 +52,6 @@ impl Refusal {
             Refusal::ModelLater => Status::ModelRefused,
             Refusal::InjectionsTooLong => Status::InjectionsRefused,
             Refusal::InjectionsLine { .. } => Status::InjectionsRefused,
-            Refusal::InjectionsLater => Status::InjectionsRefused,
             Refusal::ReadFault => Status::ReadFault,
             Refusal::Memory => Status::Memory,
         }

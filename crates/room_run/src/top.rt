@@ -1,7 +1,7 @@
 //! The whole program.
 ghost use Rattle.std.specs.Prelude.{◌≡◌, map};
 ghost use Rattle.std.specs.String.{string_bytes};
-ghost use Rattle.room_run.specs.Outcome.{Prints, Outcome, Tells, answer_text};
+ghost use Rattle.room_run.specs.Outcome.{Prints, Outcome, Tells, answer_status, answer_text, status_of_run};
 
 use crate::note::{write_note, write_ok};
 use crate::prepare::{Answer, prepare};
@@ -22,9 +22,27 @@ fn tell<K: Sink>(why: Refusal, notes: &mut K) -> Status
     }
 }
 
+/// How a run ended: done, or by its fuel.
+fn status_of_run(done: bool) -> Status
+    ensures { result ≡ status_of_run done }
+{
+    if done { Status::Done } else { Status::Spent }
+}
+
+/// The status of an answer that is written whole.
+fn status_of(answer: &Answer) -> Status
+    ensures { result ≡ answer_status answer.now }
+{
+    match answer {
+        Answer::Accepted => Status::Done,
+        Answer::Wired(_) => Status::Done,
+        Answer::Ran(run) => status_of_run(run.journals.done),
+    }
+}
+
 /// Writes what the words asked for, and gives the status.
 fn print<K: Sink>(answer: &Answer, out: &mut K) -> Status
-    ensures { Prints (K.written out.old) (K.written out.new) (answer_text answer.now) result }
+    ensures { Prints (K.written out.old) (K.written out.new) (answer_text answer.now) (answer_status answer.now) result }
 {
     let written = match answer {
         Answer::Accepted => write_ok(out),
@@ -32,7 +50,7 @@ fn print<K: Sink>(answer: &Answer, out: &mut K) -> Status
         Answer::Ran(run) => text_to(&run.journals, &run.wiring, out),
     };
     match written {
-        Ok(()) => Status::Done,
+        Ok(()) => status_of(answer),
         Err(_) => Status::WriteFault,
     }
 }
@@ -41,7 +59,8 @@ fn print<K: Sink>(answer: &Answer, out: &mut K) -> Status
 ///
 /// The words `check MODEL` ask whether a model keeps all rules and its wiring and charts have no fault,
 /// `tree MODEL` for the slots and the joined places of such a model, and `run MODEL INJECT` for the run
-/// of a model over injections; every other list of words is refused. The order is: the words, reading
+/// of a model over injections, in which each controller takes 10,000 turns at most, or N with `--fuel N`
+/// behind it, 1 to 100,000; every other list of words is refused. The order is: the words, reading
 /// the model, the model (its text, its rules, its wiring, its charts), reading the injections, the
 /// injections, the run, writing. After a failed read nothing more is read, and want of memory never
 /// comes once something was written.

@@ -1,16 +1,23 @@
-use Rattle.room_ast.specs.Trees.{model_view}
+use Rattle.std.proofs.Common.{◌≡◌, map, option_map, true, subst}
+use Rattle.chart_graphs.specs.Views.{chart_view}
+use Rattle.service_words.specs.Asked.{asks_services}
+use Rattle.model_plants.specs.Shown.{ShowCharts}
 use Rattle.room_run.specs.Models.{unsound, none_for_running}
-use Rattle.room_run.proofs.JudgeLemmas.{model_named, model_strange}
+use Rattle.room_run.proofs.JudgeLemmas.{model_strange, plant_runs}
 use Rattle.room_run.proofs.judge.judge.Goals as goal
 
 pub returns-in-Err-clause-err : goal.returns-in-Err-clause-err
 returns-in-Err-clause-err c = unsound c.in-Err.why c.in-Err.ensures.err
 
-pub returns-in-Ok-first_of-clause-names : goal.returns-in-Ok-first_of-clause-names
-returns-in-Ok-first_of-clause-names c = model_named c.args.text.now (model_view c.in-Ok.sound.tree) c.in-Ok.sound.wiring c.in-Ok-first_of.model c.in-Ok.ensures.ok c.in-Ok-first_of.ensures.found
+pub returns-then-asks_services-clause-err : goal.returns-then-asks_services-clause-err
+returns-then-asks_services-clause-err c =
+    let asks : asks_services (map (option_map chart_view) c.in-Ok.sound.charts.items) ≡ true = cc in
+    model_strange c.args.text.now c.in-Ok.sound.wiring (map (option_map chart_view) c.in-Ok.sound.charts.items) c.in-Ok.ensures.ok asks
 
-pub returns-in-Err-Later-clause-err : goal.returns-in-Err-Later-clause-err
-returns-in-Err-Later-clause-err c = model_strange c.args.text.now (model_view c.in-Ok.sound.tree) c.in-Ok.sound.wiring c.requires c.in-Ok.ensures.ok (c.in-Err-Later.ensures.later (cc))
+pub returns-in-Ok-plant_of-clause-plant : goal.returns-in-Ok-plant_of-clause-plant
+returns-in-Ok-plant_of-clause-plant c =
+    let shown = subst (λ charts. ShowCharts c.in-Ok-plant_of.plant.tables.items (map (option_map chart_view) charts)) c.deref-2.ensures.value c.in-Ok-plant_of.ensures.tables in
+    plant_runs c.args.text.now c.in-Ok.sound.wiring (map (option_map chart_view) c.in-Ok.sound.charts.items) c.in-Ok-plant_of.plant c.in-Ok.ensures.ok c.in-Ok-plant_of.ensures.wiring shown
 
 pub returns-clause-err : goal.returns-clause-err
 returns-clause-err c = none_for_running

@@ -11,7 +11,7 @@ use Rattle.room_run.proofs.prepare.prepare.Goals as goal
 pub returns-in-Ok-clause-ok : goal.returns-in-Ok-clause-ok
 returns-in-Ok-clause-ok g c =
     let is : c.in-Some-Check.field-0 ≡ code.Check c.in-Some-Check.name = cc in
-    says_ok c.in-Some-Check.name.now (sym c.in-Some-Check.ensures ∙ ap (λ (a : Asked). Some (asked_view a)) is) (model_sound (g.S.Shelf.shown c.args.shelf.now) c.in-Some-Check.name.now c.in-Ok._wiring c.in-Ok.ensures.ok) refl
+    says_ok c.in-Some-Check.name.now (sym c.in-Some-Check.ensures ∙ ap (λ (a : Asked). Some (asked_view a)) is) (model_sound (g.S.Shelf.shown c.args.shelf.now) c.in-Some-Check.name.now c.in-Ok._wiring c.in-Ok.ensures.ok) refl refl
 
 pub returns-in-Err-clause-err : goal.returns-in-Err-clause-err
 returns-in-Err-clause-err g c =
@@ -21,7 +21,7 @@ returns-in-Err-clause-err g c =
 pub returns-in-Ok-read_wiring-clause-ok : goal.returns-in-Ok-read_wiring-clause-ok
 returns-in-Ok-read_wiring-clause-ok g c =
     let is : c.in-Some-Tree.field-0 ≡ code.Tree c.in-Some-Tree.name = cc in
-    says_tree c.in-Some-Tree.name.now c.in-Ok-read_wiring.wiring (sym c.in-Some-Tree.ensures ∙ ap (λ (a : Asked). Some (asked_view a)) is) c.in-Ok-read_wiring.ensures.ok refl
+    says_tree c.in-Some-Tree.name.now c.in-Ok-read_wiring.wiring (sym c.in-Some-Tree.ensures ∙ ap (λ (a : Asked). Some (asked_view a)) is) c.in-Ok-read_wiring.ensures.ok refl refl
 
 pub returns-in-Err-read_wiring-clause-err : goal.returns-in-Err-read_wiring-clause-err
 returns-in-Err-read_wiring-clause-err g c =
@@ -31,10 +31,10 @@ returns-in-Err-read_wiring-clause-err g c =
 pub returns-in-Ok-run_files-clause-ok : goal.returns-in-Ok-run_files-clause-ok
 returns-in-Ok-run_files-clause-ok g c =
     let x = c.in-Ok-run_files.ensures.ok in
-    let is : c.in-Some-Run.field-0 ≡ code.Run c.in-Some-Run.files = cc in
-    says_run (files_view c.in-Some-Run.files) x.0 x.1 (sym c.in-Some-Run.ensures ∙ ap (λ (a : Asked). Some (asked_view a)) is) x.2 (text_is x.0 x.1 _ _ x.3)
+    let is : c.in-Some-Run.field-0 ≡ code.Run c.in-Some-Run.files c.in-Some-Run.fuel = cc in
+    says_run (files_view c.in-Some-Run.files) c.in-Some-Run.fuel x.0 x.1 c.in-Ok-run_files.finished.journals (sym c.in-Some-Run.ensures ∙ ap (λ (a : Asked). Some (asked_view a)) is) x.2 x.3.run (text_is x.0 x.1 c.in-Some-Run.fuel c.in-Ok-run_files.finished x.3) refl
 
 pub returns-in-Err-run_files-clause-err : goal.returns-in-Err-run_files-clause-err
 returns-in-Err-run_files-clause-err g c =
-    let is : c.in-Some-Run.field-0 ≡ code.Run c.in-Some-Run.files = cc in
-    of_run (files_view c.in-Some-Run.files) (sym c.in-Some-Run.ensures ∙ ap (λ (a : Asked). Some (asked_view a)) is) c.in-Err-run_files.ensures.err
+    let is : c.in-Some-Run.field-0 ≡ code.Run c.in-Some-Run.files c.in-Some-Run.fuel = cc in
+    of_run (files_view c.in-Some-Run.files) c.in-Some-Run.fuel (sym c.in-Some-Run.ensures ∙ ap (λ (a : Asked). Some (asked_view a)) is) c.in-Err-run_files.ensures.err

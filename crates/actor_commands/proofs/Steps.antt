@@ -1,0 +1,117 @@
+-- Commands, as steps of what is done on any body.
+use Rattle.std.proofs.Common.{◌≡◌, ℕ, ℤ, Bool, true, List, [], ◌∷◌, ◌++◌, Option, Some, None, refl, sym, ap, ◌∙◌, inl, inr}
+use Rattle.std.proofs.Math.Path.{fun_ext}
+use Rattle.std.proofs.lemmas.Bool.{cases_eq}
+use Rattle.std.proofs.lemmas.List.{append-nil}
+use Rattle.room_kinds.specs.declared.message.Msg.{Msg}
+use Rattle.room_kinds.specs.declared.note.Note.{Note}
+use Rattle.room_kinds.specs.declared.command.Command.{Command}
+use Rattle.room_kinds.specs.declared.command.Command.TheVariants as commands
+use Rattle.room_kinds.specs.declared.numbers.Incarnation.{Incarnation}
+use Rattle.room_kinds.specs.declared.numbers.Priority.{Priority}
+use Rattle.room_wiring.specs.declared.tables.Tables.{Tables}
+use Rattle.actor_duties.specs.Words.{updated}
+use Rattle.actor_duties.specs.State.{Frame, Links}
+use Rattle.actor_duties.specs.Commands.{Sent, Kept, defer, recall, recall_all}
+use Rattle.actor_world.specs.Body.{Body, Doing as WorldDoing, keeping, sending, apply, apply_all}
+use Rattle.frame_lives.proofs.Rows.{updated_here, updated_else}
+use Rattle.chart_behaviour.specs.ModelCharts.{Actor}
+use Rattle.command_sends.specs.declared.said.Said.{Said}
+use Rattle.command_sends.specs.Adding.{Adds}
+use Rattle.deferred_messages.specs.Steps.{Applies as KeptStep}
+use Rattle.actor_commands.specs.declared.doing.Doing.{Doing}
+use Rattle.actor_commands.specs.Doings.{doing_on, said_at, Keeps, Applies, AppliesAll}
+
+-- ---- functions that are updated twice
+
+pub updated_twice : {A : Type 0} (f : ℕ → A) (s : ℕ) (a b : A) → updated (updated f s a) s b ≡ updated f s b
+updated_twice f s a b = fun_ext (λ n. elim (cases_eq n s) [
+  | inl e ↦ updated_here (updated f s a) s n b e ∙ sym (updated_here f s n b e)
+  | inr other ↦ updated_else (updated f s a) s n b other ∙ updated_else f s n a other ∙ sym (updated_else f s n b other)
+])
+
+-- ---- steps on what is kept
+
+-- a step that takes nothing back from what is kept
+pub keeps_here : (k : Kept) (old : Doing) (deferred : List Msg) (told : List Note) → KeptStep k deferred [] [] old.said.notes told
+    → Keeps k true old (record { deferred = deferred; said = record { messages = old.said.messages; notes = told }; back = old.back; kept = true })
+keeps_here k old deferred told h = record {
+  deferred = h.deferred;
+  messages = refl;
+  notes = h.notes;
+  back = ap (λ (ms : List Msg). ms ++ old.back) (h.back ∙ append-nil k.back);
+  kept = refl;
+}
+
+-- a step by which messages may come back
+pub keeps_back : (k : Kept) (old : Doing) (deferred back : List Msg) (told : List Note) → KeptStep k deferred old.back back old.said.notes told
+    → Keeps k old.kept old (record { deferred = deferred; said = record { messages = old.said.messages; notes = told }; back = back; kept = old.kept })
+keeps_back k old deferred back told h = record { deferred = h.deferred; messages = refl; notes = h.notes; back = h.back; kept = refl }
+
+-- equal parts make equal states
+same_doing : (f : Frame) (l : Links) (b : Body Actor) {held held' : ℕ → List Msg} {sent sent' back back' : List Msg} {notes notes' : List Note} {kept kept' : Bool}
+    → held ≡ held' → sent ≡ sent' → back ≡ back' → notes ≡ notes' → kept ≡ kept'
+    → ◌≡◌ {A = WorldDoing Actor}
+    (record { body = record b { frame = f; links = l; deferred = held }; sent = sent; back = back; notes = notes; kept = kept })
+    (record { body = record b { frame = f; links = l; deferred = held' }; sent = sent'; back = back'; notes = notes'; kept = kept' })
+same_doing f l b p q r s u = cc
+
+module _ (t : Tables) (me : ℕ) (f : Frame) (l : Links) (x : Incarnation) (m : Option Msg) where
+  keeping_on : (b : Body Actor) (k : Kept) (kept : Bool) (old new : Doing) → Keeps k kept old new
+      → keeping (doing_on f l b x.slot.0 old) x.slot.0 kept k ≡ doing_on f l b x.slot.0 new
+  keeping_on b k kept old new h =
+      same_doing f l b
+      (updated_twice b.deferred x.slot.0 old.deferred k.deferred ∙ ap (updated b.deferred x.slot.0) (sym h.deferred))
+      (sym h.messages) (sym h.back) (sym h.notes) (sym h.kept)
+
+  -- what is kept in the slot
+  held_here : (b : Body Actor) (ds : List Msg) → updated b.deferred x.slot.0 ds x.slot.0 ≡ ds
+  held_here b ds = updated_here b.deferred x.slot.0 x.slot.0 ds refl
+
+  pub defers : (old new : Doing) → Keeps (defer old.kept m old.deferred) true old new → Applies t me f l x m commands.Defer old new
+  defers old new h = record {
+    on = λ b.
+        ap (λ ds. keeping (doing_on f l b x.slot.0 old) x.slot.0 true (defer old.kept m ds)) (held_here b old.deferred)
+        ∙ keeping_on b (defer old.kept m old.deferred) true old new h;
+  }
+
+  pub recalls : (old new : Doing) → Keeps (recall old.deferred) old.kept old new → Applies t me f l x m commands.Recall old new
+  recalls old new h = record {
+    on = λ b.
+        ap (λ ds. keeping (doing_on f l b x.slot.0 old) x.slot.0 old.kept (recall ds)) (held_here b old.deferred)
+        ∙ keeping_on b (recall old.deferred) old.kept old new h;
+  }
+
+  pub recalls_all : (old new : Doing) → Keeps (recall_all old.deferred) old.kept old new → Applies t me f l x m commands.RecallAll old new
+  recalls_all old new h = record {
+    on = λ b.
+        ap (λ ds. keeping (doing_on f l b x.slot.0 old) x.slot.0 old.kept (recall_all ds)) (held_here b old.deferred)
+        ∙ keeping_on b (recall_all old.deferred) old.kept old new h;
+  }
+
+  -- ---- sends
+
+  sending_on : (b : Body Actor) (s : Sent) (old : Doing) (said : Said) → Adds s old.said said
+      → sending (doing_on f l b x.slot.0 old) s ≡ doing_on f l b x.slot.0 (record old { said = said })
+  sending_on b s old said h = same_doing f l b refl (sym h.messages) refl (sym h.notes) refl
+
+  pub sends : (p : ℕ) (k : Option ℤ) (signal : ℕ) (payload : List ℤ) (prio : Priority) (old : Doing) (said : Said)
+      → Adds (said_at t me f l x p k (record { signal = signal; payload = payload; prio = prio })) old.said said
+      → Applies t me f l x m (commands.Send p k signal payload prio) old (record old { said = said })
+  sends p (Some k) signal payload prio old said h = record { on = λ b. sending_on b _ old said h }
+  sends p None signal payload prio old said h = record { on = λ b. sending_on b _ old said h }
+
+  -- ---- one after another
+
+  pub none_applied : (d : Doing) → AppliesAll t me f l x m [] d d
+  none_applied d = record { on = λ b. refl }
+
+  last_applied : (cs : List Command) (c : Command) (d : WorldDoing Actor) → apply_all t me x m (cs ++ c ∷ []) d ≡ apply t me x m (apply_all t me x m cs d) c
+  last_applied [] c d = refl
+  last_applied (first ∷ cs) c d = last_applied cs c (apply t me x m d first)
+
+  pub more_applied : (cs : List Command) (c : Command) (first old new : Doing) → AppliesAll t me f l x m cs first old → Applies t me f l x m c old new
+      → AppliesAll t me f l x m (cs ++ c ∷ []) first new
+  more_applied cs c first old new h k = record {
+    on = λ b. last_applied cs c (doing_on f l b x.slot.0 first) ∙ ap (λ d. apply t me x m d c) (h.on b) ∙ k.on b;
+  }

@@ -1,0 +1,9 @@
+use Rattle.std.proofs.Common.{take}
+use Rattle.std.specs.Option.{option_copied}
+use Rattle.actor_commands.specs.Doings.{AppliesAll}
+use Rattle.actor_commands.proofs.commands.apply_all.Given as goal
+
+abbrev pub invariant-loop-command : goal.invariant-loop-command
+invariant-loop-command g l =
+    AppliesAll l.speaker.wiring.now l.speaker.me.0 (g.P.Peers.frame_of l.peers) (g.P.Peers.links_of l.peers) l.speaker.who (option_copied l.message) (take l.command-index l.commands)
+    l.fn.doing l.doing

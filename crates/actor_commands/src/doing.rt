@@ -1,0 +1,57 @@
+//! What an actor does in a turn, so far.
+ghost use Rattle.std.specs.Prelude.{true, OnOk};
+ghost use Rattle.std.specs.Option.{option_copied};
+ghost use Rattle.actor_duties.specs.Commands.{defer, recall, recall_all};
+ghost use Rattle.actor_commands.specs.Doings.{Keeps};
+
+use command_sends::Said;
+use deferred_messages::{DeferredMessages, Recalled};
+use room_kinds::Msg;
+use std::alloc::AllocError;
+
+/// What an actor does in the turn of a message or at its start, so far.
+///
+/// After want of memory it is unspecified: the controller has failed.
+#[derive(Drop)]
+pub struct Doing {
+    /// The messages that the actor keeps for later.
+    pub deferred: DeferredMessages,
+    /// The messages for the outbox, and the notes.
+    pub said: Said,
+    /// The messages that come back, first the one that will be in front.
+    pub back: Recalled,
+    /// Whether the message in hand is kept.
+    pub kept: bool,
+}
+
+impl Doing {
+    /// `defer`, with the message in hand.
+    #[tactic(auto, using(crate::proofs::Steps::keeps_here))]
+    pub(crate) fn defer(&mut self, message: Option<&Msg>) -> Result<(), AllocError>
+        ensures { OnOk result (Keeps (defer self.old.kept (option_copied message.entry) self.old.deferred) true self.old self.new) }
+    {
+        self.deferred
+            .defer(self.kept, message, &mut self.said.notes)?;
+        self.kept = true;
+        Ok(())
+    }
+
+    /// `recall`.
+    #[tactic(auto, using(crate::proofs::Steps::keeps_back))]
+    pub(crate) fn recall(&mut self) -> Result<(), AllocError>
+        ensures { OnOk result (Keeps (recall self.old.deferred) self.old.kept self.old self.new) }
+    {
+        self.deferred.recall(&mut self.back, &mut self.said.notes)?;
+        Ok(())
+    }
+
+    /// `recallAll`.
+    #[tactic(auto, using(crate::proofs::Steps::keeps_back))]
+    pub(crate) fn recall_all(&mut self) -> Result<(), AllocError>
+        ensures { OnOk result (Keeps (recall_all self.old.deferred) self.old.kept self.old self.new) }
+    {
+        self.deferred
+            .recall_all(&mut self.back, &mut self.said.notes)?;
+        Ok(())
+    }
+}

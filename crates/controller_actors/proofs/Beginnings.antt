@@ -1,0 +1,201 @@
+-- The starts of a controller's actors, one after another.
+use Rattle.std.proofs.Common.{◌≡◌, ℕ, ◌+◌, ◌<◌, Bool, true, false, cond, List, [], ◌∷◌, ◌++◌, map, filter, length, set, replicate, refl, sym, ap, ◌∙◌, subst, arith, length-set, inl, inr}
+use Rattle.std.proofs.Math.Path.{fun_ext}
+use Rattle.std.specs.List.{range_with_len}
+use Rattle.std.proofs.lemmas.Bool.{cases_lt}
+use Rattle.std.proofs.lemmas.List.{get_or_past, get_or-replicate, length-replicate, map-append}
+use Rattle.std.proofs.lemmas.List.Elements.{All-nil, filter-append}
+use Rattle.room_kinds.specs.declared.message.Msg.{Msg}
+use Rattle.room_kinds.specs.declared.numbers.Incarnation.{Incarnation}
+use Rattle.room_wiring.specs.declared.tables.Tables.{Tables as Wiring}
+use Rattle.journal.specs.declared.entry.Entry.{Entry}
+use Rattle.journal.specs.declared.entry.Entry.TheVariants as entry
+use Rattle.actor_duties.specs.Words.{incarnation}
+use Rattle.actor_duties.specs.Lives.{last_of}
+use Rattle.actor_world.specs.Behaviour.{Behaviour}
+use Rattle.actor_world.specs.Body.{Body, Doing}
+use Rattle.actor_world.specs.Start.{Starting as WorldStarting, all_started, started, starting, first_state, start_entries, first_body, first_links, first_actors}
+use Rattle.frame_lives.specs.declared.row.Row.{Row}
+use Rattle.frame_lives.specs.Known.{Known}
+use Rattle.frame_lives.specs.Shown.{shown}
+use Rattle.frame_start.specs.First.{first_known}
+use Rattle.chart_behaviour.specs.ModelCharts.{Actor, tables_at, begins, state_number}
+use Rattle.command_sends.proofs.Broadcasting.{range-more}
+use Rattle.controller_mail.specs.MailState.{HasPriority}
+use Rattle.static_peers.specs.Static.{static_frame}
+use Rattle.actor_seats.specs.declared.seat.Seat.{Seat}
+use Rattle.actor_seats.specs.declared.seat.Entrance.{Entrance}
+use Rattle.actor_seats.specs.Stands.{actor_in}
+use Rattle.actor_seats.specs.Seats.{SeatBegins, SeatFits, seat_body, entered}
+use Rattle.controller_actors.specs.declared.plant.Plant.{Plant}
+use Rattle.controller_actors.specs.declared.actors.Actors.{Actors}
+use Rattle.controller_actors.specs.declared.start.Starting.{Starting}
+use Rattle.controller_actors.specs.Plants.{model_of}
+use Rattle.controller_actors.specs.Stands.{IsWell, body_of, seat_at, vacant}
+use Rattle.controller_actors.specs.Steps.{ActorsBegin, Starts, StartsIn, unstarted, is_first, first_below, first_in}
+use Rattle.controller_actors.proofs.Bodies.{body_same, body_set, well_set}
+
+-- ---- one actor
+
+module _ (p : Plant) (me : ℕ) where
+  -- the actor of a slot began
+  pub actors_begin : (old new : Actors) (s : ℕ) (before after : Seat) (sent back : List Msg) (e : Entrance) → s < length old.seats.items
+      → before ≡ seat_at old.seats.items s → new.lives ≡ old.lives → new.seats.items ≡ set old.seats.items s after
+      → SeatBegins p.wiring me (static_frame (shown old.lives)) first_links (last_of (shown old.lives).lives s) (tables_at p.wiring p.tables.items s) before after sent back e
+      → IsWell p me old → ActorsBegin p me s old new sent back e
+  actors_begin old new s before after sent back e l is lives seats h well =
+      let x = last_of (shown old.lives).lives s in
+      let o = tables_at p.wiring p.tables.items s in
+      let f = static_frame (shown old.lives) in
+      let b = body_of p me old in
+      record {
+        kept = h.kept;
+        doing = λ notes held.
+            ap (λ (c : Body Actor). entered p.wiring me x (begins x o) (record { body = c; sent = sent; back = back; notes = notes; kept = held }))
+            (body_same p me old s ∙ ap (seat_body f first_links b s) (sym is))
+            ∙ h.doing b notes held
+            ∙ ap (λ (c : Body Actor). record { body = c; sent = e.said.messages; back = e.back; notes = e.said.notes; kept = h.kept })
+            (sym (body_set p me old new s after l lives seats));
+        state = h.state;
+        well = well_set p me old new s after l lives seats well h.fits;
+        count = ap length seats ∙ length-set old.seats.items s after;
+      }
+
+  last_started : (model : Behaviour Actor) (t : Wiring) (xs : List Incarnation) (x : Incarnation) (s : WorldStarting Actor)
+      → all_started model t me (xs ++ x ∷ []) s ≡ started model t me (all_started model t me xs s) x
+  last_started model t [] x s = refl
+  last_started model t (first ∷ xs) x s = last_started model t xs x (started model t me s first)
+
+  -- the start of an actor in the definitions
+  started_is : (s : WorldStarting Actor) (x : Incarnation) → started (model_of p) p.wiring me s x
+      ≡ (let after = entered p.wiring me x (begins x (tables_at p.wiring p.tables.items x.slot.0)) s.doing in
+      record {
+        doing = after;
+        entries = s.entries ++ entry.Start x (state_number (begins x (tables_at p.wiring p.tables.items x.slot.0)).machine) after.notes ∷ [];
+      })
+  started_is s x = refl
+
+  -- an actor has started after others
+  pub starts_in : (slot : ℕ) (old new : Starting) (e : Entrance) → ActorsBegin p me slot old.actors new.actors old.sent old.back e
+      → new.sent ≡ e.said.messages → new.back ≡ e.back
+      → new.entries ≡ old.entries ++ entry.Start (last_of (shown old.actors.lives).lives slot) e.state e.said.notes ∷ []
+      → StartsIn p me slot old new
+  starts_in slot old new e h sent back entries = record {
+    on = λ xs s.
+        let x = last_of (shown old.actors.lives).lives slot in
+        let o = tables_at p.wiring p.tables.items slot in
+        let before : Doing Actor = record { body = body_of p me old.actors; sent = old.sent; back = old.back; notes = s.notes; kept = s.kept } in
+        record {
+          notes = e.said.notes;
+          kept = h.kept;
+          started =
+              last_started (model_of p) p.wiring xs x (unstarted p.wiring me)
+              ∙ ap (λ (w : WorldStarting Actor). started (model_of p) p.wiring me w x) s.started
+              ∙ started_is (record { doing = before; entries = old.entries }) x
+              ∙ ap (λ (d : Doing Actor). record { doing = d; entries = old.entries ++ entry.Start x (state_number (begins x o).machine) d.notes ∷ [] }) (h.doing s.notes s.kept)
+              ∙ ap (λ (n : ℕ). record {
+                doing = record { body = body_of p me new.actors; sent = e.said.messages; back = e.back; notes = e.said.notes; kept = h.kept };
+                entries = old.entries ++ entry.Start x n e.said.notes ∷ [];
+              }) (sym h.state)
+              ∙ ap (λ (ms : List Msg). record {
+                doing = record { body = body_of p me new.actors; sent = ms; back = e.back; notes = e.said.notes; kept = h.kept };
+                entries = old.entries ++ entry.Start x e.state e.said.notes ∷ [];
+              }) (sym sent)
+              ∙ ap (λ (ms : List Msg). record {
+                doing = record { body = body_of p me new.actors; sent = new.sent; back = ms; notes = e.said.notes; kept = h.kept };
+                entries = old.entries ++ entry.Start x e.state e.said.notes ∷ [];
+              }) (sym back)
+              ∙ ap (λ (es : List Entry). record {
+                doing = record { body = body_of p me new.actors; sent = new.sent; back = new.back; notes = e.said.notes; kept = h.kept };
+                entries = es;
+              }) (sym entries);
+          well = h.well;
+          count = h.count ∙ s.count;
+        };
+  }
+
+  -- ---- the slots in order
+
+  pub first_none : first_below p.wiring me 0 ≡ []
+  unfolding first_below
+  first_none = refl
+
+  pub first_more : (n : ℕ) → first_below p.wiring me n ++ first_in p.wiring me n ≡ first_below p.wiring me (n + 1)
+  unfolding first_below
+  first_more n =
+      ap (λ (ys : List Incarnation). first_below p.wiring me n ++ ys) (one (is_first p.wiring me n))
+      ∙ sym (map-append (λ s. incarnation s 1) (filter (is_first p.wiring me) (range_with_len 0 n)) (filter (is_first p.wiring me) (n ∷ [])))
+      ∙ ap (map (λ s. incarnation s 1)) (sym (filter-append (is_first p.wiring me) (range_with_len 0 n) (n ∷ [])) ∙ ap (filter (is_first p.wiring me)) (sym (range-more n)))
+    where
+      one : (b : Bool) → cond b (incarnation n 1 ∷ []) [] ≡ map (λ s. incarnation s 1) (cond b (n ∷ []) [])
+      one true = refl
+      one false = refl
+
+  pub first_all : first_below p.wiring me (length p.wiring.slots) ≡ first_actors p.wiring me
+  unfolding first_below first_actors
+  first_all = refl
+
+  -- who lives in a slot at the start
+  module _ (rows : List Row) (known : shown rows ≡ first_known p.wiring me) (s : ℕ) where
+    lives_first : (shown rows).lives.lives s ≡ is_first p.wiring me s
+    lives_first = ap (λ (k : Known). k.lives.lives s) known
+
+    pub first_there : (shown rows).lives.lives s ≡ true → first_in p.wiring me s ≡ last_of (shown rows).lives s ∷ []
+    first_there e =
+        let here : is_first p.wiring me s ≡ true = sym lives_first ∙ e in
+        let generation : (shown rows).lives.generation s ≡ 1 = ap (λ (k : Known). k.lives.generation s) known ∙ ap (λ b. cond b 1 0) here in
+        ap (λ b. cond b (incarnation s 1 ∷ []) []) here ∙ ap (λ g. incarnation s g ∷ []) (sym generation)
+
+    pub first_nobody : (shown rows).lives.lives s ≡ false → first_in p.wiring me s ≡ []
+    first_nobody e = ap (λ b. cond b (incarnation s 1 ∷ []) []) (sym lives_first ∙ e)
+
+  -- ---- before and after
+
+  vacant_at : (n s : ℕ) → seat_at (replicate n vacant) s ≡ vacant
+  vacant_at n s = elim (cases_lt s n) [
+    | inl l ↦ get_or-replicate n s vacant vacant l
+    | inr l ↦ get_or_past (replicate n vacant) s vacant (let many = length-replicate n vacant in omega arith)
+  ]
+
+  same_start : {b c : Body Actor} {sent sent' back back' : List Msg} {entries entries' : List Entry} → b ≡ c → sent ≡ sent' → back ≡ back' → entries ≡ entries'
+      → ◌≡◌ {A = WorldStarting Actor}
+      (record { doing = record { body = b; sent = sent; back = back; notes = []; kept = false }; entries = entries })
+      (record { doing = record { body = c; sent = sent'; back = back'; notes = []; kept = false }; entries = entries' })
+  same_start e f g h = cc
+
+  -- the body of actors of which none has started
+  body_none : (a : Actors) → shown a.lives ≡ first_known p.wiring me → a.seats.items ≡ replicate (length p.wiring.slots) vacant → first_body p.wiring me ≡ body_of p me a
+  unfolding body_of
+  body_none a known seats =
+      sym (ap (λ (k : Known). record { frame = static_frame k; links = first_links; table = []; machines = λ s. actor_in (seat_at a.seats.items s).stand; deferred = λ s. (seat_at a.seats.items s).deferred }) known
+      ∙ ap (λ (f : ℕ → Seat). record { frame = static_frame (first_known p.wiring me); links = first_links; table = []; machines = λ s. actor_in (f s).stand; deferred = λ s. (f s).deferred })
+      (fun_ext (λ s. ap (λ (xs : List Seat). seat_at xs s) seats ∙ vacant_at (length p.wiring.slots) s)))
+
+  -- nobody has started
+  pub starts_none : (s : Starting) → shown s.actors.lives ≡ first_known p.wiring me → s.actors.seats.items ≡ replicate (length p.wiring.slots) vacant
+      → s.sent ≡ [] → s.back ≡ [] → s.entries ≡ [] → Starts p me [] s
+  starts_none s known seats sent back entries = record {
+    notes = [];
+    kept = false;
+    started = same_start (body_none s.actors known seats) (sym sent) (sym back) (sym entries);
+    well = record {
+      lives = known;
+      each = λ n.
+          subst (λ (x : Seat). SeatFits (last_of (shown s.actors.lives).lives n) (tables_at p.wiring p.tables.items n) x)
+          (sym (ap (λ (xs : List Seat). seat_at xs n) seats ∙ vacant_at (length p.wiring.slots) n))
+          (record { of = tt; tables = tt; kept = All-nil HasPriority });
+    };
+    count = ap length seats ∙ length-replicate (length p.wiring.slots) vacant;
+  }
+
+  -- all have
+  module _ (s : Starting) (h : Starts p me (first_below p.wiring me (length p.wiring.slots)) s) where
+    whole : starting (model_of p) p.wiring me ≡ record { doing = record { body = body_of p me s.actors; sent = s.sent; back = s.back; notes = h.notes; kept = h.kept }; entries = s.entries }
+    unfolding starting
+    whole = ap (λ (xs : List Incarnation). all_started (model_of p) p.wiring me xs (unstarted p.wiring me)) (sym first_all) ∙ h.started
+
+    pub whole_state : first_state (model_of p) p.wiring me ≡ record { clock = 0; turns = 0; pending = λ q. []; outbox = s.sent; body = body_of p me s.actors }
+    whole_state = ap (λ (w : WorldStarting Actor). record { clock = 0; turns = 0; pending = λ q. []; outbox = w.doing.sent; body = w.doing.body }) whole
+
+    pub whole_entries : s.entries ≡ start_entries (model_of p) p.wiring me
+    whole_entries = sym (ap (λ (w : WorldStarting Actor). w.entries) whole)

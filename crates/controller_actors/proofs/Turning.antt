@@ -1,0 +1,137 @@
+-- A turn by the cases of the definition.
+use Rattle.std.proofs.Common.{◌≡◌, ℕ, ◌<◌, ◌==◌, ◌&&◌, not, Bool, true, false, [], length, set, All, Some, None, refl, sym, ap, ◌∙◌, subst}
+use Rattle.std.proofs.lemmas.Bool.{cond-true, cond-false}
+use Rattle.std.proofs.lemmas.List.Elements.{All-nil}
+use Rattle.room_kinds.specs.declared.message.Msg.{Msg}
+use Rattle.room_wiring.specs.declared.tables.Tables.{Tables as Wiring}
+use Rattle.journal.specs.declared.entry.Did.TheVariants as did
+use Rattle.actor_duties.specs.Words.{is_own, whose}
+use Rattle.actor_duties.specs.Lives.{last_of}
+use Rattle.actor_world.specs.Behaviour.{Behaviour}
+use Rattle.actor_world.specs.Body.{Body}
+use Rattle.actor_world.specs.Start.{first_links}
+use Rattle.actor_world.specs.Turns.{doing, treated, is_meant, nobody_there, handled, dispatched, dispatch, treat}
+use Rattle.frame_lives.specs.Shown.{shown}
+use Rattle.chart_behaviour.specs.ModelCharts.{Actor, tables_at, handles}
+use Rattle.controller_mail.specs.MailState.{HasPriority, with_body}
+use Rattle.controller_mail.specs.declared.controller_mail.Treatment.{Treatment}
+use Rattle.static_peers.specs.Static.{static_frame}
+use Rattle.actor_seats.specs.declared.seat.Seat.{Seat}
+use Rattle.actor_seats.specs.Stands.{actor_in, actor_of}
+use Rattle.actor_seats.specs.Seats.{SeatTurns, seat_body, turned, treated_on}
+use Rattle.controller_actors.specs.declared.plant.Plant.{Plant}
+use Rattle.controller_actors.specs.declared.actors.Actors.{Actors}
+use Rattle.controller_actors.specs.Plants.{model_of}
+use Rattle.controller_actors.specs.Stands.{IsWell, body_of, done_of, seat_at}
+use Rattle.controller_actors.specs.Steps.{Dispatches}
+use Rattle.controller_actors.proofs.Bodies.{body_same, body_set, well_set}
+
+-- ---- the cases of a dispatch, over any behaviour
+
+module _ {M : Type 0} (model : Behaviour M) (t : Wiring) (me : ℕ) (b : Body M) (m : Msg) where
+  dispatch_nobody : (is_own t me m.target.slot.0 && b.frame.lives.lives m.target.slot.0) ≡ false → dispatch model t me b m ≡ nobody_there b m
+  unfolding dispatch
+  dispatch_nobody e = cond-true _ _ _ (ap not e)
+
+  dispatch_stale : (is_own t me m.target.slot.0 && b.frame.lives.lives m.target.slot.0) ≡ true → is_meant b.frame m ≡ false
+      → dispatch model t me b m ≡ treated (doing b) (did.Stale (whose m.target))
+  unfolding dispatch
+  dispatch_stale e h = cond-false _ _ _ (ap not e) ∙ cond-true _ _ _ (ap not h)
+
+  dispatch_handled : (is_own t me m.target.slot.0 && b.frame.lives.lives m.target.slot.0) ≡ true → is_meant b.frame m ≡ true
+      → dispatch model t me b m ≡ dispatched model t me b m (b.machines m.target.slot.0)
+  unfolding dispatch
+  dispatch_handled e h = cond-false _ _ _ (ap not e) ∙ cond-false _ _ _ (ap not h)
+
+  treat_dispatch : (m.prio.0 == 0) ≡ false → treat model t me b m ≡ dispatch model t me b m
+  unfolding treat
+  treat_dispatch e = cond-false _ _ _ e
+
+-- ---- the same of the actors of a controller
+
+-- whether an actor lives in a message's slot
+abbrev is_here : Wiring → ℕ → Msg → Actors → Bool
+is_here t me m a = is_own t me m.target.slot.0 && (shown a.lives).lives.lives m.target.slot.0
+
+-- whether it is meant
+abbrev is_for : Msg → Actors → Bool
+is_for m a = is_meant (static_frame (shown a.lives)) m
+
+module _ (p : Plant) (me : ℕ) (m : Msg) (old : Actors) where
+  -- the frame service's state of the body
+  frame_is : (body_of p me old).frame ≡ static_frame (shown old.lives)
+  unfolding body_of
+  frame_is = refl
+
+  machine_is : (s : ℕ) → (body_of p me old).machines s ≡ actor_in (seat_at old.seats.items s).stand
+  unfolding body_of
+  machine_is s = refl
+
+  pub treats_nobody : (done : Treatment) → (m.prio.0 == 0) ≡ false → is_here p.wiring me m old ≡ false → done ≡ record { sent = []; back = []; did = did.Empty (whose m.target); notes = [] }
+      → treat (model_of p) p.wiring me (body_of p me old) m ≡ with_body (done_of done) (body_of p me old)
+  unfolding body_of
+  treats_nobody done prio e is =
+      treat_dispatch (model_of p) p.wiring me (body_of p me old) m prio
+      ∙ dispatch_nobody (model_of p) p.wiring me (body_of p me old) m e
+      ∙ ap (λ (d : Treatment). with_body (done_of d) (body_of p me old)) (sym is)
+
+  pub treats_stale : (done : Treatment) → (m.prio.0 == 0) ≡ false → is_here p.wiring me m old ≡ true → is_for m old ≡ false → done ≡ record { sent = []; back = []; did = did.Stale (whose m.target); notes = [] }
+      → treat (model_of p) p.wiring me (body_of p me old) m ≡ with_body (done_of done) (body_of p me old)
+  unfolding body_of
+  treats_stale done prio e h is =
+      treat_dispatch (model_of p) p.wiring me (body_of p me old) m prio
+      ∙ dispatch_stale (model_of p) p.wiring me (body_of p me old) m e h
+      ∙ ap (λ (d : Treatment). with_body (done_of d) (body_of p me old)) (sym is)
+
+  pub treats_handled : (new : Actors) (done : Treatment) → (m.prio.0 == 0) ≡ false → is_here p.wiring me m old ≡ true → is_for m old ≡ true → Dispatches p me m old new done
+      → treat (model_of p) p.wiring me (body_of p me old) m ≡ with_body (done_of done) (body_of p me new)
+  unfolding body_of
+  treats_handled new done prio e h d =
+      treat_dispatch (model_of p) p.wiring me (body_of p me old) m prio
+      ∙ dispatch_handled (model_of p) p.wiring me (body_of p me old) m e h
+      ∙ d.turn
+
+  -- nobody stands in the slot
+  pub dispatches_nobody : (done : Treatment) → actor_in (seat_at old.seats.items m.target.slot.0).stand ≡ None → done ≡ record { sent = []; back = []; did = did.Empty (whose m.target); notes = [] }
+      → IsWell p me old → Dispatches p me m old old done
+  dispatches_nobody done e is well = record {
+    turn =
+        ap (dispatched (model_of p) p.wiring me (body_of p me old) m) (machine_is m.target.slot.0 ∙ e)
+        ∙ ap (λ (d : Treatment). with_body (done_of d) (body_of p me old)) (sym is);
+    well = well;
+    back = subst (λ (d : Treatment). All HasPriority d.back) (sym is) (All-nil HasPriority);
+  }
+
+  -- the machine of a behaviour handles the message
+  handled_is : (actor : Actor) → handled (model_of p) p.wiring me (body_of p me old) (last_of (shown old.lives).lives m.target.slot.0) m actor
+      ≡ turned p.wiring me (body_of p me old) (last_of (shown old.lives).lives m.target.slot.0) m (handles (last_of (shown old.lives).lives m.target.slot.0) m (tables_at p.wiring p.tables.items m.target.slot.0) actor)
+  unfolding handled
+  handled_is actor = refl
+
+  dispatched_is : (actor : Actor) → dispatched (model_of p) p.wiring me (body_of p me old) m (Some actor)
+      ≡ handled (model_of p) p.wiring me (body_of p me old) (last_of (shown old.lives).lives m.target.slot.0) m actor
+  unfolding body_of
+  dispatched_is actor = refl
+
+  -- an actor stands in the slot
+  pub dispatches_actor : (new : Actors) (before after : Seat) (done : Treatment) → m.target.slot.0 < length old.seats.items
+      → before ≡ seat_at old.seats.items m.target.slot.0 → new.lives ≡ old.lives → new.seats.items ≡ set old.seats.items m.target.slot.0 after
+      → SeatTurns p.wiring me (static_frame (shown old.lives)) first_links (last_of (shown old.lives).lives m.target.slot.0) m (tables_at p.wiring p.tables.items m.target.slot.0) before after done
+      → IsWell p me old → Dispatches p me m old new done
+  dispatches_actor new before after done l is lives seats h well =
+      let s = m.target.slot.0 in
+      let x = last_of (shown old.lives).lives s in
+      let f = static_frame (shown old.lives) in
+      let b = body_of p me old in
+      let r = handles x m (tables_at p.wiring p.tables.items s) (actor_of before.stand) in
+      record {
+        turn =
+            ap (dispatched (model_of p) p.wiring me b m) (machine_is s ∙ ap (λ (y : Seat). actor_in y.stand) (sym is) ∙ h.stood)
+            ∙ dispatched_is (actor_of before.stand)
+            ∙ handled_is (actor_of before.stand)
+            ∙ ap (λ (c : Body Actor). turned p.wiring me c x m r) (body_same p me old s ∙ ap (seat_body f first_links b s) (sym is))
+            ∙ h.turn b
+            ∙ ap (treated_on done) (sym (body_set p me old new s after l lives seats));
+        well = well_set p me old new s after l lives seats well h.fits;
+        back = h.back;
+      }

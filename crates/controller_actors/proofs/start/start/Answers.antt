@@ -1,0 +1,19 @@
+use Rattle.std.proofs.Common.{ap, ◌∙◌, replicate}
+use Rattle.controller_actors.specs.declared.actors.Actors.{Actors}
+use Rattle.controller_actors.specs.declared.start.Starting.{Starting}
+use Rattle.controller_actors.specs.Stands.{vacant}
+use Rattle.controller_actors.proofs.Beginnings.{starts_none, whole_state, whole_entries}
+use Rattle.controller_actors.proofs.start.start.Goals as goal
+
+pub start_all-requires-clause-started : goal.start_all-requires-clause-started
+start_all-requires-clause-started c =
+    let actors : Actors = record { alloc = c.args.alloc; lives = c.in_ok-lives.lives; seats = c.in_ok-seats.seats } in
+    let none : Starting = record { actors = actors; sent = c.new.result; back = c.new-2.result; entries = c.new-3.result } in
+    starts_none c.args.plant.now c.args.me.0 none c.in_ok-lives.ensures (c.in_ok-seats.ensures ∙ ap (λ n. replicate n vacant) c.slot_count.ensures.count)
+    c.new.ensures c.new-2.ensures c.new-3.ensures
+
+pub returns-clause-state : goal.returns-clause-state
+returns-clause-state c = whole_state c.args.plant.now c.args.me.0 c.start_all.new.self c.in_ok-start_all.ensures
+
+pub returns-clause-entries : goal.returns-clause-entries
+returns-clause-entries c = whole_entries c.args.plant.now c.args.me.0 c.start_all.new.self c.in_ok-start_all.ensures

@@ -1,0 +1,3 @@
+pub mod Plants
+pub mod Stands
+pub mod Steps

@@ -1,0 +1,17 @@
+-- The plants on which controllers run, and what their actors do.
+use Rattle.std.specs.Prelude.{◌≡◌, ℕ, Some, slice_get}
+use Rattle.chart_tables.specs.Tables.{IsSound}
+use Rattle.chart_tables.specs.declared.tables.Tables.{Tables as ChartTables}
+use Rattle.slot_runs.specs.Runs.{IsDepthFirst}
+use Rattle.actor_world.specs.Behaviour.{Behaviour}
+use Rattle.chart_behaviour.specs.ModelCharts.{Actor, behaviour_of}
+use Rattle.controller_actors.specs.declared.plant.Plant.{Plant}
+
+-- what the actors of a plant do
+abbrev pub model_of : Plant → Behaviour Actor
+model_of p = behaviour_of p.wiring p.tables.items
+
+-- a plant on which controllers run: its tables are sound, and its slots are numbered depth first
+pub record IsPlant (p : Plant) : Type 0 where
+  pub sound : (class : ℕ) (v : ChartTables) → slice_get p.tables.items class ≡ Some (Some v) → IsSound v
+  pub order : IsDepthFirst p.wiring

@@ -1,0 +1,68 @@
+-- What the actors of a controller do, step by step.
+use Rattle.std.specs.Prelude.{◌≡◌, ℕ, ◌&&◌, Bool, List, [], ◌∷◌, ◌++◌, All, map, filter, length, if◌then◌else◌}
+use Rattle.std.specs.List.{range_with_len}
+use Rattle.room_kinds.specs.declared.message.Msg.{Msg}
+use Rattle.room_kinds.specs.declared.note.Note.{Note}
+use Rattle.room_kinds.specs.declared.numbers.Incarnation.{Incarnation}
+use Rattle.room_wiring.specs.declared.tables.Tables.{Tables as Wiring}
+use Rattle.actor_duties.specs.Words.{incarnation, is_own}
+use Rattle.actor_duties.specs.Lives.{last_of}
+use Rattle.actor_world.specs.Start.{Starting as WorldStarting, all_started, first_body, lives_from_start}
+use Rattle.actor_world.specs.Turns.{dispatched, doing}
+use Rattle.frame_lives.specs.Shown.{shown}
+use Rattle.chart_behaviour.specs.ModelCharts.{Actor, begins, state_number, tables_at}
+use Rattle.controller_mail.specs.MailState.{HasPriority, with_body}
+use Rattle.controller_mail.specs.declared.controller_mail.Treatment.{Treatment}
+use Rattle.actor_seats.specs.declared.seat.Entrance.{Entrance}
+use Rattle.actor_seats.specs.Seats.{entered}
+use Rattle.controller_actors.specs.declared.plant.Plant.{Plant}
+use Rattle.controller_actors.specs.declared.actors.Actors.{Actors}
+use Rattle.controller_actors.specs.declared.start.Starting.{Starting}
+use Rattle.controller_actors.specs.Plants.{model_of}
+use Rattle.controller_actors.specs.Stands.{IsWell, body_of, done_of}
+
+-- the actor of the message's slot handled it, or nobody stands there
+pub record Dispatches (plant : Plant) (me : ℕ) (m : Msg) (old new : Actors) (done : Treatment) : Type 0 where
+  pub turn : dispatched (model_of plant) plant.wiring me (body_of plant me old) m ((body_of plant me old).machines m.target.slot.0) ≡ with_body (done_of done) (body_of plant me new)
+  pub well : IsWell plant me new
+  pub back : All HasPriority done.back
+
+-- the actor of a slot began, where so much was sent and came back before
+pub record ActorsBegin (plant : Plant) (me slot : ℕ) (old new : Actors) (sent before : List Msg) (e : Entrance) : Type 0 where
+  pub kept : Bool
+  pub doing : (notes : List Note) (held : Bool)
+      → let x = last_of (shown old.lives).lives slot in
+      entered plant.wiring me x (begins x (tables_at plant.wiring plant.tables.items slot)) (record { body = body_of plant me old; sent = sent; back = before; notes = notes; kept = held })
+      ≡ record { body = body_of plant me new; sent = e.said.messages; back = e.back; notes = e.said.notes; kept = kept }
+  pub state : e.state ≡ state_number (begins (last_of (shown old.lives).lives slot) (tables_at plant.wiring plant.tables.items slot)).machine
+  pub well : IsWell plant me new
+  pub count : length new.seats.items ≡ length old.seats.items
+
+-- before any actor of a controller has started
+abbrev pub unstarted : Wiring → ℕ → WorldStarting Actor
+unstarted t me = record { doing = doing (first_body t me); entries = [] }
+
+-- these actors of a controller have started, in order
+pub record Starts (plant : Plant) (me : ℕ) (xs : List Incarnation) (s : Starting) : Type 0 where
+  pub notes : List Note
+  pub kept : Bool
+  pub started : all_started (model_of plant) plant.wiring me xs (unstarted plant.wiring me)
+      ≡ record { doing = record { body = body_of plant me s.actors; sent = s.sent; back = s.back; notes = notes; kept = kept }; entries = s.entries }
+  pub well : IsWell plant me s.actors
+  pub count : length s.actors.seats.items ≡ length plant.wiring.slots
+
+-- the actor of a slot has started after these
+pub record StartsIn (plant : Plant) (me slot : ℕ) (old new : Starting) : Type 0 where
+  pub on : (xs : List Incarnation) → Starts plant me xs old → Starts plant me (xs ++ last_of (shown old.actors.lives).lives slot ∷ []) new
+
+-- whether an actor lives in a slot from the start
+abbrev pub is_first : Wiring → ℕ → ℕ → Bool
+is_first t me s = is_own t me s && lives_from_start t s
+
+-- the actors that live from the start in the slots below a number
+unfoldable pub first_below : Wiring → ℕ → ℕ → List Incarnation
+first_below t me n = map (λ s. incarnation s 1) (filter (is_first t me) (range_with_len 0 n))
+
+-- the one in a slot, if it does
+abbrev pub first_in : Wiring → ℕ → ℕ → List Incarnation
+first_in t me s = if is_first t me s then incarnation s 1 ∷ [] else []

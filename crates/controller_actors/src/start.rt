@@ -1,0 +1,119 @@
+//! The start of a controller's actors.
+ghost use Rattle.std.specs.Prelude.{◌≡◌, ◌<◌, ◌++◌, [], length, replicate, IfOk, OnOk};
+ghost use Rattle.actor_world.specs.Start.{first_state, start_entries};
+ghost use Rattle.controller_actors.specs.Plants.{IsPlant, model_of};
+ghost use Rattle.controller_actors.specs.Stands.{IsWell, body_of, vacant};
+ghost use Rattle.controller_actors.specs.Steps.{Starts, StartsIn, first_below, first_in};
+
+use crate::actors::{Actors, Begun};
+use crate::plant::Plant;
+use actor_seats::{Entrance, Seat};
+use command_sends::Said;
+use deferred_messages::Recalled;
+use frame_start::first_lives;
+use journal::{Entry, Journal};
+use room_kinds::{ControllerId, Outbox, SlotId};
+use std::alloc::{AllocError, Global};
+use std::mem;
+
+/// A controller whose actors start: what they sent, what came back, and their entries so far.
+#[derive(Drop)]
+pub(crate) struct Starting {
+    actors: Actors,
+    sent: Outbox,
+    back: Recalled,
+    entries: Journal,
+}
+
+fn vacant_seats(alloc: Global, count: u32) -> Result<Vec<Seat>, AllocError>
+    ensures { IfOk result (λ seats. seats.items ≡ replicate count vacant) }
+{
+    let mut seats = Vec::with_capacity(alloc, count as usize)?;
+    for _slot in 0..count {
+        seats.push(Seat::vacant(alloc))?;
+    }
+    Ok(seats)
+}
+
+impl Starting {
+    /// The actor of a slot starts.
+    fn start_in(&mut self, plant: &Plant, me: ControllerId, slot: SlotId) -> Result<(), AllocError>
+        requires plant { IsPlant plant.now }
+        requires well { IsWell plant.now me.0 self.old.actors }
+        requires there { slot.0 < length self.old.actors.seats.items }
+        ensures { OnOk result (StartsIn plant.now me.0 slot.0 self.old self.new) }
+    {
+        let alloc = self.actors.alloc;
+        let who = self.actors.lives.last_of(slot);
+        let sent = mem::replace(&mut self.sent, Outbox::new(alloc));
+        let back = mem::replace(&mut self.back, Recalled::new(alloc));
+        let entrance = self.actors.begin(plant, me, slot, sent, back)?;
+        let Entrance { said, back, state } = entrance;
+        let Said { messages, notes } = said;
+        self.sent = messages;
+        self.back = back;
+        self.entries.push(Entry::Start { who, state, notes })?;
+        Ok(())
+    }
+
+    /// The actor of a slot starts, if one lives there from the start.
+    fn consider(&mut self, plant: &Plant, me: ControllerId, slot: SlotId) -> Result<(), AllocError>
+        requires plant { IsPlant plant.now }
+        requires started { Starts plant.now me.0 (first_below plant.now.wiring me.0 slot.0) self.old }
+        requires there { slot.0 < length plant.now.wiring.slots }
+        ensures { OnOk result (Starts plant.now me.0 (first_below plant.now.wiring me.0 slot.0 ++ first_in plant.now.wiring me.0 slot.0) self.new) }
+    {
+        if !self.actors.lives.lives(slot) {
+            return Ok(());
+        }
+        self.start_in(plant, me, slot)?;
+        Ok(())
+    }
+
+    /// All actors that live from the start do.
+    fn start_all(&mut self, plant: &Plant, me: ControllerId) -> Result<(), AllocError>
+        requires plant { IsPlant plant.now }
+        requires started { Starts plant.now me.0 [] self.old }
+        ensures { OnOk result (Starts plant.now me.0 (first_below plant.now.wiring me.0 (length plant.now.wiring.slots)) self.new) }
+    {
+        for number in 0..plant.wiring.slot_count() {
+            self.consider(plant, me, SlotId(number as u16))?;
+        }
+        Ok(())
+    }
+}
+
+/// All actors of controller `me` that live from the start begin, in slot order.
+pub(crate) fn start(alloc: Global, plant: &Plant, me: ControllerId) -> Result<Begun, AllocError>
+    requires plant { IsPlant plant.now }
+    requires me { me.0 < length plant.now.wiring.controllers }
+    ensures state { IfOk result (λ b. first_state (model_of plant.now) plant.now.wiring me.0 ≡ record { clock = 0; turns = 0; pending = λ p. []; outbox = b.sent; body = body_of plant.now me.0 b.actors }) }
+    ensures entries { IfOk result (λ b. b.entries ≡ start_entries (model_of plant.now) plant.now.wiring me.0) }
+    ensures well { IfOk result (λ b. IsWell plant.now me.0 b.actors) }
+{
+    let lives = first_lives(alloc, &plant.wiring, me)?;
+    let seats = vacant_seats(alloc, plant.wiring.slot_count())?;
+    let mut starting = Starting {
+        actors: Actors {
+            alloc,
+            lives,
+            seats,
+        },
+        sent: Outbox::new(alloc),
+        back: Recalled::new(alloc),
+        entries: Journal::new(alloc),
+    };
+    starting.start_all(plant, me)?;
+    // What came back goes nowhere: at a start nothing was kept before.
+    let Starting {
+        actors,
+        sent,
+        back: _,
+        entries,
+    } = starting;
+    Ok(Begun {
+        actors,
+        sent,
+        entries,
+    })
+}

@@ -1,0 +1,4 @@
+pub mod Posted
+pub mod Looked
+pub mod Prompt
+pub mod Replayed

@@ -1,8 +1,0 @@
-pub mod FirstModel
-pub mod Tree
-pub mod Grammar
-pub mod Names
-pub mod Lines
-pub mod Settles
-pub mod Shapes
-pub mod LineReading

@@ -1,0 +1,14 @@
+//! Imports: an actor of one container, the home, is lent to an imported slot of another (ROOM: Selic,
+//! Gullekson and Ward 1994; the messages between the owners of the two are this project's own). Here are
+//! the commands `import` and `deport`, what the owner of a home does at a request, and what the owner of
+//! an import place does at the answer.
+#![tactic(auto)]
+
+mod answers;
+mod commands;
+mod homes;
+mod ports;
+
+pub use answers::{deport_done, import_done, import_ended, import_refused};
+pub use commands::{Asked, request_deport, request_import};
+pub use homes::{deport, import};

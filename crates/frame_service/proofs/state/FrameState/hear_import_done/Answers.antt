@@ -1,0 +1,35 @@
+use Rattle.std.proofs.Common.{◌<◌, sym, subst, ℕ}
+use Rattle.room_kinds.specs.declared.system.SysKind.TheVariants as kinds
+use Rattle.actor_duties.specs.Imports.{import_done}
+use Rattle.actor_duties.specs.Frame as duties
+use Rattle.actor_duties.specs.Frame.{frame_duty_of, is_back}
+use Rattle.frame_lives.specs.Shown.{shown}
+use Rattle.import_places.specs.Lending.{lending}
+use Rattle.frame_service.specs.State.{frame_in}
+use Rattle.frame_service.proofs.FormLemmas.{back_there, plain_fit}
+use Rattle.frame_service.proofs.DutyLemmas.{places_done}
+use Rattle.frame_service.proofs.state.FrameState.hear_import_done.Goals as goal
+
+pub import_done-requires : goal.import_done-requires
+import_done-requires c =
+    let t = c.args.wiring.now in
+    let s = c.args.self.now in
+    let me = s.me.0 in
+    let m = c.args.m.now in
+    let place = c.args.place in
+    let home = c.args.home in
+    subst (λ (n : ℕ). place.slot.0 < n) (sym c.requires.fits.imports) (back_there t me 0 m.payload home place c.requires.form)
+
+pub returns : goal.returns
+unfolding frame_in
+returns c =
+    let t = c.args.wiring.now in
+    let s = c.args.self.now in
+    let me = s.me.0 in
+    let m = c.args.m.now in
+    let place = c.args.place in
+    let home = c.args.home in
+    places_done t s c.import_done.new.imports (import_done t me (shown s.lives).lives (lending s.imports).places home place) (frame_duty_of t me (frame_in s) m kinds.ImportDone home place) c.args.out.now c.import_done.new.out c.nothing.result c.requires.fits
+    c.in_ok-import_done.ensures.now c.in_ok-import_done.ensures.sent
+    (plain_fit (frame_in s) (is_back t me home place) m.payload (duties.with_places (frame_in s) (import_done t me (shown s.lives).lives (lending s.imports).places home place)) c.requires.form)
+    c.nothing.ensures

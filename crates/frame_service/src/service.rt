@@ -1,0 +1,64 @@
+//! The start of a frame service, and what it tells.
+ghost use Rattle.std.specs.Prelude.{◌≡◌, ◌<◌, length, IfOk};
+ghost use Rattle.actor_duties.specs.Peers.{frame_peer, known};
+ghost use Rattle.actor_world.specs.Start.{first_frame};
+ghost use Rattle.slot_runs.specs.Runs.{IsDepthFirst};
+ghost use Rattle.frame_lives.specs.Known.{live_in, some_generation};
+ghost use Rattle.frame_service.specs.State.{frame_in, IsFrameOf};
+
+use crate::state::FrameState;
+use frame_start::first_lives;
+use import_places::Imports;
+use room_kinds::{ControllerId, Endpoint, Generation, SlotId};
+use room_wiring::Wiring;
+use slot_runs::SlotRuns;
+use std::alloc::{AllocError, Global};
+
+impl FrameState {
+    /// The frame service of a controller at the start: each of its slots that is fixed and not below an
+    /// optional one lives with generation 1, its directory tells of such slots of others, and nothing is
+    /// lent.
+    pub fn start(alloc: Global, wiring: &Wiring, me: ControllerId) -> Result<FrameState, AllocError>
+        requires order { IsDepthFirst wiring.now }
+        requires me { me.0 < length wiring.now.controllers }
+        ensures fits { IfOk result (IsFrameOf wiring.now) }
+        ensures frame { IfOk result (λ s. frame_in s ≡ first_frame wiring.now me.0) }
+        ensures me { IfOk result (λ s. s.me ≡ me) }
+    {
+        let runs = SlotRuns::new(alloc, wiring)?;
+        let lives = first_lives(alloc, wiring, me)?;
+        let imports = Imports::new(alloc, wiring.slot_count())?;
+        Ok(FrameState {
+            alloc,
+            me,
+            runs,
+            lives,
+            imports,
+        })
+    }
+
+    /// The peer of a place of a live actor, but for links by name. It takes no memory.
+    #[tactic(auto, unfolding(crate::specs::State::frame_in))]
+    pub fn peer(&self, wiring: &Wiring, from: Endpoint) -> Option<Endpoint>
+        ensures { result ≡ frame_peer wiring.now self.now.me.0 (frame_in self.now) from }
+    {
+        frame_peers::peer(&self.lives, &self.imports, wiring, self.me, from)
+    }
+
+    /// The generation that lives in a slot of the controller's own. It takes no memory.
+    #[tactic(auto, unfolding(crate::specs::State::frame_in))]
+    pub fn live(&self, slot: SlotId) -> Option<Generation>
+        ensures { result ≡ live_in (frame_in self.now).lives slot.0 }
+    {
+        self.lives.live(slot)
+    }
+
+    /// The generation that is known in a slot: what lives there if the slot is the controller's own, else
+    /// what its owner told last. It takes no memory.
+    #[tactic(auto, unfolding(crate::specs::State::frame_in, actor_duties::specs::Peers::known, frame_lives::specs::Known::known_in))]
+    pub fn known(&self, wiring: &Wiring, slot: SlotId) -> Option<Generation>
+        ensures { result ≡ some_generation (known wiring.now self.now.me.0 (frame_in self.now) slot.0) }
+    {
+        self.lives.known(wiring, self.me, slot)
+    }
+}

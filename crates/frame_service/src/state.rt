@@ -1,0 +1,18 @@
+//! The state of a frame service.
+use frame_lives::SlotLives;
+use import_places::Imports;
+use room_kinds::ControllerId;
+use slot_runs::SlotRuns;
+use std::alloc::Global;
+
+/// The frame service of controller `me`. Contracts see its state as the definitions' (`frame_in`).
+///
+/// After want of memory it and the outbox are unspecified: the controller has failed.
+#[derive(Drop)]
+pub struct FrameState {
+    pub(crate) alloc: Global,
+    pub(crate) me: ControllerId,
+    pub(crate) runs: SlotRuns,
+    pub(crate) lives: SlotLives,
+    pub(crate) imports: Imports,
+}

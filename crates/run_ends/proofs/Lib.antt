@@ -1,0 +1,2 @@
+pub mod ToldLaw
+pub mod EndLaw

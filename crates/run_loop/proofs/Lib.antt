@@ -1,0 +1,4 @@
+pub mod ListFacts
+pub mod PlayLaw
+pub mod LastEnd
+pub mod Skipping

@@ -1,0 +1,29 @@
+use Rattle.std.proofs.Common.{◌≡◌, ◌+◌, ◌<◌, ◌≤◌, false, length, sym, ◌∙◌, arith}
+use Rattle.std.specs.List.{list_any}
+use Rattle.run_ends.specs.Ends.{waits}
+use Rattle.run_loop.proofs.PlayLaw.{ends_spent, ends_done, before_next}
+use Rattle.run_loop.proofs.parts.play_parts.Goals as goal
+
+pub returns-then-someone_waits : goal.returns-then-someone_waits
+returns-then-someone_waits g c =
+    ends_spent c.args.plant.now c.args.lines.now c.args.fuel c.in_ok-to.to c.play_part.new.controllers.items c.play_part.new.environment
+    c.in_ok-to.ensures.part c.in_ok-to.ensures.stopped (sym c.someone_waits.ensures ∙ c.if-someone_waits.true)
+
+pub returns-then-from-lines : goal.returns-then-from-lines
+returns-then-from-lines g c =
+    let none : list_any waits c.play_part.new.controllers.items ≡ false = sym c.someone_waits.ensures ∙ c.if-someone_waits.false in
+    let past : length c.args.lines.now ≤ c.skip_settles-from.result = omega arith in
+    ends_done c.args.plant.now c.args.lines.now c.args.fuel c.in_ok-to.to c.play_part.new.controllers.items c.play_part.new.environment
+    c.in_ok-to.ensures.part c.in_ok-to.ensures.stopped none c.skip_settles-from.result (c.skip_settles-from.ensures.skips c.args.plant.now) past
+
+pub loop-part-preserved : goal.loop-part-preserved
+loop-part-preserved g c =
+    let none : list_any waits c.play_part.new.controllers.items ≡ false = sym c.someone_waits.ensures ∙ c.if-someone_waits.false in
+    let skips = c.skip_settles-from.ensures.skips c.args.plant.now in
+    let count : c.in_ok-to.to + skips.settles ≡ c.skip_settles-from.result = skips.count in
+    let later : c.in_ok-to.to < c.skip_settles-from.result = omega arith in
+    record {
+      before = before_next c.args.plant.now c.args.lines.now c.args.fuel c.in_ok-to.to c.play_part.new.controllers.items c.play_part.new.environment
+          c.in_ok-to.ensures.part c.in_ok-to.ensures.stopped none c.skip_settles-from.result skips c.catch_up.new.environment later c.skip_settles-from.ensures.within
+          (c.catch_up.ensures c.args.plant.now);
+    }

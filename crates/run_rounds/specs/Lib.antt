@@ -1,0 +1,4 @@
+pub mod Rounds
+pub mod Prompts
+pub mod LineParts
+pub mod OneByOne
