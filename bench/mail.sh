@@ -3,21 +3,20 @@
 # one controller to another, each in a thread. Beside them stands a plain Rust queue behind a lock, where
 # rustc is at hand. Words: how many messages; 2,000,000 without.
 set -eu
-top="$(cd "$(dirname "${BASH_SOURCE[0]}")/.." && pwd)"
+. "$(dirname "${BASH_SOURCE[0]}")/timing.sh"
 count="${1:-2000000}"
-program="$top/crates/mail_bench/out/mail_bench"
-[ -x "$program" ] || (cd "$top/crates/mail_bench" && rt run) >/dev/null 2>&1 </dev/null
+program="$(program_of mail_bench)"
 work="$(mktemp -d)"
 trap 'rm -rf "$work"' EXIT
 
 # The best of three runs, in millions a second.
-best() {
+fastest() {
     for _ in 1 2 3; do "$@"; done | awk -F': | in | us' '
         { rate = ($3 > 0) ? $2 / $3 : 0; if (!($1 in most)) order[++n] = $1; if (rate > most[$1]) most[$1] = rate }
         END { for (i = 1; i <= n; i++) printf "%-28s %7.2f million a second\n", order[i], most[order[i]] }'
 }
 
-best "$program" "$count"
+fastest "$program" "$count"
 
 command -v rustc >/dev/null || exit 0
 cat >"$work/plain.rs" <<'RUST'
@@ -80,4 +79,4 @@ fn main() {
 }
 RUST
 rustc -O -o "$work/plain" "$work/plain.rs"
-best "$work/plain" "$count"
+fastest "$work/plain" "$count"
