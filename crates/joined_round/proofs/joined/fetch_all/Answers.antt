@@ -1,6 +1,7 @@
-use Rattle.std.proofs.Common.{Vec, Global, ◌≡◌, ℕ, ◌<◌, ◌≤◌, List, [], map, get_or, slice_index_or, length, sym, ap, subst, ◌∙◌, arith}
+use Rattle.std.proofs.Common.{Vec, Global, ◌≡◌, ℕ, ◌<◌, ◌≤◌, List, [], map, get_or, slice_get, slice_index_or, length, sym, ap, subst, ◌∙◌, arith}
 use Rattle.std.proofs.lemmas.List.{length-set}
 use Rattle.room_kinds.specs.declared.message.Msg.{Msg}
+use Rattle.run_rounds.specs.OneByOne.{StepsBelow}
 use Rattle.run_rounds.proofs.OneByOne.{slice_get-other}
 use Rattle.controller.specs.Controllers.{IsOf}
 use Rattle.controller.specs.Calls.{FetchesLeft}
@@ -36,3 +37,8 @@ loop-i-preserved c =
       rest = λ n h. slice_get-other c.loop-i.left.items i n c.replace-list.new.dest (λ e. absurd (omega arith)) ∙ c.loop-i.invariant.rest n (omega arith);
       end = c.loop-i.invariant.end;
     }
+
+pub returns-clause-ok : goal.returns-clause-ok
+returns-clause-ok c =
+    let all : c.loop-i.i ≡ length c.args.controllers.now.items = omega (arith, c.loop-i-test.false, c.loop-i.auto.i-end, c.loop-i.invariant.end) in
+    subst (λ n. StepsBelow (FetchedAt c.args.plant.now (map (λ (v : Vec Msg Global). v.items) c.args.left.items)) n (slice_get c.args.controllers.now.items) (slice_get c.loop-i.controllers.items)) all c.loop-i.invariant.steps
