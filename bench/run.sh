@@ -24,7 +24,7 @@ MODEL
 for i in $(seq 0 999); do echo "ActorRef a$i: A"; done >>"$work/ring.room"
 for i in $(seq 0 999); do echo "Binding a$i.q and a$(((i + 1) % 1000)).p"; done >>"$work/ring.room"
 echo '} } }' >>"$work/ring.room"
-for i in $(seq 0 8); do echo "top/a${i}00.go kick 999"; done >"$work/ring.txt"
+for i in $(seq 0 8); do echo "top/a$((i * 100)).go kick 999"; done >"$work/ring.txt"
 
 cat >"$work/one.room" <<'MODEL'
 RoomModel One {
