@@ -3,9 +3,7 @@
 # classes, many ports in one class, or many bindings in one class. The ratio is that to the model of
 # half the size; it should stay near 2.
 set -eu
-top="$(cd "$(dirname "${BASH_SOURCE[0]}")/.." && pwd)"
-work="$(mktemp -d)"
-trap 'rm -rf "$work"' EXIT
+. "$(dirname "${BASH_SOURCE[0]}")/timing.sh"
 
 head='RoomModel M {\nLogicalSystem L { SubSystemRef s: S }\nSubSystemClass S { ActorRef a: A }\nProtocolClass P { incoming { Message go() } outgoing { Message ok() } }\n'
 
@@ -37,29 +35,14 @@ bindings() {
     model_of "$1" "${head}ActorClass B { Interface { Port p[*]: P conjugated Port q[*]: P } Structure { external Port p external Port q } }\nActorClass C { Interface { Port p: P conjugated Port q: P } Structure { external Port p external Port q } }\nActorClass A { Structure { ActorRef b: B\n" 'ActorRef c#: C Binding b.p and c#.q Binding c#.p and b.q\n' '} }\n}'
 }
 
-# The best of five times of a command, in microseconds.
-best_of() {
-    local best=999999999 begin end took
-    for _ in 1 2 3 4 5; do
-        begin="$(date +%s%N)"
-        "$@" >/dev/null
-        end="$(date +%s%N)"
-        took=$(((end - begin) / 1000))
-        [ "$took" -lt "$best" ] && best="$took"
-    done
-    echo "$best"
-}
-
 "$top/room" check "$top/examples/switch/model.room" >/dev/null
 printf '%-10s %10s %12s %8s\n' models bytes microseconds ratio
 for kind in classes ports bindings; do
     last=0
     for size in 262144 524288 1048576; do
         "$kind" "$size" >"$work/model.room"
-        took="$(best_of "$top/room" check "$work/model.room")"
-        ratio=-
-        [ "$last" -gt 0 ] && ratio="$(awk -v a="$took" -v b="$last" 'BEGIN { printf "%.2f", a / b }')"
-        printf '%-10s %10s %12s %8s\n' "$kind" "$(stat -c %s "$work/model.room")" "$took" "$ratio"
+        took="$(best "$top/room" check "$work/model.room")"
+        printf '%-10s %10s %12s %8s\n' "$kind" "$(stat -c %s "$work/model.room")" "$took" "$(ratio "$took" "$last")"
         last="$took"
     done
 done

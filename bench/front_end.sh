@@ -1,11 +1,9 @@
 #!/usr/bin/env bash
 # How long reading a model takes: texts of 256 KiB, 512 KiB and 1 MiB of many small classes, which
-# are read whole and refused as `later`. The ratio is that to the text of half the size; it should
+# are read whole and refused by a rule. The ratio is that to the text of half the size; it should
 # stay near 2. Beside it stands how long a plain read of the same bytes takes.
 set -eu
-top="$(cd "$(dirname "${BASH_SOURCE[0]}")/.." && pwd)"
-work="$(mktemp -d)"
-trap 'rm -rf "$work"' EXIT
+. "$(dirname "${BASH_SOURCE[0]}")/timing.sh"
 
 # A model of at most so many bytes: a head, and as many small actor classes as fit.
 model_of() {
@@ -23,30 +21,15 @@ model_of() {
     }'
 }
 
-# The best of five times of a command, in microseconds. Its status may be any.
-best_of() {
-    local best=999999999 begin end took
-    for _ in 1 2 3 4 5; do
-        begin="$(date +%s%N)"
-        "$@" >/dev/null 2>&1 || true
-        end="$(date +%s%N)"
-        took=$(((end - begin) / 1000))
-        [ "$took" -lt "$best" ] && best="$took"
-    done
-    echo "$best"
-}
-
 model_of 1000 >"$work/model.room"
-"$top/room" run "$work/model.room" /dev/null 2>"$work/notes" || true
+"$top/room" check "$work/model.room" 2>"$work/notes" || true
 before=0
 for size in 262144 524288 1048576; do
     model_of "$size" >"$work/model.room"
-    "$top/room" run "$work/model.room" /dev/null >/dev/null 2>"$work/notes" || true
+    "$top/room" check "$work/model.room" >/dev/null 2>"$work/notes" || true
     note="$(tail -n 1 "$work/notes")"
-    took="$(best_of "$top/room" run "$work/model.room" /dev/null)"
-    plain="$(best_of wc -c "$work/model.room")"
-    ratio="-"
-    [ "$before" -gt 0 ] && ratio="$(awk -v a="$took" -v b="$before" 'BEGIN { printf "%.2f", a / b }')"
-    echo "$size bytes: $took us, ratio $ratio, plain read $plain us ($note)"
+    took="$(best "$top/room" check "$work/model.room")"
+    plain="$(best wc -c "$work/model.room")"
+    echo "$size bytes: $took us, ratio $(ratio "$took" "$before"), plain read $plain us ($note)"
     before="$took"
 done

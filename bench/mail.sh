@@ -6,8 +6,6 @@ set -eu
 . "$(dirname "${BASH_SOURCE[0]}")/timing.sh"
 count="${1:-2000000}"
 program="$(program_of mail_bench)"
-work="$(mktemp -d)"
-trap 'rm -rf "$work"' EXIT
 
 # The best of three runs, in millions a second.
 fastest() {

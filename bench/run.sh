@@ -1,11 +1,9 @@
 #!/usr/bin/env bash
 # How fast a model runs on one thread: a ring of 1,000 actors in which 9 messages go round (9,000 turns),
-# and one actor with 10,000 injections. Reading the model is measured apart and taken off; what is left
-# is the run and the text of its journal.
+# and one actor with 2,500, 5,000 and 10,000 injections, whose times should grow with the lines. The run,
+# the making of the journals' text and the whole program, which writes the text, are timed apart.
 set -eu
 . "$(dirname "${BASH_SOURCE[0]}")/timing.sh"
-work="$(mktemp -d)"
-trap 'rm -rf "$work"' EXIT
 
 cat >"$work/ring.room" <<'MODEL'
 RoomModel Ring {
@@ -37,16 +35,23 @@ Transition k: A -> B { triggers { <kick: go> } action { "n = n + 1;" } }
 Transition r: B -> A { triggers { <kick: go> } action { "n = n + 1;" } } } } }
 }
 MODEL
-yes 'top.go kick' | head -n 10000 >"$work/one.txt"
 
+program="$(program_of run_speed)"
+"$top/room" check "$work/one.room" >/dev/null
+
+# Runs a model over a file of injections five times, and tells the least times.
 measure() {
-    local name="$1" turns="$2" reading run took
-    reading="$(best "$top/room" check "$work/$name.room")"
-    run="$(best "$top/room" run "$work/$name.room" "$work/$name.txt" --fuel 100000)"
-    took=$((run > reading ? run - reading : 1))
-    echo "$name: $turns turns and their text in $((took / 1000)) ms, $((turns * 1000 / took)) thousand turns a second (reading the model: $((reading / 1000)) ms)"
+    local name="$1" inject="$2" whole
+    whole="$(best "$top/room" run "$work/$name.room" "$work/$inject" --fuel 100000)"
+    for _ in 1 2 3 4 5; do "$program" "$work/$name.room" "$work/$inject"; done |
+        awk -v name="$name" -v whole="$whole" '
+            { run = $7; text = $11; if (NR == 1 || run < least) least = run; if (NR == 1 || text < made) made = text }
+            END { printf "%s: %d messages, %d entries: run %.1f ms (%.0f thousand messages a second), text %.1f ms, the whole program %.1f ms\n",
+                  name, $1, $3, least / 1000, $1 * 1000 / least, made / 1000, whole / 1000 }'
 }
 
-"$top/room" check "$work/one.room" >/dev/null
-measure ring 9009
-measure one 10000
+measure ring ring.txt
+for lines in 2500 5000 10000; do
+    yes 'top.go kick' | head -n "$lines" >"$work/one.txt"
+    measure one one.txt
+done

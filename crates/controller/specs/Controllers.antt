@@ -1,5 +1,6 @@
 -- A controller between two calls.
-use Rattle.std.specs.Prelude.{◌≡◌, ℕ, ◌<◌, ◌++◌, false, List, length}
+use Rattle.std.specs.Prelude.{◌≡◌, ℕ, ◌<◌, ◌++◌, false, List, length, slice_get}
+use Rattle.std.specs.Option.{option_map_or}
 use Rattle.room_kinds.specs.declared.numbers.ControllerId.{ControllerId}
 use Rattle.journal.specs.declared.entry.Entry.{Entry}
 use Rattle.mail_core.specs.EndLog.{EndLog}
@@ -21,6 +22,10 @@ run_plant plant lines = plant_of (model_of plant) plant.wiring lines
 -- the controller's state, as the world's definitions see it
 abbrev pub state_in : Plant → Controller → State (Body Actor)
 state_in plant k = state_of k.mail (body_of plant k.me.0 k.actors)
+
+-- the state of the controller of this number among these; where there is none, that of the start
+abbrev pub state_at : Plant → List Controller → ℕ → State (Body Actor)
+state_at plant ks c = option_map_or (λ (k : Controller). state_in plant k) (slice_get ks c) (first_state (model_of plant) plant.wiring c)
 
 -- the controller is one of this plant; one that has failed answers want of memory alone
 pub record IsOf (plant : Plant) (k : Controller) : Type 0 where

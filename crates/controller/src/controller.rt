@@ -10,7 +10,7 @@ ghost use Rattle.controller.specs.Calls.{PostsAll, Polls, FetchesLeft, Turns};
 use controller_actors::{Actors, Plant};
 use controller_mail::ControllerMail;
 use controller_moves::{fetch_all, poll_boxes, post_outbox};
-use journal::Journal;
+use journal::{Entry, Journal};
 use mail_core::Mail;
 use room_kinds::{ControllerId, Msg};
 use std::alloc::{AllocError, Global};
@@ -184,6 +184,13 @@ impl Controller {
         ensures { IsTrue result ↔ (self.now.fuel ≤ self.now.mail.turns) }
     {
         self.mail.is_spent(self.fuel)
+    }
+
+    /// The entries of the journal so far, oldest first. It takes no memory.
+    pub fn entries(&self) -> &[Entry]
+        ensures { result.now ≡ self.now.mail.journal }
+    {
+        self.mail.entries()
     }
 
     /// The journal, and the messages that wait for their turn: those of lower priorities first, and of one

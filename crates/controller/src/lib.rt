@@ -6,9 +6,8 @@
 #![tactic(auto)]
 
 mod controller;
-mod posting;
+mod environment;
 
 pub use controller::Controller;
 pub use controller_actors::Plant;
-pub use controller_mail::Environment;
-pub use posting::post_line;
+pub use environment::Environment;

@@ -76,6 +76,13 @@ impl Environment {
         self.clock -= 1;
     }
 
+    /// The entries so far, oldest first. It takes no memory.
+    pub fn entries(&self) -> &[Entry]
+        ensures { result.now ≡ self.now.journal }
+    {
+        self.journal.as_slice()
+    }
+
     /// The journal.
     pub fn finish(self) -> Journal
         ensures { result ≡ self.journal }

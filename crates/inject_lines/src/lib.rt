@@ -15,3 +15,4 @@ mod texts;
 pub use accepted::{Line, What};
 pub use forms::{Form, Load, Target, Wanted, read_form};
 pub use numerals::value;
+pub use texts::are_digits;

@@ -4,10 +4,9 @@ ghost use Rattle.mail_core.specs.Tied.{IsTied, StaysTied};
 ghost use Rattle.part_posts.specs.Posting.{PostsThePart};
 
 use crate::injected::message_from_outside;
-use controller::{Environment, Plant, post_line};
+use controller::{Environment, Plant};
 use inject_lines::{Line, What};
 use mail_core::Mail;
-use room_kinds::ControllerId;
 use std::alloc::{AllocError, Global};
 
 /// The environment posts the lines from this one on, to the end of their part. It answers where the part
@@ -28,7 +27,7 @@ pub fn post_part<M: Mail>(
     ensures ok { IfOk result (λ to. PostsThePart plant.now lines.now from to environment.old environment.new (M.log end.old) (M.log end.new)) }
     ensures tied { StaysTied M.tied (M.log end.old).party office.old office.new end.old end.new }
 {
-    let me = ControllerId(plant.wiring.controller_count());
+    let count = plant.wiring.controller_count();
     for at in from..lines.len() {
         let What::Message {
             target,
@@ -41,10 +40,10 @@ pub fn post_part<M: Mail>(
         };
         let m = message_from_outside(alloc, plant, *target, *signal, payload, *prio)?;
         // The owner of a slot is there, and accepted lines name one of six priorities.
-        if me.0 <= m.to.0 || 6 <= m.prio.0 {
+        if count <= m.to.0 || 6 <= m.prio.0 {
             return Err(AllocError);
         }
-        post_line(environment, me, office, end, m)?;
+        environment.post(plant, office, end, m)?;
     }
     Ok(lines.len())
 }

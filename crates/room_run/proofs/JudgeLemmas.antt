@@ -36,7 +36,7 @@ use Rattle.binding_expand.specs.Answers.{Expands}
 use Rattle.binding_expand.specs.Faults.{number}
 use Rattle.binding_expand.specs.declared.fault.WiringFault.{WiringFault}
 use Rattle.binding_expand.specs.declared.fault.WiringFault.TheVariants as wiring_faults
-use Rattle.room_run.specs.Models.{most_bytes, HasTokens, HasTree, IsSoundTree, IsSoundText, IsModel, IsUncut, NestsTooDeep, HasNoTree, BreaksRule, IsGoodWiring, IsStrange, SoundCauses, uncut, too_deep, no_tree, breaks_rule, bad_wiring, bad_chart, no_memory, TextCauses, strange}
+use Rattle.room_run.specs.Models.{most_bytes, HasTokens, HasTree, IsSoundTree, IsSoundText, IsModel, IsUncut, NestsTooDeep, HasNoTree, BreaksRule, IsGoodWiring, NeedsServices, SoundCauses, uncut, too_deep, no_tree, breaks_rule, bad_wiring, bad_chart, no_memory, TextCauses, needs_services}
 use Rattle.room_run.specs.Reading.{HasItsTokens, HasItsTree, ChartCauses, first_faulty, no_memory_for_charts, TreeCauses, breaks, miswired, faulty, no_memory_for_tree, refusal_of}
 use Rattle.room_run.specs.declared.refusal.Refusal.{Refusal}
 use Rattle.room_run.specs.declared.refusal.Refusal.TheVariants as refusals
@@ -153,8 +153,8 @@ text_sound text tree wiring charts short h sound = record { short = short; tree 
 pub model_judged : (text : List ℕ) (wiring : Tables) (charts : List (Option Chart)) (p : Plant) → IsSoundText text wiring charts → asks_services charts ≡ false → p.wiring ≡ wiring → ShowCharts p.tables.items charts → IsModel text p
 model_judged text wiring charts p is plain wired shown = record { charts = charts; is = subst (λ w. IsSoundText text w charts) (sym wired) is; plain = plain; tables = shown }
 
-pub model_strange : (text : List ℕ) (wiring : Tables) (charts : List (Option Chart)) → IsSoundText text wiring charts → asks_services charts ≡ true → TextCauses text refusals.ModelLater
-model_strange text wiring charts is asks = strange (record { wiring = wiring; charts = charts; is = is; asks = asks })
+pub services_asked : (text : List ℕ) (wiring : Tables) (charts : List (Option Chart)) → IsSoundText text wiring charts → asks_services charts ≡ true → TextCauses text refusals.ModelLater
+services_asked text wiring charts is asks = needs_services (record { wiring = wiring; charts = charts; is = is; asks = asks })
 
 -- controllers run on a plant of a sound text
 pub plant_runs : (text : List ℕ) (wiring : Tables) (charts : List (Option Chart)) (p : Plant) → IsSoundText text wiring charts → p.wiring ≡ wiring → ShowCharts p.tables.items charts → IsPlant p

@@ -116,7 +116,7 @@ pub record HasBadChart (text : List ℕ) (class : List ℕ) (number : ℕ) : Typ
   pub first : HasFaultyChart tree class number
 
 -- the text is that of a model which keeps all rules and whose wiring and charts have no fault, and an action of which asks the frame service or the layer service for something
-pub record IsStrange (text : List ℕ) : Type 0 where
+pub record NeedsServices (text : List ℕ) : Type 0 where
   pub wiring : Tables
   pub charts : List (Option Chart)
   pub is : IsSoundText text wiring charts
@@ -134,8 +134,8 @@ pub data SoundCauses (text : List ℕ) : Refusal → Type 0 where
   bad_chart : (class : List ℕ) (number : ℕ) → HasBadChart text class number → SoundCauses text (refusals.ModelChart class number)
   no_memory : SoundCauses text refusals.Memory
 
--- why a text may be refused as that of a model which runs: for a cause that stands before, or as strange
+-- why a text may be refused as that of a model which runs: for a cause that stands before, or because its actors need the services, which don't run yet
 pub data TextCauses (text : List ℕ) : Refusal → Type 0 where
   unsound : (why : Refusal) → SoundCauses text why → TextCauses text why
-  strange : IsStrange text → TextCauses text refusals.ModelLater
+  needs_services : NeedsServices text → TextCauses text refusals.ModelLater
   none_for_running : TextCauses text refusals.Memory

@@ -1,12 +1,9 @@
 //! What the words of a call ask for.
 ghost use Rattle.std.specs.Prelude.{◌≡◌, option_map, map};
-ghost use Rattle.std.specs.List.{list_all};
 ghost use Rattle.std.specs.String.{string_bytes};
-ghost use Rattle.inject_lines.specs.Texts.{are_digits};
-ghost use Rattle.room_wiring.specs.WellNamed.{is_digit};
 ghost use Rattle.room_run.specs.Words.{Run, asked_by, asked_of, asked_of_files, asked_view, asked_with, files_view, fuel_in, fuel_of};
 
-use inject_lines::value;
+use inject_lines::{are_digits, value};
 
 /// The fuel of a run whose words name none: the most turns that each controller takes.
 const USUAL_FUEL: u64 = 10_000;
@@ -30,25 +27,6 @@ pub(crate) enum Asked<'a> {
     Tree(&'a str),
     /// The run of a model over injections, in which each controller takes so many turns at most.
     Run(Files<'a>, u64),
-}
-
-fn is_digit(byte: u8) -> bool
-    ensures { result ≡ is_digit byte }
-{
-    48 <= byte && byte <= 57
-}
-
-fn all_digits(word: &[u8]) -> bool
-    ensures { result ≡ list_all is_digit word.now }
-{
-    word.iter().all(|b| is_digit(*b))
-}
-
-/// Whether the word is one digit or more.
-fn are_digits(word: &[u8]) -> bool
-    ensures { result ≡ are_digits word.now }
-{
-    !word.is_empty() && all_digits(word)
 }
 
 /// The number of digits, where it is at most 100,000.

@@ -159,7 +159,7 @@ pub(crate) fn sound_model(alloc: Global, text: &[u8]) -> Result<SoundModel, Refu
 
 /// The plant of a text, where it is that of a model which keeps all rules, whose wiring and charts have no
 /// fault, and whose actions ask neither the frame service nor the layer service for anything.
-pub(crate) fn judge(alloc: Global, text: &[u8]) -> Result<Plant, Refusal>
+pub fn read_plant(alloc: Global, text: &[u8]) -> Result<Plant, Refusal>
     requires { length text.now ≤ 1048576 }
     ensures ok { IfOk result (λ plant. IsModel text.now plant) }
     ensures plant { IfOk result (λ plant. IsPlant plant) }

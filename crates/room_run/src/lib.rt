@@ -13,6 +13,7 @@ mod refusal;
 mod status;
 mod top;
 
+pub use judge::read_plant;
 pub use refusal::Refusal;
 pub use status::Status;
 pub use top::room_top;

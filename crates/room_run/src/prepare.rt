@@ -12,7 +12,7 @@ ghost use Rattle.room_run.specs.Outcome.{Answers, answer_status, answer_text};
 ghost use Rattle.room_run.specs.Finished.{Finishes};
 
 use crate::asked::{Asked, Files, asked_by};
-use crate::judge::{judge, sound_model};
+use crate::judge::{read_plant, sound_model};
 use crate::refusal::Refusal;
 use controller::Plant;
 use inject_lines::Line;
@@ -83,7 +83,7 @@ fn read_model<S: Shelf>(alloc: Global, shelf: &mut S, name: &str) -> Result<Plan
         Ok(text) => text,
         Err(why) => return Err(why),
     };
-    judge(alloc, text.as_slice())
+    read_plant(alloc, text.as_slice())
 }
 
 /// Why injections are refused whose lines have this fault.

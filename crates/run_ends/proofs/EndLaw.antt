@@ -28,7 +28,8 @@ use Rattle.run_rounds.specs.Prompts.{PromptFrom}
 use Rattle.run_rounds.proofs.LinesLaw.{all_posted, part_posted, rest_unposted}
 use Rattle.run_rounds.proofs.PromptLists.{prompt_at}
 use Rattle.run_so_far.specs.SoFar.{world_of, whole, IsSound}
-use Rattle.run_so_far.proofs.GoesOn.{some_at, within_back, state_is}
+use Rattle.controller.proofs.Standing.{some_at, state_is}
+use Rattle.run_so_far.proofs.GoesOn.{within_back}
 use Rattle.part_posts.specs.Items.{items_of}
 use Rattle.run_ends.specs.Ends.{IsAtEnd}
 use Rattle.run_ends.specs.Runs.{journal_of, IsRun}

@@ -17,12 +17,13 @@ use Rattle.chart_behaviour.specs.ModelCharts.{Actor}
 use Rattle.controller_mail.specs.MailState.{EnvironmentState, environment_of}
 use Rattle.controller_actors.specs.Plants.{model_of}
 use Rattle.controller_actors.specs.declared.plant.Plant.{Plant}
-use Rattle.controller.specs.Controllers.{run_plant, state_in}
+use Rattle.controller.specs.Controllers.{run_plant, state_in, state_at}
+use Rattle.controller.proofs.Standing.{some_at, state_is}
 use Rattle.controller.specs.declared.controller.Controller.{Controller}
 use Rattle.run_rounds.specs.LineParts.{PostsPart}
 use Rattle.run_rounds.proofs.LinesLaw.{cut_start, posts_one_part, last_after, goes_on, goes_on_quiet, goes_later}
 use Rattle.joined_round.specs.Joined.{AllStand}
-use Rattle.run_so_far.specs.SoFar.{state_at, world_of, RunSoFar, EndsPosted, EnvironmentPosts}
+use Rattle.run_so_far.specs.SoFar.{world_of, RunSoFar, EndsPosted, EnvironmentPosts}
 use Rattle.run_so_far.proofs.GoesOn.{so_far}
 use Rattle.part_posts.specs.Items.{items_of}
 use Rattle.run_ends.specs.Ends.{waits, IsAtEnd}
@@ -41,15 +42,6 @@ nothing_posted n logs f = record {
   };
 }
 
-some_at : {X : Type 0} (xs : List X) (c : ℕ) → c < length xs → (x : X) × (slice_get xs c ≡ Some x)
-some_at [] c h = absurd (omega arith)
-some_at (x ∷ xs) zero h = (x, refl)
-some_at (x ∷ xs) (suc c) h = some_at xs c (omega arith)
-
--- the greatest clock of one controller more
-pub latest_more : {B : Type 0} (states : ℕ → State B) (c clock : ℕ) → latest states (c + 1) clock ≡ max (states c).clock (latest states c clock)
-latest_more states c clock = let next : c + 1 ≡ suc c = omega arith in ap (λ (z : ℕ). latest states z clock) next
-
 pub rests_outbox : (fuel : ℕ) (k : Controller) → rests fuel k ≡ true → k.mail.outbox ≡ []
 rests_outbox fuel k h = empty_list k.mail.outbox (eqb-true (length k.mail.outbox) 0 (both_left (length k.mail.outbox == 0) (not (waits k) || nat_le fuel k.mail.turns) h))
 
@@ -58,24 +50,8 @@ rests_spent fuel k h w =
     leb-true fuel k.mail.turns
     (either_then (waits k) (nat_le fuel k.mail.turns) (both_right (length k.mail.outbox == 0) (not (waits k) || nat_le fuel k.mail.turns) h) w)
 
-pub state_is : (plant : Plant) (ks : List Controller) (c : ℕ) (k : Controller) → slice_get ks c ≡ Some k → state_at plant ks c ≡ state_in plant k
-state_is plant ks c k at = ap (λ (o : Option Controller). option_map_or (λ (z : Controller). state_in plant z) o (first_state (model_of plant) plant.wiring c)) at
-
 abbrev clocked : Environment → ℕ → Environment
 clocked v clock = record v { clock = clock }
-
-abbrev with_clock : EnvironmentState → ℕ → EnvironmentState
-with_clock env clock = record env { clock = clock }
-
--- the environment's clock is at least that of one controller more
-pub one_caught_up : (plant : Plant) (ks : List Controller) (c : ℕ) (k : Controller) (first old new : EnvironmentState) (clock : ℕ) → slice_get ks c ≡ Some k → clock ≡ k.mail.clock
-    → old ≡ record first { clock = latest (state_at plant ks) c first.clock } → new ≡ record old { clock = max clock old.clock }
-    → new ≡ record first { clock = latest (state_at plant ks) (c + 1) first.clock }
-one_caught_up plant ks c k first old new clock at is before after =
-    let now : clock ≡ (state_at plant ks c).clock = is ∙ ap (λ (s : State (Body Actor)). s.clock) (sym (state_is plant ks c k at)) in
-    let greatest : max clock (latest (state_at plant ks) c first.clock) ≡ latest (state_at plant ks) (c + 1) first.clock =
-    ap (λ (t : ℕ). max t (latest (state_at plant ks) c first.clock)) now ∙ sym (latest_more (state_at plant ks) c first.clock) in
-    after ∙ ap (λ (z : EnvironmentState). with_clock z (max clock z.clock)) before ∙ ap (λ (t : ℕ). with_clock first t) greatest
 
 module _ (plant : Plant) (lines : List Line) (fuel : ℕ) where
   abbrev items : List Item

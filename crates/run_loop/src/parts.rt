@@ -6,7 +6,7 @@ ghost use Rattle.run_ends.specs.Ends.{IsAtEnd};
 ghost use Rattle.run_loop.specs.Plays.{BeforePart, InPart, rests};
 
 use crate::lines::skip_settles;
-use crate::rests::{catch_up, have_stopped, someone_waits};
+use crate::rests::{have_stopped, someone_waits};
 use crate::rounds::{post_round, quiet_round};
 use controller::{Controller, Environment, Plant};
 use inject_lines::Line;
@@ -69,11 +69,11 @@ where
         if from == lines.len() {
             return Ok((from, true));
         }
-        // A `settle` ends the part, if no line is the last.
+        // A part that isn't the last ends at a `settle`, so there is a line more.
         if from == to {
             return Err(AllocError);
         }
-        catch_up(environment, controllers);
+        environment.catch_up(controllers.as_slice());
     }
     // Never reached: no text has so many parts.
     Err(AllocError)

@@ -25,12 +25,13 @@ use Rattle.run_rounds.proofs.PolledLists.{fetched_no_turns}
 use Rattle.run_rounds.proofs.RoundLaw.{parts_round, own_even}
 use Rattle.controller_actors.specs.Plants.{model_of}
 use Rattle.controller_actors.specs.declared.plant.Plant.{Plant}
-use Rattle.controller.specs.Controllers.{IsOf, Goes, EndGoes, run_plant, state_in}
+use Rattle.controller.specs.Controllers.{IsOf, Goes, EndGoes, run_plant, state_in, state_at}
 use Rattle.controller.specs.declared.controller.Controller.{Controller}
 use Rattle.controller.proofs.Going.{goes_then}
+use Rattle.controller.proofs.Standing.{some_at, state_is}
 use Rattle.run_worker.proofs.WorkLaw.{fetched_of}
 use Rattle.joined_round.specs.Joined.{AllStand, Joined, RoundDone}
-use Rattle.run_so_far.specs.SoFar.{state_at, world_of, whole, IsSound, RunSoFar, EndsPosted, EnvironmentPosts}
+use Rattle.run_so_far.specs.SoFar.{world_of, whole, IsSound, RunSoFar, EndsPosted, EnvironmentPosts}
 
 turns_even : (c : ℕ) (es : List Entry) → OnlyTurns es → OwnFetched c es
 turns_even c es h = record { all = λ p b. turns_give (lane c c p) c es h ∙ sym (turns_take (lane c c p) c es h) }
@@ -49,18 +50,10 @@ pub within_back : (n : ℕ) (a b : List Entry) → PostsWithin n (a ++ b) → Po
 within_back n [] b h = h
 within_back n (e ∷ a) b h = within_back n a b h.1
 
-pub some_at : {X : Type 0} (xs : List X) (c : ℕ) → c < length xs → (x : X) × (slice_get xs c ≡ Some x)
-some_at [] c h = absurd (omega arith)
-some_at (x ∷ xs) zero h = (x, refl)
-some_at (x ∷ xs) (suc c) h = some_at xs c (omega arith)
-
 same_there : {X : Type 0} (o : Option X) (x y : X) → o ≡ Some x → o ≡ Some y → x ≡ y
 same_there o x y e f = let both : Some x ≡ Some y = sym e ∙ f in cc
 
 module _ (plant : Plant) where
-  pub state_is : (ks : List Controller) (c : ℕ) (k : Controller) → slice_get ks c ≡ Some k → state_at plant ks c ≡ state_in plant k
-  state_is ks c k at = ap (λ (o : Option Controller). option_map_or (λ (z : Controller). state_in plant z) o (first_state (model_of plant) plant.wiring c)) at
-
   module _ (lines : List Line) (fuel : ℕ) (ks news : List Controller) (v after : Environment) (posts es : List Entry) (logs logs' : List EndLog) (answer : List (List Msg))
       (r : RunSoFar plant lines fuel ks v posts) (ends : EndsPosted (length plant.wiring.controllers) logs es)
       (env : EnvironmentPosts plant lines (world_of plant ks v) es after) (done : RoundDone plant ks news logs logs' answer) where
@@ -114,8 +107,8 @@ module _ (plant : Plant) where
               fetches = j.fetches.entries;
               turned = j.turn.entries;
               is = refl;
-              replays = subst (λ (z : State (Body Actor)). Replays (run_plant plant lines) c z x (state_at plant news c)) (sym (state_is ks c k o.1))
-                  (subst (λ (z : State (Body Actor)). Replays (run_plant plant lines) c (state_in plant k) x z) (sym (state_is news c e.0 e.1)) replays);
+              replays = subst (λ (z : State (Body Actor)). Replays (run_plant plant lines) c z x (state_at plant news c)) (sym (state_is plant ks c k o.1))
+                  (subst (λ (z : State (Body Actor)). Replays (run_plant plant lines) c (state_in plant k) x z) (sym (state_is plant news c e.0 e.1)) replays);
               did = record { posted = end.posted; took = end.took };
               within = j.works.did.within;
               fetched = fetched_of (slice_index_or answer c []) j.fetches.entries j.fetches.fetches;

@@ -16,13 +16,9 @@ use Rattle.run_rounds.specs.Rounds.{EndDid, PostsWithin}
 use Rattle.run_rounds.specs.Prompts.{PromptFrom, OwnFetched}
 use Rattle.controller_actors.specs.Plants.{model_of}
 use Rattle.controller_actors.specs.declared.plant.Plant.{Plant}
-use Rattle.controller.specs.Controllers.{run_plant, state_in}
+use Rattle.controller.specs.Controllers.{run_plant, state_at}
 use Rattle.controller.specs.declared.controller.Controller.{Controller}
 use Rattle.joined_round.specs.Joined.{AllStand, RoundDone}
-
--- the state of the controller of this number
-abbrev pub state_at : Plant → List Controller → ℕ → State (Body Actor)
-state_at plant ks c = option_map_or (λ (k : Controller). state_in plant k) (slice_get ks c) (first_state (model_of plant) plant.wiring c)
 
 -- between two rounds no lane holds a message
 abbrev pub world_of : Plant → List Controller → Environment → World (Body Actor)

@@ -23,9 +23,9 @@ use Rattle.run_rounds.specs.Prompts.{PromptFrom, OwnFetched}
 use Rattle.run_rounds.proofs.PromptLists.{NoTurns, no_turns_prompt}
 use Rattle.controller_actors.specs.Plants.{model_of}
 use Rattle.controller_actors.specs.declared.plant.Plant.{Plant}
-use Rattle.controller.specs.Controllers.{IsOf, Begins, run_plant, state_in}
+use Rattle.controller.specs.Controllers.{IsOf, Begins, run_plant, state_in, state_at}
 use Rattle.controller.specs.declared.controller.Controller.{Controller}
-use Rattle.run_so_far.specs.SoFar.{state_at, world_of, whole, RunSoFar}
+use Rattle.run_so_far.specs.SoFar.{world_of, whole, RunSoFar}
 use Rattle.run_start.specs.Begun.{AllBegun}
 
 -- each of these entries is a start

@@ -1,6 +1,5 @@
-use Rattle.std.proofs.Common.{ℕ, sym, subst, arith}
+use Rattle.std.proofs.Common.{sym, arith}
 use Rattle.mail_core.proofs.Tied.{IsTied-step, StaysTied-step, StaysTied-refl}
-use Rattle.controller.specs.Calls.{PostsLine}
 use Rattle.part_posts.proofs.PostLaw.{none_posted, one_posted, settle_read, message_read}
 use Rattle.part_posts.proofs.posting.post_part.Goals as goal
 
@@ -14,11 +13,11 @@ returns-in_default-clause-ok g c = record {
   ends = settle_read c.args.plant.now c.args.lines.now c.loop-at.at c.index-lines-at.result c.index-lines-at.is c.loop-at-test.true c.in_default.is;
 }
 
-pub post_line-requires-clause-tied : goal.post_line-requires-clause-tied
-post_line-requires-clause-tied g c = IsTied-step c.requires.tied c.loop-at.invariant.tied (sym c.loop-at.invariant.posts.end.party)
+pub post-requires-clause-tied : goal.post-requires-clause-tied
+post-requires-clause-tied g c = IsTied-step c.requires.tied c.loop-at.invariant.tied (sym c.loop-at.invariant.posts.end.party)
 
-pub returns-in_err-post_line-clause-tied : goal.returns-in_err-post_line-clause-tied
-returns-in_err-post_line-clause-tied g c = StaysTied-step c.loop-at.invariant.tied c.post_line.ensures.tied (sym c.loop-at.invariant.posts.end.party)
+pub returns-in_err-post-clause-tied : goal.returns-in_err-post-clause-tied
+returns-in_err-post-clause-tied g c = StaysTied-step c.loop-at.invariant.tied c.post.ensures.tied (sym c.loop-at.invariant.posts.end.party)
 
 pub loop-at-preserved : goal.loop-at-preserved
 loop-at-preserved g c =
@@ -26,7 +25,7 @@ loop-at-preserved g c =
     c.index-lines-at.is c.loop-at-test.true c.in-Message.is c.in_ok-m.ensures in
     record {
       posts = one_posted c.args.plant.now c.args.lines.now c.args.from c.loop-at.at c.index-lines-at.result.number c.args.environment.now c.loop-at.environment
-          (g.M.Mail.log c.args.end.now) (g.M.Mail.log c.loop-at.end) c.in_ok-m.m c.loop-at.invariant.posts here c.post_line.new.environment (g.M.Mail.log c.post_line.new.end)
-          (subst (λ (n : ℕ). PostsLine n c.loop-at.environment c.post_line.new.environment (g.M.Mail.log c.loop-at.end) (g.M.Mail.log c.post_line.new.end) c.in_ok-m.m) c.controller_count.ensures.count c.in_ok-post_line.ensures.ok);
-      tied = StaysTied-step c.loop-at.invariant.tied c.post_line.ensures.tied (sym c.loop-at.invariant.posts.end.party);
+          (g.M.Mail.log c.args.end.now) (g.M.Mail.log c.loop-at.end) c.in_ok-m.m c.loop-at.invariant.posts here c.post.new.self (g.M.Mail.log c.post.new.end)
+          c.in_ok-post.ensures.ok;
+      tied = StaysTied-step c.loop-at.invariant.tied c.post.ensures.tied (sym c.loop-at.invariant.posts.end.party);
     }

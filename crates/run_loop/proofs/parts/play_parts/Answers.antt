@@ -1,5 +1,8 @@
-use Rattle.std.proofs.Common.{◌≡◌, ◌+◌, ◌<◌, ◌≤◌, false, length, sym, ◌∙◌, arith}
+use Rattle.std.proofs.Common.{◌≡◌, ◌+◌, ◌<◌, ◌≤◌, false, List, length, sym, ◌∙◌, subst, arith}
 use Rattle.std.specs.List.{list_any}
+use Rattle.actor_merge.specs.World.{latest}
+use Rattle.controller.specs.Controllers.{state_at}
+use Rattle.controller.specs.declared.controller.Controller.{Controller}
 use Rattle.run_ends.specs.Ends.{waits}
 use Rattle.run_loop.proofs.PlayLaw.{ends_spent, ends_done, before_next}
 use Rattle.run_loop.proofs.parts.play_parts.Goals as goal
@@ -24,6 +27,7 @@ loop-part-preserved g c =
     let later : c.in_ok-to.to < c.skip_settles-from.result = omega arith in
     record {
       before = before_next c.args.plant.now c.args.lines.now c.args.fuel c.in_ok-to.to c.play_part.new.controllers.items c.play_part.new.environment
-          c.in_ok-to.ensures.part c.in_ok-to.ensures.stopped none c.skip_settles-from.result skips c.catch_up.new.environment later c.skip_settles-from.ensures.within
-          (c.catch_up.ensures c.args.plant.now);
+          c.in_ok-to.ensures.part c.in_ok-to.ensures.stopped none c.skip_settles-from.result skips c.catch_up.new.self later c.skip_settles-from.ensures.within
+          (subst (λ (ks : List Controller). c.catch_up.new.self ≡ record c.play_part.new.environment { clock = latest (state_at c.args.plant.now ks) (length ks) c.play_part.new.environment.clock })
+          c.as_slice.ensures.value (c.catch_up.ensures c.args.plant.now));
     }

@@ -3,8 +3,8 @@ use Rattle.chart_graphs.specs.Views.{chart_view}
 use Rattle.service_words.specs.Asked.{asks_services}
 use Rattle.model_plants.specs.Shown.{ShowCharts}
 use Rattle.room_run.specs.Models.{unsound, none_for_running}
-use Rattle.room_run.proofs.JudgeLemmas.{model_strange, plant_runs}
-use Rattle.room_run.proofs.judge.judge.Goals as goal
+use Rattle.room_run.proofs.JudgeLemmas.{services_asked, plant_runs}
+use Rattle.room_run.proofs.judge.read_plant.Goals as goal
 
 pub returns-in-Err-clause-err : goal.returns-in-Err-clause-err
 returns-in-Err-clause-err c = unsound c.in-Err.why c.in-Err.ensures.err
@@ -12,7 +12,7 @@ returns-in-Err-clause-err c = unsound c.in-Err.why c.in-Err.ensures.err
 pub returns-then-asks_services-clause-err : goal.returns-then-asks_services-clause-err
 returns-then-asks_services-clause-err c =
     let asks : asks_services (map (option_map chart_view) c.in-Ok.sound.charts.items) ≡ true = cc in
-    model_strange c.args.text.now c.in-Ok.sound.wiring (map (option_map chart_view) c.in-Ok.sound.charts.items) c.in-Ok.ensures.ok asks
+    services_asked c.args.text.now c.in-Ok.sound.wiring (map (option_map chart_view) c.in-Ok.sound.charts.items) c.in-Ok.ensures.ok asks
 
 pub returns-in-Ok-plant_of-clause-plant : goal.returns-in-Ok-plant_of-clause-plant
 returns-in-Ok-plant_of-clause-plant c =

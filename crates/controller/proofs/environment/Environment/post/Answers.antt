@@ -1,5 +1,5 @@
 use Rattle.mail_core.proofs.Tied.{StaysTied-refl}
-use Rattle.controller.proofs.posting.post_line.Goals as goal
+use Rattle.controller.proofs.environment.Environment.post.Goals as goal
 
 pub returns-in_err-posted-clause-tied : goal.returns-in_err-posted-clause-tied
 returns-in_err-posted-clause-tied g c = StaysTied-refl
