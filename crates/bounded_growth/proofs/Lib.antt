@@ -1,0 +1,3 @@
+pub mod Raised
+pub mod First
+pub mod Grown
