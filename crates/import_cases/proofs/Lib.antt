@@ -1,0 +1,3 @@
+pub mod Wirings
+pub mod Rooms
+pub mod Registered
