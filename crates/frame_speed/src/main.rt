@@ -4,7 +4,7 @@
 //! destroys it, so many times, and prints how many actors were made and ended.
 #![tactic(auto)]
 
-use import_cases::{body_model, made_and_ended};
+use service_stories::{body_model, made_and_ended};
 use std::rt::Env;
 use std::{env, io};
 

@@ -1,6 +1,6 @@
 //! Steps of a layer service, told line by line.
 ghost use Rattle.std.specs.Prelude.{◌<◌, ◌≤◌, length, IfOk, IfSome, OnOk};
-ghost use Rattle.import_cases.specs.Hubs.{IsHub};
+ghost use Rattle.service_stories.specs.Hubs.{IsHub};
 
 use crate::lines::{push_messages, push_peer};
 use crate::wired::{Refusal, wiring_of};

@@ -48,7 +48,7 @@ fn duty(
 }
 
 impl Host {
-    ghost use Rattle.import_cases.specs.Hosts.{IsHost};
+    ghost use Rattle.service_stories.specs.Hosts.{IsHost};
 
     #[tactic(auto, using(crate::proofs::Wirings::fits_order, crate::proofs::Wirings::fits_ports, crate::proofs::Rooms::first_room))]
     fn on(alloc: Global, wiring: Wiring, me: ControllerId) -> Result<Host, AllocError>

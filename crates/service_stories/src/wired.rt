@@ -1,7 +1,7 @@
 //! The wiring of a model's text.
 ghost use Rattle.std.specs.Prelude.{◌≡◌, IfOk};
 ghost use Rattle.binding_expand.specs.Answers.{Fits};
-ghost use Rattle.import_cases.specs.declared.wired.Refusal.TheVariants.{Memory};
+ghost use Rattle.service_stories.specs.declared.wired.Refusal.TheVariants.{Memory};
 
 use binding_expand::expand;
 use room_ast::Model;

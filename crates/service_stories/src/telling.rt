@@ -1,6 +1,6 @@
 //! Steps of a frame service, told line by line.
 ghost use Rattle.std.specs.Prelude.{◌<◌, length, IfSome, OnOk};
-ghost use Rattle.import_cases.specs.Hosts.{IsHost};
+ghost use Rattle.service_stories.specs.Hosts.{IsHost};
 
 use crate::host::Host;
 use crate::lines::{push_actor, push_messages, push_peer};

@@ -1,6 +1,6 @@
 //! A model and a run for measurements.
 ghost use Rattle.std.specs.Prelude.{OnOk};
-ghost use Rattle.import_cases.specs.Hosts.{IsHost};
+ghost use Rattle.service_stories.specs.Hosts.{IsHost};
 
 use crate::host::Host;
 use crate::wired::Refusal;

@@ -1,5 +1,5 @@
-use Rattle.import_cases.proofs.Rooms.{duty_room}
-use Rattle.import_cases.proofs.host.duty.Goals as goal
+use Rattle.service_stories.proofs.Rooms.{duty_room}
+use Rattle.service_stories.proofs.host.duty.Goals as goal
 
 pub returns-clause-room : goal.returns-clause-room
 returns-clause-room c =

@@ -2,7 +2,7 @@
 use Rattle.std.specs.Prelude.{ℕ, ◌+◌, ◌≤◌}
 use Rattle.frame_imports.specs.Numbered.{ArePortsNumbered}
 use Rattle.frame_service.specs.State.{frame_in, IsFrameOf}
-use Rattle.import_cases.specs.declared.host.Host.{Host}
+use Rattle.service_stories.specs.declared.host.Host.{Host}
 
 -- the state is one of the wiring, and no generation is higher than the messages that were treated allow
 pub record IsHost (h : Host) : Type 0 where
