@@ -8,7 +8,7 @@ ghost use Rattle.controller.specs.Calls.{PostsLine};
 
 use crate::controller::Controller;
 use controller_actors::Plant;
-use controller_mail::Environment as Posts;
+use controller_mail::EnvironmentMail;
 use journal::{Entry, Journal};
 use mail_core::Mail;
 use room_kinds::{ControllerId, Msg};
@@ -18,7 +18,7 @@ use std::marker::Model;
 /// The environment's clock and its journal. It posts the lines of an injection text, and does nothing else.
 #[derive(Drop)]
 pub struct Environment {
-    posts: Posts,
+    mail: EnvironmentMail,
 }
 
 impl Model for Environment {
@@ -26,7 +26,7 @@ impl Model for Environment {
 
     ghost Value = { EnvironmentState };
 
-    ghost view = { λ k. k.posts };
+    ghost view = { λ k. k.mail };
 }
 
 impl Environment {
@@ -35,7 +35,7 @@ impl Environment {
         ensures { result ≡ record { clock = 0; journal = [] } }
     {
         Environment {
-            posts: Posts::new(alloc),
+            mail: EnvironmentMail::new(alloc),
         }
     }
 
@@ -45,7 +45,7 @@ impl Environment {
         ensures { (plant : Stands) → self.new ≡ record self.old { clock = latest (state_at plant all.now) (length all.now) self.old.clock } }
     {
         for c in 0..all.len() {
-            self.posts.catch_up(all[c].clock());
+            self.mail.catch_up(all[c].clock());
         }
     }
 
@@ -68,11 +68,11 @@ impl Environment {
         ensures tied { StaysTied M.tied (M.log end.old).party office.old office.new end.old end.new }
     {
         let me = ControllerId(plant.wiring.controller_count());
-        let posted = self.posts.post(me, m)?;
+        let posted = self.mail.post(me, m)?;
         match end.post(office, posted) {
             Ok(()) => Ok(()),
             Err(_refused) => {
-                self.posts.take_back();
+                self.mail.take_back();
                 Err(AllocError)
             }
         }
@@ -82,13 +82,13 @@ impl Environment {
     pub fn entries(&self) -> &[Entry]
         ensures { result.now ≡ self.now.journal }
     {
-        self.posts.entries()
+        self.mail.entries()
     }
 
     /// The journal. It takes no memory.
     pub fn finish(self) -> Journal
         ensures { result ≡ self.journal }
     {
-        self.posts.finish()
+        self.mail.finish()
     }
 }

@@ -11,13 +11,13 @@ use std::marker::Model;
 
 /// The environment's clock and its journal. It posts alone.
 #[derive(Drop)]
-pub struct Environment {
+pub struct EnvironmentMail {
     alloc: Global,
     clock: u64,
     journal: Vec<Entry>,
 }
 
-impl Model for Environment {
+impl Model for EnvironmentMail {
     ghost use Rattle.controller_mail.specs.MailState.{EnvironmentState};
 
     ghost Value = { EnvironmentState };
@@ -29,12 +29,12 @@ impl Model for Environment {
     ghost invariant = { λ k. vec_len k.journal ≤ k.clock };
 }
 
-impl Environment {
+impl EnvironmentMail {
     /// Nothing is posted, and the clock is 0. It takes no memory.
-    pub fn new(alloc: Global) -> Environment
+    pub fn new(alloc: Global) -> EnvironmentMail
         ensures { result ≡ record { clock = 0; journal = [] } }
     {
-        Environment {
+        EnvironmentMail {
             alloc,
             clock: 0,
             journal: Vec::new(alloc),

@@ -16,5 +16,5 @@ mod queue;
 mod tests;
 
 pub use controller_mail::{ControllerMail, Treatment};
-pub use environment::Environment;
+pub use environment::EnvironmentMail;
 pub use laws::{environment_leaves, mail_leaves};

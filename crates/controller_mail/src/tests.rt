@@ -1,6 +1,6 @@
 ghost use Rattle.std.specs.Prelude.{◌≡◌};
 
-use crate::{ControllerMail, Environment, Treatment};
+use crate::{ControllerMail, EnvironmentMail, Treatment};
 use journal::{Did, Journal};
 use room_kinds::{
     ControllerId, Endpoint, Generation, Msg, Notes, Outbox, Payload, Priority, Sequence, SlotId,
@@ -58,7 +58,7 @@ fn the_lowest_priority_has_its_turn_first(rt: HostRuntime) -> Result<(), Fail> {
 
 #[test]
 fn the_environment_posts(rt: HostRuntime) -> Result<(), Fail> {
-    let mut environment = Environment::new(rt.alloc());
+    let mut environment = EnvironmentMail::new(rt.alloc());
     environment.catch_up(5);
     let posted = environment.post(ControllerId(1), message(rt.alloc(), 3, 0, 7))?;
     assert_eq!(rt; posted.stamp, Stamp(6));

@@ -20,9 +20,17 @@ use Rattle.controller.specs.declared.controller.Controller.{Controller}
 use Rattle.controller.proofs.Standing.{some_at}
 use Rattle.quiet_counts.specs.declared.counted.Counted.{Counted}
 use Rattle.quiet_counts.specs.declared.counted.Counted.TheVariants.{Posts, PostsTo, Fetches}
-use Rattle.quiet_counts.specs.Counts.{is_counted, is_post_to, counted_in_all, keeps_messages, quiet_by_counts, message_by_counts}
+use Rattle.quiet_counts.specs.Counts.{is_counted, is_post_to, counted_in_all, keeps_messages}
 use Rattle.quiet_counts.specs.Stands.{journals, journal_at, StandsAt}
 use Rattle.quiet_counts.proofs.LanesLaw.{even_empties, empties_even, odd_waits, waits_odd}
+
+-- as many entries fetch as post, and no controller keeps a message
+abbrev pub quiet_by_counts : List Controller → EnvironmentState → Bool
+quiet_by_counts ks env = (counted_in_all Posts ks env == counted_in_all Fetches ks env) && not (list_any keeps_messages ks)
+
+-- controller c, which is this one, keeps a message, or it fetched another number than was posted to it
+abbrev pub message_by_counts : List Controller → EnvironmentState → ControllerId → Controller → Bool
+message_by_counts ks env c k = keeps_messages k || not (counted_in_all (PostsTo c) ks env == count_by is_fetch k.mail.journal)
 
 -- what waits in a controller
 has_some : (m : Msg) (ms : List Msg) → has_messages (m ∷ ms) ≡ true

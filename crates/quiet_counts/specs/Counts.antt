@@ -1,5 +1,5 @@
 -- Counts of entries.
-use Rattle.std.specs.Prelude.{ℕ, ◌+◌, ◌==◌, ◌&&◌, ◌||◌, not, Bool, false, List, length}
+use Rattle.std.specs.Prelude.{ℕ, ◌+◌, ◌==◌, ◌||◌, not, Bool, false, List, length}
 use Rattle.std.specs.List.{sum_by, count_by, list_any}
 use Rattle.room_kinds.specs.declared.numbers.ControllerId.{ControllerId}
 use Rattle.journal.specs.declared.entry.Entry.{Entry}
@@ -29,11 +29,3 @@ counted_in_all which ks env = count_by (is_counted which) env.journal + sum_by (
 -- a message waits for a turn of the controller, or to be posted by it
 abbrev pub keeps_messages : Controller → Bool
 keeps_messages k = list_any has_messages k.mail.pending || not (length k.mail.outbox == 0)
-
--- as many entries fetch as post, and no controller keeps a message
-abbrev pub quiet_by_counts : List Controller → EnvironmentState → Bool
-quiet_by_counts ks env = (counted_in_all Posts ks env == counted_in_all Fetches ks env) && not (list_any keeps_messages ks)
-
--- controller c, which is this one, keeps a message, or it fetched another number than was posted to it
-abbrev pub message_by_counts : List Controller → EnvironmentState → ControllerId → Controller → Bool
-message_by_counts ks env c k = keeps_messages k || not (counted_in_all (PostsTo c) ks env == count_by is_fetch k.mail.journal)
