@@ -1,6 +1,14 @@
 //! Stories of service points that meet by name.
+use crate::host::Host;
 use crate::names::{NameStep, name_story};
-use room_kinds::{Endpoint, Generation, Incarnation, NameCommand, SlotId};
+use crate::wired::Refusal;
+use layer_service::Links;
+use room_kinds::{
+    ControllerId, Endpoint, Generation, Incarnation, NameCommand, Outbox, Payload, SlotId, SysKind,
+};
+use service_messages::system;
+use service_peers::peer;
+use std::alloc::Global;
 use std::process::Abort;
 
 /// A user c of a service, and two actors d and e that provide it. Each has its service point at port 1.
@@ -185,4 +193,31 @@ fn a_joined_user_is_refused(rt: HostRuntime) {
 0 3 top/c#1.frame[0] top/c#1.frame[0] nameRefused 1 9
 ",
     );
+}
+
+/// The peer of the user's place as the model joins it, while a link by name stands, and after that link
+/// has ended.
+fn peers_of_a_joined_user(alloc: Global) -> Result<[Option<Endpoint>; 3], Refusal> {
+    let host = Host::start(alloc, JOINED, ControllerId(0))?;
+    let mut links = Links::new(alloc);
+    let mut sent = Outbox::new(alloc);
+    let only = ControllerId(0);
+    let (provider, user) = (at(D, 7), at(C, 0));
+    let joined = peer(&host.state, &links, &host.wiring, user);
+    let payload = Payload::empty(alloc);
+    let bound = system(only, only, SysKind::Bound, provider, user, payload);
+    links.duty(&host.wiring, &bound, true, &mut sent)?;
+    let linked = peer(&host.state, &links, &host.wiring, user);
+    let payload = Payload::empty(alloc);
+    let ended = system(only, only, SysKind::Ended, provider, user, payload);
+    links.duty(&host.wiring, &ended, true, &mut sent)?;
+    let again = peer(&host.state, &links, &host.wiring, user);
+    Ok([joined, linked, again])
+}
+
+/// A link by name goes before the place that the model joins.
+#[test]
+fn a_link_goes_before_a_joined_place(rt: HostRuntime) {
+    let (joined, linked) = (Some(at(D, 0)), Some(at(D, 7)));
+    assert!(rt; peers_of_a_joined_user(rt.alloc()) == Ok([joined, linked, joined]));
 }
