@@ -14,6 +14,7 @@ use Rattle.inject_reader.specs.Gives.{Fails}
 use Rattle.inject_reader.specs.declared.fault.InjectFault.{InjectFault}
 use Rattle.inject_reader.specs.declared.fault.InjectFault.TheVariants as inject_faults
 use Rattle.room_run.specs.Causes.{IsInjections, TextIs, AreOf, ModelCauses, no_text, model_refused, UnreadCauses, LinesCauses, faulty_line, no_memory_for_lines, refusal_of_lines, InjectionsCauses, injections_unread, injections_long, injections_refused, injections_no_memory, RunCauses, of_injections}
+use Rattle.room_run.specs.declared.model_fault.ModelFault.{ModelFault}
 use Rattle.room_run.specs.declared.refusal.Refusal.{Refusal}
 use Rattle.room_run.specs.declared.refusal.Refusal.TheVariants as refusals
 
@@ -24,11 +25,6 @@ pub found_fact : (P : List ℕ → Type 0) (o : Option (List ℕ)) (bytes : List
 found_fact P None bytes is h = tt
 found_fact P (Some text) bytes is h = subst P is h
 
--- what was found of a text is so of the one that is shown
-pub judged_model : (shelf : Shown) (name bytes : List ℕ) (r : Result Plant Refusal) → IfSome (shelf.text name) (λ text. bytes ≡ text) → IfOk r (λ m. IsModel bytes m) → IfOk r (λ m. TextIs shelf name (λ text. IsModel text m))
-judged_model shelf name bytes (Ok m) is h = found_fact (λ text. IsModel text m) (shelf.text name) bytes is h
-judged_model shelf name bytes (Err why) is h = tt
-
 some_wiring : (o : Option (List ℕ)) (w : Tables) → IfSome o (λ text. IsSound text w) → IfSome o (λ text. (x : Tables) × IsSound text x)
 some_wiring None w h = tt
 some_wiring (Some text) w h = (w, h)
@@ -38,12 +34,8 @@ pub model_sound : (shelf : Shown) (name : List ℕ) (w : Tables) → TextIs shel
 model_sound shelf name w h = some_wiring (shelf.text name) w h
 
 -- the text was read, and is refused
-pub cause_found : (Of : List ℕ → Refusal → Type 0) (before after : Shown) (name bytes : List ℕ) (why : Refusal) → IfSome (before.text name) (λ text. bytes ≡ text) → Of bytes why → ModelCauses Of before after name why
-cause_found Of before after name bytes why is h = model_refused (found_fact (λ text. Of text why) (before.text name) bytes is h)
-
-pub judged_cause : {A : Type 0} (Of : List ℕ → Refusal → Type 0) (before after : Shown) (name bytes : List ℕ) (r : Result A Refusal) → IfSome (before.text name) (λ text. bytes ≡ text) → IfErr r (λ why. Of bytes why) → IfErr r (λ why. ModelCauses Of before after name why)
-judged_cause Of before after name bytes (Ok m) is h = tt
-judged_cause Of before after name bytes (Err why) is h = cause_found Of before after name bytes why is h
+pub cause_found : (Of : List ℕ → ModelFault → Type 0) (before after : Shown) (name bytes : List ℕ) (fault : ModelFault) → IfSome (before.text name) (λ text. bytes ≡ text) → Of bytes fault → ModelCauses Of before after name (refusals.Model fault)
+cause_found Of before after name bytes fault is h = model_refused fault (found_fact (λ text. Of text fault) (before.text name) bytes is h)
 
 -- ---- the injections
 

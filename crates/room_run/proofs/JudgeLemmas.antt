@@ -25,7 +25,7 @@ use Rattle.structure_check.specs.Rules.{first_broken, IsLowest}
 use Rattle.structure_check.specs.List.{all_rules}
 use Rattle.structure_check.specs.Checks.{TellsLowest}
 use Rattle.structure_check.specs.declared.fault.CheckFault.{CheckFault}
-use Rattle.structure_check.specs.declared.fault.CheckFault.TheVariants as faults
+use Rattle.structure_check.specs.declared.fault.CheckFault.TheVariants as check_faults
 use Rattle.chart_model.specs.Chart.{Chart}
 use Rattle.model_charts.specs.Charts.{HasCharts, HasFaultyChart}
 use Rattle.model_charts.specs.Reads.{ReadsCharts}
@@ -37,9 +37,9 @@ use Rattle.binding_expand.specs.Faults.{number}
 use Rattle.binding_expand.specs.declared.fault.WiringFault.{WiringFault}
 use Rattle.binding_expand.specs.declared.fault.WiringFault.TheVariants as wiring_faults
 use Rattle.room_run.specs.Models.{most_bytes, HasTokens, HasTree, IsSoundTree, IsSoundText, IsModel, IsUncut, NestsTooDeep, HasNoTree, BreaksRule, IsGoodWiring, NeedsServices, SoundCauses, uncut, too_deep, no_tree, breaks_rule, bad_wiring, bad_chart, no_memory, TextCauses, needs_services}
-use Rattle.room_run.specs.Reading.{HasItsTokens, HasItsTree, ChartCauses, first_faulty, no_memory_for_charts, TreeCauses, breaks, miswired, faulty, no_memory_for_tree, refusal_of}
-use Rattle.room_run.specs.declared.refusal.Refusal.{Refusal}
-use Rattle.room_run.specs.declared.refusal.Refusal.TheVariants as refusals
+use Rattle.room_run.specs.Reading.{HasItsTokens, HasItsTree, ChartCauses, first_faulty, no_memory_for_charts, TreeCauses, breaks, miswired, faulty, no_memory_for_tree, fault_of}
+use Rattle.room_run.specs.declared.model_fault.ModelFault.{ModelFault}
+use Rattle.room_run.specs.declared.model_fault.ModelFault.TheVariants as faults
 
 -- ---- tokens
 
@@ -54,7 +54,7 @@ tokens_found text tokens ps cut is only = record {
   names = subst (λ ts. HasNames (values text ts)) (sym is) (tokens_named text ps cut);
 }
 
-pub cut_fails : (text : List ℕ) (cause : Cause) (offset : ℕ) → length text ≤ most_bytes → FailsAt cause offset text → SoundCauses text (refusals.ModelByte offset)
+pub cut_fails : (text : List ℕ) (cause : Cause) (offset : ℕ) → length text ≤ most_bytes → FailsAt cause offset text → SoundCauses text (faults.Byte offset)
 cut_fails text cause offset short fails = uncut offset (record { short = short; cause = cause; fails = fails })
 
 -- ---- the tree
@@ -83,23 +83,23 @@ parsed_none ts line parsing.TooDeep h is = absurd cc
 parsed_none ts line parsing.Memory h is = absurd cc
 
 -- the braces of the text nest too deep
-pub nests : (text : List ℕ) (tokens : List Token) (e : ParseFault) → length text ≤ most_bytes → HasItsTokens text tokens → IsParsed (values text tokens) (Err e) → e ≡ parsing.TooDeep → SoundCauses text refusals.ModelTooDeep
+pub nests : (text : List ℕ) (tokens : List Token) (e : ParseFault) → length text ≤ most_bytes → HasItsTokens text tokens → IsParsed (values text tokens) (Err e) → e ≡ parsing.TooDeep → SoundCauses text faults.TooDeep
 nests text tokens e short h parsed is = too_deep (record { short = short; tokens = tokens; cut = h.has; deep = parsed_deep (values text tokens) e parsed is })
 
 -- the text has no tree
-pub no_model : (text : List ℕ) (tokens : List Token) (line : ℕ) (e : ParseFault) → length text ≤ most_bytes → HasItsTokens text tokens → IsParsed (values text tokens) (Err e) → e ≡ parsing.Syntax line → SoundCauses text (refusals.ModelSyntax line)
+pub no_model : (text : List ℕ) (tokens : List Token) (line : ℕ) (e : ParseFault) → length text ≤ most_bytes → HasItsTokens text tokens → IsParsed (values text tokens) (Err e) → e ≡ parsing.Syntax line → SoundCauses text (faults.Syntax line)
 no_model text tokens line e short h parsed is =
     let none = parsed_none (values text tokens) line e parsed is in
     no_tree line (record { short = short; tokens = tokens; cut = h.has; shallow = none.shallow; none = none.none })
 
 -- ---- the rules
 
-rule_lowest : (m : ModelTree) (n : ℕ) (e : CheckFault) → TellsLowest m (Err e) → e ≡ faults.Rule n → IsLowest all_rules m (Some n)
-rule_lowest m n (faults.Rule k) h is = let same : k ≡ n = cc in subst (λ x. IsLowest all_rules m (Some x)) same h
-rule_lowest m n faults.Memory h is = absurd cc
+rule_lowest : (m : ModelTree) (n : ℕ) (e : CheckFault) → TellsLowest m (Err e) → e ≡ check_faults.Rule n → IsLowest all_rules m (Some n)
+rule_lowest m n (check_faults.Rule k) h is = let same : k ≡ n = cc in subst (λ x. IsLowest all_rules m (Some x)) same h
+rule_lowest m n check_faults.Memory h is = absurd cc
 
 -- the lowest rule that is broken was told
-pub rule_told : (m : ModelTree) (n : ℕ) (e : CheckFault) → TellsLowest m (Err e) → e ≡ faults.Rule n → TreeCauses m (refusals.ModelRule n)
+pub rule_told : (m : ModelTree) (n : ℕ) (e : CheckFault) → TellsLowest m (Err e) → e ≡ check_faults.Rule n → TreeCauses m (faults.Rule n)
 rule_told m n e h is = breaks n (rule_lowest m n e h is)
 
 -- ---- the wiring
@@ -109,7 +109,7 @@ pub wiring_kept : (m : ModelTree) (w : Tables) → Expands m (Ok w) → IsGoodWi
 wiring_kept m w h = record { wired = h.0; flawless = h.1 }
 
 -- the lowest fault of the wiring was told
-pub wiring_refused : (m : ModelTree) (e : WiringFault) → first_broken all_rules m ≡ None → Expands m (Err e) → TreeCauses m (refusal_of e)
+pub wiring_refused : (m : ModelTree) (e : WiringFault) → first_broken all_rules m ≡ None → Expands m (Err e) → TreeCauses m (fault_of e)
 wiring_refused m wiring_faults.TooManySlots keeps h = miswired wiring_faults.TooManySlots keeps h
 wiring_refused m wiring_faults.TooManyPlaces keeps h = miswired wiring_faults.TooManyPlaces keeps h
 wiring_refused m wiring_faults.NoFreePlace keeps h = miswired wiring_faults.NoFreePlace keeps h
@@ -126,18 +126,18 @@ chart_first m class n (chart_faults.Chart c k) h is =
 chart_first m class n chart_faults.Memory h is = absurd cc
 
 -- the first class whose chart has a fault was told
-pub chart_told : (m : ModelTree) (class : List ℕ) (n : ℕ) (e : ChartsFault) → ReadsCharts m (Err e) → e ≡ chart_faults.Chart class n → ChartCauses m (refusals.ModelChart class n)
+pub chart_told : (m : ModelTree) (class : List ℕ) (n : ℕ) (e : ChartsFault) → ReadsCharts m (Err e) → e ≡ chart_faults.Chart class n → ChartCauses m (faults.Chart class n)
 chart_told m class n e h is = first_faulty class n (chart_first m class n e h is)
 
 -- ---- the tree
 
-chart_cause : (text : List ℕ) (tree : ModelTree) (wiring : Tables) {why : Refusal} → length text ≤ most_bytes → HasItsTree text tree → first_broken all_rules tree ≡ None → IsGoodWiring tree wiring → ChartCauses tree why → SoundCauses text why
+chart_cause : (text : List ℕ) (tree : ModelTree) (wiring : Tables) {why : ModelFault} → length text ≤ most_bytes → HasItsTree text tree → first_broken all_rules tree ≡ None → IsGoodWiring tree wiring → ChartCauses tree why → SoundCauses text why
 chart_cause text tree wiring short h keeps wired (first_faulty class n e) =
     bad_chart class n (record { short = short; tree = tree; read = h.has; keeps = keeps; wiring = wiring; wired = wired; first = e })
 chart_cause text tree wiring short h keeps wired no_memory_for_charts = no_memory
 
 -- the tree of a text is refused for the same cause as the text
-pub tree_cause : (text : List ℕ) (tree : ModelTree) {why : Refusal} → length text ≤ most_bytes → HasItsTree text tree → TreeCauses tree why → SoundCauses text why
+pub tree_cause : (text : List ℕ) (tree : ModelTree) {why : ModelFault} → length text ≤ most_bytes → HasItsTree text tree → TreeCauses tree why → SoundCauses text why
 tree_cause text tree short h (breaks r e) = breaks_rule r (record { short = short; tree = tree; read = h.has; lowest = e })
 tree_cause text tree short h (miswired fault keeps e) =
     bad_wiring (number fault) (record { short = short; tree = tree; read = h.has; keeps = keeps; fault = fault; number_is = refl; lowest = e })
@@ -153,7 +153,7 @@ text_sound text tree wiring charts short h sound = record { short = short; tree 
 pub model_judged : (text : List ℕ) (wiring : Tables) (charts : List (Option Chart)) (p : Plant) → IsSoundText text wiring charts → asks_services charts ≡ false → p.wiring ≡ wiring → ShowCharts p.tables.items charts → IsModel text p
 model_judged text wiring charts p is plain wired shown = record { charts = charts; is = subst (λ w. IsSoundText text w charts) (sym wired) is; plain = plain; tables = shown }
 
-pub services_asked : (text : List ℕ) (wiring : Tables) (charts : List (Option Chart)) → IsSoundText text wiring charts → asks_services charts ≡ true → TextCauses text refusals.ModelLater
+pub services_asked : (text : List ℕ) (wiring : Tables) (charts : List (Option Chart)) → IsSoundText text wiring charts → asks_services charts ≡ true → TextCauses text faults.Later
 services_asked text wiring charts is asks = needs_services (record { wiring = wiring; charts = charts; is = is; asks = asks })
 
 -- controllers run on a plant of a sound text

@@ -8,9 +8,11 @@ use Rattle.controller_actors.specs.declared.plant.Plant.{Plant}
 use Rattle.inject_lines.specs.declared.accepted.Line.{Line}
 use Rattle.inject_reader.specs.Answer.{answer}
 use Rattle.inject_reader.specs.declared.fault.InjectFault.{InjectFault}
-use Rattle.inject_reader.specs.declared.fault.InjectFault.TheVariants as faults
+use Rattle.inject_reader.specs.declared.fault.InjectFault.TheVariants as inject_faults
 use Rattle.room_run.specs.Words.{Files, Check, Tree, Run, asked_by}
 use Rattle.room_run.specs.Models.{IsModel, SoundCauses, TextCauses, most_bytes}
+use Rattle.room_run.specs.declared.model_fault.ModelFault.{ModelFault}
+use Rattle.room_run.specs.declared.model_fault.ModelFault.TheVariants as faults
 use Rattle.room_run.specs.declared.refusal.Refusal.{Refusal}
 use Rattle.room_run.specs.declared.refusal.Refusal.TheVariants as refusals
 use Rattle.room_run.specs.declared.status.Status.{Status}
@@ -46,14 +48,14 @@ pub data UnreadCauses (before after : Shown) (name : List ℕ) : Refusal → Typ
   model_no_memory : UnreadCauses before after name refusals.Memory
 
 -- why a model may be refused, whose text is looked for under a name, where these are the causes for which a text is refused
-pub data ModelCauses (Of : List ℕ → Refusal → Type 0) (before after : Shown) (name : List ℕ) (why : Refusal) : Type 0 where
-  no_text : UnreadCauses before after name why → ModelCauses Of before after name why
-  model_refused : TextIs before name (λ text. Of text why) → ModelCauses Of before after name why
+pub data ModelCauses (Of : List ℕ → ModelFault → Type 0) (before after : Shown) (name : List ℕ) : Refusal → Type 0 where
+  no_text : {why : Refusal} → UnreadCauses before after name why → ModelCauses Of before after name why
+  model_refused : (fault : ModelFault) → TextIs before name (λ text. Of text fault) → ModelCauses Of before after name (refusals.Model fault)
 
 -- why injections are refused whose lines have this fault
 abbrev pub refusal_of_lines : InjectFault → Refusal
-refusal_of_lines (faults.Code number code) = refusals.InjectionsLine number code
-refusal_of_lines faults.Memory = refusals.Memory
+refusal_of_lines (inject_faults.Code number code) = refusals.InjectionsLine number code
+refusal_of_lines inject_faults.Memory = refusals.Memory
 
 -- why a text of injections may be refused
 pub data LinesCauses (wiring : Tables) (text : List ℕ) : Refusal → Type 0 where
@@ -81,33 +83,43 @@ pub data Causes (before after : Shown) (words : List (List ℕ)) (why : Refusal)
   of_tree : (name : List ℕ) → asked_by words ≡ Some (Tree name) → ModelCauses SoundCauses before after name why → Causes before after words why
   of_run : (files : Files) (fuel : ℕ) → asked_by words ≡ Some (Run files fuel) → RunCauses before after files why → Causes before after words why
 
+-- the status of a refusal of a model's text
+abbrev pub status_of_fault : ModelFault → Status
+status_of_fault (faults.Byte offset) = statuses.ModelRefused
+status_of_fault faults.TooDeep = statuses.ModelRefused
+status_of_fault (faults.Syntax number) = statuses.ModelRefused
+status_of_fault (faults.Rule number) = statuses.ModelRefused
+status_of_fault (faults.Wiring number) = statuses.ModelRefused
+status_of_fault (faults.Chart class number) = statuses.ModelRefused
+status_of_fault faults.Later = statuses.ModelRefused
+status_of_fault faults.Memory = statuses.Memory
+
 -- the status of a refusal
 abbrev pub status_of : Refusal → Status
 status_of refusals.Words = statuses.WordsRefused
 status_of refusals.ModelTooLong = statuses.ModelRefused
-status_of (refusals.ModelByte offset) = statuses.ModelRefused
-status_of refusals.ModelTooDeep = statuses.ModelRefused
-status_of (refusals.ModelSyntax number) = statuses.ModelRefused
-status_of (refusals.ModelRule number) = statuses.ModelRefused
-status_of (refusals.ModelWiring number) = statuses.ModelRefused
-status_of (refusals.ModelChart class number) = statuses.ModelRefused
-status_of refusals.ModelLater = statuses.ModelRefused
+status_of (refusals.Model fault) = status_of_fault fault
 status_of refusals.InjectionsTooLong = statuses.InjectionsRefused
 status_of (refusals.InjectionsLine number code) = statuses.InjectionsRefused
 status_of refusals.ReadFault = statuses.ReadFault
 status_of refusals.Memory = statuses.Memory
 
+-- what is told of a refusal of a model's text
+abbrev pub note_of_fault : ModelFault → List ℕ
+note_of_fault (faults.Byte offset) = line (codes "room: model refused: byte " ∷ decimal offset ∷ [])
+note_of_fault faults.TooDeep = line (codes "room: model refused: too deep" ∷ [])
+note_of_fault (faults.Syntax number) = line (codes "room: model refused: syntax " ∷ decimal number ∷ [])
+note_of_fault (faults.Rule number) = line (codes "room: model refused: rule " ∷ decimal number ∷ [])
+note_of_fault (faults.Wiring number) = line (codes "room: model refused: wiring " ∷ decimal number ∷ [])
+note_of_fault (faults.Chart class number) = line (codes "room: model refused: chart " ∷ class ∷ codes " " ∷ decimal number ∷ [])
+note_of_fault faults.Later = line (codes "room: model refused: later" ∷ [])
+note_of_fault faults.Memory = line (codes "room: memory" ∷ [])
+
 -- what is told of a refusal: one line, names as they stand and numbers in decimal digits
 abbrev pub note_of : Refusal → List ℕ
 note_of refusals.Words = line (codes "room: words refused" ∷ [])
 note_of refusals.ModelTooLong = line (codes "room: model refused: too long" ∷ [])
-note_of (refusals.ModelByte offset) = line (codes "room: model refused: byte " ∷ decimal offset ∷ [])
-note_of refusals.ModelTooDeep = line (codes "room: model refused: too deep" ∷ [])
-note_of (refusals.ModelSyntax number) = line (codes "room: model refused: syntax " ∷ decimal number ∷ [])
-note_of (refusals.ModelRule number) = line (codes "room: model refused: rule " ∷ decimal number ∷ [])
-note_of (refusals.ModelWiring number) = line (codes "room: model refused: wiring " ∷ decimal number ∷ [])
-note_of (refusals.ModelChart class number) = line (codes "room: model refused: chart " ∷ class ∷ codes " " ∷ decimal number ∷ [])
-note_of refusals.ModelLater = line (codes "room: model refused: later" ∷ [])
+note_of (refusals.Model fault) = note_of_fault fault
 note_of refusals.InjectionsTooLong = line (codes "room: injections refused: too long" ∷ [])
 note_of (refusals.InjectionsLine number code) = line (codes "room: injections refused: line " ∷ decimal number ∷ codes " " ∷ decimal code ∷ [])
 note_of refusals.ReadFault = line (codes "room: read fault" ∷ [])

@@ -18,8 +18,8 @@ use Rattle.binding_expand.specs.declared.fault.WiringFault.{WiringFault}
 use Rattle.service_words.specs.Asked.{asks_services}
 use Rattle.model_plants.specs.Shown.{ShowCharts}
 use Rattle.controller_actors.specs.declared.plant.Plant.{Plant}
-use Rattle.room_run.specs.declared.refusal.Refusal.{Refusal}
-use Rattle.room_run.specs.declared.refusal.Refusal.TheVariants as refusals
+use Rattle.room_run.specs.declared.model_fault.ModelFault.{ModelFault}
+use Rattle.room_run.specs.declared.model_fault.ModelFault.TheVariants as faults
 
 -- the most bytes of a text
 abbrev pub most_bytes : ℕ
@@ -125,17 +125,17 @@ pub record NeedsServices (text : List ℕ) : Type 0 where
 -- Why a text may be refused as that of a model which keeps all rules and whose wiring and charts have
 -- no fault. The order is: the cut, the braces, the tree, the rules in order of their numbers, the wiring,
 -- the charts of the actor classes in order of declaration.
-pub data SoundCauses (text : List ℕ) : Refusal → Type 0 where
-  uncut : (offset : ℕ) → IsUncut text offset → SoundCauses text (refusals.ModelByte offset)
-  too_deep : NestsTooDeep text → SoundCauses text refusals.ModelTooDeep
-  no_tree : (line : ℕ) → HasNoTree text → SoundCauses text (refusals.ModelSyntax line)
-  breaks_rule : (rule : ℕ) → BreaksRule text rule → SoundCauses text (refusals.ModelRule rule)
-  bad_wiring : (number : ℕ) → HasBadWiring text number → SoundCauses text (refusals.ModelWiring number)
-  bad_chart : (class : List ℕ) (number : ℕ) → HasBadChart text class number → SoundCauses text (refusals.ModelChart class number)
-  no_memory : SoundCauses text refusals.Memory
+pub data SoundCauses (text : List ℕ) : ModelFault → Type 0 where
+  uncut : (offset : ℕ) → IsUncut text offset → SoundCauses text (faults.Byte offset)
+  too_deep : NestsTooDeep text → SoundCauses text faults.TooDeep
+  no_tree : (line : ℕ) → HasNoTree text → SoundCauses text (faults.Syntax line)
+  breaks_rule : (rule : ℕ) → BreaksRule text rule → SoundCauses text (faults.Rule rule)
+  bad_wiring : (number : ℕ) → HasBadWiring text number → SoundCauses text (faults.Wiring number)
+  bad_chart : (class : List ℕ) (number : ℕ) → HasBadChart text class number → SoundCauses text (faults.Chart class number)
+  no_memory : SoundCauses text faults.Memory
 
 -- why a text may be refused as that of a model which runs: for a cause that stands before, or because its actors need the services, which don't run yet
-pub data TextCauses (text : List ℕ) : Refusal → Type 0 where
-  unsound : (why : Refusal) → SoundCauses text why → TextCauses text why
-  needs_services : NeedsServices text → TextCauses text refusals.ModelLater
-  none_for_running : TextCauses text refusals.Memory
+pub data TextCauses (text : List ℕ) : ModelFault → Type 0 where
+  unsound : (why : ModelFault) → SoundCauses text why → TextCauses text why
+  needs_services : NeedsServices text → TextCauses text faults.Later
+  none_for_running : TextCauses text faults.Memory

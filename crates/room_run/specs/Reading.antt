@@ -12,11 +12,11 @@ use Rattle.structure_check.specs.declared.checked_model.Checked.{Checked}
 use Rattle.room_wiring.specs.declared.tables.Tables.{Tables}
 use Rattle.binding_expand.specs.Faults.{IsLowestFault, number}
 use Rattle.binding_expand.specs.declared.fault.WiringFault.{WiringFault}
-use Rattle.binding_expand.specs.declared.fault.WiringFault.TheVariants as faults
+use Rattle.binding_expand.specs.declared.fault.WiringFault.TheVariants as wiring_faults
 use Rattle.model_charts.specs.Charts.{HasFaultyChart}
 use Rattle.room_run.specs.Models.{HasTokens, HasTree, IsGoodWiring}
-use Rattle.room_run.specs.declared.refusal.Refusal.{Refusal}
-use Rattle.room_run.specs.declared.refusal.Refusal.TheVariants as refusals
+use Rattle.room_run.specs.declared.model_fault.ModelFault.{ModelFault}
+use Rattle.room_run.specs.declared.model_fault.ModelFault.TheVariants as faults
 
 -- the text has these tokens and no others, and their names are names of the language
 pub record HasItsTokens (text : List ℕ) (tokens : List Token) : Type 0 where
@@ -37,22 +37,22 @@ pub record IsCheckedFor (tree : ModelTree) (checked : Checked) : Type 0 where
   pub classes : HasClasses checked
 
 -- why a tree is refused whose wiring has this fault
-abbrev pub refusal_of : WiringFault → Refusal
-refusal_of faults.Memory = refusals.Memory
-refusal_of faults.TooManySlots = refusals.ModelWiring (number faults.TooManySlots)
-refusal_of faults.TooManyPlaces = refusals.ModelWiring (number faults.TooManyPlaces)
-refusal_of faults.NoFreePlace = refusals.ModelWiring (number faults.NoFreePlace)
-refusal_of faults.SocketPair = refusals.ModelWiring (number faults.SocketPair)
-refusal_of faults.SocketAway = refusals.ModelWiring (number faults.SocketAway)
+abbrev pub fault_of : WiringFault → ModelFault
+fault_of wiring_faults.Memory = faults.Memory
+fault_of wiring_faults.TooManySlots = faults.Wiring (number wiring_faults.TooManySlots)
+fault_of wiring_faults.TooManyPlaces = faults.Wiring (number wiring_faults.TooManyPlaces)
+fault_of wiring_faults.NoFreePlace = faults.Wiring (number wiring_faults.NoFreePlace)
+fault_of wiring_faults.SocketPair = faults.Wiring (number wiring_faults.SocketPair)
+fault_of wiring_faults.SocketAway = faults.Wiring (number wiring_faults.SocketAway)
 
 -- why the charts of a tree may be refused: the first that has a fault, or want of memory
-pub data ChartCauses (tree : ModelTree) : Refusal → Type 0 where
-  first_faulty : (class : List ℕ) (number : ℕ) → HasFaultyChart tree class number → ChartCauses tree (refusals.ModelChart class number)
-  no_memory_for_charts : ChartCauses tree refusals.Memory
+pub data ChartCauses (tree : ModelTree) : ModelFault → Type 0 where
+  first_faulty : (class : List ℕ) (number : ℕ) → HasFaultyChart tree class number → ChartCauses tree (faults.Chart class number)
+  no_memory_for_charts : ChartCauses tree faults.Memory
 
 -- why a tree may be refused: the lowest rule that it breaks; where it keeps all rules, the lowest fault of its wiring; where it has a wiring, the first chart that has a fault; or want of memory
-pub data TreeCauses (tree : ModelTree) : Refusal → Type 0 where
-  breaks : (rule : ℕ) → IsLowest all_rules tree (Some rule) → TreeCauses tree (refusals.ModelRule rule)
-  miswired : (fault : WiringFault) → first_broken all_rules tree ≡ None → IsLowestFault tree fault → TreeCauses tree (refusals.ModelWiring (number fault))
-  faulty : {why : Refusal} (wiring : Tables) → first_broken all_rules tree ≡ None → IsGoodWiring tree wiring → ChartCauses tree why → TreeCauses tree why
-  no_memory_for_tree : TreeCauses tree refusals.Memory
+pub data TreeCauses (tree : ModelTree) : ModelFault → Type 0 where
+  breaks : (rule : ℕ) → IsLowest all_rules tree (Some rule) → TreeCauses tree (faults.Rule rule)
+  miswired : (fault : WiringFault) → first_broken all_rules tree ≡ None → IsLowestFault tree fault → TreeCauses tree (faults.Wiring (number fault))
+  faulty : {why : ModelFault} (wiring : Tables) → first_broken all_rules tree ≡ None → IsGoodWiring tree wiring → ChartCauses tree why → TreeCauses tree why
+  no_memory_for_tree : TreeCauses tree faults.Memory

@@ -8,9 +8,9 @@ ghost use Rattle.chart_graphs.specs.Views.{chart_view};
 ghost use Rattle.model_charts.specs.Charts.{AreValid, HasCharts};
 ghost use Rattle.controller_actors.specs.Plants.{IsPlant};
 ghost use Rattle.room_run.specs.Models.{IsGoodWiring, IsModel, IsSoundText, IsSoundTree, SoundCauses, TextCauses};
-ghost use Rattle.room_run.specs.Reading.{ChartCauses, HasItsTokens, HasItsTree, IsCheckedFor, TreeCauses, refusal_of};
+ghost use Rattle.room_run.specs.Reading.{ChartCauses, HasItsTokens, HasItsTree, IsCheckedFor, TreeCauses, fault_of};
 
-use crate::refusal::Refusal;
+use crate::model_fault::ModelFault;
 use binding_expand::{WiringFault, expand};
 use chart_graphs::Chart;
 use controller::Plant;
@@ -25,23 +25,23 @@ use std::alloc::{AllocError, Global};
 use structure_check::{CheckFault, Checked, check};
 
 /// The tokens of a text.
-fn read_tokens(alloc: Global, text: &[u8]) -> Result<Vec<Token>, Refusal>
+fn read_tokens(alloc: Global, text: &[u8]) -> Result<Vec<Token>, ModelFault>
     requires { length text.now ≤ 1048576 }
     ensures ok { IfOk result (λ v. HasItsTokens text.now v.items) }
     ensures err { IfErr result (λ why. SoundCauses text.now why) }
 {
     match lex(alloc, text) {
         Ok(tokens) => Ok(tokens),
-        Err(LexFault::BadByte(offset)) => Err(Refusal::ModelByte { offset }),
-        Err(LexFault::OpenString(offset)) => Err(Refusal::ModelByte { offset }),
-        Err(LexFault::OpenComment(offset)) => Err(Refusal::ModelByte { offset }),
-        Err(LexFault::NumberTooLarge(offset)) => Err(Refusal::ModelByte { offset }),
-        Err(LexFault::Memory) => Err(Refusal::Memory),
+        Err(LexFault::BadByte(offset)) => Err(ModelFault::Byte(offset)),
+        Err(LexFault::OpenString(offset)) => Err(ModelFault::Byte(offset)),
+        Err(LexFault::OpenComment(offset)) => Err(ModelFault::Byte(offset)),
+        Err(LexFault::NumberTooLarge(offset)) => Err(ModelFault::Byte(offset)),
+        Err(LexFault::Memory) => Err(ModelFault::Memory),
     }
 }
 
 /// The syntax tree of a text.
-fn read_tree(alloc: Global, text: &[u8]) -> Result<Model, Refusal>
+fn read_tree(alloc: Global, text: &[u8]) -> Result<Model, ModelFault>
     requires { length text.now ≤ 1048576 }
     ensures ok { IfOk result (λ tree. HasItsTree text.now (model_view tree)) }
     ensures err { IfErr result (λ why. SoundCauses text.now why) }
@@ -52,54 +52,52 @@ fn read_tree(alloc: Global, text: &[u8]) -> Result<Model, Refusal>
     };
     match parse(alloc, text, &tokens) {
         Ok(tree) => Ok(tree),
-        Err(ParseFault::TooDeep) => Err(Refusal::ModelTooDeep),
-        Err(ParseFault::Syntax { line }) => Err(Refusal::ModelSyntax { line }),
-        Err(ParseFault::Memory) => Err(Refusal::Memory),
+        Err(ParseFault::TooDeep) => Err(ModelFault::TooDeep),
+        Err(ParseFault::Syntax { line }) => Err(ModelFault::Syntax { line }),
+        Err(ParseFault::Memory) => Err(ModelFault::Memory),
     }
 }
 
 /// What is kept of a tree that keeps all rules.
-fn keep_rules(alloc: Global, tree: &Model) -> Result<Checked<'_>, Refusal>
+fn keep_rules(alloc: Global, tree: &Model) -> Result<Checked<'_>, ModelFault>
     ensures ok { IfOk result (λ c. IsCheckedFor (model_view tree.entry.now) c) }
     ensures err { IfErr result (λ why. TreeCauses (model_view tree.entry.now) why) }
 {
     match check(alloc, tree) {
         Ok(checked) => Ok(checked),
-        Err(CheckFault::Rule(rule)) => Err(Refusal::ModelRule { rule }),
-        Err(CheckFault::Memory) => Err(Refusal::Memory),
+        Err(CheckFault::Rule(rule)) => Err(ModelFault::Rule(rule)),
+        Err(CheckFault::Memory) => Err(ModelFault::Memory),
     }
 }
 
 /// Why a model is refused whose wiring has this fault.
-fn refusal_of(fault: WiringFault) -> Refusal
-    ensures { result ≡ refusal_of fault }
+fn fault_of(fault: WiringFault) -> ModelFault
+    ensures { result ≡ fault_of fault }
 {
     match fault {
-        WiringFault::Memory => Refusal::Memory,
+        WiringFault::Memory => ModelFault::Memory,
         WiringFault::TooManySlots
         | WiringFault::TooManyPlaces
         | WiringFault::NoFreePlace
         | WiringFault::SocketPair
-        | WiringFault::SocketAway => Refusal::ModelWiring {
-            number: fault.number(),
-        },
+        | WiringFault::SocketAway => ModelFault::Wiring(fault.number()),
     }
 }
 
 /// The wiring of a model that keeps all rules.
-fn keep_wiring(alloc: Global, checked: &Checked) -> Result<Wiring, Refusal>
+fn keep_wiring(alloc: Global, checked: &Checked) -> Result<Wiring, ModelFault>
     requires { first_broken all_rules (model_view checked.now.model.now) ≡ None }
     ensures ok { IfOk result (λ w. IsGoodWiring (model_view checked.now.model.now) w) }
     ensures err { IfErr result (λ why. TreeCauses (model_view checked.now.model.now) why) }
 {
     match expand(alloc, checked) {
         Ok(wiring) => Ok(wiring),
-        Err(fault) => Err(refusal_of(fault)),
+        Err(fault) => Err(fault_of(fault)),
     }
 }
 
 /// The charts of a model that keeps all rules, where none has a fault.
-fn keep_charts(alloc: Global, checked: &Checked) -> Result<Vec<Option<Chart>>, Refusal>
+fn keep_charts(alloc: Global, checked: &Checked) -> Result<Vec<Option<Chart>>, ModelFault>
     requires rules { first_broken all_rules (model_view checked.now.model.now) ≡ None }
     requires classes { HasClasses checked.now }
     ensures ok { IfOk result (λ v. HasCharts (model_view checked.now.model.now) (map (option_map chart_view) v.items)) }
@@ -108,8 +106,8 @@ fn keep_charts(alloc: Global, checked: &Checked) -> Result<Vec<Option<Chart>>, R
 {
     match charts_of(alloc, checked) {
         Ok(charts) => Ok(charts),
-        Err(ChartsFault::Chart { class, number }) => Err(Refusal::ModelChart { class, number }),
-        Err(ChartsFault::Memory) => Err(Refusal::Memory),
+        Err(ChartsFault::Chart { class, number }) => Err(ModelFault::Chart { class, number }),
+        Err(ChartsFault::Memory) => Err(ModelFault::Memory),
     }
 }
 
@@ -121,7 +119,7 @@ pub(crate) struct SoundModel {
 }
 
 /// The wiring and the charts of a tree, where it keeps all rules and they have no fault.
-fn judge_tree(alloc: Global, tree: &Model) -> Result<SoundModel, Refusal>
+fn judge_tree(alloc: Global, tree: &Model) -> Result<SoundModel, ModelFault>
     ensures ok { IfOk result (λ s. IsSoundTree (model_view tree.now) s.wiring (map (option_map chart_view) s.charts.items)) }
     ensures valid { IfOk result (λ s. AreValid (map (option_map chart_view) s.charts.items)) }
     ensures err { IfErr result (λ why. TreeCauses (model_view tree.now) why) }
@@ -141,7 +139,7 @@ fn judge_tree(alloc: Global, tree: &Model) -> Result<SoundModel, Refusal>
 }
 
 /// The model of a text, where it keeps all rules and its wiring and charts have no fault.
-pub(crate) fn sound_model(alloc: Global, text: &[u8]) -> Result<SoundModel, Refusal>
+pub(crate) fn sound_model(alloc: Global, text: &[u8]) -> Result<SoundModel, ModelFault>
     requires { length text.now ≤ 1048576 }
     ensures ok { IfOk result (λ s. IsSoundText text.now s.wiring (map (option_map chart_view) s.charts.items)) }
     ensures valid { IfOk result (λ s. AreValid (map (option_map chart_view) s.charts.items)) }
@@ -159,7 +157,7 @@ pub(crate) fn sound_model(alloc: Global, text: &[u8]) -> Result<SoundModel, Refu
 
 /// The plant of a text, where it is that of a model which keeps all rules, whose wiring and charts have no
 /// fault, and whose actions ask neither the frame service nor the layer service for anything.
-pub fn read_plant(alloc: Global, text: &[u8]) -> Result<Plant, Refusal>
+pub fn read_plant(alloc: Global, text: &[u8]) -> Result<Plant, ModelFault>
     requires { length text.now ≤ 1048576 }
     ensures ok { IfOk result (λ plant. IsModel text.now plant) }
     ensures plant { IfOk result (λ plant. IsPlant plant) }
@@ -170,10 +168,10 @@ pub fn read_plant(alloc: Global, text: &[u8]) -> Result<Plant, Refusal>
         Err(why) => return Err(why),
     };
     if asks_services(&sound.charts) {
-        return Err(Refusal::ModelLater);
+        return Err(ModelFault::Later);
     }
     match plant_of(alloc, sound.wiring, &sound.charts) {
         Ok(plant) => Ok(plant),
-        Err(AllocError) => Err(Refusal::Memory),
+        Err(AllocError) => Err(ModelFault::Memory),
     }
 }

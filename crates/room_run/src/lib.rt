@@ -7,6 +7,7 @@
 
 mod asked;
 mod judge;
+mod model_fault;
 mod note;
 mod prepare;
 mod refusal;
@@ -14,6 +15,7 @@ mod status;
 mod top;
 
 pub use judge::read_plant;
+pub use model_fault::ModelFault;
 pub use refusal::Refusal;
 pub use status::Status;
 pub use top::room_top;

@@ -4,9 +4,10 @@ ghost use Rattle.line_text.specs.Lines.{line};
 ghost use Rattle.line_text.specs.Parts.{part_texts};
 ghost use Rattle.line_text.specs.Output.{Puts, at_rest};
 ghost use Rattle.room_outside.specs.Written.{Appends, BreaksOff};
-ghost use Rattle.room_run.specs.Causes.{note_of};
+ghost use Rattle.room_run.specs.Causes.{note_of, note_of_fault};
 ghost use Rattle.room_run.specs.Outcome.{accepted};
 
+use crate::model_fault::ModelFault;
 use crate::refusal::Refusal;
 use line_text::{LineBuffer, Part, write_line};
 use room_outside::{Sink, WriteFault};
@@ -57,32 +58,41 @@ fn write_place<K: Sink>(notes: &mut K, text: &[u8], number: u32, code: u8) -> Re
     write_line(&mut LineBuffer::new(), notes, &parts)
 }
 
+fn write_model_fault<K: Sink>(why: &ModelFault, notes: &mut K) -> Result<(), WriteFault>
+    ensures { Puts result (at_rest (K.written notes.old)) (at_rest (K.written notes.new)) (note_of_fault why.now) }
+{
+    match why {
+        ModelFault::Byte(offset) => {
+            write_number(notes, b"room: model refused: byte ", *offset as u64)
+        }
+        ModelFault::TooDeep => write_text(notes, b"room: model refused: too deep"),
+        ModelFault::Syntax { line } => {
+            write_number(notes, b"room: model refused: syntax ", u64::from(*line))
+        }
+        ModelFault::Rule(rule) => {
+            write_number(notes, b"room: model refused: rule ", u64::from(*rule))
+        }
+        ModelFault::Wiring(number) => {
+            write_number(notes, b"room: model refused: wiring ", u64::from(*number))
+        }
+        ModelFault::Chart { class, number } => write_class(
+            notes,
+            b"room: model refused: chart ",
+            class.as_bytes(),
+            u64::from(*number),
+        ),
+        ModelFault::Later => write_text(notes, b"room: model refused: later"),
+        ModelFault::Memory => write_text(notes, b"room: memory"),
+    }
+}
+
 fn write_refusal<K: Sink>(why: &Refusal, notes: &mut K) -> Result<(), WriteFault>
     ensures { Puts result (at_rest (K.written notes.old)) (at_rest (K.written notes.new)) (note_of why.now) }
 {
     match why {
         Refusal::Words => write_text(notes, b"room: words refused"),
         Refusal::ModelTooLong => write_text(notes, b"room: model refused: too long"),
-        Refusal::ModelByte { offset } => {
-            write_number(notes, b"room: model refused: byte ", *offset as u64)
-        }
-        Refusal::ModelTooDeep => write_text(notes, b"room: model refused: too deep"),
-        Refusal::ModelSyntax { line } => {
-            write_number(notes, b"room: model refused: syntax ", u64::from(*line))
-        }
-        Refusal::ModelRule { rule } => {
-            write_number(notes, b"room: model refused: rule ", u64::from(*rule))
-        }
-        Refusal::ModelWiring { number } => {
-            write_number(notes, b"room: model refused: wiring ", u64::from(*number))
-        }
-        Refusal::ModelChart { class, number } => write_class(
-            notes,
-            b"room: model refused: chart ",
-            class.as_bytes(),
-            u64::from(*number),
-        ),
-        Refusal::ModelLater => write_text(notes, b"room: model refused: later"),
+        Refusal::Model(fault) => write_model_fault(fault, notes),
         Refusal::InjectionsTooLong => write_text(notes, b"room: injections refused: too long"),
         Refusal::InjectionsLine { line, code } => {
             write_place(notes, b"room: injections refused: line ", *line, *code)

@@ -68,7 +68,7 @@ fn read_wiring<S: Shelf>(alloc: Global, shelf: &mut S, name: &str) -> Result<Wir
     };
     match sound_model(alloc, text.as_slice()) {
         Ok(sound) => Ok(sound.wiring),
-        Err(why) => Err(why),
+        Err(fault) => Err(Refusal::Model(fault)),
     }
 }
 
@@ -83,7 +83,10 @@ fn read_model<S: Shelf>(alloc: Global, shelf: &mut S, name: &str) -> Result<Plan
         Ok(text) => text,
         Err(why) => return Err(why),
     };
-    read_plant(alloc, text.as_slice())
+    match read_plant(alloc, text.as_slice()) {
+        Ok(plant) => Ok(plant),
+        Err(fault) => Err(Refusal::Model(fault)),
+    }
 }
 
 /// Why injections are refused whose lines have this fault.

@@ -1,0 +1,47 @@
+//! Why the text of a model is refused.
+ghost use Rattle.std.specs.Prelude.{◌≡◌};
+ghost use Rattle.room_run.specs.Causes.{status_of_fault};
+
+use crate::status::Status;
+use room_ast::Name;
+
+/// Why a text is refused: it isn't that of a model which runs.
+#[derive(Debug, Drop)]
+pub enum ModelFault {
+    /// It can't be cut into tokens at this byte, counted from 0.
+    Byte(usize),
+    /// More braces stand open at some place than may (`room_parser` says how many).
+    TooDeep,
+    /// No model has its tokens. The line, from 1, is that of the first token with which no model
+    /// goes on, or of the end of the text.
+    Syntax { line: u32 },
+    /// The model breaks the rule of this number, and none of a lower number.
+    Rule(u8),
+    /// The model keeps all rules, and its wiring has the fault of this number, 1 to 5, and none of
+    /// a lower number.
+    Wiring(u8),
+    /// The model keeps all rules, its wiring has no fault, and the actor class of this name is the
+    /// first whose chart has a fault; the lowest one has this number, 1 to 8.
+    Chart { class: Name, number: u8 },
+    /// The model keeps all rules, its wiring and its charts have no fault, and an action of it has
+    /// `incarnate`, `destroy`, `import`, `deport`, `register` or `withdraw`, which don't run yet.
+    Later,
+    Memory,
+}
+
+impl ModelFault {
+    pub(crate) fn status(&self) -> Status
+        ensures { result ≡ status_of_fault self.now }
+    {
+        match self {
+            ModelFault::Byte(_) => Status::ModelRefused,
+            ModelFault::TooDeep => Status::ModelRefused,
+            ModelFault::Syntax { .. } => Status::ModelRefused,
+            ModelFault::Rule(_) => Status::ModelRefused,
+            ModelFault::Wiring(_) => Status::ModelRefused,
+            ModelFault::Chart { .. } => Status::ModelRefused,
+            ModelFault::Later => Status::ModelRefused,
+            ModelFault::Memory => Status::Memory,
+        }
+    }
+}
