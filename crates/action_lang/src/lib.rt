@@ -5,7 +5,9 @@
 //! is this project's own.
 #![tactic(auto)]
 
-pub use action_check::{ServiceNames, check_action, check_cond};
+pub mod action_check;
+
+pub use crate::action_check::{ServiceNames, check_action, check_cond};
 pub use action_parse::{parse_action, parse_cond};
 pub use action_program::{
     ActionFault, Argument, BinaryOp, Bound, BoundBranch, BoundExpr, BoundIf, BoundSend, BoundStep,

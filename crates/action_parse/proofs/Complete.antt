@@ -6,23 +6,23 @@ use Rattle.room_lexer.specs.declared.token.Mark.TheVariants as marks
 use Rattle.room_ast.specs.Tokens.{each}
 use Rattle.token_reading.specs.Reader.{◌⊕◌, reads_as}
 use Rattle.token_reading.proofs.Readers.{Reads, Reads-⊕, Reads-as, Anything}
-use Rattle.action_tokens.specs.Values.{Value, AWord, AName, ANumber, AMark}
-use Rattle.action_tokens.specs.Single.{comes, comes_word, mark, name_at, number_at}
-use Rattle.action_tokens.specs.declared.word.ActionWord.TheVariants as words
-use Rattle.action_tokens.proofs.Singles.{comes_here, mark_reads, name_reads}
+use Rattle.token_reading.specs.action_tokens.Values.{Value, AWord, AName, ANumber, AMark}
+use Rattle.token_reading.specs.action_tokens.Single.{comes, comes_word, mark, name_at, number_at}
+use Rattle.token_reading.specs.declared.action_tokens.word.ActionWord.TheVariants as words
+use Rattle.token_reading.proofs.action_tokens.Singles.{comes_here, mark_reads, name_reads}
 use Rattle.action_program.specs.Named.{ExprTree, a_number, the_true, the_false, a_datum, the_place, the_self, an_attribute, a_paren, a_unary, a_chain, Steps, no_step, a_step, SendTree, StmtTree, empty, assign, choose, repeat, send, defer, recall, recall_all, frame, import_at, register, withdraw, Stmts, no_stmt, a_stmt, Branches, no_branch, a_branch, Otherwise, no_else, an_else}
 use Rattle.action_program.specs.declared.operator.UnaryOp.{UnaryOp}
 use Rattle.action_program.specs.declared.operator.UnaryOp.TheVariants as unary
 use Rattle.action_program.specs.declared.operator.BinaryOp.{BinaryOp}
 use Rattle.action_program.specs.declared.operator.FrameVerb.{FrameVerb}
 use Rattle.action_program.specs.declared.operator.FrameVerb.TheVariants as verbs
-use Rattle.action_reading.specs.Tokens.{operator_mark, part, expr_tokens, steps_tokens, index_tokens, arguments_tokens, prio_tokens, stmt_tokens, stmts_tokens, more_tokens, else_tokens}
-use Rattle.action_reading.specs.Written.{AtLevel, StepsAt, IsExpr, IsIndex, AreExprs, IsPrio, IsStmt, AreStmts, AreBranches, IsElse, expr_nesting}
-use Rattle.action_reading.specs.ExprReading.{operator_comes, path_at, level, operand}
-use Rattle.action_reading.specs.StmtReading.{is_send, else_if_comes, goes_on}
-use Rattle.action_reading.proofs.ExprAgain.{operator_again, op_no_dot, op_no_bracket, path_again, expr_back}
-use Rattle.action_reading.proofs.StmtSound.{block_tokens, branch_tokens}
-use Rattle.action_reading.proofs.StmtAgain.{prio_again, register_again, withdraw_again, sends, assigns, expr_opens, stmts_no_else, grouped}
+use Rattle.action_parse.specs.action_reading.Tokens.{operator_mark, part, expr_tokens, steps_tokens, index_tokens, arguments_tokens, prio_tokens, stmt_tokens, stmts_tokens, more_tokens, else_tokens}
+use Rattle.action_parse.specs.action_reading.Written.{AtLevel, StepsAt, IsExpr, IsIndex, AreExprs, IsPrio, IsStmt, AreStmts, AreBranches, IsElse, expr_nesting}
+use Rattle.action_parse.specs.action_reading.ExprReading.{operator_comes, path_at, level, operand}
+use Rattle.action_parse.specs.action_reading.StmtReading.{is_send, else_if_comes, goes_on}
+use Rattle.action_parse.proofs.action_reading.ExprAgain.{operator_again, op_no_dot, op_no_bracket, path_again, expr_back}
+use Rattle.action_parse.proofs.action_reading.StmtSound.{block_tokens, branch_tokens}
+use Rattle.action_parse.proofs.action_reading.StmtAgain.{prio_again, register_again, withdraw_again, sends, assigns, expr_opens, stmts_no_else, grouped}
 use Rattle.action_parse.specs.declared.goal.Goal.{Goal}
 use Rattle.action_parse.specs.declared.goal.Goal.TheVariants as goals
 use Rattle.action_parse.specs.declared.goal.Goal.TheVariants.{Take, Prio, Index, Message, Operand, Operators, Arguments, Statements}

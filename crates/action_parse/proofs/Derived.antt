@@ -7,24 +7,24 @@ use Rattle.room_lexer.specs.declared.token.Mark.TheVariants as marks
 use Rattle.room_ast.specs.Tokens.{each}
 use Rattle.token_reading.specs.Reader.{Reader, ◌⊕◌, reads_as}
 use Rattle.token_reading.proofs.Readers.{Sound-⊕}
-use Rattle.action_tokens.specs.Values.{Value, AWord, AName, ANumber, AMark}
-use Rattle.action_tokens.specs.Single.{comes, comes_word, rest_of, mark, name_at, number_at}
-use Rattle.action_tokens.specs.declared.word.ActionWord.{ActionWord}
-use Rattle.action_tokens.specs.declared.word.ActionWord.TheVariants as words
-use Rattle.action_tokens.proofs.Singles.{comes_is, comes_word_is, mark_sound, name_sound, number_sound}
+use Rattle.token_reading.specs.action_tokens.Values.{Value, AWord, AName, ANumber, AMark}
+use Rattle.token_reading.specs.action_tokens.Single.{comes, comes_word, rest_of, mark, name_at, number_at}
+use Rattle.token_reading.specs.declared.action_tokens.word.ActionWord.{ActionWord}
+use Rattle.token_reading.specs.declared.action_tokens.word.ActionWord.TheVariants as words
+use Rattle.token_reading.proofs.action_tokens.Singles.{comes_is, comes_word_is, mark_sound, name_sound, number_sound}
 use Rattle.action_program.specs.Named.{ExprTree, a_paren, a_unary, StmtTree, empty, assign, choose, repeat, send, defer, recall, recall_all, frame, import_at, Stmts, no_stmt, a_stmt, Branches, no_branch, a_branch, Otherwise, no_else, an_else}
 use Rattle.action_program.specs.declared.operator.UnaryOp.TheVariants as unary
 use Rattle.action_program.specs.declared.operator.BinaryOp.{BinaryOp}
 use Rattle.action_program.specs.declared.operator.FrameVerb.{FrameVerb}
 use Rattle.action_program.specs.declared.operator.FrameVerb.TheVariants as verbs
-use Rattle.action_reading.specs.Tokens.{operator_mark, path_tokens, expr_tokens, index_tokens, arguments_tokens, prio_tokens, verb_word, stmt_tokens, stmts_tokens, more_tokens, else_tokens}
-use Rattle.action_reading.specs.Written.{AtLevel, IsExpr, IsIndex, AreExprs, IsPrio, IsStmt, AreStmts, AreBranches, IsElse}
-use Rattle.action_reading.specs.ExprReading.{operator_of, operator_comes, path_at, operand}
-use Rattle.action_reading.specs.StmtReading.{is_send, prio_at, register_at, withdraw_at, else_if_comes}
-use Rattle.action_reading.proofs.ExprSound.{higher, path_sound, path_always, op_mark_is, operand_sound, operand_always}
-use Rattle.action_reading.proofs.StmtSound.{prio_sound, prio_always, register_takes, withdraw_takes, block_tokens, branch_tokens}
-use Rattle.action_reading.proofs.StmtAlways.{register_always, withdraw_always}
-use Rattle.action_reading.proofs.StmtAgain.{grouped}
+use Rattle.action_parse.specs.action_reading.Tokens.{operator_mark, path_tokens, expr_tokens, index_tokens, arguments_tokens, prio_tokens, verb_word, stmt_tokens, stmts_tokens, more_tokens, else_tokens}
+use Rattle.action_parse.specs.action_reading.Written.{AtLevel, IsExpr, IsIndex, AreExprs, IsPrio, IsStmt, AreStmts, AreBranches, IsElse}
+use Rattle.action_parse.specs.action_reading.ExprReading.{operator_of, operator_comes, path_at, operand}
+use Rattle.action_parse.specs.action_reading.StmtReading.{is_send, prio_at, register_at, withdraw_at, else_if_comes}
+use Rattle.action_parse.proofs.action_reading.ExprSound.{higher, path_sound, path_always, op_mark_is, operand_sound, operand_always}
+use Rattle.action_parse.proofs.action_reading.StmtSound.{prio_sound, prio_always, register_takes, withdraw_takes, block_tokens, branch_tokens}
+use Rattle.action_parse.proofs.action_reading.StmtAlways.{register_always, withdraw_always}
+use Rattle.action_parse.proofs.action_reading.StmtAgain.{grouped}
 use Rattle.action_parse.specs.declared.goal.Goal.{Goal}
 use Rattle.action_parse.specs.declared.goal.Goal.TheVariants as goals
 use Rattle.action_parse.specs.declared.goal.Goal.TheVariants.{Take, Prio, Index, Message, Operand, Operators, Arguments, Statements}

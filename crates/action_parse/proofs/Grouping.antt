@@ -2,13 +2,13 @@
 use Rattle.std.proofs.Common.{◌≡◌, ℕ, ◌<◌, List, [], ◌∷◌, ◌++◌, refl, sym, ap, ◌∙◌, append_assoc, append-nil, arith, inl, inr}
 use Rattle.std.proofs.lemmas.Bool.{cases_lt}
 use Rattle.room_ast.specs.Tokens.{each}
-use Rattle.action_tokens.specs.Values.{Value, AMark}
+use Rattle.token_reading.specs.action_tokens.Values.{Value, AMark}
 use Rattle.action_program.specs.Named.{ExprTree, a_number, the_true, the_false, a_datum, the_place, the_self, an_attribute, a_paren, a_unary, a_chain, Steps, no_step, a_step}
 use Rattle.action_program.specs.declared.operator.BinaryOp.{BinaryOp}
 use Rattle.action_program.specs.declared.operator.BinaryOp.TheVariants as binary
-use Rattle.action_reading.specs.Tokens.{operator_mark, expr_tokens, steps_tokens}
-use Rattle.action_reading.specs.Written.{below, HasStep, AtLevel, StepsAt}
-use Rattle.action_reading.proofs.ExprSound.{higher}
+use Rattle.action_parse.specs.action_reading.Tokens.{operator_mark, expr_tokens, steps_tokens}
+use Rattle.action_parse.specs.action_reading.Written.{below, HasStep, AtLevel, StepsAt}
+use Rattle.action_parse.proofs.action_reading.ExprSound.{higher}
 
 -- an operator and its right side
 abbrev pub step_text : BinaryOp → ExprTree → List Value

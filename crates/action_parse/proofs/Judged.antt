@@ -4,17 +4,17 @@ use Rattle.std.specs.Prelude.{[], ◌∷◌}
 use Rattle.token_reading.specs.Reader.{to_end, Fails}
 use Rattle.token_reading.specs.declared.fault.ReadFault.{ReadFault}
 use Rattle.token_reading.specs.declared.fault.ReadFault.TheVariants as reading
-use Rattle.action_tokens.specs.Values.{Value, action_values}
+use Rattle.token_reading.specs.action_tokens.Values.{Value, action_values}
 use Rattle.action_program.specs.declared.fault.ActionFault.{ActionFault}
 use Rattle.action_program.specs.declared.fault.ActionFault.TheVariants as faults
 use Rattle.action_program.specs.declared.program.Expr.{Expr}
 use Rattle.action_program.specs.declared.program.Program.{Program}
 use Rattle.action_program.specs.Named.{ExprTree, Stmts, expr_view}
-use Rattle.action_reading.specs.Tokens.{expr_tokens, stmts_tokens}
-use Rattle.action_reading.specs.Written.{IsExpr, AreStmts, IsProgramOf, IsConditionOf, IsWithinLimits}
-use Rattle.action_reading.specs.ExprReading.{expression}
-use Rattle.action_reading.specs.StmtReading.{stmts_at, statement}
-use Rattle.action_reading.proofs.Whole.{program_tokens, program_fits, program_again, condition_tokens, condition_fits, condition_again}
+use Rattle.action_parse.specs.action_reading.Tokens.{expr_tokens, stmts_tokens}
+use Rattle.action_parse.specs.action_reading.Written.{IsExpr, AreStmts, IsProgramOf, IsConditionOf, IsWithinLimits}
+use Rattle.action_parse.specs.action_reading.ExprReading.{expression}
+use Rattle.action_parse.specs.action_reading.StmtReading.{stmts_at, statement}
+use Rattle.action_parse.proofs.action_reading.Whole.{program_tokens, program_fits, program_again, condition_tokens, condition_fits, condition_again}
 use Rattle.action_parse.specs.declared.goal.Goal.TheVariants.{Operand, Operators, Statements}
 use Rattle.action_parse.specs.Expected.{Accepted}
 use Rattle.action_parse.specs.Parsed.{IsParsed, IsParsedCondition, IsRefused, IsLimited, told}

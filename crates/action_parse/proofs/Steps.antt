@@ -5,19 +5,19 @@ use Rattle.std.proofs.lemmas.List.{reverse-append, length-reverse}
 use Rattle.room_lexer.specs.declared.token.Mark.TheVariants as marks
 use Rattle.token_reading.specs.Reader.{Reader, ◌⊕◌, reads_as}
 use Rattle.token_reading.proofs.Readers.{Sound-⊕}
-use Rattle.action_tokens.specs.declared.token.ActionToken.{ActionToken}
-use Rattle.action_tokens.specs.Values.{Value, AWord, AName, AMark, token_value}
-use Rattle.action_tokens.specs.Single.{comes, comes_word, rest_of, mark, name_at, number_at}
-use Rattle.action_tokens.specs.declared.word.ActionWord.TheVariants as words
-use Rattle.action_tokens.proofs.Singles.{comes_is, comes_word_is, mark_sound, name_sound, number_sound}
+use Rattle.token_reading.specs.declared.action_tokens.token.ActionToken.{ActionToken}
+use Rattle.token_reading.specs.action_tokens.Values.{Value, AWord, AName, AMark, token_value}
+use Rattle.token_reading.specs.action_tokens.Single.{comes, comes_word, rest_of, mark, name_at, number_at}
+use Rattle.token_reading.specs.declared.action_tokens.word.ActionWord.TheVariants as words
+use Rattle.token_reading.proofs.action_tokens.Singles.{comes_is, comes_word_is, mark_sound, name_sound, number_sound}
 use Rattle.action_program.specs.Named.{StmtTree}
-use Rattle.action_reading.specs.Tokens.{operator_mark, path_tokens, expr_tokens, prio_tokens, stmt_tokens}
-use Rattle.action_reading.specs.ExprReading.{operator_comes, path_at, operand}
-use Rattle.action_reading.specs.StmtReading.{is_send, prio_at, register_at, withdraw_at, else_if_comes}
-use Rattle.action_reading.proofs.ExprSound.{path_sound, path_always, some_path, operand_sound}
-use Rattle.action_reading.proofs.StmtSound.{prio_sound, register_takes, withdraw_takes}
-use Rattle.action_reading.proofs.StmtAlways.{register_always, withdraw_always}
-use Rattle.action_reading.proofs.StmtShorter.{some_stmt}
+use Rattle.action_parse.specs.action_reading.Tokens.{operator_mark, path_tokens, expr_tokens, prio_tokens, stmt_tokens}
+use Rattle.action_parse.specs.action_reading.ExprReading.{operator_comes, path_at, operand}
+use Rattle.action_parse.specs.action_reading.StmtReading.{is_send, prio_at, register_at, withdraw_at, else_if_comes}
+use Rattle.action_parse.proofs.action_reading.ExprSound.{path_sound, path_always, some_path, operand_sound}
+use Rattle.action_parse.proofs.action_reading.StmtSound.{prio_sound, register_takes, withdraw_takes}
+use Rattle.action_parse.proofs.action_reading.StmtAlways.{register_always, withdraw_always}
+use Rattle.action_parse.proofs.action_reading.StmtShorter.{some_stmt}
 use Rattle.action_parse.specs.declared.goal.Goal.{Goal}
 use Rattle.action_parse.specs.declared.goal.Goal.TheVariants as goals
 use Rattle.action_parse.specs.declared.goal.Goal.TheVariants.{Take, Prio, Index, Message, Operand, Operators, Arguments, Statements}

@@ -2,11 +2,11 @@
 use Rattle.std.specs.Prelude.{◌≡◌, List, [], ◌∷◌, ◌++◌, Option, Some, None, if◌then◌else◌, option_and_then}
 use Rattle.room_lexer.specs.declared.token.Mark.TheVariants as marks
 use Rattle.token_reading.specs.Reader.{◌⊕◌, reads_as}
-use Rattle.action_tokens.specs.Values.{Value, AWord, AName, AMark}
-use Rattle.action_tokens.specs.Single.{comes, comes_word, rest_of, mark, name_at, number_at}
-use Rattle.action_tokens.specs.declared.word.ActionWord.TheVariants as words
-use Rattle.action_reading.specs.ExprReading.{operator_comes, path_at, operand}
-use Rattle.action_reading.specs.StmtReading.{is_send, prio_at, register_at, withdraw_at, else_if_comes}
+use Rattle.token_reading.specs.action_tokens.Values.{Value, AWord, AName, AMark}
+use Rattle.token_reading.specs.action_tokens.Single.{comes, comes_word, rest_of, mark, name_at, number_at}
+use Rattle.token_reading.specs.declared.action_tokens.word.ActionWord.TheVariants as words
+use Rattle.action_parse.specs.action_reading.ExprReading.{operator_comes, path_at, operand}
+use Rattle.action_parse.specs.action_reading.StmtReading.{is_send, prio_at, register_at, withdraw_at, else_if_comes}
 use Rattle.action_parse.specs.declared.goal.Goal.{Goal}
 use Rattle.action_parse.specs.declared.goal.Goal.TheVariants.{Take, Prio, Index, Message, Operand, Operators, Arguments, Otherwise, Statements}
 

@@ -1,2 +1,3 @@
 pub mod Expected
 pub mod Parsed
+pub mod action_reading

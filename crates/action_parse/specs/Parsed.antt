@@ -1,13 +1,13 @@
 -- What parsing answers.
 use Rattle.std.specs.Prelude.{◌≡◌, ◌≤◌, ℕ, List, Bool, true, false, Result, Ok, Err}
-use Rattle.action_tokens.specs.Values.{Value}
+use Rattle.token_reading.specs.action_tokens.Values.{Value}
 use Rattle.action_program.specs.declared.fault.ActionFault.{ActionFault}
 use Rattle.action_program.specs.declared.fault.ActionFault.TheVariants as faults
 use Rattle.action_program.specs.declared.program.Expr.{Expr}
 use Rattle.action_program.specs.declared.program.Program.{Program}
 use Rattle.action_program.specs.Named.{ExprTree, Stmts, expr_view, program_view}
-use Rattle.action_reading.specs.Tokens.{expr_tokens, stmts_tokens}
-use Rattle.action_reading.specs.Written.{IsExpr, AreStmts, IsProgramOf, IsConditionOf, IsWithinLimits, repeats_within, expr_nesting}
+use Rattle.action_parse.specs.action_reading.Tokens.{expr_tokens, stmts_tokens}
+use Rattle.action_parse.specs.action_reading.Written.{IsExpr, AreStmts, IsProgramOf, IsConditionOf, IsWithinLimits, repeats_within, expr_nesting}
 use Rattle.token_reading.specs.declared.fault.ReadFault.{ReadFault}
 use Rattle.token_reading.specs.declared.fault.ReadFault.TheVariants as reading
 

@@ -1,22 +1,22 @@
 //! Programs and conditions of texts.
 ghost use Rattle.std.specs.Prelude.{◌≡◌, ◌∷◌, [], map, reverse};
 ghost use Rattle.token_reading.specs.Reader.{Gives, to_end};
-ghost use Rattle.action_tokens.specs.Values.{token_value};
-ghost use Rattle.action_tokens.specs.Single.{left};
+ghost use Rattle.token_reading.specs.action_tokens.Values.{token_value};
+ghost use Rattle.token_reading.specs.action_tokens.Single.{left};
 ghost use Rattle.action_program.specs.Named.{expr_view, program_view};
-ghost use Rattle.action_reading.specs.ExprReading.{expression};
-ghost use Rattle.action_reading.specs.StmtReading.{stmts_at, statement};
+ghost use Rattle.action_parse.specs.action_reading.ExprReading.{expression};
+ghost use Rattle.action_parse.specs.action_reading.StmtReading.{stmts_at, statement};
 ghost use Rattle.action_parse.specs.Expected.{Accepted};
 ghost use Rattle.action_parse.specs.Parsed.{IsParsed, IsParsedCondition, IsRefused, IsLimited, told};
 
+use crate::action_reading::{expression, statements};
 use crate::goal::Goal;
 use crate::recogniser::accepts;
 use crate::repeats::repeats_within;
 use action_program::{ActionFault, Expr, Program};
-use action_reading::{expression, statements};
-use action_tokens::{ActionToken, Rest, action_tokens, place};
 use std::alloc::Global;
 use token_reading::ReadFault;
+use token_reading::action_tokens::{ActionToken, Rest, action_tokens, place};
 
 /// How deep blocks, parentheses and signs may nest, together.
 const DEPTH: usize = 64;
@@ -38,7 +38,7 @@ fn told(fault: ReadFault) -> ActionFault
 }
 
 /// The program that the tokens are, if it nests no deeper than the limit.
-#[tactic(auto, unfolding(action_reading::specs::StmtReading::stmts_at))]
+#[tactic(auto, unfolding(crate::specs::action_reading::StmtReading::stmts_at))]
 fn shallow_program(
     alloc: Global,
     bytes: &[u8],

@@ -1,7 +1,7 @@
 //! The limits of repetitions.
 ghost use Rattle.std.specs.Prelude.{◌≡◌, map};
 ghost use Rattle.action_program.specs.Named.{stmt_view, branch_view, if_view, choose, stmts_of, branches_of};
-ghost use Rattle.action_reading.specs.Written.{stmt_repeats, repeats_within, branches_repeat};
+ghost use Rattle.action_parse.specs.action_reading.Written.{stmt_repeats, repeats_within, branches_repeat};
 
 use action_program::{Branch, IfStmt, Stmt};
 

@@ -11,6 +11,7 @@ mod fault;
 mod moment;
 mod operator;
 mod program;
+pub mod program_copies;
 mod running;
 
 pub use bound::{
@@ -21,4 +22,5 @@ pub use fault::ActionFault;
 pub use moment::{Effects, Moment, Vars};
 pub use operator::{BinaryOp, FrameVerb, UnaryOp};
 pub use program::{Branch, Expr, IfStmt, Program, SendStmt, Step, Stmt};
+pub use program_copies::{copy_guard, copy_program};
 pub use running::eval;

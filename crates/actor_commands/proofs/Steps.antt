@@ -16,9 +16,9 @@ use Rattle.actor_duties.specs.Commands.{Sent, Kept, defer, recall, recall_all}
 use Rattle.actor_world.specs.Body.{Body, Doing as WorldDoing, keeping, sending, apply, apply_all}
 use Rattle.frame_lives.proofs.Rows.{updated_here, updated_else}
 use Rattle.chart_behaviour.specs.ModelCharts.{Actor}
-use Rattle.command_sends.specs.declared.said.Said.{Said}
-use Rattle.command_sends.specs.Adding.{Adds}
-use Rattle.deferred_messages.specs.Steps.{Applies as KeptStep}
+use Rattle.actor_commands.specs.declared.command_sends.said.Said.{Said}
+use Rattle.actor_commands.specs.command_sends.Adding.{Adds}
+use Rattle.actor_commands.specs.deferred_messages.Steps.{Applies as KeptStep}
 use Rattle.actor_commands.specs.declared.doing.Doing.{Doing}
 use Rattle.actor_commands.specs.Doings.{doing_on, said_at, Keeps, Applies, AppliesAll}
 

@@ -1,1 +1,3 @@
 pub mod Doings
+pub mod command_sends
+pub mod deferred_messages

@@ -2,13 +2,12 @@
 ghost use Rattle.std.specs.Prelude.{OnOk};
 ghost use Rattle.std.specs.Option.{option_copied};
 ghost use Rattle.actor_duties.specs.Commands.{broadcast};
-ghost use Rattle.command_sends.specs.Adding.{Adds, content_of};
+ghost use Rattle.actor_commands.specs.command_sends.Adding.{Adds, content_of};
 ghost use Rattle.actor_commands.specs.Doings.{Applies, AppliesAll, said_at};
 
+use crate::command_sends::{Content, Peers, Said, Speaker, broadcast, send};
 use crate::doing::Doing;
-use command_sends::{Content, Peers, Said, Speaker, broadcast, send};
 use room_kinds::{Command, Msg};
-use service_messages::port_count;
 use std::alloc::{AllocError, Global};
 
 /// A send at all places of a port.
@@ -27,7 +26,7 @@ fn send_to_all<P: Peers>(
     if u32::from(speaker.who.slot.0) >= speaker.wiring.slot_count() {
         return Err(AllocError);
     }
-    if usize::from(port) >= port_count(speaker.wiring, speaker.who.slot) {
+    if usize::from(port) >= speaker.wiring.port_count(speaker.who.slot) {
         return Err(AllocError);
     }
     broadcast(alloc, speaker, peers, port, content, said)

@@ -4,8 +4,8 @@ ghost use Rattle.std.specs.Option.{option_copied};
 ghost use Rattle.actor_duties.specs.Commands.{defer, recall, recall_all};
 ghost use Rattle.actor_commands.specs.Doings.{Keeps};
 
-use command_sends::Said;
-use deferred_messages::{DeferredMessages, Recalled};
+use crate::command_sends::Said;
+use crate::deferred_messages::{DeferredMessages, Recalled};
 use room_kinds::Msg;
 use std::alloc::AllocError;
 

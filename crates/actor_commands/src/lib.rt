@@ -5,8 +5,12 @@
 //! memory is.
 #![tactic(auto)]
 
+pub mod command_sends;
 mod commands;
+pub mod deferred_messages;
 mod doing;
 
+pub use command_sends::{Peers, Said, Speaker};
 pub use commands::apply_all;
+pub use deferred_messages::{DeferredMessages, Recalled};
 pub use doing::Doing;

@@ -1,5 +1,8 @@
 -- The frame service of a controller: the duties of the kinds 0 to 11, whose messages must be of the
 -- form of a row, and the commands on the life and the import of actors.
+-- `destroy` is a Destroy with all that ends with an actor; `frame_duty` the duty of a kind at a
+-- message of its form. A message of another form does nothing. The commands tell their codes in
+-- order.
 use Rattle.std.specs.Prelude.{ℕ, ℤ, pos, negsuc, ◌==◌, ◌&&◌, ◌||◌, Bool, false, not, List, [], ◌∷◌, ◌++◌, map, flat_map, Option, Some, None, if◌then◌else◌}
 use Rattle.room_kinds.specs.declared.message.Msg.{Msg}
 use Rattle.room_kinds.specs.declared.numbers.Incarnation.{Incarnation}
@@ -125,11 +128,12 @@ abbrev pub of_natural : Frame → ℤ → (ℕ → FrameDone) → FrameDone
 of_natural f (pos n) done = done n
 of_natural f (negsuc n) done = nothing f
 
--- the duty of a kind, at a message from this source to that target; the kinds from 12 on are the
--- layer service's
+-- the duty of a kind, at a message from this source to that target; the kinds from 12 to 16 are the
+-- layer service's, and those from 17 on, which no controller sends yet, do nothing
 abbrev pub frame_duty_of : Tables → ℕ → Frame → Msg → SysKind → Endpoint → Endpoint → FrameDone
 frame_duty_of t me f m kinds.Create x o = plainly f (is_request t me x o) m.payload (with_lives f (create t me f.lives m o.slot.0 x))
-frame_duty_of t me f m kinds.CreateDone o x = plainly f (is_answer t me o x) m.payload (only_sends f (create_done t me o x))
+frame_duty_of t me f m kinds.CreateDone o x =
+    plainly f (is_answer t me o x && not (o.generation.0 == 0)) m.payload (only_sends f (create_done t me o x))
 frame_duty_of t me f m kinds.CreateRefused o x =
     with_number f (is_answer t me o x && (o.generation.0 == 0)) m.payload (λ code. only_sends f (create_refused t me o x code))
 frame_duty_of t me f m kinds.Destroy x o = plainly f (is_request t me x o) m.payload (destroy t me f m o.slot.0 x)
@@ -149,6 +153,8 @@ frame_duty_of t me f m kinds.Withdraw x y = nothing f
 frame_duty_of t me f m kinds.Bound x y = nothing f
 frame_duty_of t me f m kinds.Ended x y = nothing f
 frame_duty_of t me f m kinds.NameReply x y = nothing f
+frame_duty_of t me f m kinds.PartMake x y = nothing f
+frame_duty_of t me f m kinds.PartEnd x y = nothing f
 
 -- a message without a source has the form of no row
 abbrev pub frame_duty_from : Tables → ℕ → Frame → Msg → SysKind → Option Endpoint → FrameDone

@@ -1,5 +1,6 @@
 -- The rows on imports: an actor of one container, the home, is lent to an imported slot of another
 -- (ROOM; the messages and the states of an import place are this project's own).
+-- `import` is refused with 4 where the home doesn't live, with 5 where a port is taken.
 use Rattle.std.specs.Prelude.{ℕ, ℤ, ◌&&◌, ◌||◌, Bool, false, not, List, [], ◌∷◌, ◌++◌, map, filter, Option, Some, None, if◌then◌else◌}
 use Rattle.std.specs.Option.{option_map_or}
 use Rattle.std.specs.List.{list_any}
@@ -9,7 +10,7 @@ use Rattle.room_kinds.specs.declared.numbers.Endpoint.{Endpoint}
 use Rattle.room_kinds.specs.declared.system.SysKind.TheVariants as kinds
 use Rattle.room_wiring.specs.declared.tables.Tables.{Tables}
 use Rattle.actor_duties.specs.Words.{updated, frame_at, frame_of, whose, id_of, is_incarnation, slots_of, is_imported, container_of, is_part_of, joined_at, is_end, is_joined, ports_of, places_of}
-use Rattle.actor_duties.specs.Messages.{reply, to_owner, told_of, Imported, Ended, Deported, Refused, coded, StaleId, PortTaken}
+use Rattle.actor_duties.specs.Messages.{reply, to_owner, told_of, Imported, Ended, Deported, Refused, coded, is_code, StaleId, PortTaken}
 use Rattle.actor_duties.specs.State.{Lives, ImportPlace, Empty, Asking, Held, Leaving, Done}
 use Rattle.actor_duties.specs.Lives.{is_live}
 
@@ -88,10 +89,10 @@ import_done t me l places h i =
     heard t l places i (is_asking (whose h) (places i.slot.0)) (Held (whose h))
     (told_of t me Imported h (container_frame t i) i.slot.0 (id_of (whose h)))
 
--- row 7, ImportRefused: who asked for h holds nothing
+-- row 7, ImportRefused, with the code 4 or 5: who asked for h holds nothing
 unfoldable pub import_refused : Tables → ℕ → Lives → (ℕ → ImportPlace) → Endpoint → Endpoint → ℤ → Done (ℕ → ImportPlace)
 import_refused t me l places h i code =
-    heard t l places i (is_asking (whose h) (places i.slot.0)) Empty
+    heard t l places i ((is_code StaleId code || is_code PortTaken code) && is_asking (whose h) (places i.slot.0)) Empty
     (told_of t me Refused h (container_frame t i) i.slot.0 code)
 
 -- row 8, ImportEnded: who holds h holds nothing

@@ -1,6 +1,10 @@
 -- The rows on the lives of actors: Create and Destroy with what they answer, and Announce, by which
 -- directories are kept (this project's own). Actors are created and destroyed by others, and what
 -- is fixed in an actor lives and ends with it (ROOM: Selic, Gullekson and Ward 1994).
+-- `create`: an occupied slot is refused with 1, a container that is gone with 3; else the slot and
+-- all that is fixed in it, where the controller owns it and nobody lives there, live with the next
+-- generation, which is announced. `made_slots` is what a Create makes, in slot order; `ended_slots`
+-- what a Destroy ends, in descending order. An answer that no row sends does nothing.
 use Rattle.std.specs.Prelude.{ℕ, zero, suc, ℤ, pos, ◌+◌, ◌==◌, ◌&&◌, ◌||◌, Bool, true, false, not, List, [], ◌∷◌, map, filter, flat_map, reverse, length, Option, Some, if◌then◌else◌}
 use Rattle.std.specs.Option.{option_map_or}
 use Rattle.std.specs.List.{range_with_len}
@@ -11,7 +15,7 @@ use Rattle.room_kinds.specs.declared.system.SysKind.TheVariants as kinds
 use Rattle.room_wiring.specs.declared.tables.Tables.{Tables}
 use Rattle.room_wiring.specs.Places.{is_told}
 use Rattle.actor_duties.specs.Words.{updated, incarnation, frame_at, frame_of, whose, id_of, slots_of, is_fixed, container_of, is_own}
-use Rattle.actor_duties.specs.Messages.{system, reply, told_of, coded, Created, Destroyed, Refused, NotHere, Occupied}
+use Rattle.actor_duties.specs.Messages.{system, reply, told_of, coded, Created, Destroyed, Refused, NotHere, Occupied, is_code}
 use Rattle.actor_duties.specs.State.{Lives}
 
 -- the generation that lives in a slot, 0 for none
@@ -51,19 +55,27 @@ is_within_steps t o (suc up) s = (s == o) || option_map_or (λ c. is_within_step
 unfoldable pub is_within : Tables → ℕ → ℕ → Bool
 is_within t o s = is_within_steps t o (length t.slots) s
 
--- the slots that are made with a slot, in their order
-unfoldable pub made_slots : Tables → ℕ → List ℕ
-made_slots t o = filter (is_made_with t o) (slots_of t)
+-- whether a slot is this controller's own and nobody lives there
+abbrev pub is_vacant : Tables → ℕ → Lives → ℕ → Bool
+is_vacant t me l s = is_own t me s && not (l.lives s)
+
+-- whether an actor comes up in slot s when this controller makes slot o: s is made with o, and is vacant
+unfoldable pub comes_up : Tables → ℕ → Lives → ℕ → ℕ → Bool
+comes_up t me l o s = is_made_with t o s && is_vacant t me l s
+
+-- the slots where an actor comes up with slot o, in their order
+unfoldable pub made_slots : Tables → ℕ → Lives → ℕ → List ℕ
+made_slots t me l o = filter (comes_up t me l o) (slots_of t)
 
 -- the live slots from a slot on down, in descending order
 unfoldable pub ended_slots : Tables → Lives → ℕ → List ℕ
 ended_slots t l o = reverse (filter (λ s. is_within t o s && l.lives s) (slots_of t))
 
--- lives after a slot is made: what is made with it lives with the next generation
-unfoldable pub lives_made : Tables → ℕ → Lives → Lives
-lives_made t o l = record {
-  generation = λ s. if is_made_with t o s then l.generation s + 1 else l.generation s;
-  lives = λ s. is_made_with t o s || l.lives s;
+-- lives after a slot is made: what comes up lives with the next generation
+unfoldable pub lives_made : Tables → ℕ → ℕ → Lives → Lives
+lives_made t me o l = record {
+  generation = λ s. if comes_up t me l o s then l.generation s + 1 else l.generation s;
+  lives = λ s. comes_up t me l o s || l.lives s;
 }
 
 -- lives after a slot has ended: nothing lives from it on down
@@ -99,8 +111,8 @@ answered l m = record { lives = l; sent = []; made = []; ended = []; last = Some
 -- slot o is made for x
 unfoldable pub made : Tables → ℕ → Lives → Msg → ℕ → Endpoint → Lived
 made t me l m o x =
-    let now = lives_made t o l in
-    let new = map (last_of now) (made_slots t o) in
+    let now = lives_made t me o l in
+    let new = map (last_of now) (made_slots t me l o) in
     record {
       lives = now;
       sent = flat_map (λ (i : Incarnation). announces t me i (pos 1)) new;
@@ -121,15 +133,17 @@ create t me l m o x =
 unfoldable pub create_done : Tables → ℕ → Endpoint → Endpoint → List Msg
 create_done t me new x = told_of t me Created new x new.slot.0 (id_of (whose new)) ∷ []
 
--- row 2, CreateRefused: the container x is told `refused`
+-- row 2, CreateRefused: the container x is told `refused`, with the code 1 or 3
 unfoldable pub create_refused : Tables → ℕ → Endpoint → Endpoint → ℤ → List Msg
-create_refused t me o x code = told_of t me Refused o x o.slot.0 code ∷ []
+create_refused t me o x code =
+    if is_code Occupied code || is_code NotHere code then told_of t me Refused o x o.slot.0 code ∷ [] else []
 
--- row 4, DestroyDone: the container x is told `destroyed`, or `refused` where nothing was there
+-- row 4, DestroyDone: the container x is told `destroyed`, of the generation that has ended, or
+-- `refused`, of generation 0, where nothing was there
 unfoldable pub destroy_done : Tables → ℕ → Endpoint → Endpoint → ℕ → List Msg
 destroy_done t me o x code =
-    if code == 0 then told_of t me Destroyed o x o.slot.0 (id_of (whose o)) ∷ []
-    else if code == 3 then told_of t me Refused o x o.slot.0 (pos code) ∷ []
+    if (code == 0) && not (o.generation.0 == 0) then told_of t me Destroyed o x o.slot.0 (id_of (whose o)) ∷ []
+    else if (code == 3) && (o.generation.0 == 0) then told_of t me Refused o x o.slot.0 (pos code) ∷ []
     else []
 
 -- row 11, Announce: the directory tells the generation that came up, or 0

@@ -2,7 +2,8 @@
 -- and layer services of controllers; frame messages, of priority 3, tell an actor what came of its
 -- request (this project's own). A message gets its sender and its stamp when it is posted; until
 -- then it carries its controller's number and 0.
-use Rattle.std.specs.Prelude.{ℕ, ℤ, pos, List, [], ◌∷◌, Some}
+use Rattle.std.specs.Prelude.{ℕ, ℤ, pos, Bool, List, [], ◌∷◌, Some}
+use Rattle.std.specs.Ordering.{int_eq}
 use Rattle.room_kinds.specs.declared.message.Msg.{Msg}
 use Rattle.room_kinds.specs.declared.numbers.Incarnation.{Incarnation}
 use Rattle.room_kinds.specs.declared.numbers.Endpoint.{Endpoint}
@@ -95,3 +96,7 @@ code_number NotRegistered = 9
 -- a code as a payload
 abbrev pub coded : Code → List ℤ
 coded code = pos (code_number code) ∷ []
+
+-- whether a number is this code
+abbrev pub is_code : Code → ℤ → Bool
+is_code code n = int_eq n (pos (code_number code))

@@ -1,5 +1,7 @@
 -- The name table of controller 0: where service points meet by name. A service has one name and one
 -- protocol (ROOM: layer connections; services by name are this project's own).
+-- A service has at most one provider, and its users in order of registration; a link takes the
+-- provider's next place.
 use Rattle.std.specs.Prelude.{ℕ, ℤ, pos, ◌+◌, ◌==◌, ◌&&◌, ◌||◌, Bool, false, not, is_some, List, [], ◌∷◌, ◌++◌, map, filter, Option, Some, None, if◌then◌else◌}
 use Rattle.std.specs.Option.{option_map_or}
 use Rattle.std.specs.List.{list_any}

@@ -1,5 +1,9 @@
 -- To whom a place leads: the peer of an end place (ROOM: bindings, layer connections and imports;
 -- the order of the cases is this project's own).
+-- The cases in order: the endpoint that the place is linked to by name; the joined end place;
+-- through an imported slot the same place of the home that it holds; where it is joined to
+-- nothing, what a plug of its actor leads to; else nobody. An end place counts where its slot's
+-- generation is known: what lives there at its owner, what the directory tells elsewhere.
 use Rattle.std.specs.Prelude.{ℕ, ◌==◌, List, find, Option, Some, None, option_map, if◌then◌else◌}
 use Rattle.room_kinds.specs.declared.numbers.Incarnation.{Incarnation}
 use Rattle.room_kinds.specs.declared.numbers.Endpoint.{Endpoint}

@@ -1,4 +1,8 @@
 -- The places of a provider's links, as the name table keeps them.
+-- The law `places_ascend`: the name table stays in order. A service without a provider has no
+-- links; with one, all its users are linked, at places that rise in the order of the users, behind
+-- the provider's static places and below its next place. So to end a provider's links in order of
+-- its users is to end them in order of places.
 use Rattle.std.specs.Prelude.{◌≡◌, ℕ, ◌+◌, ◌≤◌, List, [], ◌∷◌, Option, Some, None}
 use Rattle.room_kinds.specs.declared.message.Msg.{Msg}
 use Rattle.room_kinds.specs.declared.system.SysKind.{SysKind}

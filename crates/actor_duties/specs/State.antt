@@ -1,5 +1,11 @@
 -- What a controller keeps of actors, of its directory, and of who is joined to whom while a run
 -- goes: the components that duties and commands change. Slots, ports and places are numbers.
+-- Each row of the tables of duties and commands is one function from a component of the state to
+-- the new component and the messages sent, in order (`Done`). What a row doesn't name stays,
+-- because the row is given nothing else.
+-- The components: the lives of slots; the directory, what the owners of other slots told; the
+-- import places; the plugs of each home, oldest first; registrations; links in order of place; and
+-- the name table.
 use Rattle.std.specs.Prelude.{ℕ, Bool, List, [], Option}
 use Rattle.room_kinds.specs.declared.message.Msg.{Msg}
 use Rattle.room_kinds.specs.declared.numbers.Incarnation.{Incarnation}

@@ -1,4 +1,8 @@
 -- Histories: journals that grow round by round, and stay one run of the world.
+-- `IsLawful`: merged, the journals are one run from the start to this world. `IsHistory`: the
+-- journals so far, in the middle of a part. The law `history_goes_on`: nothing done is a history;
+-- a history and one more round are a history; and each history is lawful. This is what a run keeps
+-- from one round to the next.
 use Rattle.std.specs.Prelude.{◌≡◌, ℕ, ◌≤◌, true, ◌⊎◌, List, [], ◌∷◌, ◌++◌}
 use Rattle.journal.specs.declared.entry.Entry.{Entry}
 use Rattle.actor_merge.specs.Mail.{stamp_of}

@@ -1,4 +1,6 @@
 -- Messages on their way: lanes, and what the entries of a journal say of them.
+-- A party is a controller or the environment, which has the number after the last controller. A
+-- lane is a sender, a receiver and a priority; its content is a list of messages, oldest first.
 use Rattle.std.specs.Prelude.{ℕ, Bool, ◌==◌, ◌&&◌, List, [], ◌∷◌, ◌++◌, if◌then◌else◌}
 use Rattle.room_kinds.specs.declared.message.Msg.{Msg}
 use Rattle.journal.specs.declared.entry.Entry.{Entry}

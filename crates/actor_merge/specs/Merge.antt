@@ -1,4 +1,15 @@
 -- The merge of the parties' journals by stamp and party, and the law that it is a run of the world.
+-- The merge of journals (`IsMerge`) is the list of all their entries, ordered by stamp and then by
+-- party. It is a relation: nothing is sorted.
+-- `IsRound` is what the parties' journals of a round say, each by itself: each controller's
+-- journal is its own replay, the environment's is its own, and per lane what stood there and was
+-- posted is what was fetched and what is left. If the environment begins a later part, all is
+-- quiet before, and what it posts in a round is of one part. Nothing here speaks of an order
+-- between parties.
+-- The law `merge_is_a_run`: the journals of a round have a merge, and each merge of them is one
+-- run of the world, to a world that is the same to every party. The converse, `runs_project`: in
+-- each run of the world each controller's entries are its own replay, and each lane is a queue.
+-- Both hold over any kind of body and any `treat`.
 use Rattle.std.specs.Prelude.{◌≡◌, ℕ, ◌+◌, length, true, false, ◌<◌, ◌==◌, ◌⊎◌, List, [], ◌∷◌, ◌++◌, if◌then◌else◌}
 use Rattle.journal.specs.declared.entry.Entry.{Entry}
 use Rattle.journal.specs.declared.entry.Entry.TheVariants as entry

@@ -2,6 +2,22 @@
 -- completion, one message at a time (ROOM: Selic, Gullekson and Ward 1994); the clocks are
 -- Lamport's (1978). What a turn makes of its message is left open here: any function may stand
 -- for it, over any kind of state.
+-- A controller's state is its mail and a body. The mail is the clock, the number of turns, a
+-- pending list for each priority, and the outbox; the body is all else, and only turns change it.
+-- Fetch: the front of a lane goes to the back of the pending list of its priority. Turn, where the
+-- outbox is empty: of the pending lists from 0 to 5 the first that isn't empty gives its front,
+-- and the message is treated to completion. Post: the front of the outbox goes to the back of its
+-- lane, with its sender's number and the event's stamp. What a turn sends, the deferred messages
+-- that come back, what the journal says of it and its notes are given by one function of the
+-- plant, `treat`.
+-- Stamps: a fetch is stamped one more than the greater of the clock and the message's stamp, every
+-- other event one more than the clock, and the stamp becomes the clock. The environment posts its
+-- lines in order; before the first line of a part after the first, all must be quiet, and its
+-- clock first becomes the greatest clock of all parties.
+-- `Replays`: a list of entries is a controller's own replay from one state to another, if it may
+-- do them one after another by itself; `EnvironmentReplays` is the same of the environment. The
+-- law `replays_rise`: in every replay stamps rise strictly from above the clock before it, each
+-- fetch is stamped above the post of its message, and each post carries its entry's stamp.
 use Rattle.std.specs.Prelude.{◌≡◌, ℕ, zero, suc, Bool, not, ◌==◌, ◌+◌, max, List, [], ◌∷◌, ◌++◌, filter, Option, Some, None, slice_get, if◌then◌else◌}
 use Rattle.std.specs.Option.{option_map_or}
 use Rattle.room_kinds.specs.declared.message.Msg.{Msg}

@@ -1,4 +1,9 @@
 -- The one world of all parties and lanes, where one event happens at a time, and its runs.
+-- A world is all controllers' states, the environment and all lanes. `happens` is one event of one
+-- party, where it is allowed: the world after it and its entry. `Runs` is a list of entries whose
+-- events happen one after another, each where it is allowed, each with the entry that stands
+-- there. `IsQuiet`: no lane, pending list or outbox holds a message; deferred messages don't
+-- count.
 use Rattle.std.specs.Prelude.{◌≡◌, ℕ, zero, suc, max, ◌<◌, true, nat_lt, ◌==◌, drop, List, [], ◌∷◌, ◌++◌, Option, Some, None, option_map, if◌then◌else◌}
 use Rattle.room_kinds.specs.declared.message.Msg.{Msg}
 use Rattle.journal.specs.declared.entry.Entry.{Entry}

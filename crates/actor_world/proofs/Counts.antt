@@ -6,15 +6,7 @@ use Rattle.std.proofs.lemmas.Bool.{cases_eq, ne_eqb}
 use Rattle.std.proofs.lemmas.Bool.Decides.{nat_tests}
 use Rattle.room_kinds.specs.declared.numbers.Incarnation.{Incarnation}
 use Rattle.actor_duties.specs.Words.{incarnation}
-use Rattle.actor_world.specs.Life.{once}
-
--- 1 where a generation was created, when this is the last one
-abbrev pub born : ℕ → ℕ → ℕ
-born g last = if nat_lt 0 g && nat_le g last then 1 else 0
-
--- 1 where a generation has ended, when this is the last one, and lives or doesn't
-abbrev pub dead : ℕ → ℕ → Bool → ℕ
-dead g last lives = if nat_lt 0 g && (nat_lt g last || ((g == last) && not lives)) then 1 else 0
+use Rattle.actor_world.specs.Life.{once, born, dead}
 
 -- 1 at this number alone
 abbrev pub at_only : ℕ → ℕ → ℕ
@@ -38,6 +30,14 @@ dead_after g last false = grind (arith, nat_tests)
 
 pub born_last : (last : ℕ) → 1 ≤ last → born last last ≡ 1
 born_last last h = grind (arith, nat_tests)
+
+-- of a slot in which nothing was ever made
+pub born_none : (g : ℕ) → born g 0 ≡ 0
+born_none g = grind (arith, nat_tests)
+
+pub dead_none : (g : ℕ) (lives : Bool) → dead g 0 lives ≡ 0
+dead_none g true = grind (arith, nat_tests)
+dead_none g false = grind (arith, nat_tests)
 
 pub dead_last : (last : ℕ) → dead last last true ≡ 0
 dead_last last = grind (arith, nat_tests)

@@ -16,8 +16,8 @@ use Rattle.actor_world.specs.Behaviour.{Behaviour}
 use Rattle.actor_world.specs.Body.{Body}
 use Rattle.actor_world.specs.Turns.{doing}
 use Rattle.actor_world.specs.Start.{is_fixed_up, lives_from_start, first_body, first_actors, Starting, started, all_started, starting, first_state, start_entries, plant_of}
-use Rattle.actor_world.specs.Life.{IsTopDown, IsModest, created}
-use Rattle.actor_world.specs.Directories.{IsOpen, AreOpen, IsRunWhole}
+use Rattle.actor_world.specs.Life.{IsModest, created}
+use Rattle.actor_world.specs.Directories.{IsOpen, AreOpen}
 use Rattle.actor_world.proofs.LivesLaw.{Told, replay_told, first_told, all_started_keeps}
 use Rattle.actor_world.proofs.TrueTurns.{IsFine, apply_all_fine}
 use Rattle.actor_world.proofs.TrueWorld.{gens, IsTrueWorld, run_true, born_between}
@@ -36,7 +36,7 @@ own_of_fixed t s h = go (slot_at t s) h
     go None k = absurd cc
     go (Some x) k = eq-eqb x.owner.0 x.owner.0 refl
 
-module _ {M : Type 0} (model : Behaviour M) (modest : IsModest model) (clear : IsOpen model) (t : Tables) (lines : List Line) (clear_lines : AreOpen lines) (top : IsTopDown t) (run_whole : IsRunWhole t) where
+module _ {M : Type 0} (model : Behaviour M) (modest : IsModest model) (clear : IsOpen model) (t : Tables) (lines : List Line) (clear_lines : AreOpen lines) where
   all_started_fine : (g : ℕ → ℕ) (c : ℕ) (xs : List Incarnation) (s : Starting M) → IsFine g s.doing → IsFine g (all_started model t c xs s).doing
   all_started_fine g c [] s h = h
   all_started_fine g c (x ∷ xs) s h =
@@ -48,7 +48,7 @@ module _ {M : Type 0} (model : Behaviour M) (modest : IsModest model) (clear : I
   unfolding starting
   first_gen n =
       ap (λ l. l.generation n)
-      (all_started_keeps model t lines (owner_of t n) modest top (first_actors t (owner_of t n)) (record { doing = doing (first_body t (owner_of t n)); entries = [] })).0
+      (all_started_keeps model t lines (owner_of t n) modest (first_actors t (owner_of t n)) (record { doing = doing (first_body t (owner_of t n)); entries = [] })).0
 
   first_told_below : (c n : ℕ) → (if is_told t n c && lives_from_start t n then 1 else 0) ≤ gens t (first_state model t) n
   unfolding lives_from_start
@@ -64,7 +64,7 @@ module _ {M : Type 0} (model : Behaviour M) (modest : IsModest model) (clear : I
   unfolding starting
   start_true =
       record {
-        sound = λ c. (first_told model t lines c modest top).sound;
+        sound = λ c. (first_told model t lines c modest).sound;
         state = λ c.
             let k : IsFine (gens t (first_state model t)) (all_started model t c (first_actors t c) (record { doing = doing (first_body t c); entries = [] })).doing =
             all_started_fine (gens t (first_state model t)) c (first_actors t c) (record { doing = doing (first_body t c); entries = [] })
@@ -77,10 +77,10 @@ module _ {M : Type 0} (model : Behaviour M) (modest : IsModest model) (clear : I
       → (d s g : ℕ) → owner_of t s < length t.controllers → (end.controllers d).body.frame.told s ≡ g → 1 ≤ g
       → created (incarnation s g) (start_entries model t (owner_of t s) ++ entries_of (owner_of t s) xs) ≡ 1
   tell_created xs end r d s g below tells some =
-      let inv : IsTrueWorld t end = run_true model modest clear t lines clear_lines top run_whole xs (start (plant_of model t lines)) end start_true r in
+      let inv : IsTrueWorld t end = run_true model modest clear t lines clear_lines xs (start (plant_of model t lines)) end start_true r in
       let told : (end.controllers d).body.frame.told s ≤ gens t end.controllers s = (inv.state d).told s in
       let p = run_projects (plant_of model t lines) (start (plant_of model t lines)) xs end r in
-      let h : Told t (start_entries model t (owner_of t s) ++ entries_of (owner_of t s) xs) (end.controllers (owner_of t s)).body.frame.lives =
-      replay_told model t lines (owner_of t s) modest top (entries_of (owner_of t s) xs) (first_state model t (owner_of t s)) (end.controllers (owner_of t s))
-      (start_entries model t (owner_of t s)) (first_told model t lines (owner_of t s) modest top) (p.controllers (owner_of t s) below) in
+      let h : Told t (owner_of t s) (start_entries model t (owner_of t s) ++ entries_of (owner_of t s) xs) (end.controllers (owner_of t s)).body.frame.lives =
+      replay_told model t lines (owner_of t s) modest (entries_of (owner_of t s) xs) (first_state model t (owner_of t s)) (end.controllers (owner_of t s))
+      (start_entries model t (owner_of t s)) (first_told model t lines (owner_of t s) modest) (p.controllers (owner_of t s) below) in
       h.created (incarnation s g) ∙ born_between g (gens t end.controllers s) some (omega arith)

@@ -24,15 +24,15 @@ use Rattle.actor_world.specs.Behaviour.{Behaviour, Handling, Handled, Deferred, 
 use Rattle.actor_world.specs.Body.{Body}
 use Rattle.actor_world.specs.Turns.{all_kinds, doing, treated, system_done, said, handled, nobody_there, dispatched, is_meant, dispatch, treat}
 use Rattle.actor_world.specs.Start.{first_state, start_entries, plant_of}
-use Rattle.actor_world.specs.Life.{IsTopDown, IsModest, created, destroyed, actor_of, dispatched_to, LivesOnce, IsFor}
-use Rattle.actor_world.proofs.LivesLaw.{once_each}
+use Rattle.actor_world.specs.Life.{IsModest, created, destroyed, actor_of, dispatched_to, LivesOnce, TellsLives, IsFor}
+use Rattle.actor_world.proofs.LivesLaw.{once_each, tells_each}
 
 -- the beginning of a run is a run
 run_begins : {B : Type 0} (plant : Plant B) (w : World B) (a b : List Placed) (end : World B) → Runs plant w (a ++ b) end → (mid : World B) × Runs plant w a mid
 run_begins plant w [] b end r = (w, refl)
 run_begins plant w (x ∷ a) b end r = let q = run_begins plant r.0 a b end r.3 in (q.0, (r.0, r.1, r.2, q.1))
 
-pub runs_once : {M : Type 0} (model : Behaviour M) (t : Tables) (lines : List Line) → IsModest model → IsTopDown t
+pub runs_once : {M : Type 0} (model : Behaviour M) (t : Tables) (lines : List Line) → IsModest model
     → (c : ℕ) → c < length t.controllers → (before : List Placed) (x : Incarnation)
     → ((end : World (Body M)) → Runs (plant_of model t lines) (start (plant_of model t lines)) before end
     → LivesOnce x (start_entries model t c ++ entries_of c before))
@@ -40,10 +40,10 @@ pub runs_once : {M : Type 0} (model : Behaviour M) (t : Tables) (lines : List Li
     → Runs (plant_of model t lines) (start (plant_of model t lines)) (before ++ record { party = c; entry = e } ∷ after) end
     → dispatched_to e ≡ Some x
     → (created x (start_entries model t c ++ entries_of c before) ≡ 1) × (destroyed x (start_entries model t c ++ entries_of c before) ≡ 0))
-runs_once {M} model t lines modest top c below before x = (
+runs_once {M} model t lines modest c below before x = (
   (λ end r.
       let p = run_projects (plant_of model t lines) (start (plant_of model t lines)) before end r in
-      (once_each model t lines c modest top (entries_of c before) (end.controllers c) (p.controllers c below)).0 x),
+      (once_each model t lines c modest (entries_of c before) (end.controllers c) (p.controllers c below)).0 x),
   (λ e after end r d.
       let placed : Placed = record { party = c; entry = e } in
       let q = run_begins (plant_of model t lines) (start (plant_of model t lines)) before (placed ∷ after) end r in
@@ -53,8 +53,16 @@ runs_once {M} model t lines modest top c below before x = (
       entries_append c before (placed ∷ after) ∙ ap (λ (z : List Entry). entries_of c before ++ z) (own_entries c placed after refl) in
       let whole : Replays (plant_of model t lines) c (first_state model t c) (entries_of c before ++ e ∷ entries_of c after) (end.controllers c) =
       subst (λ (z : List Entry). Replays (plant_of model t lines) c (first_state model t c) z (end.controllers c)) path (all.controllers c below) in
-      (once_each model t lines c modest top (entries_of c before) (q.0.controllers c) (p.controllers c below)).1 e (entries_of c after) (end.controllers c) x whole d),
+      (once_each model t lines c modest (entries_of c before) (q.0.controllers c) (p.controllers c below)).1 e (entries_of c after) (end.controllers c) x whole d),
 )
+
+pub runs_tell : {M : Type 0} (model : Behaviour M) (t : Tables) (lines : List Line) → IsModest model
+    → (xs : List Placed) (end : World (Body M)) → Runs (plant_of model t lines) (start (plant_of model t lines)) xs end
+    → (c : ℕ) → c < length t.controllers → (x : Incarnation)
+    → TellsLives t c (end.controllers c).body.frame.lives x (start_entries model t c ++ entries_of c xs)
+runs_tell {M} model t lines modest xs end r c below x =
+    let p = run_projects (plant_of model t lines) (start (plant_of model t lines)) xs end r in
+    tells_each model t lines c modest (entries_of c xs) (end.controllers c) (p.controllers c below) x
 
 -- a turn dispatches its message to what the message is for
 Meant : {M : Type 0} → Body M → Msg → Treated (Body M) → Type 0

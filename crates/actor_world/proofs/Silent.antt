@@ -1,5 +1,5 @@
 -- Of all that duties and commands send, only Create and Destroy send an Announce.
-use Rattle.std.proofs.Common.{◌≡◌, ℕ, ◌+◌, ◌==◌, Bool, true, false, not, ◌&&◌, if◌then◌else◌, is_some, List, [], ◌∷◌, ◌++◌, map, filter, slice_get, Option, Some, None, ℤ, pos, negsuc, refl}
+use Rattle.std.proofs.Common.{◌≡◌, ℕ, ◌+◌, ◌==◌, Bool, true, false, not, ◌&&◌, ◌||◌, if◌then◌else◌, is_some, List, [], ◌∷◌, ◌++◌, map, filter, slice_get, Option, Some, None, ℤ, pos, negsuc, refl}
 use Rattle.std.specs.Option.{option_map_or}
 use Rattle.room_kinds.specs.declared.message.Msg.{Msg}
 use Rattle.room_kinds.specs.declared.numbers.Incarnation.{Incarnation}
@@ -14,7 +14,7 @@ use Rattle.room_wiring.specs.declared.tables.Tables.{Tables}
 use Rattle.room_wiring.specs.Places.{place_count}
 use Rattle.actor_duties.specs.Words.{is_endpoint, endpoint, frame_of, whose, part_at, of_id, is_spp, is_sap, protocol_of, joined_at, is_joined}
 use Rattle.actor_duties.specs.State.{Lives, Frame, Links, ImportPlace, Empty, Asking, Held, Leaving, Registration, Unnamed, Asked, Registered, Leaving as LeavingName, User, Provider, Service, NameTable, Done}
-use Rattle.actor_duties.specs.Messages.{Code, to_owner}
+use Rattle.actor_duties.specs.Messages.{Code, to_owner, is_code, Occupied, NotHere}
 use Rattle.actor_duties.specs.Lives.{is_live, create_done, create_refused, destroy_done}
 use Rattle.actor_duties.specs.Imports.{tied_home, is_port_taken, heard, import, import_done, import_refused, import_ended, deport, deport_done, is_container_live, ended_plugs, given_back}
 use Rattle.actor_duties.specs.Frame.{asked_of, incarnate, destroy_command, import_code, import_with, import_into, import_command, deport_from, deport_of, deport_command, frame_request}
@@ -56,7 +56,8 @@ done_if false x y h k = k
 
 pub silent_destroy_done : (t : Tables) (me : ℕ) (o x : Endpoint) (code : ℕ) → AllSilent (destroy_done t me o x code)
 unfolding destroy_done
-silent_destroy_done t me o x code = silent_if (code == 0) _ _ (refl, tt) (silent_if (code == 3) _ _ (refl, tt) tt)
+silent_destroy_done t me o x code =
+    silent_if ((code == 0) && not (o.generation.0 == 0)) _ _ (refl, tt) (silent_if ((code == 3) && (o.generation.0 == 0)) _ _ (refl, tt) tt)
 
 pub silent_create_done : (t : Tables) (me : ℕ) (o x : Endpoint) → AllSilent (create_done t me o x)
 unfolding create_done
@@ -64,7 +65,7 @@ silent_create_done t me o x = (refl, tt)
 
 pub silent_create_refused : (t : Tables) (me : ℕ) (o x : Endpoint) (code : ℤ) → AllSilent (create_refused t me o x code)
 unfolding create_refused
-silent_create_refused t me o x code = (refl, tt)
+silent_create_refused t me o x code = silent_if (is_code Occupied code || is_code NotHere code) _ _ (refl, tt) tt
 
 pub silent_import : (t : Tables) (me : ℕ) (l : Lives) (plugs : ℕ → List Incarnation) (m : Msg) (i h : Endpoint) → AllSilent (import t me l plugs m i h).sent
 unfolding import

@@ -20,7 +20,7 @@ use Rattle.actor_merge.specs.Parties.{Treated}
 use Rattle.actor_duties.specs.Words.{updated, slots_of, incarnation, frame_at, frame_of, whose, is_own, owner_of, is_optional, is_frame, is_part_of}
 use Rattle.actor_duties.specs.State.{Lives, Frame}
 use Rattle.actor_duties.specs.Messages.{reply, coded, NotHere, Occupied}
-use Rattle.actor_duties.specs.Lives.{answered, announce_to, counts_as_live, create, made, lives_made, lives_ended, last_of, announces, told_controllers, made_slots, ended_slots, announce, is_within, is_made_with}
+use Rattle.actor_duties.specs.Lives.{answered, announce_to, counts_as_live, create, made, lives_made, lives_ended, last_of, announces, told_controllers, made_slots, ended_slots, announce, is_within, comes_up}
 use Rattle.actor_duties.specs.Imports.{imported_parts, given_back, ended_plugs}
 use Rattle.actor_duties.specs.Frame.{end_messages, frame_ended, FrameDone, only_sends, plainly, with_number, of_natural, with_lives, destroy, is_request, frame_duty, frame_duty_of, frame_duty_from, frame_request}
 use Rattle.actor_duties.specs.Links.{name_request, end_of}
@@ -28,10 +28,10 @@ use Rattle.actor_duties.specs.Commands.{Content, Kept, defer, recall, recall_all
 use Rattle.actor_world.specs.Behaviour.{Behaviour}
 use Rattle.actor_world.specs.Body.{Body, Doing, sent_at, apply_all}
 use Rattle.actor_world.specs.Turns.{all_kinds, doing, treated, begun, all_begun, gone, all_gone, closing, with_frame, duty, system_done, said, handled, nobody_there, dispatched, is_meant, dispatch, treat}
-use Rattle.actor_world.specs.Life.{IsTopDown, IsModest}
-use Rattle.actor_world.specs.Directories.{SendsOpenly, IsOpen, IsRunWhole}
-use Rattle.actor_world.proofs.Slots.{made_within, within_itself}
-use Rattle.actor_world.proofs.TurnLives.{request_optional, frame_counts}
+use Rattle.actor_world.specs.Life.{IsModest}
+use Rattle.actor_world.specs.Directories.{SendsOpenly, IsOpen}
+use Rattle.actor_world.proofs.LifeSteps.{IsSound, up_parts}
+use Rattle.actor_world.proofs.TurnLives.{frame_counts}
 use Rattle.actor_world.proofs.Silent.{announced_by, announced, AllSilent, silent_create_done, silent_create_refused, silent_destroy_done, silent_import, silent_import_done, silent_import_refused, silent_import_ended, silent_deport, silent_deport_done, silent_ended_plugs, silent_given_back, silent_request, silent_name_request, silent_end_of, silent_links, silent_table, silent_send, silent_broadcast}
 
 -- what a message announces was created, by these last generations of slots
@@ -227,7 +227,7 @@ OwnBelow t me g l = (s : ℕ) → owner_of t s ≡ me → l.generation s ≤ g s
 abbrev pub Fine : Tables → ℕ → (ℕ → ℕ) → FrameDone → Type 0
 Fine t me g r = OwnBelow t me g r.frame.lives → FrameFine g r
 
-module _ (t : Tables) (me : ℕ) (g : ℕ → ℕ) (f : Frame) (before : (s : ℕ) → f.told s ≤ g s) (top : IsTopDown t) (run_whole : IsRunWhole t) where
+module _ (t : Tables) (me : ℕ) (g : ℕ → ℕ) (f : Frame) (before : (s : ℕ) → f.told s ≤ g s) (sound : IsSound t me f.lives) where
   only_fine : (sent : List Msg) → AllSilent sent → Fine t me g (only_sends f sent)
   only_fine sent h own = record { sent = told_silent g sent h; last = tt; told = before }
 
@@ -246,9 +246,9 @@ module _ (t : Tables) (me : ℕ) (g : ℕ → ℕ) (f : Frame) (before : (s : �
   natural_fine (pos n) r h = h n
   natural_fine (negsuc n) r h = only_fine [] tt
 
-  create_fine : (m : Msg) (o : ℕ) (x : Endpoint) → is_optional t o ≡ true → is_own t me o ≡ true → Fine t me g (with_lives f (create t me f.lives m o x))
-  unfolding create made made_slots is_made_with is_within
-  create_fine m o x optional own = go (not (counts_as_live t me f.lives (whose x))) (f.lives.lives o)
+  create_fine : (m : Msg) (o : ℕ) (x : Endpoint) → Fine t me g (with_lives f (create t me f.lives m o x))
+  unfolding create made made_slots
+  create_fine m o x = go (not (counts_as_live t me f.lives (whose x))) (f.lives.lives o)
     where
       go : (a b : Bool) → Fine t me g (with_lives f (
           if a then answered f.lives (reply me m kinds.CreateRefused (frame_at o 0) x (coded NotHere))
@@ -258,17 +258,17 @@ module _ (t : Tables) (me : ℕ) (g : ℕ → ℕ) (f : Frame) (before : (s : �
       go false true = λ h. record { sent = tt; last = refl; told = before }
       go false false = λ h.
           record {
-            sent = made_told g t me (lives_made t o f.lives) (made_slots t o)
-                (pass_filter (is_made_with t o) (λ s. (lives_made t o f.lives).generation s ≤ g s)
-                (λ s e. h s (run_whole o s optional (made_within t top o o (length t.slots) s (within_itself t o (length t.slots)) e) ∙ own_owner t me o own))
+            sent = made_told g t me (lives_made t me o f.lives) (made_slots t me f.lives o)
+                (pass_filter (comes_up t me f.lives o) (λ s. (lives_made t me o f.lives).generation s ≤ g s)
+                (λ s e. h s (own_owner t me s (up_parts t me f.lives o s e).0))
                 (slots_of t));
             last = refl;
             told = before;
           }
 
-  destroy_fine : (m : Msg) (o : ℕ) (x : Endpoint) → is_optional t o ≡ true → is_own t me o ≡ true → Fine t me g (destroy t me f m o x)
+  destroy_fine : (m : Msg) (o : ℕ) (x : Endpoint) → Fine t me g (destroy t me f m o x)
   unfolding destroy frame_ended ended_slots lives_ended
-  destroy_fine m o x optional own = go (not (counts_as_live t me f.lives (whose x)) || not (f.lives.lives o))
+  destroy_fine m o x = go (not (counts_as_live t me f.lives (whose x)) || not (f.lives.lives o))
     where
       go : (a : Bool) → Fine t me g (
           if a then record { frame = f; sent = []; made = []; ended = []; last = Some (reply me m kinds.DestroyDone (frame_at o 0) x (coded NotHere)) }
@@ -285,15 +285,10 @@ module _ (t : Tables) (me : ℕ) (g : ℕ → ℕ) (f : Frame) (before : (s : �
             sent = ended_told g t me f (ended_slots t f.lives o)
                 (pass_onto (λ s. f.lives.generation s ≤ g s) (filter (λ s. is_within t o s && f.lives.lives s) (slots_of t)) []
                 (pass_filter (λ s. is_within t o s && f.lives.lives s) (λ s. f.lives.generation s ≤ g s)
-                (λ s e. h s (run_whole o s optional (and_parts (is_within t o s) (f.lives.lives s) e).0 ∙ own_owner t me o own)) (slots_of t)) tt);
+                (λ s e. h s (own_owner t me s (sound.own s (sound.created s (and_parts (is_within t o s) (f.lives.lives s) e).1)))) (slots_of t)) tt);
             last = refl;
             told = before;
           }
-
-  request_own : (x o : Endpoint) → is_request t me x o ≡ true → is_own t me o.slot.0 ≡ true
-  request_own x o h =
-      let a = and_parts (is_frame x && is_frame o && (o.generation.0 == 0) && is_optional t o.slot.0 && is_own t me o.slot.0) (is_part_of t o.slot.0 x.slot.0) h in
-      (and_parts (is_frame x && is_frame o && (o.generation.0 == 0) && is_optional t o.slot.0) (is_own t me o.slot.0) a.0).1
 
   put_below : (s n : ℕ) → n ≤ g s → (x : ℕ) → updated f.told s n x ≤ g x
   unfolding updated
@@ -314,8 +309,8 @@ module _ (t : Tables) (me : ℕ) (g : ℕ → ℕ) (f : Frame) (before : (s : �
 
   duty_of_fine : (m : Msg) (kind : SysKind) (a b : Endpoint) → ((x : Incarnation) → announced_by (Some kind) (Some a) ≡ Some x → x.generation.0 ≤ g x.slot.0)
       → Fine t me g (frame_duty_of t me f m kind a b)
-  duty_of_fine m kinds.Create x o s = plainly_fine (is_request t me x o) m.payload _ (λ h. create_fine m o.slot.0 x (request_optional t me x o h) (request_own x o h))
-  duty_of_fine m kinds.Destroy x o s = plainly_fine (is_request t me x o) m.payload _ (λ h. destroy_fine m o.slot.0 x (request_optional t me x o h) (request_own x o h))
+  duty_of_fine m kinds.Create x o s = plainly_fine (is_request t me x o) m.payload _ (λ h. create_fine m o.slot.0 x)
+  duty_of_fine m kinds.Destroy x o s = plainly_fine (is_request t me x o) m.payload _ (λ h. destroy_fine m o.slot.0 x)
   duty_of_fine m kinds.CreateDone a b s = plainly_fine _ m.payload _ (λ h. only_fine _ (silent_create_done t me a b))
   duty_of_fine m kinds.CreateRefused a b s = number_fine _ m.payload _ (λ n. only_fine _ (silent_create_refused t me a b n))
   duty_of_fine m kinds.DestroyDone a b s = number_fine _ m.payload _ (λ n. natural_fine n _ (λ k. only_fine _ (silent_destroy_done t me a b k)))
@@ -332,6 +327,8 @@ module _ (t : Tables) (me : ℕ) (g : ℕ → ℕ) (f : Frame) (before : (s : �
   duty_of_fine m kinds.Bound a b s = only_fine [] tt
   duty_of_fine m kinds.Ended a b s = only_fine [] tt
   duty_of_fine m kinds.NameReply a b s = only_fine [] tt
+  duty_of_fine m kinds.PartMake a b s = only_fine [] tt
+  duty_of_fine m kinds.PartEnd a b s = only_fine [] tt
 
   duty_from_fine : (m : Msg) (kind : SysKind) (o : Option Endpoint) → ((x : Incarnation) → announced_by (Some kind) o ≡ Some x → x.generation.0 ≤ g x.slot.0)
       → Fine t me g (frame_duty_from t me f m kind o)
@@ -378,42 +375,44 @@ module _ {M : Type 0} (model : Behaviour M) (clear : IsOpen model) (t : Tables) 
 abbrev pub TreatedFine : {M : Type 0} → (ℕ → ℕ) → Treated (Body M) → Type 0
 TreatedFine g r = AllTold g r.sent × AllTold g r.back × ((s : ℕ) → AllTold g (r.body.deferred s)) × ((s : ℕ) → r.body.frame.told s ≤ g s)
 
-module _ {M : Type 0} (model : Behaviour M) (modest : IsModest model) (clear : IsOpen model) (t : Tables) (me : ℕ) (g : ℕ → ℕ) (top : IsTopDown t) (run_whole : IsRunWhole t) where
-  frame_fine : (b : Body M) (m : Msg) (kind : SysKind) → ((s : ℕ) → AllTold g (b.deferred s)) → ((s : ℕ) → b.frame.told s ≤ g s)
+module _ {M : Type 0} (model : Behaviour M) (modest : IsModest model) (clear : IsOpen model) (t : Tables) (me : ℕ) (g : ℕ → ℕ) where
+  frame_fine : (b : Body M) (m : Msg) → IsSound t me b.frame.lives → (kind : SysKind) → ((s : ℕ) → AllTold g (b.deferred s)) → ((s : ℕ) → b.frame.told s ≤ g s)
       → ((x : Incarnation) → announced_by (Some kind) m.source ≡ Some x → x.generation.0 ≤ g x.slot.0)
       → OwnBelow t me g (with_frame model t me b (frame_duty t me b.frame kind m)).body.frame.lives → IsFine g (with_frame model t me b (frame_duty t me b.frame kind m))
-  frame_fine b m kind deferred told said own =
+  frame_fine b m sound kind deferred told said own =
       let r : FrameDone = frame_duty t me b.frame kind m in
       let same = (frame_counts model modest t me b r).0 in
       with_frame_fine model clear t me g b r deferred
-      (frame_duty_fine t me g b.frame told top run_whole m kind said (subst (OwnBelow t me g) same own))
+      (frame_duty_fine t me g b.frame told sound m kind said (subst (OwnBelow t me g) same own))
 
-  duty_fine : (b : Body M) (m : Msg) (kind : SysKind) → ((s : ℕ) → AllTold g (b.deferred s)) → ((s : ℕ) → b.frame.told s ≤ g s)
+  duty_fine : (b : Body M) (m : Msg) → IsSound t me b.frame.lives → (kind : SysKind) → ((s : ℕ) → AllTold g (b.deferred s)) → ((s : ℕ) → b.frame.told s ≤ g s)
       → ((x : Incarnation) → announced_by (Some kind) m.source ≡ Some x → x.generation.0 ≤ g x.slot.0)
       → OwnBelow t me g (duty model t me b m kind).body.frame.lives → IsFine g (duty model t me b m kind)
-  duty_fine b m kinds.Register d o s h = record { sent = told_silent g _ (silent_table t me b.table kinds.Register m); back = tt; deferred = d; told = o }
-  duty_fine b m kinds.Withdraw d o s h = record { sent = told_silent g _ (silent_table t me b.table kinds.Withdraw m); back = tt; deferred = d; told = o }
-  duty_fine b m kinds.Bound d o s h = record { sent = told_silent g _ (silent_links t me b.links _ kinds.Bound m); back = tt; deferred = d; told = o }
-  duty_fine b m kinds.Ended d o s h = record { sent = told_silent g _ (silent_links t me b.links _ kinds.Ended m); back = tt; deferred = d; told = o }
-  duty_fine b m kinds.NameReply d o s h = record { sent = told_silent g _ (silent_links t me b.links _ kinds.NameReply m); back = tt; deferred = d; told = o }
-  duty_fine b m kinds.Create d o s h = frame_fine b m kinds.Create d o s h
-  duty_fine b m kinds.CreateDone d o s h = frame_fine b m kinds.CreateDone d o s h
-  duty_fine b m kinds.CreateRefused d o s h = frame_fine b m kinds.CreateRefused d o s h
-  duty_fine b m kinds.Destroy d o s h = frame_fine b m kinds.Destroy d o s h
-  duty_fine b m kinds.DestroyDone d o s h = frame_fine b m kinds.DestroyDone d o s h
-  duty_fine b m kinds.Import d o s h = frame_fine b m kinds.Import d o s h
-  duty_fine b m kinds.ImportDone d o s h = frame_fine b m kinds.ImportDone d o s h
-  duty_fine b m kinds.ImportRefused d o s h = frame_fine b m kinds.ImportRefused d o s h
-  duty_fine b m kinds.ImportEnded d o s h = frame_fine b m kinds.ImportEnded d o s h
-  duty_fine b m kinds.Deport d o s h = frame_fine b m kinds.Deport d o s h
-  duty_fine b m kinds.DeportDone d o s h = frame_fine b m kinds.DeportDone d o s h
-  duty_fine b m kinds.Announce d o s h = frame_fine b m kinds.Announce d o s h
+  duty_fine b m sound kinds.Register d o s h = record { sent = told_silent g _ (silent_table t me b.table kinds.Register m); back = tt; deferred = d; told = o }
+  duty_fine b m sound kinds.Withdraw d o s h = record { sent = told_silent g _ (silent_table t me b.table kinds.Withdraw m); back = tt; deferred = d; told = o }
+  duty_fine b m sound kinds.Bound d o s h = record { sent = told_silent g _ (silent_links t me b.links _ kinds.Bound m); back = tt; deferred = d; told = o }
+  duty_fine b m sound kinds.Ended d o s h = record { sent = told_silent g _ (silent_links t me b.links _ kinds.Ended m); back = tt; deferred = d; told = o }
+  duty_fine b m sound kinds.NameReply d o s h = record { sent = told_silent g _ (silent_links t me b.links _ kinds.NameReply m); back = tt; deferred = d; told = o }
+  duty_fine b m sound kinds.Create d o s h = frame_fine b m sound kinds.Create d o s h
+  duty_fine b m sound kinds.CreateDone d o s h = frame_fine b m sound kinds.CreateDone d o s h
+  duty_fine b m sound kinds.CreateRefused d o s h = frame_fine b m sound kinds.CreateRefused d o s h
+  duty_fine b m sound kinds.Destroy d o s h = frame_fine b m sound kinds.Destroy d o s h
+  duty_fine b m sound kinds.DestroyDone d o s h = frame_fine b m sound kinds.DestroyDone d o s h
+  duty_fine b m sound kinds.Import d o s h = frame_fine b m sound kinds.Import d o s h
+  duty_fine b m sound kinds.ImportDone d o s h = frame_fine b m sound kinds.ImportDone d o s h
+  duty_fine b m sound kinds.ImportRefused d o s h = frame_fine b m sound kinds.ImportRefused d o s h
+  duty_fine b m sound kinds.ImportEnded d o s h = frame_fine b m sound kinds.ImportEnded d o s h
+  duty_fine b m sound kinds.Deport d o s h = frame_fine b m sound kinds.Deport d o s h
+  duty_fine b m sound kinds.DeportDone d o s h = frame_fine b m sound kinds.DeportDone d o s h
+  duty_fine b m sound kinds.Announce d o s h = frame_fine b m sound kinds.Announce d o s h
+  duty_fine b m sound kinds.PartMake d o s h = frame_fine b m sound kinds.PartMake d o s h
+  duty_fine b m sound kinds.PartEnd d o s h = frame_fine b m sound kinds.PartEnd d o s h
 
-  system_fine : (b : Body M) (m : Msg) (o : Option SysKind) → ((s : ℕ) → AllTold g (b.deferred s)) → ((s : ℕ) → b.frame.told s ≤ g s)
+  system_fine : (b : Body M) (m : Msg) → IsSound t me b.frame.lives → (o : Option SysKind) → ((s : ℕ) → AllTold g (b.deferred s)) → ((s : ℕ) → b.frame.told s ≤ g s)
       → ((x : Incarnation) → announced_by o m.source ≡ Some x → x.generation.0 ≤ g x.slot.0)
       → OwnBelow t me g (system_done model t me b m o).body.frame.lives → IsFine g (system_done model t me b m o)
-  system_fine b m None d o s h = record { sent = tt; back = tt; deferred = d; told = o }
-  system_fine b m (Some kind) d o s h = duty_fine b m kind d o s h
+  system_fine b m sound None d o s h = record { sent = tt; back = tt; deferred = d; told = o }
+  system_fine b m sound (Some kind) d o s h = duty_fine b m sound kind d o s h
 
   nobody_fine : (b : Body M) (m : Msg) → ((s : ℕ) → AllTold g (b.deferred s)) → ((s : ℕ) → b.frame.told s ≤ g s) → TreatedFine g (nobody_there b m)
   nobody_fine b m d o = (tt, tt, d, o)
@@ -445,16 +444,16 @@ module _ {M : Type 0} (model : Behaviour M) (modest : IsModest model) (clear : I
       go false true = (tt, tt, d, o)
       go false false = dispatched_fine b m (b.machines m.target.slot.0) d o h
 
-  pub treat_fine : (b : Body M) (m : Msg) → ((s : ℕ) → AllTold g (b.deferred s)) → ((s : ℕ) → b.frame.told s ≤ g s) → IsTold g m
+  pub treat_fine : (b : Body M) (m : Msg) → IsSound t me b.frame.lives → ((s : ℕ) → AllTold g (b.deferred s)) → ((s : ℕ) → b.frame.told s ≤ g s) → IsTold g m
       → OwnBelow t me g (treat model t me b m).body.frame.lives → TreatedFine g (treat model t me b m)
   unfolding treat
-  treat_fine b m d o h own = go (m.prio.0 == 0) refl own
+  treat_fine b m sound d o h own = go (m.prio.0 == 0) refl own
     where
       go : (a : Bool) → (m.prio.0 == 0) ≡ a
           → OwnBelow t me g (if a then treated (system_done model t me b m (slice_get all_kinds m.signal)) did.Duty else dispatch model t me b m).body.frame.lives
           → TreatedFine g (if a then treated (system_done model t me b m (slice_get all_kinds m.signal)) did.Duty else dispatch model t me b m)
       go true e k =
           let r : IsFine g (system_done model t me b m (slice_get all_kinds m.signal)) =
-          system_fine b m (slice_get all_kinds m.signal) d o (λ x q. h x (rw e q)) k in
+          system_fine b m sound (slice_get all_kinds m.signal) d o (λ x q. h x (rw e q)) k in
           (r.sent, r.back, r.deferred, r.told)
       go false e k = dispatch_fine b m d o h

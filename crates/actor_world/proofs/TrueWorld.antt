@@ -19,10 +19,10 @@ use Rattle.actor_world.specs.Behaviour.{Behaviour}
 use Rattle.actor_world.specs.Body.{Body}
 use Rattle.actor_world.specs.Turns.{treat}
 use Rattle.actor_world.specs.Start.{plant_of}
-use Rattle.actor_world.specs.Life.{IsTopDown, IsModest, ups}
-use Rattle.actor_world.specs.Directories.{IsOpen, AreOpen, IsRunWhole}
-use Rattle.actor_world.proofs.Counts.{born, born_last}
-use Rattle.actor_world.proofs.LifeSteps.{IsSound, born_in}
+use Rattle.actor_world.specs.Life.{IsModest, ups, born, born_in}
+use Rattle.actor_world.specs.Directories.{IsOpen, AreOpen}
+use Rattle.actor_world.proofs.Counts.{born_last}
+use Rattle.actor_world.proofs.LifeSteps.{IsSound}
 use Rattle.actor_world.proofs.TurnLives.{Turned, treat_turned}
 use Rattle.actor_world.proofs.TrueTurns.{IsTold, AllTold, told_append, told_more, told_filter, OwnBelow, TreatedFine, treat_fine}
 
@@ -49,6 +49,14 @@ put_told P f at v h k n = go (n == at)
     go : (b : Bool) → P (if b then v else f n)
     go true = k
     go false = h n
+
+put_own : {A : Type 0} (P : ℕ → A → Type 0) (f : ℕ → A) (at : ℕ) (v : A) → ((n : ℕ) → P n (f n)) → P at v → (n : ℕ) → P n (put f at v n)
+unfolding put
+put_own P f at v h k n = go (n == at) refl
+  where
+    go : (b : Bool) → (n == at) ≡ b → P n (if b then v else f n)
+    go true e = subst (λ z. P z v) (sym (eqb-true n at e)) k
+    go false e = h n
 
 lane_told : (g : ℕ → ℕ) (f : Lane → List Msg) (at : Lane) (v : List Msg) → ((l : Lane) → AllTold g (f l)) → AllTold g v → (l : Lane) → AllTold g (put_lane f at v l)
 unfolding put_lane
@@ -102,16 +110,16 @@ grows_from l next more h s = go (l.generation s) refl
         let k : born (l.generation s) (l.generation s) + more x ≡ born (l.generation s) (next.generation s) = h x in
         born_below (l.generation s) (next.generation s) (more x) (ap (λ z. z + more x) (sym one) ∙ k)
 
-module _ {M : Type 0} (model : Behaviour M) (modest : IsModest model) (clear : IsOpen model) (t : Tables) (lines : List Line) (top : IsTopDown t) (run_whole : IsRunWhole t) where
+module _ {M : Type 0} (model : Behaviour M) (modest : IsModest model) (clear : IsOpen model) (t : Tables) (lines : List Line) where
   -- what one entry of a controller does: lives stay sound, and generations never fall
-  pub record Lived (s next : State (Body M)) : Type 0 where
-    pub sound : IsSound t next.body.frame.lives
+  pub record Lived (c : ℕ) (s next : State (Body M)) : Type 0 where
+    pub sound : IsSound t c next.body.frame.lives
     pub grows : (slot : ℕ) → s.body.frame.lives.generation slot ≤ next.body.frame.lives.generation slot
 
-  same_lived : (s next : State (Body M)) → next.body ≡ s.body → IsSound t s.body.frame.lives → Lived s next
-  same_lived s next same sound =
+  same_lived : (c : ℕ) (s next : State (Body M)) → next.body ≡ s.body → IsSound t c s.body.frame.lives → Lived c s next
+  same_lived c s next same sound =
       record {
-        sound = subst (λ (b : Body M). IsSound t b.frame.lives) (sym same) sound;
+        sound = subst (λ (b : Body M). IsSound t c b.frame.lives) (sym same) sound;
         grows = λ n. subst (λ (b : Body M). s.body.frame.lives.generation n ≤ b.frame.lives.generation n) (sym same) (omega arith);
       }
 
@@ -126,25 +134,25 @@ module _ {M : Type 0} (model : Behaviour M) (modest : IsModest model) (clear : I
   turn_from c s next e (y ∷ ys) o h = absurd cc
   turn_from c s next e [] (Some k) h = (k, refl, cc)
 
-  does_lived : (c : ℕ) (s next : State (Body M)) (e : Entry) → IsSound t s.body.frame.lives → Does (plant_of model t lines) c s e next → Lived s next
+  does_lived : (c : ℕ) (s next : State (Body M)) (e : Entry) → IsSound t c s.body.frame.lives → Does (plant_of model t lines) c s e next → Lived c s next
   unfolding fetch turn post
   does_lived c s next (entry.Start who state ns) sound h = absurd h
-  does_lived c s next (entry.Fetch stamp m) sound h = same_lived s next (sym (ap (λ (z : State (Body M) × Entry). z.0.body) h)) sound
+  does_lived c s next (entry.Fetch stamp m) sound h = same_lived c s next (sym (ap (λ (z : State (Body M) × Entry). z.0.body) h)) sound
   does_lived c s next (entry.Post stamp m) sound h =
-      let r = post_from c s next (entry.Post stamp m) s.outbox h in same_lived s next (sym (ap (λ (z : State (Body M) × Entry). z.0.body) r.3)) sound
+      let r = post_from c s next (entry.Post stamp m) s.outbox h in same_lived c s next (sym (ap (λ (z : State (Body M) × Entry). z.0.body) r.3)) sound
   does_lived c s next (entry.Turn stamp from sent what ns) sound h =
       let r = turn_from c s next (entry.Turn stamp from sent what ns) s.outbox (next_of s.pending) h in
-      let k : Turned model modest t c s.body (treat model t c s.body r.0.message) = treat_turned model modest t c top s.body r.0.message sound in
-      subst (λ (z : State (Body M) × Entry). Lived s z.0) r.2 (record {
+      let k : Turned model modest t c s.body (treat model t c s.body r.0.message) = treat_turned model modest t c s.body r.0.message sound in
+      subst (λ (z : State (Body M) × Entry). Lived c s z.0) r.2 (record {
         sound = k.noted.sound;
         grows = grows_from s.body.frame.lives (treat model t c s.body r.0.message).body.frame.lives (λ x. ups x (treat model t c s.body r.0.message).notes) k.noted.born;
       })
 
-  does_told : (c : ℕ) (g h : ℕ → ℕ) → ((n : ℕ) → g n ≤ h n) → (s next : State (Body M)) (e : Entry) → StateTold g s → FetchedTold g e
+  does_told : (c : ℕ) (g h : ℕ → ℕ) → ((n : ℕ) → g n ≤ h n) → (s next : State (Body M)) (e : Entry) → IsSound t c s.body.frame.lives → StateTold g s → FetchedTold g e
       → OwnBelow t c h next.body.frame.lives → Does (plant_of model t lines) c s e next → StateTold h next × PostedTold h e
   unfolding fetch turn post
-  does_told c g h up s next (entry.Start who state ns) k f own d = absurd d
-  does_told c g h up s next (entry.Fetch stamp m) k f own d =
+  does_told c g h up s next (entry.Start who state ns) sound k f own d = absurd d
+  does_told c g h up s next (entry.Fetch stamp m) sound k f own d =
       let q : StateTold h s = state_more g h up s k in
       let m_told : AllTold h (m ∷ []) = told_more g h up (m ∷ []) (f, tt) in (
         subst (λ (z : State (Body M) × Entry). StateTold h z.0) d (record {
@@ -155,19 +163,19 @@ module _ {M : Type 0} (model : Behaviour M) (modest : IsModest model) (clear : I
         }),
         tt,
       )
-  does_told c g h up s next (entry.Post stamp m) k f own d =
+  does_told c g h up s next (entry.Post stamp m) sound k f own d =
       let q : StateTold h s = state_more g h up s k in
       let r = post_from c s next (entry.Post stamp m) s.outbox d in
       let box : AllTold h (r.0 ∷ r.1) = subst (AllTold h) r.2 q.outbox in
       subst (λ (z : State (Body M) × Entry). StateTold h z.0 × PostedTold h z.1) r.3
       (record { pending = q.pending; outbox = box.1; deferred = q.deferred; told = q.told }, box.0)
-  does_told c g h up s next (entry.Turn stamp from sent what ns) k f own d =
+  does_told c g h up s next (entry.Turn stamp from sent what ns) sound k f own d =
       let q : StateTold h s = state_more g h up s k in
       let r = turn_from c s next (entry.Turn stamp from sent what ns) s.outbox (next_of s.pending) d in
       let taken = lowest_told h s.pending q.pending 6 0 r.0 r.1 in
       let mine : OwnBelow t c h (treat model t c s.body r.0.message).body.frame.lives =
       subst (λ (z : State (Body M) × Entry). OwnBelow t c h z.0.body.frame.lives) (sym r.2) own in
-      let fine : TreatedFine h (treat model t c s.body r.0.message) = treat_fine model modest clear t c h top run_whole s.body r.0.message q.deferred q.told taken.0 mine in (
+      let fine : TreatedFine h (treat model t c s.body r.0.message) = treat_fine model modest clear t c h s.body r.0.message sound q.deferred q.told taken.0 mine in (
         subst (λ (z : State (Body M) × Entry). StateTold h z.0) r.2 (record {
           pending = back_told h (treat model t c s.body r.0.message).back (put s.pending r.0.priority r.0.rest) fine.1
               (put_told (AllTold h) s.pending r.0.priority r.0.rest q.pending taken.1);
@@ -184,7 +192,7 @@ gens t states n = (states (owner_of t n)).body.frame.lives.generation n
 
 -- a world in which all that is told of lives was so
 pub record IsTrueWorld {M : Type 0} (t : Tables) (w : World (Body M)) : Type 0 where
-  pub sound : (c : ℕ) → IsSound t (w.controllers c).body.frame.lives
+  pub sound : (c : ℕ) → IsSound t c (w.controllers c).body.frame.lives
   pub state : (c : ℕ) → StateTold (gens t w.controllers) (w.controllers c)
   pub lanes : (l : Lane) → AllTold (gens t w.controllers) (w.lanes l)
 
@@ -203,7 +211,7 @@ told_drop g (m ∷ ms) h = h.1
 pub born_between : (g n : ℕ) → 1 ≤ g → g ≤ n → born g n ≡ 1
 born_between g n h k = grind (arith, nat_tests)
 
-module _ {M : Type 0} (model : Behaviour M) (modest : IsModest model) (clear : IsOpen model) (t : Tables) (lines : List Line) (clear_lines : AreOpen lines) (top : IsTopDown t) (run_whole : IsRunWhole t) where
+module _ {M : Type 0} (model : Behaviour M) (modest : IsModest model) (clear : IsOpen model) (t : Tables) (lines : List Line) (clear_lines : AreOpen lines) where
   fetched_told : (w : World (Body M)) (c : ℕ) (e : Entry) (s : State (Body M)) → IsTrueWorld t w
       → controller_does (plant_of model t lines) w c (event_of e) ≡ Some (s, e) → FetchedTold (gens t w.controllers) e
   fetched_told w c (entry.Start who state ns) s inv h = tt
@@ -227,7 +235,7 @@ module _ {M : Type 0} (model : Behaviour M) (modest : IsModest model) (clear : I
       → IsTrueWorld t (record w { controllers = put w.controllers c s; lanes = lanes_after w c (event_of e) e })
   controller_true w c e s inv does =
       let d : Does (plant_of model t lines) c (w.controllers c) e s = own_of (plant_of model t lines) w c e s does in
-      let lived = does_lived model modest clear t lines top run_whole c (w.controllers c) s e (inv.sound c) d in
+      let lived = does_lived model modest clear t lines c (w.controllers c) s e (inv.sound c) d in
       let g : ℕ → ℕ = gens t w.controllers in
       let h : ℕ → ℕ = gens t (put w.controllers c s) in
       let up : (n : ℕ) → g n ≤ h n =
@@ -235,9 +243,9 @@ module _ {M : Type 0} (model : Behaviour M) (modest : IsModest model) (clear : I
       let own : OwnBelow t c h s.body.frame.lives =
       λ n q. subst (λ k. s.body.frame.lives.generation n ≤ (put w.controllers c s k).body.frame.lives.generation n) (sym q)
       (subst (λ (z : State (Body M)). s.body.frame.lives.generation n ≤ z.body.frame.lives.generation n) (sym (put-same w.controllers c s)) (omega arith)) in
-      let r = does_told model modest clear t lines top run_whole c g h up (w.controllers c) s e (inv.state c) (fetched_told w c e s inv does) own d in
+      let r = does_told model modest clear t lines c g h up (w.controllers c) s e (inv.sound c) (inv.state c) (fetched_told w c e s inv does) own d in
       record {
-        sound = put_told (λ (z : State (Body M)). IsSound t z.body.frame.lives) w.controllers c s inv.sound lived.sound;
+        sound = put_own (λ k (z : State (Body M)). IsSound t k z.body.frame.lives) w.controllers c s inv.sound lived.sound;
         state = put_told (StateTold h) w.controllers c s (λ k. state_more g h up (w.controllers k) (inv.state k)) r.0;
         lanes = lanes_told h w c e (λ l. told_more g h up (w.lanes l) (inv.lanes l)) r.1;
       }

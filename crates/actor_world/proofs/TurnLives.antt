@@ -19,48 +19,48 @@ use Rattle.actor_duties.specs.Frame.{end_messages, frame_ended, FrameDone, plain
 use Rattle.actor_world.specs.Behaviour.{Behaviour, Handling, Handled, Deferred, Unhandled}
 use Rattle.actor_world.specs.Body.{Body, Doing}
 use Rattle.actor_world.specs.Turns.{all_kinds, doing, treated, begun, all_begun, gone, all_gone, closing, with_frame, duty, system_done, said, moved, handled, nobody_there, dispatched, is_meant, dispatch, treat}
-use Rattle.actor_world.specs.Life.{IsTopDown, IsModest, ups, downs, actor_of}
+use Rattle.actor_world.specs.Life.{IsModest, ups, downs, actor_of, born_in, dead_in}
 use Rattle.actor_world.proofs.Counts.{times}
 use Rattle.actor_world.proofs.Notes.{ups-append, downs-append, IsPlain, plain_none, Keeps, apply_all_keeps}
-use Rattle.actor_world.proofs.LifeSteps.{IsSound, born_in, dead_in, Changes, no_change, made_sound, made_changes, ended_sound, ended_changes}
+use Rattle.actor_world.proofs.LifeSteps.{IsSound, Changes, no_change, made_sound, made_changes, ended_sound, ended_changes}
 
 -- from sound lives a duty of the frame service leads to sound lives, by what it made and ended
-abbrev pub Moves : Tables → Lives → FrameDone → Type 0
-Moves t l r = IsSound t l → IsSound t r.frame.lives × Changes l r.frame.lives r.made r.ended
+abbrev pub Moves : Tables → ℕ → Lives → FrameDone → Type 0
+Moves t me l r = IsSound t me l → IsSound t me r.frame.lives × Changes l r.frame.lives r.made r.ended
 
-moves_plainly : (t : Tables) (f : Frame) (fits : Bool) (payload : List ℤ) (r : FrameDone) → (fits ≡ true → Moves t f.lives r) → Moves t f.lives (plainly f fits payload r)
-moves_plainly t f true [] r h = h refl
-moves_plainly t f false [] r h = λ s. (s, no_change f.lives)
-moves_plainly t f fits (n ∷ ns) r h = λ s. (s, no_change f.lives)
+moves_plainly : (t : Tables) (me : ℕ) (f : Frame) (fits : Bool) (payload : List ℤ) (r : FrameDone) → (fits ≡ true → Moves t me f.lives r) → Moves t me f.lives (plainly f fits payload r)
+moves_plainly t me f true [] r h = h refl
+moves_plainly t me f false [] r h = λ s. (s, no_change f.lives)
+moves_plainly t me f fits (n ∷ ns) r h = λ s. (s, no_change f.lives)
 
-moves_number : (t : Tables) (f : Frame) (fits : Bool) (payload : List ℤ) (r : ℤ → FrameDone) → ((n : ℤ) → Moves t f.lives (r n)) → Moves t f.lives (with_number f fits payload r)
-moves_number t f fits [] r h = λ s. (s, no_change f.lives)
-moves_number t f true (n ∷ []) r h = h n
-moves_number t f false (n ∷ []) r h = λ s. (s, no_change f.lives)
-moves_number t f fits (n ∷ (k ∷ ns)) r h = λ s. (s, no_change f.lives)
+moves_number : (t : Tables) (me : ℕ) (f : Frame) (fits : Bool) (payload : List ℤ) (r : ℤ → FrameDone) → ((n : ℤ) → Moves t me f.lives (r n)) → Moves t me f.lives (with_number f fits payload r)
+moves_number t me f fits [] r h = λ s. (s, no_change f.lives)
+moves_number t me f true (n ∷ []) r h = h n
+moves_number t me f false (n ∷ []) r h = λ s. (s, no_change f.lives)
+moves_number t me f fits (n ∷ (k ∷ ns)) r h = λ s. (s, no_change f.lives)
 
-moves_natural : (t : Tables) (f : Frame) (n : ℤ) (r : ℕ → FrameDone) → ((n : ℕ) → Moves t f.lives (r n)) → Moves t f.lives (of_natural f n r)
-moves_natural t f (pos n) r h = h n
-moves_natural t f (negsuc n) r h = λ s. (s, no_change f.lives)
+moves_natural : (t : Tables) (me : ℕ) (f : Frame) (n : ℤ) (r : ℕ → FrameDone) → ((n : ℕ) → Moves t me f.lives (r n)) → Moves t me f.lives (of_natural f n r)
+moves_natural t me f (pos n) r h = h n
+moves_natural t me f (negsuc n) r h = λ s. (s, no_change f.lives)
 
-moves_create : (t : Tables) (me : ℕ) (f : Frame) (m : Msg) (o : ℕ) (x : Endpoint) → is_optional t o ≡ true → Moves t f.lives (with_lives f (create t me f.lives m o x))
+moves_create : (t : Tables) (me : ℕ) (f : Frame) (m : Msg) (o : ℕ) (x : Endpoint) → Moves t me f.lives (with_lives f (create t me f.lives m o x))
 unfolding create made
-moves_create t me f m o x optional = go (not (counts_as_live t me f.lives (whose x))) (f.lives.lives o) refl
+moves_create t me f m o x = go (not (counts_as_live t me f.lives (whose x))) (f.lives.lives o)
   where
-    go : (a b : Bool) → f.lives.lives o ≡ b
-        → Moves t f.lives (with_lives f (
+    go : (a b : Bool)
+        → Moves t me f.lives (with_lives f (
         if a then answered f.lives (reply me m kinds.CreateRefused (frame_at o 0) x (coded NotHere))
         else if b then answered f.lives (reply me m kinds.CreateRefused (frame_at o 0) x (coded Occupied))
         else made t me f.lives m o x))
-    go true b e = λ s. (s, no_change f.lives)
-    go false true e = λ s. (s, no_change f.lives)
-    go false false e = λ s. (made_sound t o f.lives optional s, made_changes t o f.lives optional s e)
+    go true b = λ s. (s, no_change f.lives)
+    go false true = λ s. (s, no_change f.lives)
+    go false false = λ s. (made_sound t me o f.lives s, made_changes t me o f.lives)
 
-moves_destroy : (t : Tables) (me : ℕ) (f : Frame) (m : Msg) (o : ℕ) (x : Endpoint) → is_optional t o ≡ true → IsTopDown t → Moves t f.lives (destroy t me f m o x)
+moves_destroy : (t : Tables) (me : ℕ) (f : Frame) (m : Msg) (o : ℕ) (x : Endpoint) → Moves t me f.lives (destroy t me f m o x)
 unfolding destroy frame_ended
-moves_destroy t me f m o x optional top = go (not (counts_as_live t me f.lives (whose x)) || not (f.lives.lives o))
+moves_destroy t me f m o x = go (not (counts_as_live t me f.lives (whose x)) || not (f.lives.lives o))
   where
-    go : (a : Bool) → Moves t f.lives (
+    go : (a : Bool) → Moves t me f.lives (
         if a then record { frame = f; sent = []; made = []; ended = []; last = Some (reply me m kinds.DestroyDone (frame_at o 0) x (coded NotHere)) }
         else record {
           frame = frame_ended t o f;
@@ -70,7 +70,7 @@ moves_destroy t me f m o x optional top = go (not (counts_as_live t me f.lives (
           last = Some (reply me m kinds.DestroyDone (frame_of (last_of f.lives o)) x (pos 0 ∷ []));
         })
     go true = λ s. (s, no_change f.lives)
-    go false = λ s. (ended_sound t o f.lives optional top s, ended_changes t o f.lives optional top s)
+    go false = λ s. (ended_sound t me o f.lives s, ended_changes t me o f.lives s)
 
 pub request_optional : (t : Tables) (me : ℕ) (x o : Endpoint) → is_request t me x o ≡ true → is_optional t o.slot.0 ≡ true
 request_optional t me x o h =
@@ -78,43 +78,45 @@ request_optional t me x o h =
     let b = and_parts (is_frame x && is_frame o && (o.generation.0 == 0) && is_optional t o.slot.0) (is_own t me o.slot.0) a.0 in
     (and_parts (is_frame x && is_frame o && (o.generation.0 == 0)) (is_optional t o.slot.0) b.0).1
 
-moves_of : (t : Tables) (me : ℕ) (f : Frame) (m : Msg) → IsTopDown t → (kind : SysKind) (a b : Endpoint) → Moves t f.lives (frame_duty_of t me f m kind a b)
-moves_of t me f m top kinds.Create x o = moves_plainly t f (is_request t me x o) m.payload _ (λ h. moves_create t me f m o.slot.0 x (request_optional t me x o h))
-moves_of t me f m top kinds.Destroy x o = moves_plainly t f (is_request t me x o) m.payload _ (λ h. moves_destroy t me f m o.slot.0 x (request_optional t me x o h) top)
-moves_of t me f m top kinds.CreateDone a b = moves_plainly t f _ m.payload _ (λ h. (λ s. (s, no_change f.lives)))
-moves_of t me f m top kinds.CreateRefused a b = moves_number t f _ m.payload _ (λ n. (λ s. (s, no_change f.lives)))
-moves_of t me f m top kinds.DestroyDone a b = moves_number t f _ m.payload _ (λ n. moves_natural t f n _ (λ k. (λ s. (s, no_change f.lives))))
-moves_of t me f m top kinds.Import a b = moves_plainly t f _ m.payload _ (λ h. (λ s. (s, no_change f.lives)))
-moves_of t me f m top kinds.ImportDone a b = moves_plainly t f _ m.payload _ (λ h. (λ s. (s, no_change f.lives)))
-moves_of t me f m top kinds.ImportRefused a b = moves_number t f _ m.payload _ (λ n. (λ s. (s, no_change f.lives)))
-moves_of t me f m top kinds.ImportEnded a b = moves_plainly t f _ m.payload _ (λ h. (λ s. (s, no_change f.lives)))
-moves_of t me f m top kinds.Deport a b = moves_plainly t f _ m.payload _ (λ h. (λ s. (s, no_change f.lives)))
-moves_of t me f m top kinds.DeportDone a b = moves_plainly t f _ m.payload _ (λ h. (λ s. (s, no_change f.lives)))
-moves_of t me f m top kinds.Announce a b = moves_number t f _ m.payload _ (λ n. moves_natural t f n _ (λ k. (λ s. (s, no_change f.lives))))
-moves_of t me f m top kinds.Register a b = λ s. (s, no_change f.lives)
-moves_of t me f m top kinds.Withdraw a b = λ s. (s, no_change f.lives)
-moves_of t me f m top kinds.Bound a b = λ s. (s, no_change f.lives)
-moves_of t me f m top kinds.Ended a b = λ s. (s, no_change f.lives)
-moves_of t me f m top kinds.NameReply a b = λ s. (s, no_change f.lives)
+moves_of : (t : Tables) (me : ℕ) (f : Frame) (m : Msg) → (kind : SysKind) (a b : Endpoint) → Moves t me f.lives (frame_duty_of t me f m kind a b)
+moves_of t me f m kinds.Create x o = moves_plainly t me f (is_request t me x o) m.payload _ (λ h. moves_create t me f m o.slot.0 x)
+moves_of t me f m kinds.Destroy x o = moves_plainly t me f (is_request t me x o) m.payload _ (λ h. moves_destroy t me f m o.slot.0 x)
+moves_of t me f m kinds.CreateDone a b = moves_plainly t me f _ m.payload _ (λ h. (λ s. (s, no_change f.lives)))
+moves_of t me f m kinds.CreateRefused a b = moves_number t me f _ m.payload _ (λ n. (λ s. (s, no_change f.lives)))
+moves_of t me f m kinds.DestroyDone a b = moves_number t me f _ m.payload _ (λ n. moves_natural t me f n _ (λ k. (λ s. (s, no_change f.lives))))
+moves_of t me f m kinds.Import a b = moves_plainly t me f _ m.payload _ (λ h. (λ s. (s, no_change f.lives)))
+moves_of t me f m kinds.ImportDone a b = moves_plainly t me f _ m.payload _ (λ h. (λ s. (s, no_change f.lives)))
+moves_of t me f m kinds.ImportRefused a b = moves_number t me f _ m.payload _ (λ n. (λ s. (s, no_change f.lives)))
+moves_of t me f m kinds.ImportEnded a b = moves_plainly t me f _ m.payload _ (λ h. (λ s. (s, no_change f.lives)))
+moves_of t me f m kinds.Deport a b = moves_plainly t me f _ m.payload _ (λ h. (λ s. (s, no_change f.lives)))
+moves_of t me f m kinds.DeportDone a b = moves_plainly t me f _ m.payload _ (λ h. (λ s. (s, no_change f.lives)))
+moves_of t me f m kinds.Announce a b = moves_number t me f _ m.payload _ (λ n. moves_natural t me f n _ (λ k. (λ s. (s, no_change f.lives))))
+moves_of t me f m kinds.Register a b = λ s. (s, no_change f.lives)
+moves_of t me f m kinds.Withdraw a b = λ s. (s, no_change f.lives)
+moves_of t me f m kinds.Bound a b = λ s. (s, no_change f.lives)
+moves_of t me f m kinds.Ended a b = λ s. (s, no_change f.lives)
+moves_of t me f m kinds.NameReply a b = λ s. (s, no_change f.lives)
+moves_of t me f m kinds.PartMake a b = λ s. (s, no_change f.lives)
+moves_of t me f m kinds.PartEnd a b = λ s. (s, no_change f.lives)
 
-moves_from : (t : Tables) (me : ℕ) (f : Frame) (m : Msg) → IsTopDown t → (kind : SysKind) (o : Option Endpoint) → Moves t f.lives (frame_duty_from t me f m kind o)
-moves_from t me f m top kind None = λ s. (s, no_change f.lives)
-moves_from t me f m top kind (Some a) = moves_of t me f m top kind a m.target
+moves_from : (t : Tables) (me : ℕ) (f : Frame) (m : Msg) → (kind : SysKind) (o : Option Endpoint) → Moves t me f.lives (frame_duty_from t me f m kind o)
+moves_from t me f m kind None = λ s. (s, no_change f.lives)
+moves_from t me f m kind (Some a) = moves_of t me f m kind a m.target
 
-pub moves : (t : Tables) (me : ℕ) (f : Frame) (m : Msg) → IsTopDown t → (kind : SysKind) → Moves t f.lives (frame_duty t me f kind m)
+pub moves : (t : Tables) (me : ℕ) (f : Frame) (m : Msg) → (kind : SysKind) → Moves t me f.lives (frame_duty t me f kind m)
 unfolding frame_duty
-moves t me f m top kind = moves_from t me f m top kind m.source
+moves t me f m kind = moves_from t me f m kind m.source
 
 -- lives change as the notes say, and stay sound
-pub record Noted (t : Tables) (l next : Lives) (ns : List Note) : Type 0 where
-  pub sound : IsSound t next
+pub record Noted (t : Tables) (me : ℕ) (l next : Lives) (ns : List Note) : Type 0 where
+  pub sound : IsSound t me next
   pub born : (x : Incarnation) → born_in l x + ups x ns ≡ born_in next x
   pub dead : (x : Incarnation) → dead_in l x + downs x ns ≡ dead_in next x
 
-noted_plain : (t : Tables) (l next : Lives) (ns : List Note) → IsSound t l → next ≡ l → IsPlain ns → Noted t l next ns
-noted_plain t l next ns s same p =
+noted_plain : (t : Tables) (me : ℕ) (l next : Lives) (ns : List Note) → IsSound t me l → next ≡ l → IsPlain ns → Noted t me l next ns
+noted_plain t me l next ns s same p =
     record {
-      sound = subst (IsSound t) (sym same) s;
+      sound = subst (IsSound t me) (sym same) s;
       born = λ x. rw same (let h = p.ups x in omega (arith, h));
       dead = λ x. rw same (let h = p.downs x in omega (arith, h));
     }
@@ -198,56 +200,58 @@ module _ {M : Type 0} (model : Behaviour M) (modest : IsModest model) (t : Table
         (λ x. let p = h.downs x in let q = k.downs x in let s = l.downs x in omega (arith, p, q, s)),
       )
 
-  frame_noted : (b : Body M) (r : FrameDone) → IsSound t b.frame.lives → Moves t b.frame.lives r
-      → Noted t b.frame.lives (with_frame model t me b r).body.frame.lives (with_frame model t me b r).notes
+  frame_noted : (b : Body M) (r : FrameDone) → IsSound t me b.frame.lives → Moves t me b.frame.lives r
+      → Noted t me b.frame.lives (with_frame model t me b r).body.frame.lives (with_frame model t me b r).notes
   frame_noted b r s m =
       let c = frame_counts b r in
       let z = m s in
       record {
-        sound = subst (IsSound t) (sym c.0) z.0;
+        sound = subst (IsSound t me) (sym c.0) z.0;
         born = λ x. rw c.0 (ap (λ k. born_in b.frame.lives x + k) (c.1 x) ∙ z.1.born x);
         dead = λ x. rw c.0 (ap (λ k. dead_in b.frame.lives x + k) (c.2 x) ∙ z.1.dead x);
       }
 
-  duty_noted : IsTopDown t → (b : Body M) (m : Msg) (kind : SysKind) → IsSound t b.frame.lives
-      → Noted t b.frame.lives (duty model t me b m kind).body.frame.lives (duty model t me b m kind).notes
-  duty_noted top b m kinds.Register s = noted_plain t b.frame.lives b.frame.lives [] s refl plain_none
-  duty_noted top b m kinds.Withdraw s = noted_plain t b.frame.lives b.frame.lives [] s refl plain_none
-  duty_noted top b m kinds.Bound s = noted_plain t b.frame.lives b.frame.lives [] s refl plain_none
-  duty_noted top b m kinds.Ended s = noted_plain t b.frame.lives b.frame.lives [] s refl plain_none
-  duty_noted top b m kinds.NameReply s = noted_plain t b.frame.lives b.frame.lives [] s refl plain_none
-  duty_noted top b m kinds.Create s = frame_noted b (frame_duty t me b.frame kinds.Create m) s (moves t me b.frame m top kinds.Create)
-  duty_noted top b m kinds.CreateDone s = frame_noted b (frame_duty t me b.frame kinds.CreateDone m) s (moves t me b.frame m top kinds.CreateDone)
-  duty_noted top b m kinds.CreateRefused s = frame_noted b (frame_duty t me b.frame kinds.CreateRefused m) s (moves t me b.frame m top kinds.CreateRefused)
-  duty_noted top b m kinds.Destroy s = frame_noted b (frame_duty t me b.frame kinds.Destroy m) s (moves t me b.frame m top kinds.Destroy)
-  duty_noted top b m kinds.DestroyDone s = frame_noted b (frame_duty t me b.frame kinds.DestroyDone m) s (moves t me b.frame m top kinds.DestroyDone)
-  duty_noted top b m kinds.Import s = frame_noted b (frame_duty t me b.frame kinds.Import m) s (moves t me b.frame m top kinds.Import)
-  duty_noted top b m kinds.ImportDone s = frame_noted b (frame_duty t me b.frame kinds.ImportDone m) s (moves t me b.frame m top kinds.ImportDone)
-  duty_noted top b m kinds.ImportRefused s = frame_noted b (frame_duty t me b.frame kinds.ImportRefused m) s (moves t me b.frame m top kinds.ImportRefused)
-  duty_noted top b m kinds.ImportEnded s = frame_noted b (frame_duty t me b.frame kinds.ImportEnded m) s (moves t me b.frame m top kinds.ImportEnded)
-  duty_noted top b m kinds.Deport s = frame_noted b (frame_duty t me b.frame kinds.Deport m) s (moves t me b.frame m top kinds.Deport)
-  duty_noted top b m kinds.DeportDone s = frame_noted b (frame_duty t me b.frame kinds.DeportDone m) s (moves t me b.frame m top kinds.DeportDone)
-  duty_noted top b m kinds.Announce s = frame_noted b (frame_duty t me b.frame kinds.Announce m) s (moves t me b.frame m top kinds.Announce)
+  duty_noted : (b : Body M) (m : Msg) (kind : SysKind) → IsSound t me b.frame.lives
+      → Noted t me b.frame.lives (duty model t me b m kind).body.frame.lives (duty model t me b m kind).notes
+  duty_noted b m kinds.Register s = noted_plain t me b.frame.lives b.frame.lives [] s refl plain_none
+  duty_noted b m kinds.Withdraw s = noted_plain t me b.frame.lives b.frame.lives [] s refl plain_none
+  duty_noted b m kinds.Bound s = noted_plain t me b.frame.lives b.frame.lives [] s refl plain_none
+  duty_noted b m kinds.Ended s = noted_plain t me b.frame.lives b.frame.lives [] s refl plain_none
+  duty_noted b m kinds.NameReply s = noted_plain t me b.frame.lives b.frame.lives [] s refl plain_none
+  duty_noted b m kinds.Create s = frame_noted b (frame_duty t me b.frame kinds.Create m) s (moves t me b.frame m kinds.Create)
+  duty_noted b m kinds.CreateDone s = frame_noted b (frame_duty t me b.frame kinds.CreateDone m) s (moves t me b.frame m kinds.CreateDone)
+  duty_noted b m kinds.CreateRefused s = frame_noted b (frame_duty t me b.frame kinds.CreateRefused m) s (moves t me b.frame m kinds.CreateRefused)
+  duty_noted b m kinds.Destroy s = frame_noted b (frame_duty t me b.frame kinds.Destroy m) s (moves t me b.frame m kinds.Destroy)
+  duty_noted b m kinds.DestroyDone s = frame_noted b (frame_duty t me b.frame kinds.DestroyDone m) s (moves t me b.frame m kinds.DestroyDone)
+  duty_noted b m kinds.Import s = frame_noted b (frame_duty t me b.frame kinds.Import m) s (moves t me b.frame m kinds.Import)
+  duty_noted b m kinds.ImportDone s = frame_noted b (frame_duty t me b.frame kinds.ImportDone m) s (moves t me b.frame m kinds.ImportDone)
+  duty_noted b m kinds.ImportRefused s = frame_noted b (frame_duty t me b.frame kinds.ImportRefused m) s (moves t me b.frame m kinds.ImportRefused)
+  duty_noted b m kinds.ImportEnded s = frame_noted b (frame_duty t me b.frame kinds.ImportEnded m) s (moves t me b.frame m kinds.ImportEnded)
+  duty_noted b m kinds.Deport s = frame_noted b (frame_duty t me b.frame kinds.Deport m) s (moves t me b.frame m kinds.Deport)
+  duty_noted b m kinds.DeportDone s = frame_noted b (frame_duty t me b.frame kinds.DeportDone m) s (moves t me b.frame m kinds.DeportDone)
+  duty_noted b m kinds.Announce s = frame_noted b (frame_duty t me b.frame kinds.Announce m) s (moves t me b.frame m kinds.Announce)
+  duty_noted b m kinds.PartMake s = frame_noted b (frame_duty t me b.frame kinds.PartMake m) s (moves t me b.frame m kinds.PartMake)
+  duty_noted b m kinds.PartEnd s = frame_noted b (frame_duty t me b.frame kinds.PartEnd m) s (moves t me b.frame m kinds.PartEnd)
 
-  system_noted : IsTopDown t → (b : Body M) (m : Msg) (o : Option SysKind) → IsSound t b.frame.lives
-      → Noted t b.frame.lives (system_done model t me b m o).body.frame.lives (system_done model t me b m o).notes
-  system_noted top b m None s = noted_plain t b.frame.lives b.frame.lives [] s refl plain_none
-  system_noted top b m (Some kind) s = duty_noted top b m kind s
+  system_noted : (b : Body M) (m : Msg) (o : Option SysKind) → IsSound t me b.frame.lives
+      → Noted t me b.frame.lives (system_done model t me b m o).body.frame.lives (system_done model t me b m o).notes
+  system_noted b m None s = noted_plain t me b.frame.lives b.frame.lives [] s refl plain_none
+  system_noted b m (Some kind) s = duty_noted b m kind s
 
   -- what a turn does: lives as its notes say, and a dispatch to what lives
   pub record Turned (b : Body M) (r : Treated (Body M)) : Type 0 where
-    pub noted : Noted t b.frame.lives r.body.frame.lives r.notes
+    pub noted : Noted t me b.frame.lives r.body.frame.lives r.notes
     pub dispatch : (x : Incarnation) → actor_of r.did ≡ Some x → (x.generation.0 ≡ b.frame.lives.generation x.slot.0) × (b.frame.lives.lives x.slot.0 ≡ true)
 
-  nobody_turned : (b : Body M) (m : Msg) → IsSound t b.frame.lives → Turned b (nobody_there b m)
-  nobody_turned b m s = record { noted = noted_plain t b.frame.lives b.frame.lives [] s refl plain_none; dispatch = λ x e. absurd cc }
+  nobody_turned : (b : Body M) (m : Msg) → IsSound t me b.frame.lives → Turned b (nobody_there b m)
+  nobody_turned b m s = record { noted = noted_plain t me b.frame.lives b.frame.lives [] s refl plain_none; dispatch = λ x e. absurd cc }
 
   said_to : (r : Handling) (x y : Incarnation) (state : ℕ) → actor_of (said r x state) ≡ Some y → x ≡ y
   said_to Handled x y state h = cc
   said_to Deferred x y state h = cc
   said_to Unhandled x y state h = cc
 
-  handled_turned : (b : Body M) (x : Incarnation) (m : Msg) (machine : M) → IsSound t b.frame.lives
+  handled_turned : (b : Body M) (x : Incarnation) (m : Msg) (machine : M) → IsSound t me b.frame.lives
       → x.generation.0 ≡ b.frame.lives.generation x.slot.0 → b.frame.lives.lives x.slot.0 ≡ true → Turned b (handled model t me b x m machine)
   unfolding handled
   handled_turned b x m machine s g live =
@@ -255,18 +259,18 @@ module _ {M : Type 0} (model : Behaviour M) (modest : IsModest model) (t : Table
       let first : Doing M = record (doing b) { body = record b { machines = updated b.machines x.slot.0 (Some r.machine) }; notes = r.notes } in
       let k : Keeps first (moved t me b x m r) = apply_all_keeps t me x (Some m) r.commands first in
       record {
-        noted = noted_plain t b.frame.lives (moved t me b x m r).body.frame.lives (moved t me b x m r).notes s k.lives
+        noted = noted_plain t me b.frame.lives (moved t me b x m r).body.frame.lives (moved t me b x m r).notes s k.lives
             (record { ups = λ y. k.ups y ∙ (modest.handle x machine m y).0; downs = λ y. k.downs y ∙ (modest.handle x machine m y).1 });
         dispatch = λ y e.
             subst (λ z. (z.generation.0 ≡ b.frame.lives.generation z.slot.0) × (b.frame.lives.lives z.slot.0 ≡ true))
             (said_to r.result x y (model.state r.machine) e) (g, live);
       }
 
-  dispatched_turned : (b : Body M) (m : Msg) (o : Option M) → IsSound t b.frame.lives → b.frame.lives.lives m.target.slot.0 ≡ true → Turned b (dispatched model t me b m o)
+  dispatched_turned : (b : Body M) (m : Msg) (o : Option M) → IsSound t me b.frame.lives → b.frame.lives.lives m.target.slot.0 ≡ true → Turned b (dispatched model t me b m o)
   dispatched_turned b m None s live = nobody_turned b m s
   dispatched_turned b m (Some machine) s live = handled_turned b (last_of b.frame.lives m.target.slot.0) m machine s refl live
 
-  dispatch_turned : (b : Body M) (m : Msg) → IsSound t b.frame.lives → Turned b (dispatch model t me b m)
+  dispatch_turned : (b : Body M) (m : Msg) → IsSound t me b.frame.lives → Turned b (dispatch model t me b m)
   unfolding dispatch
   dispatch_turned b m s = go (is_own t me m.target.slot.0 && b.frame.lives.lives m.target.slot.0) refl (is_meant b.frame m)
     where
@@ -276,15 +280,15 @@ module _ {M : Type 0} (model : Behaviour M) (modest : IsModest model) (t : Table
           else if not c then treated (doing b) (did.Stale (whose m.target))
           else dispatched model t me b m (b.machines m.target.slot.0))
       go false e c = nobody_turned b m s
-      go true e false = record { noted = noted_plain t b.frame.lives b.frame.lives [] s refl plain_none; dispatch = λ x h. absurd cc }
+      go true e false = record { noted = noted_plain t me b.frame.lives b.frame.lives [] s refl plain_none; dispatch = λ x h. absurd cc }
       go true e true = dispatched_turned b m (b.machines m.target.slot.0) s (and_parts (is_own t me m.target.slot.0) (b.frame.lives.lives m.target.slot.0) e).1
 
-  pub treat_turned : IsTopDown t → (b : Body M) (m : Msg) → IsSound t b.frame.lives → Turned b (treat model t me b m)
+  pub treat_turned : (b : Body M) (m : Msg) → IsSound t me b.frame.lives → Turned b (treat model t me b m)
   unfolding treat
-  treat_turned top b m s = go (m.prio.0 == 0)
+  treat_turned b m s = go (m.prio.0 == 0)
     where
       go : (a : Bool) → Turned b (
           if a then treated (system_done model t me b m (slice_get all_kinds m.signal)) did.Duty
           else dispatch model t me b m)
-      go true = record { noted = system_noted top b m (slice_get all_kinds m.signal) s; dispatch = λ x e. absurd cc }
+      go true = record { noted = system_noted b m (slice_get all_kinds m.signal) s; dispatch = λ x e. absurd cc }
       go false = dispatch_turned b m s

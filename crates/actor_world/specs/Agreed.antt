@@ -1,4 +1,6 @@
 -- A world in which all controllers agree: what the trails of system messages lead to.
+-- That is: directories, imports, links and peers. No contract says yet that a quiet world is
+-- agreed.
 use Rattle.std.specs.Prelude.{◌≡◌, ℕ, ◌≤◌, ◌<◌, ◌⊎◌, ◌↔◌, Bool, true, count_by, Contains, length, Option, Some}
 use Rattle.room_kinds.specs.declared.numbers.Incarnation.{Incarnation}
 use Rattle.room_kinds.specs.declared.numbers.Endpoint.{Endpoint}

@@ -1,5 +1,7 @@
 -- What the actors of a model do, as the world sees it: a machine for each actor that lives, over any
 -- kind of machine (ROOM: an actor's behaviour handles one message at a time, to completion).
+-- It is left open what it says: the initial transition of an actor, how a machine handles a
+-- message, and the number of its state.
 use Rattle.std.specs.Prelude.{ℕ, List}
 use Rattle.room_kinds.specs.declared.message.Msg.{Msg}
 use Rattle.room_kinds.specs.declared.note.Note.{Note}

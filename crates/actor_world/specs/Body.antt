@@ -1,4 +1,6 @@
 -- A controller's state but its mail, and how the commands of an actor are applied to it.
+-- The body is the frame service, links, the name table, and for each slot where an actor lives its
+-- machine and the messages that it keeps. `apply_all`: commands are applied in order.
 use Rattle.std.specs.Prelude.{ℕ, ℤ, Bool, true, List, [], ◌∷◌, ◌++◌, Option, Some, None}
 use Rattle.room_kinds.specs.declared.message.Msg.{Msg}
 use Rattle.room_kinds.specs.declared.note.Note.{Note}

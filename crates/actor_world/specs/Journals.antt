@@ -1,4 +1,9 @@
 -- What the journals of a whole run must be: lawful, prompt and ended.
+-- `IsLawfulRun`: each journal begins with its controller's start, and what follows is one run of
+-- the world; no controller takes more turns than the fuel; what is told as left is left.
+-- `IsPrompt`: before each turn a controller has fetched all that it had posted to itself, or 64
+-- messages. `IsEnded`: all is quiet and every line was posted (done), or every controller for
+-- which a message waits has taken as many turns as the fuel allows (spent).
 use Rattle.std.specs.Prelude.{◌≡◌, ℕ, zero, suc, ◌<◌, ◌≤◌, ◌+◌, ◌==◌, ◌-◌, nat_le, ◌⊎◌, Bool, true, false, List, [], ◌∷◌, ◌++◌, map, flat_map, length, slice_get, Some, if◌then◌else◌}
 use Rattle.std.specs.Option.{option_map_or}
 use Rattle.std.specs.List.{range_with_len}

@@ -6,3 +6,4 @@ pub mod Journals
 pub mod Life
 pub mod Agreed
 pub mod Directories
+pub mod world_laws

@@ -1,5 +1,14 @@
 -- The lives of incarnations, as journals tell them.
-use Rattle.std.specs.Prelude.{true, length, ◌⊎◌, ◌≡◌, ℕ, ◌+◌, ◌≤◌, ◌<◌, List, [], ◌∷◌, ◌++◌, Option, Some, None, if◌then◌else◌}
+-- They are the entries that create and destroy an incarnation, and to whom a turn's message was
+-- dispatched. The law `lives_once`: in every run of the world, and in every replay of a controller
+-- from its start, each incarnation has one create entry at most and one destroy entry at most,
+-- which doesn't stand before its create entry; one that lives or has lived has exactly one create
+-- entry, and exactly one destroy entry if it lives no more; every other has neither; and no journal
+-- but that of its slot's owner has any of them. A message is dispatched only to an incarnation that
+-- has a create entry before and no destroy entry before; that incarnation lives, stands in the
+-- slot of the message's target, and has the target's generation, unless that is 0. Premise: the
+-- behaviour's own notes say nothing of lives. The law holds over any kind of machine and any tables.
+use Rattle.std.specs.Prelude.{Bool, true, false, not, ◌&&◌, ◌||◌, ◌==◌, nat_lt, nat_le, length, ◌⊎◌, ◌≡◌, ℕ, ◌+◌, ◌≤◌, ◌<◌, List, [], ◌∷◌, ◌++◌, Option, Some, None, if◌then◌else◌}
 use Rattle.room_kinds.specs.declared.message.Msg.{Msg}
 use Rattle.room_kinds.specs.declared.note.Note.{Note}
 use Rattle.room_kinds.specs.declared.note.Note.TheVariants as notes
@@ -16,7 +25,7 @@ use Rattle.actor_merge.specs.World.{World, Placed, start, Runs}
 use Rattle.actor_merge.specs.Merge.{entries_of}
 use Rattle.actor_duties.specs.State.{Lives}
 use Rattle.actor_duties.specs.Lives.{is_live}
-use Rattle.actor_duties.specs.Words.{is_incarnation, container_of}
+use Rattle.actor_duties.specs.Words.{is_incarnation, is_own}
 use Rattle.actor_world.specs.Behaviour.{Behaviour}
 use Rattle.actor_world.specs.Body.{Body}
 use Rattle.actor_world.specs.Start.{plant_of, first_state, start_entries}
@@ -94,21 +103,57 @@ pub record IsModest {M : Type 0} (model : Behaviour M) : Type 0 where
   pub begin : (x : Incarnation) → SaysNothing (model.begin x).notes
   pub handle : (x : Incarnation) (machine : M) (m : Msg) → SaysNothing (model.handle x machine m).notes
 
--- slots are numbered from the top down: each container has a lower number
-abbrev pub IsTopDown : Tables → Type 0
-IsTopDown t = (s c : ℕ) → container_of t s ≡ Some c → c < s
-
 -- what a controller's journal so far says of an incarnation
 pub record LivesOnce (x : Incarnation) (es : List Entry) : Type 0 where
   pub once_created : created x es ≤ 1
   pub once_destroyed : destroyed x es ≤ created x es
+
+-- 1 where a generation was made in a slot whose last generation is this one, else 0
+abbrev pub born : ℕ → ℕ → ℕ
+born g last = if nat_lt 0 g && nat_le g last then 1 else 0
+
+-- 1 where a generation has ended in a slot whose last generation is this one, and lives or doesn't
+abbrev pub dead : ℕ → ℕ → Bool → ℕ
+dead g last lives = if nat_lt 0 g && (nat_lt g last || ((g == last) && not lives)) then 1 else 0
+
+-- 1 where an incarnation lives or has lived, else 0
+abbrev pub born_in : Lives → Incarnation → ℕ
+born_in l x = born x.generation.0 (l.generation x.slot.0)
+
+-- 1 where an incarnation has lived and lives no more, else 0
+abbrev pub dead_in : Lives → Incarnation → ℕ
+dead_in l x = dead x.generation.0 (l.generation x.slot.0) (l.lives x.slot.0)
+
+-- what the journal of controller c so far says of an incarnation is how the controller's lives stand: one
+-- that lives or has lived has one create entry, and one destroy entry if it lives no more; every other has
+-- neither, and neither has one in the slot of another controller
+pub record TellsLives (t : Tables) (c : ℕ) (l : Lives) (x : Incarnation) (es : List Entry) : Type 0 where
+  pub once_created : created x es ≡ born_in l x
+  pub once_destroyed : destroyed x es ≡ dead_in l x
+  pub living : is_live l x ≡ true → (created x es ≡ 1) × (destroyed x es ≡ 0)
+  pub elsewhere : is_own t c x.slot.0 ≡ false → (created x es ≡ 0) × (destroyed x es ≡ 0)
+
+-- over every replay of a controller from its start: its journal so far tells its lives
+abbrev pub ReplaysTellLives : Type 0 → Type 0
+ReplaysTellLives M =
+    (model : Behaviour M) (t : Tables) (lines : List Line) (c : ℕ) → IsModest model
+    → (es : List Entry) (s : State (Body M)) → Replays (plant_of model t lines) c (first_state model t c) es s
+    → (x : Incarnation) → TellsLives t c s.body.frame.lives x (start_entries model t c ++ es)
+
+-- over every run of the world from its start: each controller's journal tells its lives
+abbrev pub RunsTellLives : Type 0 → Type 0
+RunsTellLives M =
+    (model : Behaviour M) (t : Tables) (lines : List Line) → IsModest model
+    → (xs : List Placed) (end : World (Body M)) → Runs (plant_of model t lines) (start (plant_of model t lines)) xs end
+    → (c : ℕ) → c < length t.controllers → (x : Incarnation)
+    → TellsLives t c (end.controllers c).body.frame.lives x (start_entries model t c ++ entries_of c xs)
 
 -- over every replay of a controller from its start: each incarnation is created once at most, and
 -- destroyed once at most and not before it was created; and what a message is dispatched to was
 -- created before and not destroyed before
 abbrev pub IncarnationsLiveOnce : Type 0 → Type 0
 IncarnationsLiveOnce M =
-    (model : Behaviour M) (t : Tables) (lines : List Line) (c : ℕ) → IsModest model → IsTopDown t
+    (model : Behaviour M) (t : Tables) (lines : List Line) (c : ℕ) → IsModest model
     → (before : List Entry) (s : State (Body M)) → Replays (plant_of model t lines) c (first_state model t c) before s
     → ((x : Incarnation) → LivesOnce x (start_entries model t c ++ before))
     × ((e : Entry) (after : List Entry) (end : State (Body M)) (x : Incarnation)
@@ -119,7 +164,7 @@ IncarnationsLiveOnce M =
 -- before any entry that dispatches a message
 abbrev pub RunsLiveOnce : Type 0 → Type 0
 RunsLiveOnce M =
-    (model : Behaviour M) (t : Tables) (lines : List Line) → IsModest model → IsTopDown t
+    (model : Behaviour M) (t : Tables) (lines : List Line) → IsModest model
     → (c : ℕ) → c < length t.controllers → (before : List Placed) (x : Incarnation)
     → ((end : World (Body M)) → Runs (plant_of model t lines) (start (plant_of model t lines)) before end
     → LivesOnce x (start_entries model t c ++ entries_of c before))

@@ -1,4 +1,6 @@
 -- How a run starts: what lives from the start, the first directories, and the initial transitions.
+-- `plant_of` is the plant of a model over the definitions of `actor_merge`, so the laws of that
+-- crate hold of it.
 use Rattle.std.specs.Prelude.{ℕ, zero, suc, ◌&&◌, Bool, true, false, List, [], ◌∷◌, ◌++◌, map, filter, length, Some, None, if◌then◌else◌}
 use Rattle.std.specs.Option.{option_map_or}
 use Rattle.room_kinds.specs.declared.numbers.Incarnation.{Incarnation}

@@ -1,5 +1,8 @@
 -- What a turn makes of its message: a duty at priority 0; else the message is discarded, or the actor
 -- handles it by its machine, and its commands are applied.
+-- A message is discarded as `empty` where nobody lives in its slot, as `stale` where its
+-- generation is neither 0 nor the live one. After a Create each new actor takes its initial
+-- transition, in slot order; after a Destroy each ended one withdraws its names.
 use Rattle.std.specs.Prelude.{ℕ, ◌==◌, ◌&&◌, ◌||◌, Bool, false, not, List, [], ◌∷◌, ◌++◌, length, slice_get, Option, Some, None, if◌then◌else◌}
 use Rattle.room_kinds.specs.declared.message.Msg.{Msg}
 use Rattle.room_kinds.specs.declared.note.Note.TheVariants as notes
@@ -24,7 +27,7 @@ abbrev pub all_kinds : List SysKind
 all_kinds =
     kinds.Create ∷ kinds.CreateDone ∷ kinds.CreateRefused ∷ kinds.Destroy ∷ kinds.DestroyDone ∷ kinds.Import ∷ kinds.ImportDone
     ∷ kinds.ImportRefused ∷ kinds.ImportEnded ∷ kinds.Deport ∷ kinds.DeportDone ∷ kinds.Announce ∷ kinds.Register ∷ kinds.Withdraw
-    ∷ kinds.Bound ∷ kinds.Ended ∷ kinds.NameReply ∷ []
+    ∷ kinds.Bound ∷ kinds.Ended ∷ kinds.NameReply ∷ kinds.PartMake ∷ kinds.PartEnd ∷ []
 
 -- a body to which nothing was done yet
 abbrev pub doing : {M : Type 0} → Body M → Doing M
@@ -113,6 +116,8 @@ duty model t me b m kinds.ImportEnded = with_frame model t me b (frame_duty t me
 duty model t me b m kinds.Deport = with_frame model t me b (frame_duty t me b.frame kinds.Deport m)
 duty model t me b m kinds.DeportDone = with_frame model t me b (frame_duty t me b.frame kinds.DeportDone m)
 duty model t me b m kinds.Announce = with_frame model t me b (frame_duty t me b.frame kinds.Announce m)
+duty model t me b m kinds.PartMake = with_frame model t me b (frame_duty t me b.frame kinds.PartMake m)
+duty model t me b m kinds.PartEnd = with_frame model t me b (frame_duty t me b.frame kinds.PartEnd m)
 
 -- a system message; a number that is no kind's is passed over
 abbrev pub system_done : {M : Type 0} → Behaviour M → Tables → ℕ → Body M → Msg → Option SysKind → Doing M

@@ -4,14 +4,17 @@
 #![tactic(auto)]
 
 ghost use Rattle.actor_world.specs.Directories.{DirectoriesTellCreated};
-ghost use Rattle.actor_world.specs.Life.{IncarnationsLiveOnce, RunsLiveOnce, DispatchesAsMeant};
+ghost use Rattle.actor_world.specs.Life.{IncarnationsLiveOnce, RunsLiveOnce, ReplaysTellLives, RunsTellLives, DispatchesAsMeant};
 
-/// Each incarnation is created once at most, and destroyed once at most and not before it was created.
-/// A message is dispatched to an incarnation that was created before and not destroyed before, that
+/// Each incarnation is created once at most, and destroyed once at most and not before it was created: one
+/// that lives or has lived has one create entry, and one destroy entry if it lives no more, in the journal of
+/// its slot's owner; every other has neither, and no other journal has any of them. A message is dispatched to an incarnation that was created before and not destroyed before, that
 /// stands in the message's slot, and that has the message's generation, unless that is 0.
 pub fn lives_once<M>()
     ensures replays { IncarnationsLiveOnce M }
     ensures runs { RunsLiveOnce M }
+    ensures tells { ReplaysTellLives M }
+    ensures runs_tell { RunsTellLives M }
     ensures dispatches { DispatchesAsMeant M }
 {}
 
@@ -19,3 +22,7 @@ pub fn lives_once<M>()
 pub fn directories_tell_created<M>()
     ensures { DirectoriesTellCreated M }
 {}
+
+pub mod world_laws;
+
+pub use world_laws::{downs_tell_lost, stands_once};

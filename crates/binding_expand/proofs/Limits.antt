@@ -6,22 +6,22 @@ use Rattle.room_wiring.specs.declared.slot.Partner.{Partner}
 use Rattle.room_wiring.specs.declared.slot.Slot.{Slot}
 use Rattle.room_wiring.specs.declared.tables.Tables.{Tables}
 use Rattle.room_ast.specs.Trees.{ModelTree}
-use Rattle.structure_plan.specs.Plans.{plan_of}
-use Rattle.structure_plan.specs.declared.plan.StructurePlan.{StructurePlan}
-use Rattle.place_rules.specs.declared.place.LayerJoin.{LayerJoin}
-use Rattle.place_rules.specs.declared.place.Place.{Place}
-use Rattle.place_rules.specs.Counts.{counts, spans_from}
-use Rattle.place_rules.specs.Layers.{layer_joins}
-use Rattle.place_rules.specs.Pairs.{lacks_place}
-use Rattle.wired_slots.specs.Answers.{slots_in, wired}
-use Rattle.wired_slots.specs.declared.slots.WiredSlots.{WiredSlots}
-use Rattle.wired_laws.proofs.Sound.{names_what_is}
-use Rattle.wired_places.specs.Wired.{counts_in, spans_in, places_in, partners_in, ArePlacesOf}
-use Rattle.wired_places.specs.declared.places.WiredPlaces.{WiredPlaces}
-use Rattle.wired_places.proofs.Counted.{places_counted, partners_counted}
-use Rattle.told_controllers.specs.Told.{SaysWhoIsTold}
-use Rattle.wiring_tables.specs.Assembled.{assembled, AreComplete}
-use Rattle.wiring_tables.proofs.Consistent.{assembled_consistent}
+use Rattle.wiring_plan.specs.structure_plan.Plans.{plan_of}
+use Rattle.wiring_plan.specs.declared.structure_plan.plan.StructurePlan.{StructurePlan}
+use Rattle.wiring_places.specs.declared.place_rules.place.LayerJoin.{LayerJoin}
+use Rattle.wiring_places.specs.declared.place_rules.place.Place.{Place}
+use Rattle.wiring_places.specs.place_rules.Counts.{counts, spans_from}
+use Rattle.wiring_places.specs.place_rules.Layers.{layer_joins}
+use Rattle.wiring_places.specs.place_rules.Pairs.{lacks_place}
+use Rattle.wiring_slots.specs.model_slots.Answers.{slots_in, wired}
+use Rattle.wiring_slots.specs.declared.model_slots.slots.WiredSlots.{WiredSlots}
+use Rattle.wiring_slots.proofs.wired_laws.Sound.{names_what_is}
+use Rattle.wiring_joins.specs.joined_places.Wired.{counts_in, spans_in, places_in, partners_in, ArePlacesOf}
+use Rattle.wiring_joins.specs.declared.joined_places.places.WiredPlaces.{WiredPlaces}
+use Rattle.wiring_joins.proofs.joined_places.Counted.{places_counted, partners_counted}
+use Rattle.wiring_joins.specs.tellings.Told.{SaysWhoIsTold}
+use Rattle.binding_expand.specs.wiring_tables.Assembled.{assembled, AreComplete}
+use Rattle.binding_expand.proofs.wiring_tables.Consistent.{assembled_consistent}
 use Rattle.binding_expand.specs.Steps.{AreWired, Completes}
 
 -- there are as many partners as places

@@ -7,19 +7,19 @@ use Rattle.room_wiring.specs.declared.tables.Tables.{Tables}
 use Rattle.structure_check.specs.List.{all_rules}
 use Rattle.structure_check.specs.Rules.{first_broken}
 use Rattle.structure_check.proofs.KeptRules.{all_few}
-use Rattle.structure_plan.specs.Plans.{plan_of}
-use Rattle.slot_tree.specs.Places.{has_too_many_places}
-use Rattle.wired_slots.specs.Answers.{slots_in, wired}
-use Rattle.wired_slots.specs.declared.slots.WiredSlots.{WiredSlots}
-use Rattle.place_rules.specs.Pairs.{lacks_place}
-use Rattle.place_joins.specs.Joined.{ShowsJoins}
-use Rattle.pair_laws.proofs.Models.{model_paired_once}
-use Rattle.wired_places.specs.Wired.{counts_in, spans_in, places_in, pairs_in, partners_by, partners_in, HasSoundPairs}
-use Rattle.wired_places.proofs.Counted.{places_counted, partners_counted}
-use Rattle.wired_places.proofs.Shown.{pairs_shown}
-use Rattle.wired_places.specs.declared.places.WiredPlaces.{WiredPlaces}
-use Rattle.join_laws.proofs.Found.{sockets_found, no_sockets, away_found, none_away}
-use Rattle.join_laws.proofs.Looks.{relay_told}
+use Rattle.wiring_plan.specs.structure_plan.Plans.{plan_of}
+use Rattle.wiring_slots.specs.slot_tree.Places.{has_too_many_places}
+use Rattle.wiring_slots.specs.model_slots.Answers.{slots_in, wired}
+use Rattle.wiring_slots.specs.declared.model_slots.slots.WiredSlots.{WiredSlots}
+use Rattle.wiring_places.specs.place_rules.Pairs.{lacks_place}
+use Rattle.wiring_joins.specs.place_joins.Joined.{ShowsJoins}
+use Rattle.binding_expand.proofs.pair_laws.Models.{model_paired_once}
+use Rattle.wiring_joins.specs.joined_places.Wired.{counts_in, spans_in, places_in, pairs_in, partners_by, partners_in, HasSoundPairs}
+use Rattle.wiring_joins.proofs.joined_places.Counted.{places_counted, partners_counted}
+use Rattle.wiring_joins.proofs.joined_places.Shown.{pairs_shown}
+use Rattle.wiring_joins.specs.declared.joined_places.places.WiredPlaces.{WiredPlaces}
+use Rattle.wiring_joins.proofs.join_laws.Found.{sockets_found, no_sockets, away_found, none_away}
+use Rattle.wiring_joins.proofs.join_laws.Looks.{relay_told}
 use Rattle.binding_expand.specs.Wirings.{places_of, pairs_of, ArePartnersOf, IsWiringOf}
 use Rattle.binding_expand.specs.Faults.{number, HasFault, HasNoFault}
 use Rattle.binding_expand.specs.Answers.{Expands, Fits}

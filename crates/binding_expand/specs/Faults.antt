@@ -1,11 +1,11 @@
 -- The faults of the wiring of a model.
 use Rattle.std.specs.Prelude.{◌≡◌, ℕ, ◌<◌, true, length}
 use Rattle.room_ast.specs.Trees.{ModelTree}
-use Rattle.structure_plan.specs.Plans.{plan_of}
-use Rattle.slot_tree.specs.Places.{has_too_many_places}
-use Rattle.wired_slots.specs.Answers.{slots_in}
-use Rattle.place_rules.specs.Pairs.{lacks_place}
-use Rattle.join_laws.specs.Sockets.{JoinsSockets, JoinsAway}
+use Rattle.wiring_plan.specs.structure_plan.Plans.{plan_of}
+use Rattle.wiring_slots.specs.slot_tree.Places.{has_too_many_places}
+use Rattle.wiring_slots.specs.model_slots.Answers.{slots_in}
+use Rattle.wiring_places.specs.place_rules.Pairs.{lacks_place}
+use Rattle.wiring_joins.specs.join_laws.Sockets.{JoinsSockets, JoinsAway}
 use Rattle.binding_expand.specs.Wirings.{places_of, pairs_of}
 use Rattle.binding_expand.specs.declared.fault.WiringFault.{WiringFault}
 use Rattle.binding_expand.specs.declared.fault.WiringFault.TheVariants as faults

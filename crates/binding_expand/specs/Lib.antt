@@ -2,3 +2,8 @@ pub mod Wirings
 pub mod Faults
 pub mod Answers
 pub mod Steps
+pub mod one_wiring
+pub mod pair_laws
+pub mod plan_laws
+pub mod tree_text
+pub mod wiring_tables

@@ -3,20 +3,20 @@ use Rattle.std.specs.Prelude.{◌≡◌, ◌<◌, ◌≤◌, Bool, true, false, 
 use Rattle.room_ast.specs.Trees.{ModelTree}
 use Rattle.room_wiring.specs.declared.slot.Slot.{Slot}
 use Rattle.room_wiring.specs.declared.tables.Tables.{Tables}
-use Rattle.structure_plan.specs.Plans.{plan_of}
-use Rattle.structure_plan.specs.declared.plan.StructurePlan.{StructurePlan}
-use Rattle.class_rules.specs.Ends.{has_known_actors}
-use Rattle.structure_rules.specs.Threads.{threads_are_few}
-use Rattle.slot_tree.specs.Places.{has_too_many_places}
-use Rattle.wired_slots.specs.Answers.{slots_in, wired}
-use Rattle.wired_slots.specs.declared.slots.WiredSlots.{WiredSlots}
-use Rattle.place_rules.specs.Layers.{layer_joins}
-use Rattle.place_rules.specs.Pairs.{lacks_place}
-use Rattle.place_rules.specs.Partners.{has_socket_pair, has_socket_away}
-use Rattle.wired_places.specs.Wired.{places_in, partners_in, ArePlacesOf}
-use Rattle.wired_places.specs.declared.places.WiredPlaces.{WiredPlaces}
-use Rattle.told_controllers.specs.Told.{SaysWhoIsTold}
-use Rattle.wiring_tables.specs.Assembled.{assembled}
+use Rattle.wiring_plan.specs.structure_plan.Plans.{plan_of}
+use Rattle.wiring_plan.specs.declared.structure_plan.plan.StructurePlan.{StructurePlan}
+use Rattle.check_classes.specs.class_rules.Ends.{has_known_actors}
+use Rattle.check_structure.specs.structure_rules.Threads.{threads_are_few}
+use Rattle.wiring_slots.specs.slot_tree.Places.{has_too_many_places}
+use Rattle.wiring_slots.specs.model_slots.Answers.{slots_in, wired}
+use Rattle.wiring_slots.specs.declared.model_slots.slots.WiredSlots.{WiredSlots}
+use Rattle.wiring_places.specs.place_rules.Layers.{layer_joins}
+use Rattle.wiring_places.specs.place_rules.Pairs.{lacks_place}
+use Rattle.wiring_places.specs.place_rules.Partners.{has_socket_pair, has_socket_away}
+use Rattle.wiring_joins.specs.joined_places.Wired.{places_in, partners_in, ArePlacesOf}
+use Rattle.wiring_joins.specs.declared.joined_places.places.WiredPlaces.{WiredPlaces}
+use Rattle.wiring_joins.specs.tellings.Told.{SaysWhoIsTold}
+use Rattle.binding_expand.specs.wiring_tables.Assembled.{assembled}
 use Rattle.binding_expand.specs.declared.fault.WiringFault.{WiringFault}
 use Rattle.binding_expand.specs.declared.fault.WiringFault.TheVariants as faults
 

@@ -1,20 +1,20 @@
 -- The wiring of a model.
 use Rattle.std.specs.Prelude.{◌≡◌, ℕ, true, List, Some, length, slice_get}
-use Rattle.face_chains.specs.declared.far.FacePair.{FacePair}
+use Rattle.number_graphs.specs.declared.face_chains.FacePair.{FacePair}
 use Rattle.room_ast.specs.Trees.{ModelTree}
 use Rattle.room_wiring.specs.declared.slot.Partner.{Partner}
 use Rattle.room_wiring.specs.declared.slot.Partner.TheVariants.{Nobody}
 use Rattle.room_wiring.specs.declared.tables.Tables.{Tables}
-use Rattle.structure_plan.specs.Plans.{plan_of}
-use Rattle.wiring_classes.specs.Classes.{classes_of}
-use Rattle.slot_names.specs.Names.{wired_names}
-use Rattle.wired_slots.specs.Answers.{slots_in}
-use Rattle.place_rules.specs.declared.place.Place.{Place}
-use Rattle.place_rules.specs.Counts.{first_ports_from}
-use Rattle.place_rules.specs.Partners.{is_relay_role}
-use Rattle.place_joins.specs.Joined.{ShowsJoins}
-use Rattle.wired_places.specs.Wired.{spans_in, places_in, pairs_in}
-use Rattle.told_controllers.specs.Told.{SaysWhoIsTold}
+use Rattle.wiring_plan.specs.structure_plan.Plans.{plan_of}
+use Rattle.wiring_plan.specs.wiring_classes.Classes.{classes_of}
+use Rattle.wiring_slots.specs.slot_names.Names.{wired_names}
+use Rattle.wiring_slots.specs.model_slots.Answers.{slots_in}
+use Rattle.wiring_places.specs.declared.place_rules.place.Place.{Place}
+use Rattle.wiring_places.specs.place_rules.Counts.{first_ports_from}
+use Rattle.wiring_places.specs.place_rules.Partners.{is_relay_role}
+use Rattle.wiring_joins.specs.place_joins.Joined.{ShowsJoins}
+use Rattle.wiring_joins.specs.joined_places.Wired.{spans_in, places_in, pairs_in}
+use Rattle.wiring_joins.specs.tellings.Told.{SaysWhoIsTold}
 
 -- The places of all ports of all slots of a model, in one row.
 abbrev pub places_of : ModelTree → List Place

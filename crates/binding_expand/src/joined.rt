@@ -1,14 +1,13 @@
 //! The places of slots, and whether their sockets may be joined so.
 ghost use Rattle.std.specs.Prelude.{◌≡◌, ◌^◌, ◌≤◌, length};
-ghost use Rattle.place_rules.specs.Partners.{has_socket_pair, has_socket_away};
+ghost use Rattle.wiring_places.specs.place_rules.Partners.{has_socket_pair, has_socket_away};
 ghost use Rattle.binding_expand.specs.Steps.{FindsPlaces};
 
 use crate::fault::WiringFault;
-use place_joins::{has_socket_away, has_socket_pair};
 use room_wiring::Slot;
 use std::alloc::Global;
-use structure_plan::StructurePlan;
-use wired_places::{WiredPlaces, wired_places};
+use wiring_joins::{WiredPlaces, has_socket_away, has_socket_pair, wired_places};
+use wiring_plan::StructurePlan;
 
 /// Whether two sockets are joined to each other.
 fn pairs_sockets(places: &WiredPlaces) -> bool

@@ -8,7 +8,12 @@
 mod fault;
 mod joined;
 mod model;
+pub mod one_wiring;
 mod tables;
+pub mod tree_text;
+pub mod wiring_tables;
 
 pub use fault::WiringFault;
 pub use model::expand;
+pub use one_wiring::wirings_are_one;
+pub use tree_text::expand_text;

@@ -1,24 +1,24 @@
 //! From a model to its wiring, step by step.
 ghost use Rattle.std.specs.Prelude.{◌≡◌, None, true, IfOk};
 ghost use Rattle.room_ast.specs.Trees.{model_view};
-ghost use Rattle.class_tables.specs.Containers.{tables_of};
-ghost use Rattle.containment_rules.specs.Circles.{data_is_finite};
-ghost use Rattle.slot_tree.specs.Placing.{IsNumbered};
+ghost use Rattle.check_tables.specs.class_tables.Containers.{tables_of};
+ghost use Rattle.check_tables.specs.containment_rules.Circles.{data_is_finite};
+ghost use Rattle.wiring_slots.specs.slot_tree.Placing.{IsNumbered};
 ghost use Rattle.structure_check.specs.List.{all_rules};
 ghost use Rattle.structure_check.specs.Rules.{first_broken};
-ghost use Rattle.structure_plan.specs.Plans.{plan_of};
+ghost use Rattle.wiring_plan.specs.structure_plan.Plans.{plan_of};
 ghost use Rattle.binding_expand.specs.Answers.{Expands, Fits};
 ghost use Rattle.binding_expand.specs.Steps.{FindsSlots};
 
 use crate::fault::WiringFault;
 use crate::joined::joined_places;
 use crate::tables::wiring_with;
-use class_tables::{Tables, tables_of};
+use check_tables::{Tables, tables_of};
 use room_ast::Model;
 use room_wiring::Wiring;
 use std::alloc::Global;
 use structure_check::Checked;
-use wired_slots::{SlotFault, WiredSlots, wired_slots};
+use wiring_slots::{SlotFault, WiredSlots, wired_slots};
 
 /// The slots of a model, within the limits.
 fn slots_within(alloc: Global, model: &Model, tables: &Tables) -> Result<WiredSlots, WiringFault>

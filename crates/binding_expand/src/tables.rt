@@ -1,14 +1,13 @@
 //! The tables of a wiring.
 ghost use Rattle.std.specs.Prelude.{IfOk};
-ghost use Rattle.wired_places.specs.Wired.{ArePlacesOf};
+ghost use Rattle.wiring_joins.specs.joined_places.Wired.{ArePlacesOf};
 ghost use Rattle.binding_expand.specs.Steps.{AreWired, Completes};
 
+use crate::wiring_tables::assemble;
 use room_wiring::Wiring;
 use std::alloc::{AllocError, Global};
-use told_controllers::told_controllers;
-use wired_places::WiredPlaces;
-use wired_slots::WiredSlots;
-use wiring_tables::assemble;
+use wiring_joins::{WiredPlaces, told_controllers};
+use wiring_slots::WiredSlots;
 
 /// The wiring of slots with these places: its tables, and who is told of the actors in each slot.
 pub(crate) fn wiring_with(

@@ -8,7 +8,7 @@ use Rattle.room_kinds.specs.declared.system.SysKind.TheVariants as kinds
 use Rattle.room_wiring.specs.declared.tables.Tables.{Tables}
 use Rattle.actor_duties.specs.Words.{whose, is_own}
 use Rattle.actor_duties.specs.State.{Lives, Frame}
-use Rattle.actor_duties.specs.Lives.{Lived, counts_as_live, is_live, is_made_with, lives_made, lives_ended, made, create, announce}
+use Rattle.actor_duties.specs.Lives.{Lived, counts_as_live, is_live, comes_up, lives_made, lives_ended, made, create, announce}
 use Rattle.actor_duties.specs.Frame.{FrameDone, only_sends, nothing, with_lives, with_plugs, with_places, with_told, frame_ended, destroy, is_request, is_answer, is_forth, is_back, is_announced, plainly, with_number, of_natural, frame_duty_of, frame_duty_from, frame_duty}
 
 -- a duty that raises no generation by more than one
@@ -49,7 +49,7 @@ either_done f false x y first second = second
 
 create_raises : (t : Tables) (me : ℕ) (l : Lives) (m : Msg) (o : ℕ) (x : Endpoint) (s : ℕ) → (create t me l m o x).lives.generation s ≤ l.generation s + 1
 unfolding create made lives_made
-create_raises t me l m o x s = either_lived l s (not (counts_as_live t me l (whose x))) _ _ (omega arith) (either_lived l s (l.lives o) _ _ (omega arith) (next_or_same (is_made_with t o s) (l.generation s)))
+create_raises t me l m o x s = either_lived l s (not (counts_as_live t me l (whose x))) _ _ (omega arith) (either_lived l s (l.lives o) _ _ (omega arith) (next_or_same (comes_up t me l o s) (l.generation s)))
 
 destroy_raises : (t : Tables) (me : ℕ) (f : Frame) (m : Msg) (o : ℕ) (x : Endpoint) → Raises f (destroy t me f m o x)
 unfolding destroy frame_ended lives_ended
@@ -73,6 +73,8 @@ duty_raises t me f m kinds.Withdraw x y = none_raised f
 duty_raises t me f m kinds.Bound x y = none_raised f
 duty_raises t me f m kinds.Ended x y = none_raised f
 duty_raises t me f m kinds.NameReply x y = none_raised f
+duty_raises t me f m kinds.PartMake x y = none_raised f
+duty_raises t me f m kinds.PartEnd x y = none_raised f
 
 duty_from_raises : (t : Tables) (me : ℕ) (f : Frame) (m : Msg) (kind : SysKind) (source : Option Endpoint) → Raises f (frame_duty_from t me f m kind source)
 duty_from_raises t me f m kind None = none_raised f

@@ -1,7 +1,7 @@
 -- How far the numbers of a name table have come.
 use Rattle.std.specs.Prelude.{ℕ, ◌+◌, ◌≤◌, List, [], ◌∷◌, length, Option, Some, None}
 use Rattle.actor_duties.specs.State.{User, Provider, Service, NameTable}
-use Rattle.name_service.specs.Places.{waiting_count}
+use Rattle.layer_service.specs.name_service.Places.{waiting_count}
 
 -- a provider's next place, with one for each user that waits, is at most so far
 abbrev pub HasCome : ℕ → Option Provider → List User → Type 0

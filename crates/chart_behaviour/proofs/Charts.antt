@@ -10,12 +10,12 @@ use Rattle.room_kinds.specs.declared.command.Command.TheVariants as commands
 use Rattle.room_kinds.specs.declared.numbers.Incarnation.{Incarnation}
 use Rattle.room_wiring.specs.declared.tables.Tables.{Tables as Wiring}
 use Rattle.chart_model.specs.Acting.{handles_by}
-use Rattle.chart_tables.specs.Tables.{plan}
-use Rattle.chart_tables.specs.declared.tables.Tables.{Tables}
+use Rattle.chart_run.specs.chart_tables.Tables.{plan}
+use Rattle.chart_run.specs.declared.chart_tables.tables.Tables.{Tables}
 use Rattle.chart_run.specs.Machines.{standing_of, result_view, acted_of, moment_of, moment_at_start, event_of}
-use Rattle.chart_asks.specs.Asking.{TablesAsk}
-use Rattle.chart_asks.specs.Laws.{is_zero, start_at}
-use Rattle.chart_asks.proofs.Chains.{ask_only, note_zeros}
+use Rattle.chart_behaviour.specs.chart_asks.Asking.{TablesAsk}
+use Rattle.chart_behaviour.specs.chart_asks.Laws.{is_zero, start_at}
+use Rattle.chart_behaviour.proofs.chart_asks.Chains.{ask_only, note_zeros}
 use Rattle.actor_duties.specs.Words.{class_number}
 use Rattle.actor_world.specs.Life.{SaysNothing}
 use Rattle.actor_world.specs.Directories.{SendsOpenly}

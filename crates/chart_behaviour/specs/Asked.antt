@@ -5,8 +5,8 @@ use Rattle.room_kinds.specs.declared.command.Command.{Command}
 use Rattle.room_kinds.specs.declared.command.Command.TheVariants as commands
 use Rattle.room_kinds.specs.declared.message.Msg.{Msg}
 use Rattle.room_kinds.specs.declared.numbers.Incarnation.{Incarnation}
-use Rattle.chart_tables.specs.declared.tables.Tables.{Tables}
-use Rattle.chart_asks.specs.Asking.{TablesAsk}
+use Rattle.chart_run.specs.declared.chart_tables.tables.Tables.{Tables}
+use Rattle.chart_behaviour.specs.chart_asks.Asking.{TablesAsk}
 use Rattle.actor_world.specs.Behaviour.{Behaviour}
 
 -- each command that an actor of a class may ask for passes a test

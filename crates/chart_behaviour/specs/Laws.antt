@@ -5,7 +5,7 @@ use Rattle.room_kinds.specs.declared.command.Command.{Command}
 use Rattle.room_kinds.specs.declared.numbers.Incarnation.{Incarnation}
 use Rattle.room_wiring.specs.declared.tables.Tables.{Tables as Wiring}
 use Rattle.action_program.specs.declared.moment.Effects.{Effects}
-use Rattle.chart_tables.specs.declared.tables.Tables.{Tables}
+use Rattle.chart_run.specs.declared.chart_tables.tables.Tables.{Tables}
 use Rattle.chart_run.specs.declared.machine.Machine.{Machine}
 use Rattle.chart_run.specs.declared.outcome.Outcome.{Outcome}
 use Rattle.chart_run.specs.Machines.{Starts, Acts, standing_of, result_view}

@@ -1,3 +1,5 @@
 pub mod ModelCharts
 pub mod Asked
 pub mod Laws
+pub mod chart_asks
+pub mod chart_defers

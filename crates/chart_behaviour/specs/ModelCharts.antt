@@ -1,12 +1,16 @@
 -- What the actors of a model do by the tables of their classes.
+-- `behaviour_of`, the behaviour of a model: an actor between two messages is a standing of its
+-- class's tables, or nothing where its class has no chart; it starts and handles messages by
+-- `starts_by` and `handles_by` of `chart_model` over these tables; the number of its state is that
+-- of the state at which its active path ends, 65,535 without a chart.
 use Rattle.std.specs.Prelude.{ℕ, List, [], Option, Some, None, option_map, option_and_then, slice_get}
 use Rattle.room_kinds.specs.declared.message.Msg.{Msg}
 use Rattle.room_kinds.specs.declared.numbers.Incarnation.{Incarnation}
 use Rattle.room_wiring.specs.declared.tables.Tables.{Tables as Wiring}
 use Rattle.chart_model.specs.Acting.{Standing, Result, Acted, handles_by, starts_by}
 use Rattle.chart_model.specs.Acting as acting
-use Rattle.chart_tables.specs.Tables.{plan, arrow_view}
-use Rattle.chart_tables.specs.declared.tables.Tables.{Tables}
+use Rattle.chart_run.specs.chart_tables.Tables.{plan, arrow_view}
+use Rattle.chart_run.specs.declared.chart_tables.tables.Tables.{Tables}
 use Rattle.chart_run.specs.Machines.{moment_of, moment_at_start, event_of}
 use Rattle.actor_duties.specs.Words.{class_number}
 use Rattle.actor_world.specs.Behaviour.{Behaviour, Begun, Outcome, Handling, Handled, Deferred, Unhandled}

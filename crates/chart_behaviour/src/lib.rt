@@ -27,3 +27,7 @@ pub fn charts_ask_only()
     ensures openly { ChartsAreOpen }
     ensures statically { ChartsAreStatic }
 {}
+
+pub mod chart_defers;
+
+pub use chart_defers::charts_tell_defers;

@@ -6,24 +6,24 @@ use Rattle.std.specs.Option.{option_map_or}
 use Rattle.std.proofs.lemmas.Bool.{cases_lt}
 use Rattle.std.proofs.lemmas.Bool.Decides.{nat_tests}
 use Rattle.std.proofs.lemmas.Option.{slice_get-map}
-use Rattle.name_numbers.specs.Names.{same}
-use Rattle.chart_plan.specs.Plan.{Kind, Simple, Border, Choice, Entry, Exit}
-use Rattle.chart_plan.specs.Same.{Each, none, more, SameKind, simple, border, choice, entry, exit}
+use Rattle.name_tables.specs.name_numbers.Names.{same}
+use Rattle.chart_model.specs.chart_plan.Plan.{Kind, Simple, Border, Choice, Entry, Exit}
+use Rattle.chart_model.specs.chart_plan.Same.{Each, none, more, SameKind, simple, border, choice, entry, exit}
 use Rattle.chart_model.specs.Chart.{Path}
 use Rattle.chart_model.specs.Named.{Node, a_state, a_choice, an_entry, an_exit}
-use Rattle.chart_tables.specs.Tables.{ArrowTree, kind}
-use Rattle.chart_tables.specs.declared.tables.Node.{Node as CodeNode}
-use Rattle.chart_nodes.specs.Steps.{StepTree}
-use Rattle.chart_nodes.proofs.Members.{In, Contains-from_In}
-use Rattle.chart_places.specs.Groups.{picked}
-use Rattle.chart_parts.specs.Parts.{IsArrow, IsState, from_key, target_of}
-use Rattle.chart_parts.specs.Nodes.{IsNode, by_first, has_condition, has_none, is_lower, kind_by, leads_lower, node_after}
-use Rattle.chart_parts.specs.Compiled.{node_kind}
-use Rattle.chart_compiled.proofs.Naming.{each_at, each_past}
-use Rattle.chart_numbers.specs.Order.{AreNumbered}
+use Rattle.chart_run.specs.chart_tables.Tables.{ArrowTree, kind}
+use Rattle.chart_run.specs.declared.chart_tables.tables.Node.{Node as CodeNode}
+use Rattle.chart_reader.specs.chart_nodes.Steps.{StepTree}
+use Rattle.chart_reader.proofs.chart_nodes.Members.{In, Contains-from_In}
+use Rattle.chart_compile.specs.chart_places.Groups.{picked}
+use Rattle.chart_compile.specs.chart_parts.Parts.{IsArrow, IsState, from_key, target_of}
+use Rattle.chart_compile.specs.chart_parts.Nodes.{IsNode, by_first, has_condition, has_none, is_lower, kind_by, leads_lower, node_after}
+use Rattle.chart_compile.specs.chart_parts.Compiled.{node_kind}
+use Rattle.chart_compile.proofs.chart_compiled.Naming.{each_at, each_past}
+use Rattle.chart_compile.specs.chart_numbers.Order.{AreNumbered}
 use Rattle.chart_compile.specs.Joined.{AreKeyed}
-use Rattle.chart_numbers.proofs.Counting.{picked_In}
-use Rattle.chart_numbers.proofs.Members.{In-filter, In-slice_get, place_of}
+use Rattle.chart_compile.proofs.chart_numbers.Counting.{picked_In}
+use Rattle.chart_compile.proofs.chart_numbers.Members.{In-filter, In-slice_get, place_of}
 
 -- arrows of these steps lead below p
 abbrev Below : List (List ℕ) → ℕ → List StepTree → Type 0

@@ -8,37 +8,37 @@ use Rattle.std.proofs.lemmas.List.{append-nil, drop_more, length-map, map-append
 use Rattle.std.proofs.lemmas.List.Elements.{filter_map-append}
 use Rattle.std.proofs.lemmas.Option.{slice_get-map}
 use Rattle.std.proofs.lemmas.List.Quantifiers.{position-Some}
-use Rattle.name_numbers.specs.Names.{same, AreDistinct}
-use Rattle.class_containment.specs.Containment.{NoneContainsItself}
-use Rattle.chart_plan.specs.Plan.{Kind, Simple}
-use Rattle.chart_plan.specs.Same.{Each, SameKind, simple, border, choice, entry, exit}
+use Rattle.name_tables.specs.name_numbers.Names.{same, AreDistinct}
+use Rattle.number_graphs.specs.class_containment.Containment.{NoneContainsItself}
+use Rattle.chart_model.specs.chart_plan.Plan.{Kind, Simple}
+use Rattle.chart_model.specs.chart_plan.Same.{Each, SameKind, simple, border, choice, entry, exit}
 use Rattle.chart_model.specs.Chart.{Path, Chart}
 use Rattle.chart_model.specs.Named.{is_initial, nodes_in}
 use Rattle.chart_model.specs.Valid.{IsValid}
-use Rattle.chart_tables.specs.Tables.{ArrowTree, arrow_view, kind}
-use Rattle.chart_tables.specs.declared.tables.Arrow.{Arrow}
-use Rattle.chart_tables.specs.declared.tables.Node.{Node as CodeNode}
-use Rattle.chart_tables.specs.declared.tables.Node.TheVariants as nodes
-use Rattle.chart_tables.specs.declared.tables.Tables.{Tables}
-use Rattle.chart_nodes.specs.Keys.{codes}
-use Rattle.chart_nodes.specs.Steps.{StepTree, steps_of}
-use Rattle.chart_nodes.specs.Circles.{parts_of}
-use Rattle.chart_nodes.proofs.CircleLaws.{circle_is, keyed, target_is}
-use Rattle.chart_nodes.proofs.Onward.{from_is, initial_key}
-use Rattle.chart_places.specs.Groups.{picked}
-use Rattle.chart_places.specs.Places.{PlaceTree, keys_of, places_of, state_key}
-use Rattle.chart_parts.specs.Parts.{IsArrow, IsRow, IsShared, IsState, from_key, key_of, target_of}
-use Rattle.chart_parts.specs.Nodes.{IsFirst, IsNode, is_lower, kind_by, leads_lower, node_after}
-use Rattle.chart_parts.specs.Compiled.{Compiles, IsAssembled, node_kind}
-use Rattle.chart_compiled.proofs.Compiling.{compiled_from}
-use Rattle.chart_compiled.proofs.Naming.{each_at, each_length}
-use Rattle.chart_numbers.specs.Order.{AreNumbered}
-use Rattle.chart_kinds.proofs.Lines.{first_passed}
-use Rattle.chart_rows.proofs.Listing.{each_more_plain, failed_more, made_more, taken_all}
+use Rattle.chart_run.specs.chart_tables.Tables.{ArrowTree, arrow_view, kind}
+use Rattle.chart_run.specs.declared.chart_tables.tables.Arrow.{Arrow}
+use Rattle.chart_run.specs.declared.chart_tables.tables.Node.{Node as CodeNode}
+use Rattle.chart_run.specs.declared.chart_tables.tables.Node.TheVariants as nodes
+use Rattle.chart_run.specs.declared.chart_tables.tables.Tables.{Tables}
+use Rattle.chart_reader.specs.chart_nodes.Keys.{codes}
+use Rattle.chart_reader.specs.chart_nodes.Steps.{StepTree, steps_of}
+use Rattle.chart_reader.specs.chart_nodes.Circles.{parts_of}
+use Rattle.chart_reader.proofs.chart_nodes.CircleLaws.{circle_is, keyed, target_is}
+use Rattle.chart_reader.proofs.chart_nodes.Onward.{from_is, initial_key}
+use Rattle.chart_compile.specs.chart_places.Groups.{picked}
+use Rattle.chart_compile.specs.chart_places.Places.{PlaceTree, keys_of, places_of, state_key}
+use Rattle.chart_compile.specs.chart_parts.Parts.{IsArrow, IsRow, IsShared, IsState, from_key, key_of, target_of}
+use Rattle.chart_compile.specs.chart_parts.Nodes.{IsFirst, IsNode, is_lower, kind_by, leads_lower, node_after}
+use Rattle.chart_compile.specs.chart_parts.Compiled.{Compiles, IsAssembled, node_kind}
+use Rattle.chart_compile.proofs.chart_compiled.Compiling.{compiled_from}
+use Rattle.chart_compile.proofs.chart_compiled.Naming.{each_at, each_length}
+use Rattle.chart_compile.specs.chart_numbers.Order.{AreNumbered}
+use Rattle.chart_compile.proofs.chart_kinds.Lines.{first_passed}
+use Rattle.chart_compile.proofs.chart_rows.Listing.{each_more_plain, failed_more, made_more, taken_all}
 use Rattle.chart_compile.specs.Joined.{AddsNode, AreKeyed, AreMade, AreOf, SameNodes}
-use Rattle.chart_numbers.proofs.Counting.{few_nodes}
+use Rattle.chart_compile.proofs.chart_numbers.Counting.{few_nodes}
 use Rattle.chart_compile.proofs.Lowering.{lead_lower}
-use Rattle.chart_numbers.proofs.Members.{In-slice_get}
+use Rattle.chart_compile.proofs.chart_numbers.Members.{In-slice_get}
 
 -- ---- what a valid chart gives
 

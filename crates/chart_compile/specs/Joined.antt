@@ -1,15 +1,15 @@
 -- What joins the parts of a chart's tables.
 use Rattle.std.specs.Prelude.{◌≡◌, ◌++◌, ℕ, true, List, [], Some, length, map, slice_get}
 use Rattle.std.specs.List.{cons_option}
-use Rattle.chart_plan.specs.Same.{Each}
-use Rattle.chart_tables.specs.declared.tables.Node.{Node as CodeNode}
-use Rattle.chart_tables.specs.declared.tables.Tables.{Tables}
-use Rattle.chart_nodes.specs.Steps.{StepTree}
-use Rattle.chart_places.specs.Groups.{picked}
-use Rattle.chart_places.specs.Places.{PlaceTree}
-use Rattle.chart_parts.specs.Parts.{target_of}
-use Rattle.chart_parts.specs.Nodes.{IsNode, leads_lower}
-use Rattle.chart_parts.specs.Compiled.{IsAssembled, node_kind}
+use Rattle.chart_model.specs.chart_plan.Same.{Each}
+use Rattle.chart_run.specs.declared.chart_tables.tables.Node.{Node as CodeNode}
+use Rattle.chart_run.specs.declared.chart_tables.tables.Tables.{Tables}
+use Rattle.chart_reader.specs.chart_nodes.Steps.{StepTree}
+use Rattle.chart_compile.specs.chart_places.Groups.{picked}
+use Rattle.chart_compile.specs.chart_places.Places.{PlaceTree}
+use Rattle.chart_compile.specs.chart_parts.Parts.{target_of}
+use Rattle.chart_compile.specs.chart_parts.Nodes.{IsNode, leads_lower}
+use Rattle.chart_compile.specs.chart_parts.Compiled.{IsAssembled, node_kind}
 
 -- each step has the key of the node that it leads to
 abbrev pub AreKeyed : List StepTree → Type 0

@@ -1,23 +1,23 @@
 //! Tables from the steps and the states of a chart.
 ghost use Rattle.std.specs.Prelude.{◌≡◌, ◌<◌, ◌≤◌, ◌∷◌, [], ℕ, List, length, map, IfOk};
-ghost use Rattle.class_containment.specs.Containment.{NoneContainsItself};
-ghost use Rattle.chart_plan.specs.Same.{Each};
-ghost use Rattle.chart_nodes.specs.Keys.{codes};
-ghost use Rattle.chart_nodes.specs.Steps.{step_view};
-ghost use Rattle.chart_nodes.specs.Circles.{parts_of};
-ghost use Rattle.chart_places.specs.Places.{place_view};
-ghost use Rattle.chart_parts.specs.Parts.{IsRow, IsShared, from_key};
-ghost use Rattle.chart_numbers.specs.Order.{AreNumbered};
+ghost use Rattle.number_graphs.specs.class_containment.Containment.{NoneContainsItself};
+ghost use Rattle.chart_model.specs.chart_plan.Same.{Each};
+ghost use Rattle.chart_reader.specs.chart_nodes.Keys.{codes};
+ghost use Rattle.chart_reader.specs.chart_nodes.Steps.{step_view};
+ghost use Rattle.chart_reader.specs.chart_nodes.Circles.{parts_of};
+ghost use Rattle.chart_compile.specs.chart_places.Places.{place_view};
+ghost use Rattle.chart_compile.specs.chart_parts.Parts.{IsRow, IsShared, from_key};
+ghost use Rattle.chart_compile.specs.chart_numbers.Order.{AreNumbered};
 ghost use Rattle.chart_compile.specs.Joined.{AreKeyed, AreMade, AreOf};
 
+use crate::chart_numbers::number_nodes;
+use crate::chart_places::{Place, group_by};
+use crate::chart_rows::{rows_of, shared_of};
 use crate::nodes::{fill_up, nodes_of};
 use crate::start::initial_arrow;
-use chart_nodes::Step;
-use chart_numbers::number_nodes;
-use chart_places::{Place, group_by};
-use chart_rows::{rows_of, shared_of};
-use chart_tables::{Arrow, Node, Row, Tables};
-use name_numbers::Numbers;
+use chart_reader::Step;
+use chart_run::{Arrow, Node, Row, Tables};
+use name_tables::Numbers;
 use room_kinds::Sequence;
 use std::alloc::{AllocError, Global};
 

@@ -1,17 +1,17 @@
 //! The nodes of the tables.
 ghost use Rattle.std.specs.Prelude.{◌≡◌, ◌≤◌, length, map, IfOk, OnOk};
-ghost use Rattle.chart_plan.specs.Same.{Each};
-ghost use Rattle.chart_nodes.specs.Steps.{step_view};
-ghost use Rattle.chart_places.specs.Groups.{IsGrouped, picked};
-ghost use Rattle.chart_parts.specs.Parts.{target_of};
-ghost use Rattle.chart_parts.specs.Nodes.{IsNode};
+ghost use Rattle.chart_model.specs.chart_plan.Same.{Each};
+ghost use Rattle.chart_reader.specs.chart_nodes.Steps.{step_view};
+ghost use Rattle.chart_compile.specs.chart_places.Groups.{IsGrouped, picked};
+ghost use Rattle.chart_compile.specs.chart_parts.Parts.{target_of};
+ghost use Rattle.chart_compile.specs.chart_parts.Nodes.{IsNode};
 ghost use Rattle.chart_compile.specs.Joined.{AddsNode, AreKeyed, SameNodes};
 
-use chart_kinds::make_node;
-use chart_nodes::Step;
-use chart_rows::{step_at, steps_at};
-use chart_tables::Node;
-use name_numbers::Numbers;
+use crate::chart_kinds::make_node;
+use crate::chart_rows::{step_at, steps_at};
+use chart_reader::Step;
+use chart_run::Node;
+use name_tables::Numbers;
 use room_kinds::Sequence;
 use std::alloc::{AllocError, Global};
 

@@ -1,15 +1,15 @@
 //! The initial transition of the tables.
 ghost use Rattle.std.specs.Prelude.{◌≡◌, ◌<◌, ◌∷◌, [], Some, length, map, IfOk};
-ghost use Rattle.name_numbers.specs.Names.{same};
-ghost use Rattle.chart_nodes.specs.Keys.{codes};
-ghost use Rattle.chart_nodes.specs.Steps.{step_view};
-ghost use Rattle.chart_parts.specs.Parts.{from_key};
-ghost use Rattle.chart_parts.specs.Nodes.{IsFirst};
+ghost use Rattle.name_tables.specs.name_numbers.Names.{same};
+ghost use Rattle.chart_reader.specs.chart_nodes.Keys.{codes};
+ghost use Rattle.chart_reader.specs.chart_nodes.Steps.{step_view};
+ghost use Rattle.chart_compile.specs.chart_parts.Parts.{from_key};
+ghost use Rattle.chart_compile.specs.chart_parts.Nodes.{IsFirst};
 
-use chart_nodes::{Step, plain_key};
-use chart_rows::make_arrow;
-use chart_tables::Arrow;
-use name_numbers::Numbers;
+use crate::chart_rows::make_arrow;
+use chart_reader::{Step, plain_key};
+use chart_run::Arrow;
+use name_tables::Numbers;
 use std::alloc::{AllocError, Global};
 
 /// Whether a step begins at the place with a key.

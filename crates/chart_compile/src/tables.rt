@@ -1,15 +1,15 @@
 //! Compiling a chart.
 ghost use Rattle.std.specs.Prelude.{IfOk};
 ghost use Rattle.chart_model.specs.Valid.{IsValid};
-ghost use Rattle.chart_graphs.specs.Views.{chart_view};
-ghost use Rattle.chart_parts.specs.Compiled.{Compiles};
+ghost use Rattle.chart_reading.specs.chart_graphs.Views.{chart_view};
+ghost use Rattle.chart_compile.specs.chart_parts.Compiled.{Compiles};
 
 use crate::assemble::assemble;
-use chart_graphs::Chart;
-use chart_nodes::steps_of;
-use chart_numbers::{count_nodes, state_keys, state_numbers};
-use chart_places::{graph_keys, numbers_of, places_of};
-use chart_tables::Tables;
+use crate::chart_numbers::{count_nodes, state_keys, state_numbers};
+use crate::chart_places::{graph_keys, numbers_of, places_of};
+use chart_reader::steps_of;
+use chart_reading::Chart;
+use chart_run::Tables;
 use std::alloc::{AllocError, Global};
 
 /// The most states of a chart: a state's number has 16 bits.

@@ -9,8 +9,8 @@ use Rattle.action_program.specs.declared.moment.Moment.{Moment}
 use Rattle.action_program.specs.Arithmetic.{is_true}
 use Rattle.action_program.specs.Meaning.{Ran, noted, notes_of, value_of, run_all}
 use Rattle.action_program.specs.Numbered.{ExprTree, Stmts}
-use Rattle.chart_plan.specs.Plan.{Plan, Running}
-use Rattle.chart_plan.specs.Handling.{Memory, Outcome, handling, starting}
+use Rattle.chart_model.specs.chart_plan.Plan.{Plan, Running}
+use Rattle.chart_model.specs.chart_plan.Handling.{Memory, Outcome, handling, starting}
 use Rattle.chart_model.specs.Chart.{Path, Event, Chart}
 use Rattle.chart_model.specs.Named.{Placed, from, is_initial, plan_of}
 

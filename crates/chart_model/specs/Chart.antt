@@ -1,7 +1,7 @@
 -- A chart by names: ROOM's state machine of an actor class, its programs bound to the class.
 use Rattle.std.specs.Prelude.{ℕ, ℤ, List, Option}
 use Rattle.action_program.specs.Numbered.{ExprTree, Stmts}
-use Rattle.chart_plan.specs.Plan.{Trigger}
+use Rattle.chart_model.specs.chart_plan.Plan.{Trigger}
 
 -- the bytes of a name
 abbrev pub Name : Type 0

@@ -3,3 +3,4 @@ pub mod Named
 pub mod Acting
 pub mod States
 pub mod Valid
+pub mod chart_plan

@@ -4,7 +4,7 @@ use Rattle.std.specs.List.{filter}
 use Rattle.std.specs.Option.{is_some, option_map_or}
 use lib.Pointwise.{pointwise}
 use Rattle.action_program.specs.Numbered.{ExprTree, Stmts, no_stmt}
-use Rattle.chart_plan.specs.Plan.{Kind, Simple, Border, Choice, Entry, Exit, Plan}
+use Rattle.chart_model.specs.chart_plan.Plan.{Kind, Simple, Border, Choice, Entry, Exit, Plan}
 use Rattle.chart_model.specs.Chart.{Name, Path, Event, Source, initial, from_state, from_point, from_choice, from_entry, from_exit, Target, to_state, to_choice, to_point, to_entry, to_exit, Transition, State, Graph, Chart}
 
 -- whether two names are the same

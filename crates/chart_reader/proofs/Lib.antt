@@ -1,1 +1,3 @@
+pub mod Nesting
 pub mod Lowest
+pub mod scope_laws

@@ -1,7 +1,7 @@
 -- The faults of charts by number, and the first of those that are tests.
 use Rattle.std.specs.Prelude.{ℕ, Option, Some, None, if◌then◌else◌}
 use Rattle.chart_model.specs.Chart.{Chart}
-use Rattle.chart_rules.specs.Rules.{nests_within, has_right_names, has_one_initial_at_most, has_initials, has_defaults}
+use Rattle.chart_reader.specs.chart_rules.Rules.{nests_within, has_right_names, has_one_initial_at_most, has_initials, has_defaults}
 use Rattle.chart_reader.specs.declared.fault.ChartFault.{ChartFault}
 use Rattle.chart_reader.specs.declared.fault.ChartFault.TheVariants as faults
 

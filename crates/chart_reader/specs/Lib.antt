@@ -1,2 +1,7 @@
+pub mod Depth
 pub mod Faults
 pub mod Reads
+pub mod chart_nodes
+pub mod chart_rules
+pub mod model_charts
+pub mod scope_laws

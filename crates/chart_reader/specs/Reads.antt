@@ -5,8 +5,8 @@ use Rattle.room_ast.specs.ChartTree.{GraphItems}
 use Rattle.chart_model.specs.Chart.{Chart}
 use Rattle.chart_model.specs.Named.{Node}
 use Rattle.chart_model.specs.Valid.{LeadsTo}
-use Rattle.chart_graphs.specs.declared.graph.Chart.{Chart as CodeChart}
-use Rattle.chart_graphs.specs.Views.{chart_view}
+use Rattle.chart_reading.specs.declared.chart_graphs.Chart.{Chart as CodeChart}
+use Rattle.chart_reading.specs.chart_graphs.Views.{chart_view}
 use Rattle.chart_reading.specs.Reading.{chart_of, reading}
 use Rattle.chart_reader.specs.declared.fault.ChartFault.{ChartFault}
 use Rattle.chart_reader.specs.declared.fault.ChartFault.TheVariants as faults

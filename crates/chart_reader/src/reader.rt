@@ -2,20 +2,19 @@
 ghost use Rattle.std.specs.Prelude.{◌≡◌, Some, None, IfOk, OnOk};
 ghost use Rattle.room_ast.specs.ChartTree.{graph_view};
 ghost use Rattle.chart_model.specs.Valid.{IsValid};
-ghost use Rattle.chart_graphs.specs.Views.{chart_view};
+ghost use Rattle.chart_reading.specs.chart_graphs.Views.{chart_view};
 ghost use Rattle.chart_reading.specs.Reading.{reading};
 ghost use Rattle.chart_reader.specs.Faults.{names_fault};
 ghost use Rattle.chart_reader.specs.Reads.{IsLowestFault, Reads};
 
-use crate::fault::ChartFault;
-use action_check::ServiceNames;
-use chart_codes::Marks;
-use chart_graphs::Chart;
-use chart_nodes::has_circle;
-use chart_reading::write_chart;
-use chart_rules::{
+use crate::chart_nodes::has_circle;
+use crate::chart_rules::{
     has_defaults, has_initials, has_one_initial_at_most, has_right_names, is_shallow,
 };
+use crate::depth::{MOST_DEEP, graph_nests};
+use crate::fault::ChartFault;
+use action_lang::action_check::ServiceNames;
+use chart_reading::{Chart, Marks, write_chart};
 use room_ast::{Scope, StateMachine};
 use std::alloc::{AllocError, Global};
 
@@ -77,8 +76,9 @@ fn lowest_fault(
 
 /// The chart that a state machine's text writes, in a class, behind the service names of the
 /// classes before it: these are the names after it, once it is read. Else the lowest fault of the
-/// text; then `names` may have gained names at its end. What is read is valid.
-#[tactic(auto, using(crate::proofs::Lowest::fault_told, crate::proofs::Lowest::memory_told, crate::proofs::Lowest::chart_told, crate::proofs::Lowest::names_now))]
+/// text; then `names` may have gained names at its end. What is read is valid. A text whose states nest
+/// too deep is told without being read any deeper.
+#[tactic(auto, using(crate::proofs::Nesting::depth_told, crate::proofs::Lowest::fault_told, crate::proofs::Lowest::memory_told, crate::proofs::Lowest::chart_told, crate::proofs::Lowest::names_now))]
 pub fn read_chart(
     alloc: Global,
     machine: &StateMachine,
@@ -89,6 +89,9 @@ pub fn read_chart(
     ensures valid { IfOk result (λ c. IsValid (chart_view c)) }
     ensures names { OnOk result ((reading scope.now names.old (graph_view machine.now.items.items)).names ≡ Some names.new) }
 {
+    if !graph_nests(&machine.items, MOST_DEEP) {
+        return Err(ChartFault::DepthAbove16);
+    }
     let written = write_chart(alloc, machine, scope, names)?;
     match lowest_fault(alloc, &written.chart, written.marks)? {
         Some(fault) => Err(fault),

@@ -10,11 +10,11 @@ use Rattle.room_ast.specs.ChartTree.{GraphItemTree, GraphItems, items_of, item_v
 use Rattle.std.specs.Prelude.{ℤ}
 use Rattle.room_ast.specs.declared.scope.ScopeAttribute.{ScopeAttribute}
 use Rattle.chart_model.specs.Chart.{Path, Graph, Chart}
-use Rattle.chart_codes.specs.declared.marks.Marks.{Marks}
-use Rattle.chart_codes.specs.Progress.{Progress, progress, after_guard, after_triggers, marks_after_guard}
-use Rattle.chart_codes.specs.Events.{events_fit, guards_fit}
+use Rattle.chart_reading.specs.declared.chart_codes.marks.Marks.{Marks}
+use Rattle.chart_reading.specs.chart_codes.Progress.{Progress, progress, after_guard, after_triggers, marks_after_guard}
+use Rattle.chart_reading.specs.chart_codes.Events.{events_fit, guards_fit}
 use Rattle.std.specs.Prelude.{◌&&◌}
-use Rattle.chart_codes.proofs.MarkLaws.{guard_met, triggers_met}
+use Rattle.chart_reading.proofs.chart_codes.MarkLaws.{guard_met, triggers_met}
 use Rattle.chart_reading.specs.Around.{Around, around, list_of}
 use Rattle.chart_reading.specs.Reading.{Piece, with_item, with_items, begun, piece_of, graphs_of, at_first, chart_of}
 use Rattle.chart_reading.proofs.Lists.{list_of_items}

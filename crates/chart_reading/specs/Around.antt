@@ -10,7 +10,7 @@ use Rattle.room_ast.specs.declared.chart.Source.TheVariants as sources
 use Rattle.room_ast.specs.declared.chart.Target.{Target as TargetTree}
 use Rattle.room_ast.specs.declared.chart.Target.TheVariants as targets
 use Rattle.room_ast.specs.ChartTree.{GraphItemTree, AState, AChoice, APoint, ATransition, StateTree, StateOf, BodyTree, no_body, body, SubgraphTree, no_subgraph, subgraph, GraphItems, no_items, item}
-use Rattle.name_numbers.specs.Names.{same, is_among}
+use Rattle.name_tables.specs.name_numbers.Names.{same, is_among}
 use Rattle.chart_model.specs.Chart.{Name, Source, initial, from_state, from_point, from_choice, from_entry, from_exit, Target, to_state, to_choice, to_point, to_entry, to_exit}
 
 -- The names by which the terminals of a graph are told apart: its states, its entry points, and the entry points of the graph of each state, in the states' order.

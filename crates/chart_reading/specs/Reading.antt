@@ -11,10 +11,10 @@ use Rattle.room_ast.specs.declared.scope.ScopeAttribute.{ScopeAttribute}
 use Rattle.room_ast.specs.ChartTree.{GraphItemTree, AState, AChoice, APoint, ATransition, StateTree, StateOf, BodyTree, no_body, body, SubgraphTree, no_subgraph, subgraph, GraphItems, no_items, item}
 use Rattle.action_program.specs.Numbered.{no_stmt}
 use Rattle.chart_model.specs.Chart.{Name, Path, Transition, State, Point, Graph, Chart}
-use Rattle.chart_graphs.specs.Views.{kind_view}
-use Rattle.chart_codes.specs.Codes.{guard_of, action_of}
-use Rattle.chart_codes.specs.Events.{triggers_of, trigger_list}
-use Rattle.chart_codes.specs.Progress.{Progress, after_action, after_guard, after_triggers}
+use Rattle.chart_reading.specs.chart_graphs.Views.{kind_view}
+use Rattle.chart_reading.specs.chart_codes.Codes.{guard_of, action_of}
+use Rattle.chart_reading.specs.chart_codes.Events.{triggers_of, trigger_list}
+use Rattle.chart_reading.specs.chart_codes.Progress.{Progress, after_action, after_guard, after_triggers}
 use Rattle.chart_reading.specs.Around.{Around, around, list_of, source_of, target_of}
 
 -- ---- transitions

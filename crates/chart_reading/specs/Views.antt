@@ -1,7 +1,7 @@
 -- What is read, without where it lies in memory.
 use Rattle.std.specs.Prelude.{ℕ, List, map}
-use Rattle.chart_graphs.specs.Views.{state_view, point_view, transition_view, graph_view}
-use Rattle.chart_codes.specs.Progress.{progress}
+use Rattle.chart_reading.specs.chart_graphs.Views.{state_view, point_view, transition_view, graph_view}
+use Rattle.chart_reading.specs.chart_codes.Progress.{progress}
 use Rattle.chart_reading.specs.Around.{Around}
 use Rattle.chart_reading.specs.Reading.{Piece}
 use Rattle.chart_reading.specs.declared.around.Around.{Around as CodeAround}

@@ -2,12 +2,12 @@
 ghost use Rattle.std.specs.Prelude.{◌≡◌, ◌++◌, map, option_map, IfOk, OnOk};
 ghost use Rattle.std.specs.List.{filter_map};
 ghost use Rattle.std.specs.Option.{option_to_list};
-ghost use Rattle.name_numbers.specs.Names.{names_of};
+ghost use Rattle.name_tables.specs.name_numbers.Names.{names_of};
 ghost use Rattle.room_ast.specs.ChartTree.{item_view, state_view, graph_view, subgraph};
 ghost use Rattle.chart_reading.specs.Around.{state_name, entry_name, entries_of, entries_in, entries_in_state, inner_entries, around, has_entry_inside};
 ghost use Rattle.chart_reading.specs.Views.{around_view};
 
-use name_index::NameIndex;
+use name_tables::NameIndex;
 use room_ast::{GraphItem, Name, PointKind, State};
 use std::alloc::{AllocError, Global};
 

@@ -1,15 +1,15 @@
 //! The parts of a graph, as far as they are read.
 ghost use Rattle.std.specs.Prelude.{◌≡◌, ℕ, List, [], ◌∷◌, ◌++◌, OnOk};
 ghost use Rattle.action_program.specs.Numbered.{no_stmt};
-ghost use Rattle.chart_codes.specs.Progress.{progress};
+ghost use Rattle.chart_reading.specs.chart_codes.Progress.{progress};
 ghost use Rattle.chart_reading.specs.Reading.{begun, point_of, with_actions, with_transition, with_inner};
 ghost use Rattle.chart_reading.specs.Views.{around_view, piece_view};
 
 use crate::around::Around;
+use crate::chart_codes::{Marks, action, no_action};
+use crate::chart_graphs::{Graph, Point, State, Transition};
 use crate::transitions::transition;
-use action_check::ServiceNames;
-use chart_codes::{Marks, action, no_action};
-use chart_graphs::{Graph, Point, State, Transition};
+use action_lang::action_check::ServiceNames;
 use room_ast::{Code, Name, Scope};
 use room_kinds::Sequence;
 use std::alloc::{AllocError, Global};

@@ -1,17 +1,17 @@
 //! Graphs in the order of their text.
 ghost use Rattle.std.specs.Prelude.{◌≡◌, ◌∷◌, IfOk, OnOk};
 ghost use Rattle.room_ast.specs.ChartTree.{item_view, state_view, graph_view};
-ghost use Rattle.chart_codes.specs.Progress.{progress};
+ghost use Rattle.chart_reading.specs.chart_codes.Progress.{progress};
 ghost use Rattle.chart_reading.specs.Reading.{with_item, with_state, piece_of};
 ghost use Rattle.chart_reading.specs.Views.{around_view, piece_view};
 
 use crate::around::Around;
+use crate::chart_codes::Marks;
 use crate::piece::{
     Piece, add_choice, add_inner, add_plain_state, add_point, add_state_actions, add_transition,
     begun,
 };
-use action_check::ServiceNames;
-use chart_codes::Marks;
+use action_lang::action_check::ServiceNames;
 use room_ast::{GraphItem, Name, Scope, State};
 use room_kinds::Sequence;
 use std::alloc::{AllocError, Global};

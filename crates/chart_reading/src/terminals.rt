@@ -1,11 +1,11 @@
 //! Where transitions begin and lead.
 ghost use Rattle.std.specs.Prelude.{◌≡◌, IfOk};
-ghost use Rattle.chart_graphs.specs.Views.{source_view, target_view};
+ghost use Rattle.chart_reading.specs.chart_graphs.Views.{source_view, target_view};
 ghost use Rattle.chart_reading.specs.Around.{source_at, source_of, target_of};
 ghost use Rattle.chart_reading.specs.Views.{around_view};
 
 use crate::around::Around;
-use chart_graphs::{Source, Target};
+use crate::chart_graphs::{Source, Target};
 use std::alloc::{AllocError, Global};
 
 fn source_at(

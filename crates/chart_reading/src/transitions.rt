@@ -1,15 +1,15 @@
 //! Transitions.
 ghost use Rattle.std.specs.Prelude.{◌≡◌, IfOk, OnOk};
-ghost use Rattle.chart_graphs.specs.Views.{transition_view};
-ghost use Rattle.chart_codes.specs.Progress.{progress};
+ghost use Rattle.chart_reading.specs.chart_graphs.Views.{transition_view};
+ghost use Rattle.chart_reading.specs.chart_codes.Progress.{progress};
 ghost use Rattle.chart_reading.specs.Reading.{after_transition, transition_of};
 ghost use Rattle.chart_reading.specs.Views.{around_view};
 
 use crate::around::Around;
+use crate::chart_codes::{Marks, action, guard, no_action, triggers};
+use crate::chart_graphs::Transition;
 use crate::terminals::{source, target};
-use action_check::ServiceNames;
-use chart_codes::{Marks, action, guard, no_action, triggers};
-use chart_graphs::Transition;
+use action_lang::action_check::ServiceNames;
 use room_ast::Scope;
 use std::alloc::{AllocError, Global};
 

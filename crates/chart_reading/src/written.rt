@@ -1,16 +1,16 @@
 //! The chart of a class.
 ghost use Rattle.std.specs.Prelude.{◌≡◌, ℕ, List, [], map, IfOk};
 ghost use Rattle.room_ast.specs.ChartTree.{graph_view};
-ghost use Rattle.chart_graphs.specs.Views.{graph_view as code_graph_view, chart_view};
-ghost use Rattle.chart_codes.specs.Progress.{progress};
+ghost use Rattle.chart_reading.specs.chart_graphs.Views.{graph_view as code_graph_view, chart_view};
+ghost use Rattle.chart_reading.specs.chart_codes.Progress.{progress};
 ghost use Rattle.chart_reading.specs.Reading.{chart_of, reading, piece_of, graphs_of};
 ghost use Rattle.chart_reading.specs.Views.{piece_view};
 
+use crate::chart_codes::Marks;
+use crate::chart_graphs::{Chart, Graph};
 use crate::piece::Piece;
 use crate::read::read_graph;
-use action_check::ServiceNames;
-use chart_codes::Marks;
-use chart_graphs::{Chart, Graph};
+use action_lang::action_check::ServiceNames;
 use room_ast::{Name, Scope, ScopeAttribute, StateMachine};
 use room_kinds::Sequence;
 use std::alloc::{AllocError, Global};

@@ -5,14 +5,14 @@ use Rattle.room_kinds.specs.declared.numbers.Incarnation.{Incarnation}
 use Rattle.action_program.specs.Meaning.{Ran}
 use Rattle.action_program.specs.declared.moment.Effects.{Effects}
 use Rattle.action_program.specs.declared.moment.Moment.{Moment}
-use Rattle.chart_plan.specs.Handling.{Memory, Outcome, handling, starting}
-use Rattle.chart_plan.specs.Same.{Maybe, absent, present, SamePlan, SameMemory, SameOutcome}
-use Rattle.chart_plan.proofs.SameRuns.{handling-same, starting-same}
+use Rattle.chart_model.specs.chart_plan.Handling.{Memory, Outcome, handling, starting}
+use Rattle.chart_model.specs.chart_plan.Same.{Maybe, absent, present, SamePlan, SameMemory, SameOutcome}
+use Rattle.chart_model.proofs.chart_plan.SameRuns.{handling-same, starting-same}
 use Rattle.chart_model.specs.Acting.{Standing, Acted, Handled, acting, acted, acted_by, result_of, memory_of, quiet, handles_by, handles, starts_by}
 use Rattle.chart_model.specs.Chart.{Path, Event, Chart}
 use Rattle.chart_model.specs.Named.{Placed, plan_of}
-use Rattle.chart_tables.specs.Tables.{ArrowTree, arrow_view, plan}
-use Rattle.chart_tables.specs.declared.tables.Tables.{Tables}
+use Rattle.chart_run.specs.chart_tables.Tables.{ArrowTree, arrow_view, plan}
+use Rattle.chart_run.specs.declared.chart_tables.tables.Tables.{Tables}
 use Rattle.chart_run.specs.Machines.{acted_of, result_view, moment_of, moment_at_start, event_of, standing_of}
 use Rattle.chart_run.specs.declared.machine.Machine.{Machine}
 use Rattle.chart_run.specs.declared.outcome.Outcome.{Outcome as CodeOutcome}

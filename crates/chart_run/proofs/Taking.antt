@@ -4,13 +4,13 @@ use Rattle.std.specs.Prelude.{slice_index_or}
 use Rattle.room_kinds.specs.declared.numbers.Incarnation.{Incarnation}
 use Rattle.action_program.specs.declared.moment.Moment.{Moment}
 use mathlib.Core.Path.{fun_ext}
-use Rattle.chart_plan.specs.Handling.{enabled, handling, starting, taken, leave_all, chain}
+use Rattle.chart_model.specs.chart_plan.Handling.{enabled, handling, starting, taken, leave_all, chain}
 use Rattle.chart_model.specs.Acting.{Result, Handled, acting, acted, quiet, starts_by, acted_by, result_of, handles_by, memory_of as memory_of_standing}
 use Rattle.chart_model.specs.Chart.{Event}
-use Rattle.chart_tables.specs.Minds.{Becomes, Gives, memory_of, taken_view}
-use Rattle.chart_tables.specs.Tables.{ArrowTree, plan, arrow_view, up_at}
-use Rattle.chart_tables.specs.declared.mind.Mind.{Mind}
-use Rattle.chart_tables.specs.declared.tables.Tables.{Tables}
+use Rattle.chart_run.specs.chart_tables.Minds.{Becomes, Gives, memory_of, taken_view}
+use Rattle.chart_run.specs.chart_tables.Tables.{ArrowTree, plan, arrow_view, up_at}
+use Rattle.chart_run.specs.declared.chart_tables.mind.Mind.{Mind}
+use Rattle.chart_run.specs.declared.chart_tables.tables.Tables.{Tables}
 use Rattle.chart_run.specs.Machines.{handled_at, acted_of, standing_of, moment_at_start}
 use Rattle.chart_run.specs.declared.machine.Machine.{Machine}
 

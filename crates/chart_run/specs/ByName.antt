@@ -3,12 +3,12 @@ use Rattle.std.specs.Prelude.{◌≡◌, ℕ, ◌<◌, List, Option, Some, None,
 use Rattle.room_kinds.specs.declared.message.Msg.{Msg}
 use Rattle.room_kinds.specs.declared.numbers.Incarnation.{Incarnation}
 use Rattle.action_program.specs.declared.moment.Effects.{Effects}
-use Rattle.chart_plan.specs.Same.{Maybe, SamePlan}
+use Rattle.chart_model.specs.chart_plan.Same.{Maybe, SamePlan}
 use Rattle.chart_model.specs.Acting.{Standing, Acted, Handled, handles, starts_by}
 use Rattle.chart_model.specs.Chart.{Path, Chart}
 use Rattle.chart_model.specs.Named.{Node, Placed, node_of, plan_of}
-use Rattle.chart_tables.specs.Tables.{ArrowTree, arrow_view, plan}
-use Rattle.chart_tables.specs.declared.tables.Tables.{Tables}
+use Rattle.chart_run.specs.chart_tables.Tables.{ArrowTree, arrow_view, plan}
+use Rattle.chart_run.specs.declared.chart_tables.tables.Tables.{Tables}
 use Rattle.chart_run.specs.Machines.{moment_of, moment_at_start, event_of, result_view, acted_of, standing_of}
 use Rattle.chart_run.specs.declared.machine.Machine.{Machine}
 use Rattle.chart_run.specs.declared.outcome.Outcome.{Outcome}

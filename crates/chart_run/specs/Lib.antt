@@ -1,2 +1,3 @@
 pub mod Machines
 pub mod ByName
+pub mod chart_tables

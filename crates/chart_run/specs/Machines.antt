@@ -5,13 +5,13 @@ use Rattle.room_kinds.specs.declared.numbers.Incarnation.{Incarnation}
 use Rattle.action_program.specs.Meaning.{Ran}
 use Rattle.action_program.specs.declared.moment.Effects.{Effects}
 use Rattle.action_program.specs.declared.moment.Moment.{Moment}
-use Rattle.chart_plan.specs.Handling.{Outcome as Handled_}
+use Rattle.chart_model.specs.chart_plan.Handling.{Outcome as Handled_}
 use Rattle.chart_model.specs.Acting.{Standing, Result, Handled, Deferred, Unhandled, Acted, handles_by, starts_by}
 use Rattle.chart_model.specs.Chart.{Event}
-use Rattle.chart_tables.specs.Minds.{memory_of}
-use Rattle.chart_tables.specs.Tables.{plan, arrow_view}
-use Rattle.chart_tables.specs.declared.mind.Mind.{Mind}
-use Rattle.chart_tables.specs.declared.tables.Tables.{Tables}
+use Rattle.chart_run.specs.chart_tables.Minds.{memory_of}
+use Rattle.chart_run.specs.chart_tables.Tables.{plan, arrow_view}
+use Rattle.chart_run.specs.declared.chart_tables.mind.Mind.{Mind}
+use Rattle.chart_run.specs.declared.chart_tables.tables.Tables.{Tables}
 use Rattle.chart_run.specs.declared.machine.Machine.{Machine}
 use Rattle.chart_run.specs.declared.outcome.Handling.{Handling}
 use Rattle.chart_run.specs.declared.outcome.Handling.TheVariants as handlings

@@ -4,8 +4,10 @@
 //! before the next message is looked at (run to completion: Selic, Gullekson and Ward 1994).
 #![tactic(auto)]
 
+pub mod chart_tables;
 mod machine;
 mod outcome;
 
+pub use chart_tables::{Arrow, Event, Node, Row, Tables, Trigger};
 pub use machine::Machine;
 pub use outcome::{Handling, Outcome};

@@ -1,15 +1,15 @@
 //! A machine: one actor's state of its chart.
 ghost use Rattle.std.specs.Prelude.{◌≡◌, [], true, None, length, replicate, IfOk, IsErr};
 ghost use Rattle.chart_model.specs.Acting.{acting, handles_by};
-ghost use Rattle.chart_plan.specs.Handling.{handling};
-ghost use Rattle.chart_tables.specs.Tables.{plan, IsSound, event_view};
-ghost use Rattle.chart_tables.specs.Minds.{memory_of};
+ghost use Rattle.chart_model.specs.chart_plan.Handling.{handling};
+ghost use Rattle.chart_run.specs.chart_tables.Tables.{plan, IsSound, event_view};
+ghost use Rattle.chart_run.specs.chart_tables.Minds.{memory_of};
 ghost use Rattle.chart_run.specs.Machines.{Fits, Starts, Acts, acted_of, event_of, handled_at, moment_of, result_view, standing_of};
 ghost use Rattle.chart_run.specs.ByName.{StartsAsChart, ActsAsChart};
 
+use crate::chart_tables::{Event, Mind, Row, Tables};
 use crate::outcome::{Outcome, result_of};
 use action_program::{Effects, Moment, Vars};
-use chart_tables::{Event, Mind, Row, Tables};
 use room_kinds::{Incarnation, Msg, Payload};
 use std::alloc::{AllocError, Global};
 use std::mem;

@@ -13,10 +13,10 @@ use Rattle.actor_world.specs.Journals.{fetches_since}
 use Rattle.actor_world.specs.Turns.{treat}
 use Rattle.controller_mail.specs.MailState.{MailState, TurnDone, state_of, with_body}
 use Rattle.controller_mail.specs.Steps.{TakesNext, EndsTurn}
-use Rattle.controller_moves.specs.Moves.{FetchesEach, PostsFrom, PollsInto, count_at}
-use Rattle.controller_moves.proofs.Looked.{Took-boxes}
-use Rattle.controller_moves.proofs.Prompt.{count_at-cons}
-use Rattle.controller_moves.proofs.Replayed.{posted_as, turned_as, fetched_at, fetch_entries, PostsEach-journal, PostsEach-replays, posted-given, posts-take_nothing, posting_all-same, FetchesEach-journal, FetchesEach-replays, FetchesEach-turns, FetchesEach-outbox, taken-of, fetches-give_nothing, turn-journal, turn-does}
+use Rattle.controller_mail.specs.controller_moves.Moves.{FetchesEach, PostsFrom, PollsInto, count_at}
+use Rattle.controller_mail.proofs.controller_moves.Looked.{Took-boxes}
+use Rattle.controller_mail.proofs.controller_moves.Prompt.{count_at-cons}
+use Rattle.controller_mail.proofs.controller_moves.Replayed.{posted_as, turned_as, fetched_at, fetch_entries, PostsEach-journal, PostsEach-replays, posted-given, posts-take_nothing, posting_all-same, FetchesEach-journal, FetchesEach-replays, FetchesEach-turns, FetchesEach-outbox, taken-of, fetches-give_nothing, turn-journal, turn-does}
 use Rattle.controller_actors.specs.Plants.{model_of}
 use Rattle.controller_actors.specs.Stands.{body_of}
 use Rattle.controller_actors.specs.declared.plant.Plant.{Plant}

@@ -1,4 +1,7 @@
 -- What the calls of a controller do.
+-- All of the outbox was posted; a poll's messages were fetched, promptly; messages that were left
+-- were fetched, in order; one turn was taken, or none where nothing waits for its turn; the
+-- environment posted a message. After want of memory a controller gives no other answer.
 use Rattle.std.specs.Prelude.{◌≡◌, ℕ, ◌+◌, ◌<◌, ◌≤◌, ◌⊎◌, Bool, true, false, List, [], ◌∷◌, length, All, None}
 use Rattle.room_kinds.specs.declared.message.Msg.{Msg}
 use Rattle.journal.specs.declared.entry.Entry.{Entry}

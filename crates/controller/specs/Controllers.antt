@@ -1,4 +1,8 @@
 -- A controller between two calls.
+-- `Begins`: it has just started. `Goes`: these entries were added to its journal, and they are its
+-- own replay from the state before to the state after, whatever lines the environment posts.
+-- `EndGoes`: what its end of the mailboxes posted and took meanwhile is, lane by lane, what these
+-- entries give and take.
 use Rattle.std.specs.Prelude.{◌≡◌, ℕ, ◌<◌, ◌++◌, false, List, length, slice_get}
 use Rattle.std.specs.Option.{option_map_or}
 use Rattle.room_kinds.specs.declared.numbers.ControllerId.{ControllerId}

@@ -1,2 +1,3 @@
 pub mod Controllers
 pub mod Calls
+pub mod quiet_counts

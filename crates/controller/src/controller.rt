@@ -8,8 +8,7 @@ ghost use Rattle.controller.specs.Controllers.{IsOf, Begins};
 ghost use Rattle.controller.specs.Calls.{PostsAll, Polls, FetchesLeft, Turns};
 
 use controller_actors::{Actors, Plant};
-use controller_mail::ControllerMail;
-use controller_moves::{fetch_all, poll_boxes, post_outbox};
+use controller_mail::{ControllerMail, fetch_all, poll_boxes, post_outbox};
 use journal::{Entry, Journal};
 use mail_core::Mail;
 use room_kinds::{ControllerId, Msg};

@@ -7,7 +7,9 @@
 
 mod controller;
 mod environment;
+pub mod quiet_counts;
 
 pub use controller::Controller;
 pub use controller_actors::Plant;
 pub use environment::Environment;
+pub use quiet_counts::{has_message, is_quiet};

@@ -18,15 +18,15 @@ use Rattle.actor_world.specs.Start.{Starting as WorldStarting, all_started, star
 use Rattle.frame_lives.specs.declared.row.Row.{Row}
 use Rattle.frame_lives.specs.Known.{Known}
 use Rattle.frame_lives.specs.Shown.{shown}
-use Rattle.frame_start.specs.First.{first_known}
+use Rattle.frame_lives.specs.frame_start.First.{first_known}
 use Rattle.chart_behaviour.specs.ModelCharts.{Actor, tables_at, begins, state_number}
-use Rattle.command_sends.proofs.Broadcasting.{range-more}
+use Rattle.actor_commands.proofs.command_sends.Broadcasting.{range-more}
 use Rattle.controller_mail.specs.MailState.{HasPriority}
-use Rattle.static_peers.specs.Static.{static_frame}
-use Rattle.actor_seats.specs.declared.seat.Seat.{Seat}
-use Rattle.actor_seats.specs.declared.seat.Entrance.{Entrance}
-use Rattle.actor_seats.specs.Stands.{actor_in}
-use Rattle.actor_seats.specs.Seats.{SeatBegins, SeatFits, seat_body, entered}
+use Rattle.controller_actors.specs.static_peers.Static.{static_frame}
+use Rattle.controller_actors.specs.declared.actor_seats.seat.Seat.{Seat}
+use Rattle.controller_actors.specs.declared.actor_seats.seat.Entrance.{Entrance}
+use Rattle.controller_actors.specs.actor_seats.Stands.{actor_in}
+use Rattle.controller_actors.specs.actor_seats.Seats.{SeatBegins, SeatFits, seat_body, entered}
 use Rattle.controller_actors.specs.declared.plant.Plant.{Plant}
 use Rattle.controller_actors.specs.declared.actors.Actors.{Actors}
 use Rattle.controller_actors.specs.declared.start.Starting.{Starting}

@@ -12,10 +12,10 @@ use Rattle.frame_lives.specs.declared.row.Row.{Row}
 use Rattle.frame_lives.specs.Shown.{shown}
 use Rattle.frame_lives.proofs.Rows.{updated_here, updated_else, updated_same}
 use Rattle.chart_behaviour.specs.ModelCharts.{Actor, tables_at}
-use Rattle.static_peers.specs.Static.{static_frame}
-use Rattle.actor_seats.specs.declared.seat.Seat.{Seat}
-use Rattle.actor_seats.specs.Stands.{actor_in}
-use Rattle.actor_seats.specs.Seats.{SeatFits, seat_body}
+use Rattle.controller_actors.specs.static_peers.Static.{static_frame}
+use Rattle.controller_actors.specs.declared.actor_seats.seat.Seat.{Seat}
+use Rattle.controller_actors.specs.actor_seats.Stands.{actor_in}
+use Rattle.controller_actors.specs.actor_seats.Seats.{SeatFits, seat_body}
 use Rattle.controller_actors.specs.declared.plant.Plant.{Plant}
 use Rattle.controller_actors.specs.declared.actors.Actors.{Actors}
 use Rattle.controller_actors.specs.Stands.{IsWell, body_of, seat_at, vacant}

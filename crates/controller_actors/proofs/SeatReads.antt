@@ -6,16 +6,16 @@ use Rattle.room_kinds.specs.declared.numbers.Incarnation.{Incarnation}
 use Rattle.journal.specs.declared.entry.Did.TheVariants as did
 use Rattle.actor_duties.specs.Words.{whose}
 use Rattle.actor_duties.specs.Lives.{last_of}
-use Rattle.chart_tables.specs.declared.tables.Tables.{Tables}
+use Rattle.chart_run.specs.declared.chart_tables.tables.Tables.{Tables}
 use Rattle.chart_behaviour.specs.ModelCharts.{tables_at}
 use Rattle.controller_mail.specs.MailState.{HasPriority, with_body}
 use Rattle.controller_mail.specs.declared.controller_mail.Treatment.{Treatment}
-use Rattle.static_peers.specs.Static.{static_frame}
+use Rattle.controller_actors.specs.static_peers.Static.{static_frame}
 use Rattle.actor_world.specs.Start.{first_links}
 use Rattle.frame_lives.specs.Shown.{shown}
-use Rattle.actor_seats.specs.declared.seat.Seat.{Seat}
-use Rattle.actor_seats.specs.Stands.{AreSound, actor_in}
-use Rattle.actor_seats.specs.Seats.{SeatFits, seat_body}
+use Rattle.controller_actors.specs.declared.actor_seats.seat.Seat.{Seat}
+use Rattle.controller_actors.specs.actor_seats.Stands.{AreSound, actor_in}
+use Rattle.controller_actors.specs.actor_seats.Seats.{SeatFits, seat_body}
 use Rattle.controller_actors.specs.declared.plant.Plant.{Plant}
 use Rattle.controller_actors.specs.declared.actors.Actors.{Actors}
 use Rattle.controller_actors.specs.Plants.{IsPlant}

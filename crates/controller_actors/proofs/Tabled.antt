@@ -6,8 +6,8 @@ use Rattle.room_wiring.specs.declared.tables.Tables.{Tables as Wiring}
 use Rattle.room_wiring.specs.declared.slot.Slot.{Slot}
 use Rattle.room_wiring.specs.Slots.{slot_at}
 use Rattle.actor_duties.specs.Words.{class_number}
-use Rattle.chart_tables.specs.Tables.{IsSound}
-use Rattle.chart_tables.specs.declared.tables.Tables.{Tables}
+use Rattle.chart_run.specs.chart_tables.Tables.{IsSound}
+use Rattle.chart_run.specs.declared.chart_tables.tables.Tables.{Tables}
 use Rattle.chart_behaviour.specs.ModelCharts.{class_tables, tables_at}
 use Rattle.controller_actors.specs.declared.plant.Plant.{Plant}
 use Rattle.controller_actors.specs.Plants.{IsPlant}

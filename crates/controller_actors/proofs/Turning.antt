@@ -15,10 +15,10 @@ use Rattle.frame_lives.specs.Shown.{shown}
 use Rattle.chart_behaviour.specs.ModelCharts.{Actor, tables_at, handles}
 use Rattle.controller_mail.specs.MailState.{HasPriority, with_body}
 use Rattle.controller_mail.specs.declared.controller_mail.Treatment.{Treatment}
-use Rattle.static_peers.specs.Static.{static_frame}
-use Rattle.actor_seats.specs.declared.seat.Seat.{Seat}
-use Rattle.actor_seats.specs.Stands.{actor_in, actor_of}
-use Rattle.actor_seats.specs.Seats.{SeatTurns, seat_body, turned, treated_on}
+use Rattle.controller_actors.specs.static_peers.Static.{static_frame}
+use Rattle.controller_actors.specs.declared.actor_seats.seat.Seat.{Seat}
+use Rattle.controller_actors.specs.actor_seats.Stands.{actor_in, actor_of}
+use Rattle.controller_actors.specs.actor_seats.Seats.{SeatTurns, seat_body, turned, treated_on}
 use Rattle.controller_actors.specs.declared.plant.Plant.{Plant}
 use Rattle.controller_actors.specs.declared.actors.Actors.{Actors}
 use Rattle.controller_actors.specs.Plants.{model_of}

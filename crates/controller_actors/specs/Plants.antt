@@ -1,8 +1,8 @@
 -- The plants on which controllers run, and what their actors do.
 use Rattle.std.specs.Prelude.{◌≡◌, ℕ, Some, slice_get}
-use Rattle.chart_tables.specs.Tables.{IsSound}
-use Rattle.chart_tables.specs.declared.tables.Tables.{Tables as ChartTables}
-use Rattle.slot_runs.specs.Runs.{IsDepthFirst}
+use Rattle.chart_run.specs.chart_tables.Tables.{IsSound}
+use Rattle.chart_run.specs.declared.chart_tables.tables.Tables.{Tables as ChartTables}
+use Rattle.service_messages.specs.slot_runs.Runs.{IsDepthFirst}
 use Rattle.actor_world.specs.Behaviour.{Behaviour}
 use Rattle.chart_behaviour.specs.ModelCharts.{Actor, behaviour_of}
 use Rattle.controller_actors.specs.declared.plant.Plant.{Plant}

@@ -2,17 +2,17 @@
 use Rattle.std.specs.Prelude.{◌≡◌, ℕ, List, [], slice_index_or}
 use Rattle.actor_duties.specs.Lives.{last_of}
 use Rattle.frame_lives.specs.Shown.{shown}
-use Rattle.frame_start.specs.First.{first_known}
+use Rattle.frame_lives.specs.frame_start.First.{first_known}
 use Rattle.actor_world.specs.Body.{Body}
 use Rattle.actor_world.specs.Start.{first_links}
 use Rattle.chart_behaviour.specs.ModelCharts.{Actor, tables_at}
 use Rattle.controller_mail.specs.MailState.{TurnDone}
 use Rattle.controller_mail.specs.declared.controller_mail.Treatment.{Treatment}
-use Rattle.static_peers.specs.Static.{static_frame}
-use Rattle.actor_seats.specs.declared.stand.Stand.TheVariants as stands
-use Rattle.actor_seats.specs.declared.seat.Seat.{Seat}
-use Rattle.actor_seats.specs.Stands.{actor_in}
-use Rattle.actor_seats.specs.Seats.{SeatFits}
+use Rattle.controller_actors.specs.static_peers.Static.{static_frame}
+use Rattle.controller_actors.specs.declared.actor_seats.stand.Stand.TheVariants as stands
+use Rattle.controller_actors.specs.declared.actor_seats.seat.Seat.{Seat}
+use Rattle.controller_actors.specs.actor_seats.Stands.{actor_in}
+use Rattle.controller_actors.specs.actor_seats.Seats.{SeatFits}
 use Rattle.controller_actors.specs.declared.plant.Plant.{Plant}
 use Rattle.controller_actors.specs.declared.actors.Actors.{Actors}
 

@@ -13,8 +13,8 @@ use Rattle.frame_lives.specs.Shown.{shown}
 use Rattle.chart_behaviour.specs.ModelCharts.{Actor, begins, state_number, tables_at}
 use Rattle.controller_mail.specs.MailState.{HasPriority, with_body}
 use Rattle.controller_mail.specs.declared.controller_mail.Treatment.{Treatment}
-use Rattle.actor_seats.specs.declared.seat.Entrance.{Entrance}
-use Rattle.actor_seats.specs.Seats.{entered}
+use Rattle.controller_actors.specs.declared.actor_seats.seat.Entrance.{Entrance}
+use Rattle.controller_actors.specs.actor_seats.Seats.{entered}
 use Rattle.controller_actors.specs.declared.plant.Plant.{Plant}
 use Rattle.controller_actors.specs.declared.actors.Actors.{Actors}
 use Rattle.controller_actors.specs.declared.start.Starting.{Starting}

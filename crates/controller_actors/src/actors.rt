@@ -4,25 +4,23 @@ ghost use Rattle.actor_duties.specs.Words.{is_own, whose};
 ghost use Rattle.actor_world.specs.Start.{first_state, start_entries};
 ghost use Rattle.actor_world.specs.Turns.{is_meant, treat};
 ghost use Rattle.frame_lives.specs.Shown.{shown};
-ghost use Rattle.static_peers.specs.Static.{static_frame};
+ghost use Rattle.controller_actors.specs.static_peers.Static.{static_frame};
 ghost use Rattle.controller_mail.specs.MailState.{HasPriority, with_body};
 ghost use Rattle.controller_actors.specs.Plants.{IsPlant, model_of};
 ghost use Rattle.controller_actors.specs.Stands.{IsWell, body_of, done_of};
 ghost use Rattle.controller_actors.specs.Steps.{Dispatches, ActorsBegin};
 
+use crate::actor_seats::{Entrance, Seat};
 use crate::plant::Plant;
 use crate::start::start;
-use actor_seats::{Entrance, Seat};
-use command_sends::Speaker;
+use crate::static_peers::StaticPeers;
+use actor_commands::{Recalled, Speaker};
 use controller_mail::Treatment;
-use deferred_messages::Recalled;
 use frame_lives::SlotLives;
-use frame_messages::whose;
 use journal::{Did, Journal};
 use room_kinds::{ControllerId, Msg, Notes, Outbox, Sequence, SlotId};
 use room_wiring::Wiring;
-use service_messages::is_own;
-use static_peers::StaticPeers;
+use service_messages::{is_own, whose};
 use std::alloc::{AllocError, Global};
 
 /// What a controller keeps besides its mail: the lives of its slots and its directory, and for each slot

@@ -5,9 +5,11 @@
 //! Both calls are exactly the definitions of `actor_world`.
 #![tactic(auto)]
 
+pub mod actor_seats;
 mod actors;
 mod plant;
 mod start;
+pub mod static_peers;
 
 pub use actors::{Actors, Begun};
 pub use plant::Plant;

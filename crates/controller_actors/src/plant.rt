@@ -3,7 +3,7 @@ ghost use Rattle.std.specs.Prelude.{◌≡◌};
 ghost use Rattle.std.specs.Option.{option_copied};
 ghost use Rattle.chart_behaviour.specs.ModelCharts.{tables_at};
 
-use chart_tables::Tables;
+use chart_run::Tables;
 use room_kinds::SlotId;
 use room_wiring::Wiring;
 

@@ -5,12 +5,11 @@ ghost use Rattle.controller_actors.specs.Plants.{IsPlant, model_of};
 ghost use Rattle.controller_actors.specs.Stands.{IsWell, body_of, vacant};
 ghost use Rattle.controller_actors.specs.Steps.{Starts, StartsIn, first_below, first_in};
 
+use crate::actor_seats::{Entrance, Seat};
 use crate::actors::{Actors, Begun};
 use crate::plant::Plant;
-use actor_seats::{Entrance, Seat};
-use command_sends::Said;
-use deferred_messages::Recalled;
-use frame_start::first_lives;
+use actor_commands::{Recalled, Said};
+use frame_lives::first_lives;
 use journal::{Entry, Journal};
 use room_kinds::{ControllerId, Outbox, SlotId};
 use std::alloc::{AllocError, Global};

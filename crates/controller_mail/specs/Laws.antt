@@ -1,5 +1,9 @@
 -- The journal's entries leave just this state: the laws of a controller's mail and of the environment,
 -- over any kind of body.
+-- `Leaves`: behind the entries of the start, the journal is a replay of the controller from its
+-- start to the state of this mail and this body. It is so after the start, and each fetch, turn
+-- and post keeps it (`mail_leaves`, over any kind of body and any `treat`); the environment's
+-- journal stays a replay at each post of its next line (`environment_leaves`).
 use Rattle.std.specs.Prelude.{◌≡◌, ℕ, ◌+◌, List, [], ◌∷◌, ◌++◌, replicate, length, slice_get, Some}
 use Rattle.room_kinds.specs.declared.message.Msg.{Msg}
 use Rattle.journal.specs.declared.entry.Entry.{Entry}

@@ -1,3 +1,4 @@
 pub mod MailState
 pub mod Steps
 pub mod Laws
+pub mod controller_moves

@@ -1,5 +1,9 @@
 -- What each call does to a controller's mail and to the environment: the events of the world's
 -- definitions, each with its entry.
+-- `Fetches` and `Posts` are the functions `fetch` and `post` of the world's definitions, with the
+-- entry at the end of the journal. A turn is two calls: `TakesNext` takes out the message whose
+-- turn it is, and `EndsTurn` counts the turn, puts the deferred messages back in front and leaves
+-- what was sent in the outbox.
 use Rattle.std.specs.Prelude.{◌≡◌, ℕ, ◌+◌, ◌-◌, take, length, List, [], ◌∷◌, ◌++◌, Some}
 use Rattle.room_kinds.specs.declared.message.Msg.{Msg}
 use Rattle.room_kinds.specs.declared.numbers.ControllerId.{ControllerId}

@@ -8,13 +8,13 @@
 
 mod clock;
 mod controller_mail;
+pub mod controller_moves;
 mod environment;
 mod laws;
 mod pending;
 mod queue;
-#[cfg(test)]
-mod tests;
 
 pub use controller_mail::{ControllerMail, Treatment};
+pub use controller_moves::{fetch_all, poll_boxes, post_outbox};
 pub use environment::EnvironmentMail;
 pub use laws::{environment_leaves, mail_leaves};

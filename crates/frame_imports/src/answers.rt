@@ -5,16 +5,14 @@ ghost use Rattle.actor_duties.specs.Messages.{told_of};
 ghost use Rattle.actor_duties.specs.Imports.{container_frame, is_container_live, heard, import_done, import_refused, import_ended, deport_done};
 ghost use Rattle.service_messages.specs.Shown.{signal_of};
 ghost use Rattle.frame_lives.specs.Shown.{shown};
-ghost use Rattle.import_places.specs.Places.{place_of};
-ghost use Rattle.import_places.specs.Lending.{lending, with_places};
+ghost use Rattle.frame_imports.specs.import_places.Places.{place_of};
+ghost use Rattle.frame_imports.specs.import_places.Lending.{lending, with_places};
 
+use crate::import_places::{ImportPlace, Imports};
 use frame_lives::SlotLives;
-use frame_messages::{frame_at, id_of, told_of, whose};
-use import_places::{ImportPlace, Imports};
 use room_kinds::{ControllerId, Endpoint, Outbox, SlotId};
 use room_wiring::Wiring;
-use service_messages::FrameSignal;
-use slot_runs::container_of;
+use service_messages::{Code, FrameSignal, container_of, frame_at, id_of, told_of, whose};
 use std::alloc::{AllocError, Global};
 
 /// The container of an import place, in the place's generation.
@@ -112,8 +110,8 @@ pub fn import_done(
     Ok(())
 }
 
-/// ImportRefused: who asked for the home holds nothing, and its container is told `refused`, with the
-/// code.
+/// ImportRefused, with the code 4 or 5: who asked for the home holds nothing, and its container is told
+/// `refused`, with the code. Another code says nothing.
 #[tactic(auto, unfolding(actor_duties::specs::Imports::import_refused))]
 pub fn import_refused(
     imports: &mut Imports,
@@ -130,7 +128,8 @@ pub fn import_refused(
     ensures now { OnOk result (lending imports.new ≡ with_places (lending imports.old) ((import_refused wiring.now me.0 (shown lives.now).lives (lending imports.old).places home place code).now)) }
     ensures sent { OnOk result (out.new ≡ out.old ++ (import_refused wiring.now me.0 (shown lives.now).lives (lending imports.old).places home place code).sent) }
 {
-    let fits = imports.place(place.slot).asks_for(whose(home));
+    let is_refusal = Code::StaleId.is(code) || Code::PortTaken.is(code);
+    let fits = is_refusal && imports.place(place.slot).asks_for(whose(home));
     let next = ImportPlace::Empty;
     let signal = FrameSignal::Refused;
     hear(

@@ -4,19 +4,17 @@ ghost use Rattle.actor_duties.specs.State.{Held};
 ghost use Rattle.actor_duties.specs.Words.{class_number, of_id};
 ghost use Rattle.actor_duties.specs.Messages.{refused_at_once, code_number};
 ghost use Rattle.actor_duties.specs.Frame.{busy_code, is_same_class, import_code, asks_for, import_with, import_into, import_command, deport_from, deport_command};
-ghost use Rattle.slot_runs.specs.Runs.{IsDepthFirst, AreRunEnds};
+ghost use Rattle.service_messages.specs.slot_runs.Runs.{IsDepthFirst, AreRunEnds};
 ghost use Rattle.service_messages.specs.Shown.{code_of};
-ghost use Rattle.import_places.specs.Places.{place_of};
-ghost use Rattle.import_places.specs.Lending.{lending, with_places};
+ghost use Rattle.frame_imports.specs.import_places.Places.{place_of};
+ghost use Rattle.frame_imports.specs.import_places.Lending.{lending, with_places};
 ghost use Rattle.frame_imports.specs.Homes.{home_there};
 
-use frame_forms::is_home;
-use frame_messages::{frame_at, frame_of, refused_at_once, to_owner};
-use import_places::{ImportPlace, Imports};
+use crate::frame_forms::is_home;
+use crate::import_places::{ImportPlace, Imports};
 use room_kinds::{ControllerId, Generation, Incarnation, Outbox, Payload, SlotId, SysKind};
 use room_wiring::Wiring;
-use service_messages::Code;
-use slot_runs::SlotRuns;
+use service_messages::{Code, SlotRuns, frame_at, frame_of, refused_at_once, to_owner};
 use std::alloc::{AllocError, Global};
 
 /// What an actor's command names: one of its references, and an index as the action gave it.
@@ -61,10 +59,9 @@ fn home_of(wiring: &Wiring, id: i64) -> Option<Incarnation>
 fn class_number(wiring: &Wiring, slot: SlotId) -> Option<u16>
     ensures { result ≡ class_number wiring.now slot.0 }
 {
-    if u32::from(slot.0) < wiring.slot_count() {
-        Some(wiring.slot(slot).class)
-    } else {
-        None
+    match wiring.get_slot(slot) {
+        Some(found) => Some(found.class),
+        None => None,
     }
 }
 

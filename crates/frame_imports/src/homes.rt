@@ -5,17 +5,16 @@ ghost use Rattle.actor_duties.specs.Messages.{reply, coded};
 ghost use Rattle.actor_duties.specs.Imports.{import, deport};
 ghost use Rattle.service_messages.specs.Shown.{code_of};
 ghost use Rattle.frame_lives.specs.Shown.{shown};
-ghost use Rattle.import_places.specs.Lending.{lending, with_plugs};
+ghost use Rattle.frame_imports.specs.import_places.Lending.{lending, with_plugs};
 ghost use Rattle.frame_imports.specs.Numbered.{ArePortsNumbered};
 
+use crate::frame_peers::Lent;
+use crate::import_places::Imports;
 use crate::ports::is_port_taken;
 use frame_lives::SlotLives;
-use frame_messages::{reply, whose};
-use frame_peers::Lent;
-use import_places::Imports;
 use room_kinds::{ControllerId, Endpoint, Msg, Outbox, Payload, SysKind};
 use room_wiring::Wiring;
-use service_messages::Code;
+use service_messages::{Code, reply, whose};
 use std::alloc::{AllocError, Global};
 
 /// A home answers its import place.

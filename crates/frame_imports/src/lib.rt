@@ -6,9 +6,15 @@
 
 mod answers;
 mod commands;
+pub mod frame_forms;
+pub mod frame_peers;
 mod homes;
+pub mod import_places;
 mod ports;
 
 pub use answers::{deport_done, import_done, import_ended, import_refused};
 pub use commands::{Asked, request_deport, request_import};
+pub use frame_forms::{is_announced, is_answer, is_back, is_forth, is_request};
+pub use frame_peers::{Lent, peer};
 pub use homes::{deport, import};
+pub use import_places::Imports;

@@ -6,12 +6,13 @@ ghost use Rattle.actor_duties.specs.Words.{is_end, is_joined, is_incarnation, jo
 ghost use Rattle.actor_duties.specs.Imports.{is_taken_at, is_port_taken};
 ghost use Rattle.frame_imports.specs.Numbered.{ArePortsNumbered};
 
-use import_places::is_same_actor;
+use crate::import_places::is_same_actor;
 use room_kinds::Incarnation;
 use room_wiring::{Partner, Wiring};
-use service_messages::{joined_at, port_count};
+use service_messages::joined_at;
 
-fn is_end(partner: Partner) -> bool
+/// Whether a partner is an end place.
+pub(crate) fn is_end(partner: Partner) -> bool
     ensures { result ≡ is_end partner }
 {
     match partner {
@@ -93,7 +94,7 @@ pub fn is_port_taken(
     requires ports { ArePortsNumbered wiring.now }
     ensures { result ≡ is_port_taken wiring.now plugs.now import home }
 {
-    for number in 0..port_count(wiring, import.slot) {
+    for number in 0..wiring.port_count(import.slot) {
         if is_any_place_taken(wiring, plugs, import, home, number as u16) {
             return true;
         }

@@ -8,9 +8,9 @@ use Rattle.room_kinds.specs.declared.numbers.Incarnation.{Incarnation}
 use Rattle.room_wiring.specs.declared.tables.Tables.{Tables}
 use Rattle.actor_duties.specs.State.{Lives}
 use Rattle.actor_duties.specs.Lives.{is_within, lives_ended, ended_slots, last_of}
-use Rattle.slot_runs.specs.Runs.{IsDepthFirst, IsRunEnd}
-use Rattle.slot_runs.proofs.Kept.{kept, kept_one, kept_none}
-use Rattle.slot_runs.proofs.RunLemmas.{run_within, outside_within}
+use Rattle.service_messages.specs.slot_runs.Runs.{IsDepthFirst, IsRunEnd}
+use Rattle.service_messages.proofs.slot_runs.Kept.{kept, kept_one, kept_none}
+use Rattle.service_messages.proofs.slot_runs.RunLemmas.{run_within, outside_within}
 use Rattle.frame_lives.specs.Known.{Known}
 use Rattle.frame_lives.specs.Steps.{ended, is_ending}
 use Rattle.frame_lives.proofs.Rows.{updated_here, updated_else}

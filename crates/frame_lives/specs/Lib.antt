@@ -2,3 +2,5 @@ pub mod Known
 pub mod Shown
 pub mod Steps
 pub mod Done
+pub mod frame_requests
+pub mod frame_start

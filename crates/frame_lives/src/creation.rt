@@ -1,30 +1,57 @@
 //! Create: an actor is made in an optional slot, with all that is fixed in it.
-ghost use Rattle.std.specs.Prelude.{◌≡◌, ◌++◌, ◌<◌, ℕ, pos, length, map, IfOk, OnOk};
+ghost use Rattle.std.specs.Prelude.{◌≡◌, ◌++◌, ◌∷◌, [], ◌+◌, ◌<◌, ℕ, pos, length, map, if◌then◌else◌, IfOk, OnOk};
 ghost use Rattle.std.specs.List.{flat_map};
 ghost use Rattle.room_kinds.specs.declared.system.SysKind.{SysKind};
-ghost use Rattle.actor_duties.specs.Words.{frame_at};
+ghost use Rattle.actor_duties.specs.Words.{frame_at, incarnation};
 ghost use Rattle.actor_duties.specs.Messages.{reply, coded};
-ghost use Rattle.actor_duties.specs.Lives.{create, announces, last_of, lives_made, made_slots};
+ghost use Rattle.actor_duties.specs.Lives.{create, announces, last_of, is_vacant, lives_made, made_slots};
 ghost use Rattle.service_messages.specs.Shown.{code_of};
 ghost use Rattle.frame_lives.specs.Shown.{shown, with_lives};
-ghost use Rattle.slot_runs.specs.Runs.{IsDepthFirst, AreRunEnds};
+ghost use Rattle.frame_lives.specs.Steps.{raised};
+ghost use Rattle.service_messages.specs.slot_runs.Runs.{IsDepthFirst, AreRunEnds};
 ghost use Rattle.frame_lives.specs.Done.{done_of, only_answers};
 
 use crate::done::DutyDone;
 use crate::slot_lives::SlotLives;
-use frame_messages::{announce, frame_at, frame_of, reply, whose};
 use room_kinds::{
     ControllerId, Endpoint, Generation, Incarnation, Msg, Outbox, Payload, Sequence, SlotId,
     SysKind,
 };
 use room_wiring::Wiring;
-use service_messages::Code;
-use slot_runs::SlotRuns;
+use service_messages::{Code, SlotRuns, announce, frame_at, frame_of, is_own, reply, whose};
 use std::alloc::{AllocError, Global};
 
 impl SlotLives {
-    /// Makes an actor in a slot and in all slots that it reaches by fixed references, in slot order,
-    /// each with its next generation, and announces each. The time is in proportion to what is made.
+    /// Makes an actor in a slot that is the controller's own and where nobody lives, with its next
+    /// generation, and announces it; does nothing at another slot.
+    fn make_in(
+        &mut self,
+        alloc: Global,
+        wiring: &Wiring,
+        me: ControllerId,
+        slot: SlotId,
+        made: &mut Sequence<Incarnation>,
+        out: &mut Outbox,
+    ) -> Result<(), AllocError>
+        requires slot { slot.0 < length wiring.now.slots }
+        requires there { slot.0 < (shown self.old).slots }
+        requires room { (shown self.old).lives.generation slot.0 < 4294967295 }
+        ensures known { OnOk result (shown self.new ≡ with_lives (shown self.old) (if is_vacant wiring.now me.0 (shown self.old).lives slot.0 then raised slot.0 (shown self.old).lives else (shown self.old).lives)) }
+        ensures made { OnOk result (made.new ≡ (if is_vacant wiring.now me.0 (shown self.old).lives slot.0 then made.old ++ incarnation slot.0 ((shown self.old).lives.generation slot.0 + 1) ∷ [] else made.old)) }
+        ensures sent { OnOk result (out.new ≡ (if is_vacant wiring.now me.0 (shown self.old).lives slot.0 then out.old ++ announces wiring.now me.0 (incarnation slot.0 ((shown self.old).lives.generation slot.0 + 1)) (pos 1) else out.old)) }
+    {
+        if !(is_own(wiring, me, slot) && !self.lives(slot)) {
+            return Ok(());
+        }
+        let actor = self.raise(slot);
+        announce(alloc, wiring, me, actor, 1, out)?;
+        made.push(actor)?;
+        Ok(())
+    }
+
+    /// Makes an actor in a slot and in all slots that it reaches by fixed references, in slot order, where
+    /// they are the controller's own and nobody lives there; each with its next generation, and announces
+    /// each. The time is in proportion to what is made with the slot.
     #[tactic(auto, using(crate::proofs::Making::making_room, crate::proofs::Making::making_slots))]
     fn make(
         &mut self,
@@ -40,8 +67,8 @@ impl SlotLives {
         requires there { slot.0 < length wiring.now.slots }
         requires whole { (shown self.old).slots ≡ length wiring.now.slots }
         requires room { (s : ℕ) → (shown self.old).lives.generation s < 4294967295 }
-        ensures known { OnOk result (shown self.new ≡ with_lives (shown self.old) (lives_made wiring.now slot.0 (shown self.old).lives)) }
-        ensures made { IfOk result (λ made. made ≡ map (last_of (lives_made wiring.now slot.0 (shown self.old).lives)) (made_slots wiring.now slot.0)) }
+        ensures known { OnOk result (shown self.new ≡ with_lives (shown self.old) (lives_made wiring.now me.0 slot.0 (shown self.old).lives)) }
+        ensures made { IfOk result (λ made. made ≡ map (last_of (lives_made wiring.now me.0 slot.0 (shown self.old).lives)) (made_slots wiring.now me.0 (shown self.old).lives slot.0)) }
         ensures sent { IfOk result (λ made. out.new ≡ out.old ++ flat_map (λ i. announces wiring.now me.0 i (pos 1)) made) }
     {
         let end = runs.end(wiring, slot);
@@ -49,9 +76,7 @@ impl SlotLives {
         let mut next = u32::from(slot.0);
         while next < end {
             let here = SlotId(next as u16);
-            let actor = self.raise(here);
-            announce(alloc, wiring, me, actor, 1, out)?;
-            made.push(actor)?;
+            self.make_in(alloc, wiring, me, here, &mut made, out)?;
             next = runs.next_made(wiring, slot, here);
         }
         Ok(made)

@@ -2,12 +2,12 @@
 ghost use Rattle.std.specs.Prelude.{◌≡◌, ◌<◌, length, map, IfOk};
 ghost use Rattle.actor_duties.specs.Lives.{ended_slots, lives_ended, last_of};
 ghost use Rattle.frame_lives.specs.Shown.{shown, with_lives};
-ghost use Rattle.slot_runs.specs.Runs.{IsDepthFirst, AreRunEnds};
+ghost use Rattle.service_messages.specs.slot_runs.Runs.{IsDepthFirst, AreRunEnds};
 
 use crate::slot_lives::SlotLives;
 use room_kinds::{Incarnation, Sequence, SlotId};
 use room_wiring::Wiring;
-use slot_runs::SlotRuns;
+use service_messages::SlotRuns;
 use std::alloc::{AllocError, Global};
 
 impl SlotLives {

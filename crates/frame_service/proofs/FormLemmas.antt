@@ -18,7 +18,7 @@ use Rattle.actor_duties.specs.Words.{is_frame, is_endpoint, is_own, is_optional,
 use Rattle.actor_duties.specs.State.{Frame}
 use Rattle.actor_duties.specs.Lives.{destroy_done, announce}
 use Rattle.actor_duties.specs.Frame.{FrameDone, nothing, only_sends, with_told, plainly, with_number, of_natural, frame_duty_of, is_request, is_forth, is_back, is_announced}
-use Rattle.frame_forms.proofs.Told.{told_past}
+use Rattle.frame_imports.proofs.frame_forms.Told.{told_past}
 use Rattle.frame_service.specs.Forms.{may_go, has_form, first_number}
 
 not_empty : (n : ℕ) → (suc n == 0) ≡ false
@@ -70,6 +70,8 @@ unformed t me f m kinds.Withdraw x y h = refl
 unformed t me f m kinds.Bound x y h = refl
 unformed t me f m kinds.Ended x y h = refl
 unformed t me f m kinds.NameReply x y h = refl
+unformed t me f m kinds.PartMake x y h = refl
+unformed t me f m kinds.PartEnd x y h = refl
 
 -- a slot of which a test is true is there
 there_by : (t : Tables) (test : Slot → Bool) (s : ℕ) → option_map_or test (slot_at t s) false ≡ true → s < length t.slots

@@ -2,13 +2,13 @@
 use Rattle.std.proofs.Common.{◌≡◌, ℕ, ◌<◌, length, List, ap, ◌∙◌}
 use Rattle.room_wiring.specs.declared.tables.Tables.{Tables}
 use Rattle.actor_world.specs.Start.{first_frame}
-use Rattle.slot_runs.specs.Runs.{IsDepthFirst, AreRunEnds}
+use Rattle.service_messages.specs.slot_runs.Runs.{IsDepthFirst, AreRunEnds}
 use Rattle.frame_lives.specs.declared.row.Row.{Row}
 use Rattle.frame_lives.specs.Known.{Known}
 use Rattle.frame_lives.specs.Shown.{shown}
-use Rattle.frame_peers.specs.Parts.{frame_by}
-use Rattle.frame_start.specs.First.{first_known}
-use Rattle.import_places.specs.Lending.{Kept, Lending, lending, nothing_lent}
+use Rattle.frame_imports.specs.frame_peers.Parts.{frame_by}
+use Rattle.frame_lives.specs.frame_start.First.{first_known}
+use Rattle.frame_imports.specs.import_places.Lending.{Kept, Lending, lending, nothing_lent}
 use Rattle.frame_service.specs.declared.state.FrameState.{FrameState}
 use Rattle.frame_service.specs.State.{frame_in, IsFrameOf}
 

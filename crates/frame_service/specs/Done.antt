@@ -6,7 +6,7 @@ use Rattle.actor_duties.specs.State as rows
 use Rattle.actor_duties.specs.State.{Frame}
 use Rattle.actor_duties.specs.Frame.{FrameDone}
 use Rattle.frame_lives.specs.declared.done.DutyDone.{DutyDone}
-use Rattle.frame_endings.specs.Ends.{left_of}
+use Rattle.frame_service.specs.frame_endings.Ends.{left_of}
 use Rattle.frame_service.specs.declared.state.FrameState.{FrameState}
 use Rattle.frame_service.specs.State.{frame_in, IsFrameOf}
 

@@ -1,5 +1,5 @@
 -- The form of the messages of each kind, as a whole: from whom to whom, and how many numbers.
-use Rattle.std.specs.Prelude.{ℕ, ℤ, pos, ◌==◌, ◌&&◌, Bool, false, List, [], ◌∷◌, length}
+use Rattle.std.specs.Prelude.{ℕ, ℤ, pos, ◌==◌, ◌&&◌, Bool, false, not, List, [], ◌∷◌, length}
 use Rattle.room_kinds.specs.declared.numbers.Endpoint.{Endpoint}
 use Rattle.room_kinds.specs.declared.system.SysKind.{SysKind}
 use Rattle.room_kinds.specs.declared.system.SysKind.TheVariants as kinds
@@ -9,7 +9,7 @@ use Rattle.actor_duties.specs.Frame.{is_request, is_answer, is_forth, is_back, i
 -- whether a message of a kind may go from this source to that target
 abbrev pub may_go : Tables → ℕ → SysKind → Endpoint → Endpoint → Bool
 may_go t me kinds.Create x o = is_request t me x o
-may_go t me kinds.CreateDone o x = is_answer t me o x
+may_go t me kinds.CreateDone o x = is_answer t me o x && not (o.generation.0 == 0)
 may_go t me kinds.CreateRefused o x = is_answer t me o x && (o.generation.0 == 0)
 may_go t me kinds.Destroy x o = is_request t me x o
 may_go t me kinds.DestroyDone o x = is_answer t me o x
@@ -25,6 +25,8 @@ may_go t me kinds.Withdraw x y = false
 may_go t me kinds.Bound x y = false
 may_go t me kinds.Ended x y = false
 may_go t me kinds.NameReply x y = false
+may_go t me kinds.PartMake x y = false
+may_go t me kinds.PartEnd x y = false
 
 -- how many numbers a message of a kind has
 abbrev pub numbers_of : SysKind → ℕ
@@ -45,6 +47,8 @@ numbers_of kinds.Withdraw = 0
 numbers_of kinds.Bound = 0
 numbers_of kinds.Ended = 0
 numbers_of kinds.NameReply = 0
+numbers_of kinds.PartMake = 0
+numbers_of kinds.PartEnd = 0
 
 -- whether a message is of the form of its kind
 abbrev pub has_form : Tables → ℕ → SysKind → List ℤ → Endpoint → Endpoint → Bool

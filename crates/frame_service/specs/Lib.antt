@@ -1,3 +1,4 @@
 pub mod State
 pub mod Forms
 pub mod Done
+pub mod frame_endings

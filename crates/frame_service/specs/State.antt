@@ -1,11 +1,16 @@
 -- What the state of a frame service stands for.
+-- The calls of the frame service are equations between what it keeps and the definitions of
+-- `actor_duties`, with the messages appended in their order: `start` is `first_frame`, and `duty`,
+-- `request` and `peer` are `frame_duty`, `frame_request` and `frame_peer` on the state that
+-- `frame_in` reads from its tables. `IsFrameOf`: a state has a row for each slot of its wiring;
+-- each call keeps that.
 use Rattle.std.specs.Prelude.{◌≡◌, ◌<◌, length}
 use Rattle.room_wiring.specs.declared.tables.Tables.{Tables}
 use Rattle.actor_duties.specs.State.{Frame}
-use Rattle.slot_runs.specs.Runs.{IsDepthFirst, AreRunEnds}
+use Rattle.service_messages.specs.slot_runs.Runs.{IsDepthFirst, AreRunEnds}
 use Rattle.frame_lives.specs.Shown.{shown}
-use Rattle.frame_peers.specs.Parts.{frame_by}
-use Rattle.import_places.specs.Lending.{lending}
+use Rattle.frame_imports.specs.frame_peers.Parts.{frame_by}
+use Rattle.frame_imports.specs.import_places.Lending.{lending}
 use Rattle.frame_service.specs.declared.state.FrameState.{FrameState}
 
 -- the state of the definitions

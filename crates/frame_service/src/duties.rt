@@ -60,7 +60,9 @@ impl FrameState {
             | SysKind::Withdraw
             | SysKind::Bound
             | SysKind::Ended
-            | SysKind::NameReply => Ok(nothing(self.alloc)),
+            | SysKind::NameReply
+            | SysKind::PartMake
+            | SysKind::PartEnd => Ok(nothing(self.alloc)),
         }
     }
 
@@ -105,7 +107,7 @@ impl FrameState {
 
     /// What the controller does at a message of priority 0 of the kinds 0 to 11: what comes of its row,
     /// where the message is of the form of its kind; else nothing. At the other kinds, which are the
-    /// layer service's, and at numbers that are no kind's it does nothing. Afterwards the controller
+    /// layer service's or sent by no controller yet, and at numbers that are no kind's it does nothing. Afterwards the controller
     /// takes the initial transitions of what was made, or withdraws what the ended have registered, and
     /// sends the last message.
     pub fn duty(
@@ -121,7 +123,7 @@ impl FrameState {
         ensures me { OnOk result (self.new.me ≡ self.old.me) }
         ensures done { IfOk result (λ d. (kind : SysKind) → number_of kind ≡ m.now.signal
             → IsDone wiring.now self.old self.new (frame_duty wiring.now self.old.me.0 (frame_in self.old) kind m.now) out.old out.new d) }
-        ensures unknown { IfOk result (λ d. 17 ≤ m.now.signal → IsDone wiring.now self.old self.new (nothing (frame_in self.old)) out.old out.new d) }
+        ensures unknown { IfOk result (λ d. 19 ≤ m.now.signal → IsDone wiring.now self.old self.new (nothing (frame_in self.old)) out.old out.new d) }
     {
         match SysKind::from_number(m.signal) {
             Some(kind) => self.duty_from(wiring, kind, m, out),

@@ -2,7 +2,7 @@
 ghost use Rattle.std.specs.Prelude.{◌≡◌, ◌≢◌, ◌<◌, pos, length, MatchOption};
 ghost use Rattle.frame_service.specs.Forms.{may_go, numbers_of, has_form, first_number};
 
-use frame_forms::{is_announced, is_answer, is_back, is_forth, is_request};
+use frame_imports::{is_announced, is_answer, is_back, is_forth, is_request};
 use room_kinds::{ControllerId, Endpoint, Msg, SysKind};
 use room_wiring::Wiring;
 
@@ -19,7 +19,8 @@ fn may_go(
 {
     match kind {
         SysKind::Create | SysKind::Destroy => is_request(wiring, me, source, target),
-        SysKind::CreateDone | SysKind::DestroyDone => is_answer(wiring, me, source, target),
+        SysKind::CreateDone => is_answer(wiring, me, source, target) && source.generation.0 != 0,
+        SysKind::DestroyDone => is_answer(wiring, me, source, target),
         SysKind::CreateRefused => {
             is_answer(wiring, me, source, target) && source.generation.0 == 0
         }
@@ -31,7 +32,9 @@ fn may_go(
         | SysKind::Withdraw
         | SysKind::Bound
         | SysKind::Ended
-        | SysKind::NameReply => false,
+        | SysKind::NameReply
+        | SysKind::PartMake
+        | SysKind::PartEnd => false,
     }
 }
 
@@ -56,7 +59,9 @@ fn numbers_of(kind: SysKind) -> usize
         | SysKind::Withdraw
         | SysKind::Bound
         | SysKind::Ended
-        | SysKind::NameReply => 0,
+        | SysKind::NameReply
+        | SysKind::PartMake
+        | SysKind::PartEnd => 0,
     }
 }
 

@@ -7,10 +7,12 @@
 mod answers;
 mod duties;
 mod forms;
+pub mod frame_endings;
 mod imports;
 mod lives;
 mod requests;
 mod service;
 mod state;
 
+pub use frame_endings::destroy;
 pub use state::FrameState;

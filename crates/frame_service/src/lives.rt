@@ -7,20 +7,19 @@ ghost use Rattle.frame_service.specs.Forms.{has_form};
 ghost use Rattle.frame_service.specs.Done.{IsDone};
 ghost use Rattle.actor_duties.specs.Words.{whose};
 ghost use Rattle.actor_duties.specs.Lives.{counts_as_live};
-ghost use Rattle.slot_runs.specs.Runs.{IsDepthFirst, AreRunEnds};
+ghost use Rattle.service_messages.specs.slot_runs.Runs.{IsDepthFirst, AreRunEnds};
 ghost use Rattle.frame_lives.specs.Shown.{shown};
-ghost use Rattle.import_places.specs.Lending.{lending, lending_ended};
+ghost use Rattle.frame_imports.specs.import_places.Lending.{lending, lending_ended};
 
 use crate::duties::nothing;
 use crate::forms::{first_number, one_of};
+use crate::frame_endings::destroy;
 use crate::state::FrameState;
-use frame_endings::destroy;
+use frame_imports::Imports;
 use frame_lives::{DutyDone, SlotLives};
-use frame_messages::whose;
-use import_places::Imports;
 use room_kinds::{ControllerId, Endpoint, Msg, Outbox, SlotId};
 use room_wiring::Wiring;
-use slot_runs::SlotRuns;
+use service_messages::{SlotRuns, whose};
 use std::alloc::AllocError;
 
 /// Whether a container lives, and something in its slot, so that it may end.

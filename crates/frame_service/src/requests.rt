@@ -7,7 +7,7 @@ ghost use Rattle.room_kinds.specs.declared.command.FrameCommand.TheVariants as c
 
 use crate::state::FrameState;
 use frame_imports::{Asked, request_deport, request_import};
-use frame_requests::{destroy, incarnate};
+use frame_lives::{destroy, incarnate};
 use room_kinds::{FrameCommand, Incarnation, Outbox};
 use room_wiring::Wiring;
 use std::alloc::AllocError;

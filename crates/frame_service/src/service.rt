@@ -2,16 +2,16 @@
 ghost use Rattle.std.specs.Prelude.{◌≡◌, ◌<◌, length, IfOk};
 ghost use Rattle.actor_duties.specs.Peers.{frame_peer, known};
 ghost use Rattle.actor_world.specs.Start.{first_frame};
-ghost use Rattle.slot_runs.specs.Runs.{IsDepthFirst};
+ghost use Rattle.service_messages.specs.slot_runs.Runs.{IsDepthFirst};
 ghost use Rattle.frame_lives.specs.Known.{live_in, some_generation};
 ghost use Rattle.frame_service.specs.State.{frame_in, IsFrameOf};
 
 use crate::state::FrameState;
-use frame_start::first_lives;
-use import_places::Imports;
+use frame_imports::Imports;
+use frame_lives::first_lives;
 use room_kinds::{ControllerId, Endpoint, Generation, SlotId};
 use room_wiring::Wiring;
-use slot_runs::SlotRuns;
+use service_messages::SlotRuns;
 use std::alloc::{AllocError, Global};
 
 impl FrameState {
@@ -42,7 +42,7 @@ impl FrameState {
     pub fn peer(&self, wiring: &Wiring, from: Endpoint) -> Option<Endpoint>
         ensures { result ≡ frame_peer wiring.now self.now.me.0 (frame_in self.now) from }
     {
-        frame_peers::peer(&self.lives, &self.imports, wiring, self.me, from)
+        frame_imports::frame_peers::peer(&self.lives, &self.imports, wiring, self.me, from)
     }
 
     /// The generation that lives in a slot of the controller's own. It takes no memory.

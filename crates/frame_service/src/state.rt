@@ -1,8 +1,8 @@
 //! The state of a frame service.
+use frame_imports::Imports;
 use frame_lives::SlotLives;
-use import_places::Imports;
 use room_kinds::ControllerId;
-use slot_runs::SlotRuns;
+use service_messages::SlotRuns;
 use std::alloc::Global;
 
 /// The frame service of controller `me`. Contracts see its state as the definitions' (`frame_in`).

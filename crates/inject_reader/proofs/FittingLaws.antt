@@ -6,10 +6,11 @@ use Rattle.std.specs.List.{AllByRecursion, zip}
 use Rattle.std.proofs.lemmas.Bool.{and_parts}
 use Rattle.std.proofs.lemmas.Bool.Decides.{nat_tests}
 use Rattle.std.proofs.lemmas.Option.{option_and_then_some}
-use Rattle.name_numbers.specs.Names.{same}
+use Rattle.name_tables.specs.name_numbers.Names.{same}
 use Rattle.room_wiring.specs.WellNamed.{is_ident}
 use Rattle.room_kinds.specs.declared.number_type.NumberType.{NumberType}
 use Rattle.room_kinds.specs.Reduction.{reduced}
+use Rattle.room_kinds.specs.Structure.{is_end}
 use Rattle.room_wiring.specs.declared.tables.Tables.{Tables}
 use Rattle.room_wiring.specs.declared.slot.Slot.{Slot}
 use Rattle.room_wiring.specs.declared.names.ClassNames.{ClassNames}
@@ -17,14 +18,14 @@ use Rattle.room_wiring.specs.declared.names.PortNames.{PortNames}
 use Rattle.room_wiring.specs.declared.names.SignalNames.{SignalNames}
 use Rattle.room_wiring.specs.Slots.{slot_at, class_of, slot_named}
 use Rattle.room_wiring.specs.Places.{place_count}
-use Rattle.wiring_names.specs.Lookup.{port_of}
-use Rattle.inject_lines.specs.declared.accepted.What.{What}
-use Rattle.inject_lines.specs.declared.accepted.What.TheVariants as whats
-use Rattle.inject_lines.specs.declared.accepted.Line.{Line}
-use Rattle.inject_lines.specs.Numerals.{value_of, number_in}
-use Rattle.inject_lines.specs.Forms.{LoadForm, MessageForm, LineForm, Settle, Message, loaded, with_number, priority_in, priority_of, load_in, message_in, settle_in, target_in, form_of, form_in}
-use Rattle.inject_lines.specs.Fields.{fields}
-use Rattle.inject_reader.specs.Meaning.{Fault, ◌>>=◌, coded, is_own, own_slot, slot_meant, is_end, end_place, narrow, port_named, port_in_class, port_meant, coming, first_coming, coming_at, signal_meant, reduced_all, payload_meant, whoever, message_meant, form_meant, line_meant}
+use Rattle.room_wiring.specs.wiring_names.Lookup.{port_of}
+use Rattle.inject_reader.specs.declared.inject_lines.accepted.What.{What}
+use Rattle.inject_reader.specs.declared.inject_lines.accepted.What.TheVariants as whats
+use Rattle.inject_reader.specs.declared.inject_lines.accepted.Line.{Line}
+use Rattle.inject_reader.specs.inject_lines.Numerals.{value_of, number_in}
+use Rattle.inject_reader.specs.inject_lines.Forms.{LoadForm, MessageForm, LineForm, Settle, Message, loaded, with_number, priority_in, priority_of, load_in, message_in, settle_in, target_in, form_of, form_in}
+use Rattle.inject_reader.specs.inject_lines.Fields.{fields}
+use Rattle.inject_reader.specs.Meaning.{Fault, ◌>>=◌, coded, is_own, own_slot, slot_meant, end_place, narrow, port_named, port_in_class, port_meant, coming, first_coming, coming_at, signal_meant, reduced_all, payload_meant, whoever, message_meant, form_meant, line_meant}
 use Rattle.inject_reader.specs.Answer.{is_passed_over, numbered, entry_at, joined, entries_from, answer}
 use Rattle.inject_reader.specs.declared.fault.InjectFault.{InjectFault}
 use Rattle.inject_reader.specs.Gives.{Gives}

@@ -8,8 +8,8 @@ use Rattle.std.proofs.lemmas.Option.{slice_get_within, get_or_from_slice_get}
 use Rattle.std.proofs.lemmas.List.Sums.{fails_before_first, prefix_len-le-length}
 use Rattle.std.proofs.lemmas.List.Folds.{prefix_len-append}
 use lib.Pointwise.{bytes_decides}
-use Rattle.name_numbers.specs.Names.{same, is_among}
-use Rattle.wiring_names.specs.Lookup.{added, numbering, numbered, narrowed, place_of}
+use Rattle.name_tables.specs.name_numbers.Names.{same, is_among}
+use Rattle.room_wiring.specs.wiring_names.Lookup.{added, numbering, numbered, narrowed, place_of}
 use Rattle.inject_reader.specs.Guesses.{IsNoLater}
 
 -- ---- names that stand twice are numbered once, no later than at their first place

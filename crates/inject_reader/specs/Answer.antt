@@ -2,8 +2,8 @@
 use Rattle.std.specs.Prelude.{ℕ, ◌+◌, List, [], ◌∷◌, ◌++◌, Bool, true, ◌==◌, nat_lt, if◌then◌else◌, Result, Ok, Err, length}
 use Rattle.std.specs.Str.Lines.{lines}
 use Rattle.room_wiring.specs.declared.tables.Tables.{Tables}
-use Rattle.inject_lines.specs.declared.accepted.What.{What}
-use Rattle.inject_lines.specs.declared.accepted.Line.{Line}
+use Rattle.inject_reader.specs.declared.inject_lines.accepted.What.{What}
+use Rattle.inject_reader.specs.declared.inject_lines.accepted.Line.{Line}
 use Rattle.inject_reader.specs.Meaning.{Fault, ◌>>=◌, line_meant}
 
 -- an empty line, or one that begins with `#`

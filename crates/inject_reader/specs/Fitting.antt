@@ -2,17 +2,18 @@
 use Rattle.std.specs.Prelude.{◌≡◌, ℕ, ℤ, ◌+◌, ◌<◌, ◌≤◌, List, IsTrue, Some, length, slice_get, option_and_then}
 use Rattle.std.specs.List.{AllByRecursion}
 use Rattle.room_kinds.specs.declared.numbers.Endpoint.{Endpoint}
+use Rattle.room_kinds.specs.Structure.{is_end}
 use Rattle.room_wiring.specs.declared.tables.Tables.{Tables}
 use Rattle.room_wiring.specs.declared.slot.Slot.{Slot}
 use Rattle.room_wiring.specs.declared.names.PortNames.{PortNames}
 use Rattle.room_wiring.specs.declared.names.SignalNames.{SignalNames}
 use Rattle.room_wiring.specs.Slots.{slot_at, class_of}
 use Rattle.room_wiring.specs.Places.{place_count}
-use Rattle.wiring_names.specs.Lookup.{port_of}
-use Rattle.inject_lines.specs.declared.accepted.What.{What}
-use Rattle.inject_lines.specs.declared.accepted.What.TheVariants as whats
-use Rattle.inject_lines.specs.declared.accepted.Line.{Line}
-use Rattle.inject_reader.specs.Meaning.{is_own, is_end, coming, first_coming}
+use Rattle.room_wiring.specs.wiring_names.Lookup.{port_of}
+use Rattle.inject_reader.specs.declared.inject_lines.accepted.What.{What}
+use Rattle.inject_reader.specs.declared.inject_lines.accepted.What.TheVariants as whats
+use Rattle.inject_reader.specs.declared.inject_lines.accepted.Line.{Line}
+use Rattle.inject_reader.specs.Meaning.{is_own, coming, first_coming}
 
 -- a slot of the wiring that isn't an imported one
 pub record IsOwnSlot (t : Tables) (s : ℕ) : Type 0 where

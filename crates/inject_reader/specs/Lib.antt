@@ -3,3 +3,4 @@ pub mod Answer
 pub mod Gives
 pub mod Guesses
 pub mod Fitting
+pub mod inject_lines

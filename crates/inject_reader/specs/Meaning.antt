@@ -1,13 +1,11 @@
 -- What a line asks for at a wiring: names are looked up, numbers are reduced to their types.
-use Rattle.std.specs.Prelude.{ℕ, ℤ, ◌+◌, ◌*◌, List, ◌&&◌, ◌==◌, nat_lt, nat_le, if◌then◌else◌, Bool, true, false, Option, Some, None, Result, Ok, Err, option_and_then, position, slice_get, length, map}
+use Rattle.std.specs.Prelude.{ℕ, ℤ, ◌+◌, ◌*◌, List, ◌&&◌, ◌==◌, nat_lt, nat_le, if◌then◌else◌, Bool, not, true, false, Option, Some, None, Result, Ok, Err, option_and_then, position, slice_get, length, map}
 use Rattle.std.specs.List.{zip}
 use Rattle.std.specs.Option.{option_map_or}
-use Rattle.name_numbers.specs.Names.{same}
+use Rattle.name_tables.specs.name_numbers.Names.{same}
 use Rattle.room_kinds.specs.declared.number_type.NumberType.{NumberType}
-use Rattle.room_kinds.specs.declared.structure.PortKind.{PortKind}
-use Rattle.room_kinds.specs.declared.structure.PortKind.TheVariants as ports
 use Rattle.room_kinds.specs.declared.structure.ReferenceKind.{ReferenceKind}
-use Rattle.room_kinds.specs.declared.structure.ReferenceKind.TheVariants as references
+use Rattle.room_kinds.specs.Structure.{is_end, is_imported}
 use Rattle.room_kinds.specs.declared.numbers.Endpoint.{Endpoint}
 use Rattle.room_kinds.specs.Reduction.{reduced}
 use Rattle.room_wiring.specs.declared.tables.Tables.{Tables}
@@ -17,10 +15,10 @@ use Rattle.room_wiring.specs.declared.names.PortNames.{PortNames}
 use Rattle.room_wiring.specs.declared.names.SignalNames.{SignalNames}
 use Rattle.room_wiring.specs.Slots.{slot_at, class_of, slot_named}
 use Rattle.room_wiring.specs.Places.{place_count}
-use Rattle.inject_lines.specs.declared.accepted.What.{What}
-use Rattle.inject_lines.specs.declared.accepted.What.TheVariants as whats
-use Rattle.inject_lines.specs.Numerals.{value_of}
-use Rattle.inject_lines.specs.Forms.{MessageForm, LineForm, Settle, Message, form_in}
+use Rattle.inject_reader.specs.declared.inject_lines.accepted.What.{What}
+use Rattle.inject_reader.specs.declared.inject_lines.accepted.What.TheVariants as whats
+use Rattle.inject_reader.specs.inject_lines.Numerals.{value_of}
+use Rattle.inject_reader.specs.inject_lines.Forms.{MessageForm, LineForm, Settle, Message, form_in}
 
 -- the number of a faulty line, and its code
 abbrev pub Fault : Type 0
@@ -40,9 +38,7 @@ coded line code None = Err (line, code)
 
 -- a slot in which an actor stands that isn't imported there
 abbrev pub is_own : ReferenceKind → Bool
-is_own references.Fixed = true
-is_own references.Optional = true
-is_own references.Imported = false
+is_own kind = not (is_imported kind)
 
 -- this slot, unless it is an imported one
 abbrev pub own_slot : Tables → ℕ → Option ℕ
@@ -53,15 +49,6 @@ unfoldable pub slot_meant : Tables → List ℕ → Option ℕ
 slot_meant t path = option_and_then (own_slot t) (slot_named t path)
 
 -- ---- code 3
-
--- an end port or an internal end port; `frame`, a relay port, a service access point and a service provision point are none
-abbrev pub is_end : PortKind → Bool
-is_end ports.End = true
-is_end ports.Internal = true
-is_end ports.Frame = false
-is_end ports.Relay = false
-is_end ports.Sap = false
-is_end ports.Spp = false
 
 -- this port with its number, if it is an end port that has the place
 abbrev pub end_place : Tables → ℕ → ℕ → ℕ → PortNames → Option (ℕ × PortNames)

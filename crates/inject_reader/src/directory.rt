@@ -1,23 +1,21 @@
 //! Look-ups of names at a wiring.
 ghost use Rattle.std.specs.Prelude.{◌≡◌, ◌<◌, Some, false, length, slice_get, option_map, option_and_then, IfOk, IfSome};
-ghost use Rattle.std.specs.Option.{option_copied, option_map_or};
-ghost use Rattle.name_numbers.specs.Names.{same};
+ghost use Rattle.std.specs.Option.{option_map_or};
+ghost use Rattle.name_tables.specs.name_numbers.Names.{same};
 ghost use Rattle.room_wiring.specs.Slots.{slot_at, class_of, slot_named};
 ghost use Rattle.room_wiring.specs.Places.{place_count};
 ghost use Rattle.inject_reader.specs.Guesses.{IsNoLater};
-ghost use Rattle.wiring_names.specs.Lookup.{port_of};
-ghost use Rattle.inject_lines.specs.Numerals.{value_of};
+ghost use Rattle.room_wiring.specs.wiring_names.Lookup.{port_of};
+ghost use Rattle.inject_reader.specs.inject_lines.Numerals.{value_of};
 ghost use Rattle.inject_reader.specs.Meaning.{is_own, slot_meant, end_place, port_named, port_in_class, port_meant, coming, signal_meant};
 
-use crate::parts::{
-    coming, coming_at, first_coming, is_end, is_own, narrow, port_place, signal_place,
-};
-use inject_lines::value;
+use crate::inject_lines::value;
+use crate::parts::{coming, coming_at, first_coming, narrow, port_place, signal_place};
 use room_kinds::SlotId;
+use room_wiring::wiring_names::Names;
 use room_wiring::{ClassNames, PortNames, SignalNames, Wiring};
 use std::alloc::{AllocError, Global};
 use std::marker::Model;
-use wiring_names::Names;
 
 /// A wiring with its names numbered. A contract sees the tables of the wiring.
 ///
@@ -44,7 +42,10 @@ impl<'a> Model for Directory<'a> {
 fn has_path(wiring: &Wiring, s: SlotId, path: &[u8]) -> bool
     ensures { result ≡ option_map_or (λ x. same x.path path.now) (slot_at wiring.now s.0) false }
 {
-    u32::from(s.0) < wiring.slot_count() && wiring.slot(s).path.is(path)
+    match wiring.get_slot(s) {
+        Some(slot) => slot.path.is(path),
+        None => false,
+    }
 }
 
 /// The first slot with this path, searched for.
@@ -91,7 +92,10 @@ impl<'a> Directory<'a> {
     fn is_own(&self, s: SlotId) -> bool
         ensures { result ≡ option_map_or (λ x. is_own x.kind) (slot_at self.now s.0) false }
     {
-        u32::from(s.0) < self.wiring.slot_count() && is_own(self.wiring.slot(s).kind)
+        match self.wiring.get_slot(s) {
+            Some(slot) => !slot.kind.is_imported(),
+            None => false,
+        }
     }
 
     /// The slot with this path, unless it is an imported one.
@@ -101,17 +105,6 @@ impl<'a> Directory<'a> {
     {
         let slot = self.slot_named(path)?;
         if self.is_own(slot) { Some(slot) } else { None }
-    }
-
-    #[tactic(auto, unfolding(room_wiring::specs::Slots::class_of))]
-    fn class(&self, s: SlotId) -> Option<&'a ClassNames>
-        ensures { option_copied result ≡ class_of self.now s.0 }
-    {
-        if u32::from(s.0) < self.wiring.slot_count() {
-            Some(self.wiring.class(self.wiring.slot(s).class))
-        } else {
-            None
-        }
     }
 
     /// The number of the port of a slot's class with this name.
@@ -147,7 +140,7 @@ impl<'a> Directory<'a> {
     {
         let names = class.ports.as_slice().get(usize::from(port))?;
         let place = value(digits);
-        if is_end(names.kind) && place < u64::from(self.places(s, class, port)) {
+        if names.kind.is_end() && place < u64::from(self.places(s, class, port)) {
             Some(EndPlace {
                 port,
                 place: place as u32,
@@ -181,7 +174,7 @@ impl<'a> Directory<'a> {
         ensures place { IfSome result (λ e. e.place ≡ value_of digits.now) }
         ensures known { IfSome result (λ e. option_and_then (port_of e.port) (class_of self.now s.0) ≡ Some e.names.now) }
     {
-        let class = self.class(s)?;
+        let class = self.wiring.class_of(s)?;
         self.end_in_class(s, class, name, digits)
     }
 

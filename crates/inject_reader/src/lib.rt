@@ -5,13 +5,13 @@
 
 mod directory;
 mod fault;
+pub mod inject_lines;
 mod lines;
 mod meaning;
 mod parts;
 mod reader;
-#[cfg(test)]
-mod tests;
 
+pub use crate::inject_lines::{Line, What};
 pub use fault::InjectFault;
-pub use inject_lines::{Line, What};
+pub use inject_lines::{are_digits, value};
 pub use reader::read_injections;

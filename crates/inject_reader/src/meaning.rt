@@ -1,12 +1,12 @@
 //! What a line asks for.
 ghost use Rattle.std.specs.Prelude.{◌≡◌, ◌≤◌, length, IfOk};
-ghost use Rattle.inject_lines.specs.Views.{wanted_view};
+ghost use Rattle.inject_reader.specs.inject_lines.Views.{wanted_view};
 ghost use Rattle.inject_reader.specs.Gives.{Gives};
 ghost use Rattle.inject_reader.specs.Meaning.{reduced_all, payload_meant, message_meant, line_meant};
 
 use crate::directory::Directory;
 use crate::fault::InjectFault;
-use inject_lines::{Form, Wanted, What, read_form};
+use crate::inject_lines::{Form, Wanted, What, read_form};
 use room_kinds::{Endpoint, Generation, NumberType, Payload};
 use std::alloc::{AllocError, Global};
 

@@ -1,35 +1,11 @@
 //! Ports and signals, and how they are found by name.
 ghost use Rattle.std.specs.Prelude.{◌≡◌, ◌<◌, ◌≤◌, false, length, position, slice_get, option_map, option_and_then};
 ghost use Rattle.std.specs.Option.{option_copied, option_map_or};
-ghost use Rattle.name_numbers.specs.Names.{same};
+ghost use Rattle.name_tables.specs.name_numbers.Names.{same};
 ghost use Rattle.inject_reader.specs.Guesses.{IsNoLater};
-ghost use Rattle.inject_reader.specs.Meaning.{is_own, is_end, narrow, coming, first_coming, coming_at};
+ghost use Rattle.inject_reader.specs.Meaning.{narrow, coming, first_coming, coming_at};
 
-use room_kinds::{PortKind, ReferenceKind};
 use room_wiring::{PortNames, SignalNames};
-
-pub fn is_own(kind: ReferenceKind) -> bool
-    ensures { result ≡ is_own kind }
-{
-    match kind {
-        ReferenceKind::Fixed => true,
-        ReferenceKind::Optional => true,
-        ReferenceKind::Imported => false,
-    }
-}
-
-pub fn is_end(kind: PortKind) -> bool
-    ensures { result ≡ is_end kind }
-{
-    match kind {
-        PortKind::End => true,
-        PortKind::Internal => true,
-        PortKind::Frame => false,
-        PortKind::Relay => false,
-        PortKind::Sap => false,
-        PortKind::Spp => false,
-    }
-}
 
 fn has_port(ports: &[PortNames], at: usize, name: &[u8]) -> bool
     ensures { result ≡ option_map_or (λ x. same x.name name.now) (slice_get ports.now at) false }

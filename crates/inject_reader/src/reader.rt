@@ -7,9 +7,9 @@ ghost use Rattle.inject_reader.specs.Answer.{is_passed_over, entry_at, entries_f
 
 use crate::directory::Directory;
 use crate::fault::InjectFault;
+use crate::inject_lines::Line;
 use crate::lines::{first_line, line_count};
 use crate::meaning::read_line;
-use inject_lines::Line;
 use room_wiring::Wiring;
 use std::alloc::Global;
 

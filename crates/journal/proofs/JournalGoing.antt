@@ -4,8 +4,8 @@ use Rattle.std.proofs.lemmas.List.{at_drop_more, at_drop_all}
 use Rattle.room_kinds.specs.declared.note.Note.{Note}
 use Rattle.room_kinds.specs.declared.numbers.SlotId.{SlotId}
 use Rattle.room_wiring.specs.declared.tables.Tables.{Tables}
-use Rattle.line_text.specs.Output.{Output, Put}
-use Rattle.line_text.proofs.Going.{Going, going_end}
+use Rattle.room_outside.specs.line_text.Output.{Output, Put}
+use Rattle.room_outside.proofs.line_text.Going.{Going, going_end}
 use Rattle.journal.specs.declared.entry.Entry.{Entry}
 use Rattle.journal.specs.Lines.{note_line, note_lines, speaker_after}
 use Rattle.journal.specs.Text.{controller_text, controllers_text}

@@ -10,7 +10,7 @@ use Rattle.room_kinds.specs.declared.note.Note.TheVariants as notes
 use Rattle.room_wiring.specs.declared.tables.Tables.{Tables}
 use Rattle.room_wiring.specs.declared.names.ClassNames.{ClassNames}
 use Rattle.room_wiring.specs.declared.names.PortNames.{PortNames}
-use Rattle.room_wiring.specs.Slots.{class_of}
+use Rattle.room_wiring.specs.Slots.{class_of, port_at}
 use Rattle.room_wiring.specs.Places.{port_count}
 use Rattle.room_wiring.specs.WellNamed.{signals_of}
 use Rattle.journal.specs.declared.entry.Entry.{Entry}
@@ -19,7 +19,6 @@ use Rattle.journal.specs.declared.entry.Did.{Did}
 use Rattle.journal.specs.declared.entry.Did.TheVariants as outcomes
 use Rattle.journal.specs.declared.entry.Left.{Left}
 use Rattle.journal.specs.declared.entry.Journals.{Journals}
-use Rattle.journal.specs.Names.{port_at}
 use Rattle.journal.specs.Lines.{speaker_after, is_duty, speaker_of}
 
 -- a controller's number, or the environment's
@@ -49,7 +48,7 @@ pub record HasSignal (t : Tables) (s p signal : ℕ) : Type 0 where
 -- a kind of system messages at priority 0, else a signal of the target's port
 abbrev pub FitsSignal : Tables → ℕ → Endpoint → ℕ → Type 0
 FitsSignal t prio target signal =
-    ((prio ≡ 0) × (signal < 17)) ⊎ ((1 ≤ prio) × HasSignal t target.slot.0 target.port signal)
+    ((prio ≡ 0) × (signal < 19)) ⊎ ((1 ≤ prio) × HasSignal t target.slot.0 target.port signal)
 
 -- a message whose parties, endpoints and signal the wiring has
 pub record FitsMessage (t : Tables) (m : Msg) : Type 0 where

@@ -7,7 +7,7 @@ use Rattle.room_kinds.specs.declared.message.Msg.{Msg}
 use Rattle.room_kinds.specs.declared.note.Note.{Note}
 use Rattle.room_kinds.specs.declared.note.Note.TheVariants as notes
 use Rattle.room_wiring.specs.declared.tables.Tables.{Tables}
-use Rattle.line_text.specs.Lines.{line, numbers_text}
+use Rattle.room_outside.specs.line_text.Lines.{line, numbers_text}
 use Rattle.journal.specs.declared.entry.Entry.{Entry}
 use Rattle.journal.specs.declared.entry.Entry.TheVariants as entries
 use Rattle.journal.specs.declared.entry.Did.{Did}

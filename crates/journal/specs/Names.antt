@@ -1,14 +1,15 @@
 -- How a journal names controllers, actors, ports, signals and states.
-use Rattle.std.specs.Prelude.{ℕ, List, [], ◌∷◌, ◌==◌, nat_lt, if◌then◌else◌, Option, Some, None, length, slice_get, slice_index_or, option_map, option_and_then, unwrap_or, codes, decimal}
+use Rattle.std.specs.Prelude.{ℕ, List, [], ◌∷◌, ◌==◌, nat_lt, if◌then◌else◌, Option, Some, None, length, slice_get, option_map, option_and_then, unwrap_or, codes, decimal}
 use Rattle.room_kinds.specs.declared.numbers.Incarnation.{Incarnation}
 use Rattle.room_kinds.specs.declared.numbers.Endpoint.{Endpoint}
 use Rattle.room_kinds.specs.declared.message.Msg.{Msg}
+use Rattle.room_kinds.specs.Names.{name_of, kind_at}
 use Rattle.room_wiring.specs.declared.tables.Tables.{Tables}
 use Rattle.room_wiring.specs.declared.slot.Slot.{Slot}
 use Rattle.room_wiring.specs.declared.names.ClassNames.{ClassNames}
 use Rattle.room_wiring.specs.declared.names.PortNames.{PortNames}
 use Rattle.room_wiring.specs.declared.names.SignalNames.{SignalNames}
-use Rattle.room_wiring.specs.Slots.{slot_at, class_of}
+use Rattle.room_wiring.specs.Slots.{slot_at, class_of, port_at}
 use Rattle.room_wiring.specs.WellNamed.{signals_of}
 
 -- a controller's number, or the word for the environment, which has the number after the last
@@ -19,10 +20,6 @@ party_text t c = if nat_lt c (length t.controllers) then decimal c else codes "e
 unfoldable pub path_text : Tables → ℕ → List ℕ
 path_text t s = unwrap_or (option_map (λ (x : Slot). x.path) (slot_at t s)) []
 
--- the port of a number at a slot
-unfoldable pub port_at : Tables → ℕ → ℕ → Option PortNames
-port_at t s p = option_and_then (λ (c : ClassNames). slice_get c.ports p) (class_of t s)
-
 -- a port's name
 unfoldable pub port_text : Tables → ℕ → ℕ → List ℕ
 port_text t s p = unwrap_or (option_map (λ (x : PortNames). x.name) (port_at t s p)) []
@@ -31,17 +28,9 @@ port_text t s p = unwrap_or (option_map (λ (x : PortNames). x.name) (port_at t 
 unfoldable pub state_text : Tables → ℕ → ℕ → List ℕ
 state_text t s n = unwrap_or (option_and_then (λ (c : ClassNames). slice_get c.states n) (class_of t s)) (codes "-")
 
--- the kinds of system messages, by number
-abbrev pub kind_names : List (List ℕ)
-kind_names =
-    codes "Create" ∷ codes "CreateDone" ∷ codes "CreateRefused" ∷ codes "Destroy" ∷ codes "DestroyDone"
-    ∷ codes "Import" ∷ codes "ImportDone" ∷ codes "ImportRefused" ∷ codes "ImportEnded" ∷ codes "Deport"
-    ∷ codes "DeportDone" ∷ codes "Announce" ∷ codes "Register" ∷ codes "Withdraw" ∷ codes "Bound"
-    ∷ codes "Ended" ∷ codes "NameReply" ∷ []
-
--- the name of a kind of system messages
+-- the name of the kind of system messages of a number
 unfoldable pub kind_text : ℕ → List ℕ
-kind_text n = slice_index_or kind_names n []
+kind_text n = unwrap_or (option_map name_of (kind_at n)) []
 
 -- the name of a signal of a port: incoming ones are numbered first
 unfoldable pub signal_of_port_text : PortNames → ℕ → List ℕ

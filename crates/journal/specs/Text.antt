@@ -5,7 +5,7 @@ use Rattle.room_wiring.specs.declared.tables.Tables.{Tables}
 use Rattle.journal.specs.declared.entry.Entry.{Entry}
 use Rattle.journal.specs.declared.entry.Journals.{Journals}
 use Rattle.journal.specs.declared.entry.Left.{Left}
-use Rattle.line_text.specs.Lines.{line}
+use Rattle.room_outside.specs.line_text.Lines.{line}
 use Rattle.journal.specs.Lines.{controller_line, entry_text, left_line, unposted_line}
 
 -- a journal's entries

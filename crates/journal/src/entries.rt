@@ -1,17 +1,17 @@
 //! Journals as text, line by line.
 ghost use Rattle.std.specs.Prelude.{◌≡◌, ℕ, false, Some, [], ◌∷◌, ◌++◌};
-ghost use Rattle.line_text.specs.Lines.{line};
-ghost use Rattle.journal.specs.Lines.{turn_parts, turn_line, note_line, note_lines, speaker_after, is_duty, speaker_of, start_line, fetch_line, post_line, entry_text, where_text, left_line, unposted_line};
-ghost use Rattle.line_text.specs.Parts.{part_texts};
+ghost use Rattle.room_outside.specs.line_text.Lines.{line};
+ghost use Rattle.journal.specs.Lines.{turn_parts, turn_line, note_line, note_lines, is_duty, speaker_of, start_line, fetch_line, post_line, entry_text, where_text, left_line, unposted_line};
+ghost use Rattle.room_outside.specs.line_text.Parts.{part_texts};
 ghost use Rattle.journal.specs.Text.{title_of, journal_text, controller_text, controllers_text, left_text, unposted_text, end_line, text_of};
-ghost use Rattle.line_text.specs.Output.{Puts, at_rest};
+ghost use Rattle.room_outside.specs.line_text.Output.{Puts, at_rest};
 
 use crate::entry::{Did, Entry, Journal, Journals, Left};
 use crate::lines::{write_actor_line, write_message_line, write_standing_line};
 use crate::naming;
-use line_text::{LineBuffer, Part, write_line};
+use crate::speaker::speaker_after;
 use room_kinds::{ControllerId, Incarnation, Msg, Note, SlotId, Stamp};
-use room_outside::{Sink, WriteFault};
+use room_outside::{LineBuffer, Part, Sink, WriteFault, write_line};
 use room_wiring::Wiring;
 
 fn write_note<K: Sink>(
@@ -57,19 +57,6 @@ fn write_note<K: Sink>(
     }
 }
 
-/// Who speaks after a note: in a duty, an actor that came up speaks from then on.
-fn speaker_after(duty: bool, speaker: Option<SlotId>, note: &Note) -> Option<SlotId>
-    ensures { result ≡ speaker_after duty speaker note.now }
-{
-    if !duty {
-        return speaker;
-    }
-    match note {
-        Note::Up { who, .. } => Some(who.slot),
-        _ => speaker,
-    }
-}
-
 fn write_notes<K: Sink>(
     out: &mut LineBuffer,
     sink: &mut K,
@@ -84,32 +71,9 @@ fn write_notes<K: Sink>(
     let mut speaking = speaker;
     for note in notes {
         write_note(out, sink, wiring, speaking, note)?;
-        speaking = speaker_after(duty, speaking, note);
+        speaking = speaker_after(duty, speaking, *note);
     }
     Ok(())
-}
-
-fn is_duty(did: Did) -> bool
-    ensures { result ≡ is_duty did }
-{
-    match did {
-        Did::Duty => true,
-        _ => false,
-    }
-}
-
-/// Who speaks as a turn begins: its actor; in a duty nobody.
-fn speaker_of(did: Did) -> Option<SlotId>
-    ensures { result ≡ speaker_of did }
-{
-    match did {
-        Did::Duty => None,
-        Did::Handled { who, .. } => Some(who.slot),
-        Did::Deferred { who, .. } => Some(who.slot),
-        Did::Unhandled { who, .. } => Some(who.slot),
-        Did::Stale { target } => Some(target.slot),
-        Did::Empty { target } => Some(target.slot),
-    }
 }
 
 /// When a turn was, and which message it took.
@@ -253,7 +217,7 @@ fn write_notes_of<K: Sink>(
     ensures { Puts result (at_rest (K.written sink.old)) (at_rest (K.written sink.new))
         (note_lines wiring.now (is_duty did) (speaker_of did) notes.now) }
 {
-    write_notes(out, sink, wiring, is_duty(did), speaker_of(did), notes)
+    write_notes(out, sink, wiring, did.is_duty(), did.speaker(), notes)
 }
 
 /// Writes an entry and its notes.

@@ -5,9 +5,9 @@ mod entries;
 mod entry;
 mod lines;
 mod naming;
-#[cfg(test)]
-mod tests;
+mod speaker;
 mod text;
 
 pub use entry::{Did, Entry, Journal, Journals, Left};
+pub use speaker::speaker_after;
 pub use text::text_to;

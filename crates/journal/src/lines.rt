@@ -2,15 +2,14 @@
 ghost use Rattle.std.specs.Prelude.{◌≡◌, [], ◌∷◌, ◌++◌};
 ghost use Rattle.std.specs.List.{concat};
 ghost use Rattle.journal.specs.Names.{incarnation_parts, endpoint_parts, source_parts};
-ghost use Rattle.line_text.specs.Lines.{line};
+ghost use Rattle.room_outside.specs.line_text.Lines.{line};
 ghost use Rattle.journal.specs.Lines.{priority_parts, signal_parts, message_parts, standing_parts};
-ghost use Rattle.line_text.specs.Parts.{part_texts};
-ghost use Rattle.line_text.specs.Output.{Puts, at_rest};
+ghost use Rattle.room_outside.specs.line_text.Parts.{part_texts};
+ghost use Rattle.room_outside.specs.line_text.Output.{Puts, at_rest};
 
 use crate::naming;
-use line_text::{LineBuffer, Part};
 use room_kinds::{Endpoint, Incarnation, Msg, Priority};
-use room_outside::{Sink, WriteFault};
+use room_outside::{LineBuffer, Part, Sink, WriteFault};
 use room_wiring::Wiring;
 
 fn put_incarnation<K: Sink>(

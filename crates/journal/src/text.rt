@@ -5,8 +5,7 @@ ghost use Rattle.journal.specs.Text.{text_of};
 
 use crate::entries::write_text;
 use crate::entry::Journals;
-use line_text::LineBuffer;
-use room_outside::{Sink, WriteFault};
+use room_outside::{LineBuffer, Sink, WriteFault};
 use room_wiring::Wiring;
 
 /// Appends the text of the journals: each line in one piece, and a line of more than 4,096 bytes in

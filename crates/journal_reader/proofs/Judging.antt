@@ -7,10 +7,10 @@ use Rattle.room_wiring.specs.WellNamed.{IsWellNamed}
 use Rattle.journal.specs.declared.entry.Journals.{Journals}
 use Rattle.journal.specs.Fits.{Fits}
 use Rattle.journal.specs.Text.{text_of}
-use Rattle.journal_lines.specs.Reading.{journals_in}
-use Rattle.journal_texts.specs.InRange.{IsInRange}
-use Rattle.journal_texts.proofs.FieldsBack.{Sized}
-use Rattle.journal_texts.proofs.JournalsBack.{reads_back}
+use Rattle.journal_reader.specs.journal_lines.Reading.{journals_in}
+use Rattle.journal_reader.specs.journal_texts.InRange.{IsInRange}
+use Rattle.journal_reader.proofs.journal_texts.FieldsBack.{Sized}
+use Rattle.journal_reader.proofs.journal_texts.JournalsBack.{reads_back}
 
 -- journals that have the text are what it is read as
 pub read_is : (t : Tables) (bytes : List ℕ) (found j : Journals) → found ≡ journals_in t bytes → IsConsistent t → IsWellNamed t → Fits t j → IsInRange j → text_of t j ≡ bytes → found ≡ j

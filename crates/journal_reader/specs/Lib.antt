@@ -1,1 +1,4 @@
 pub mod Answer
+pub mod journal_fits
+pub mod journal_lines
+pub mod journal_texts

@@ -2,9 +2,11 @@
 #![tactic(auto)]
 
 mod fault;
+pub mod journal_fits;
+pub mod journal_lines;
+pub mod journal_texts;
 mod reader;
-#[cfg(test)]
-mod tests;
 
 pub use fault::ReadFaultOf;
+pub use journal_texts::{reads_back, texts_differ};
 pub use reader::read_journals;

@@ -4,17 +4,17 @@ ghost use Rattle.room_wiring.specs.WellNamed.{IsWellNamed};
 ghost use Rattle.journal.specs.declared.entry.Journals.{Journals};
 ghost use Rattle.journal.specs.Fits.{Fits};
 ghost use Rattle.journal.specs.Text.{text_of};
-ghost use Rattle.journal_texts.specs.InRange.{IsInRange};
+ghost use Rattle.journal_reader.specs.journal_texts.InRange.{IsInRange};
 ghost use Rattle.journal_reader.specs.Answer.{Answers, Differs};
 
 use crate::fault::ReadFaultOf;
+use crate::journal_fits::fits;
+use crate::journal_lines::read;
 use journal::{Journals, text_to};
-use journal_fits::fits;
-use journal_lines::read;
 use room_outside::MemSink;
 use room_wiring::Wiring;
+use room_wiring::wiring_names::Names;
 use std::alloc::{AllocError, Global};
-use wiring_names::Names;
 
 /// How many bytes at the front of two texts are the same.
 fn same_front(a: &[u8], b: &[u8]) -> usize {

@@ -1,0 +1,2 @@
+pub mod layer_links
+pub mod name_service

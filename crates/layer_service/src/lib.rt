@@ -3,5 +3,8 @@
 //! (`Links`).
 #![tactic(auto)]
 
-pub use layer_links::Links;
-pub use name_service::NameService;
+pub mod layer_links;
+pub mod name_service;
+
+pub use crate::layer_links::Links;
+pub use crate::name_service::NameService;

@@ -16,8 +16,6 @@ pub mod mail;
 mod make;
 pub mod poll;
 mod steps;
-#[cfg(test)]
-mod tests;
 
 pub use ends::{LocalOffice, MailLocal};
 pub use mail::{Mail, PostRefused};

@@ -14,5 +14,5 @@ pub mod rule;
 mod settle;
 mod steps;
 mod tables;
-#[cfg(test)]
-mod tests;
+
+pub use ends::MailLanes;

@@ -18,7 +18,6 @@ mod rows;
 pub mod rule;
 pub mod shared_box;
 mod steps;
-#[cfg(test)]
-mod tests;
 
+pub use caller::{close_unused, exchange, post_at};
 pub use ends::MailSeg;

@@ -1,37 +1,73 @@
 //! The program `room`: runs models of real-time actors and prints their journals.
 #![tactic(auto)]
 
-use room_outside::{FileShelf, OpenGate, OutSink};
+mod stack;
+
+use crate::stack::{LEAST, stack_for};
+use room_outside::{FileShelf, OpenGate, OutSink, read_whole, write_whole};
 use room_run::{Status, room_top};
 use std::process::ExitCode;
 use std::rt::Env;
+use std::thread::Builder;
 use std::{env, io};
 
-/// The words behind the program's name.
+/// The words behind the program's name; none at all where one of them is no text, which belongs to no
+/// command.
 fn words_of<R: Env + AllocGlobal>(rt: &R) -> io::Result<Vec<String>> {
-    let mut words = env::args(rt)?;
+    let mut words = match env::args(rt) {
+        Ok(words) => words,
+        Err(e) if e.kind() == io::ErrorKind::InvalidData => return Ok(Vec::new(rt.alloc())),
+        Err(e) => return Err(e),
+    };
     let _ = words.next();
     Ok(words.collect(rt.alloc())?)
 }
 
-fn main(rt: HostRuntime) -> ExitCode {
-    let words = match words_of(&rt) {
-        Ok(words) => words,
-        // A word that is no text belongs to no command: no words at all are refused the same way.
-        Err(e) if e.kind() == io::ErrorKind::InvalidData => Vec::new(rt.alloc()),
-        Err(_) => return ExitCode::from(Status::Memory.number()),
+/// Tells that there was no memory for the work.
+fn without_memory(rt: HostRuntime) -> Status {
+    let mut notes = OutSink::errors(rt.stderr());
+    match write_whole(&mut notes, b"room: memory\n") {
+        Ok(()) => Status::Memory,
+        Err(_) => Status::WriteFault,
+    }
+}
+
+/// How large a stack the work takes that words ask for. The word behind the command names the model.
+fn stack_of_words(rt: HostRuntime, words: &[String]) -> usize {
+    let Some(name) = words.get(1) else {
+        return LEAST;
     };
-    let alloc = rt.alloc();
+    match read_whole(rt.alloc(), &mut FileShelf::new(rt), name) {
+        Ok(text) => stack_for(&text),
+        Err(_) => LEAST,
+    }
+}
+
+/// The work that words ask for, on the stack of the thread that calls it.
+fn work(rt: HostRuntime, words: &[String]) -> Status {
     let mut out = OutSink::output(rt.stdout());
     let mut notes = OutSink::errors(rt.stderr());
     let mut shelf = FileShelf::new(rt);
-    let status = room_top(
-        alloc,
-        words.as_slice(),
+    room_top(
+        rt.alloc(),
+        words,
         &mut shelf,
         &mut out,
         &mut notes,
         &OpenGate,
-    );
+    )
+}
+
+/// Does the work on a thread of its own. Where the system gives no thread with such a stack, or no words,
+/// nothing is done.
+fn main(rt: HostRuntime) -> ExitCode {
+    let Ok(words) = words_of(&rt) else {
+        return ExitCode::from(without_memory(rt).number());
+    };
+    let thread = Builder::new().stack_size(stack_of_words(rt, &words));
+    let status = match thread.spawn(&rt, move || work(rt, &words)) {
+        Ok(thread) => thread.join(&rt),
+        Err(_) => without_memory(rt),
+    };
     ExitCode::from(status.number())
 }

@@ -38,8 +38,8 @@ found_signal k signals name = found_at (λ s. same_name s.name name) k signals
 
 -- The message of a name that goes out at a port.
 abbrev pub found_sent : ScopePort → List ℕ → Option (ℕ × ScopeSignal)
-found_sent p name = if p.conjugated then found_signal 0 p.incoming.items name else found_signal (length p.incoming.items) p.outgoing.items name
+found_sent p name = if p.conjugated then found_signal 0 p.incoming name else found_signal (length p.incoming) p.outgoing name
 
 -- The message of a name that comes in at a port.
 abbrev pub found_received : ScopePort → List ℕ → Option (ℕ × ScopeSignal)
-found_received p name = if p.conjugated then found_signal (length p.incoming.items) p.outgoing.items name else found_signal 0 p.incoming.items name
+found_received p name = if p.conjugated then found_signal (length p.incoming) p.outgoing name else found_signal 0 p.incoming name

@@ -4,3 +4,4 @@ pub mod Values
 pub mod Trees
 pub mod Tokens
 pub mod Found
+pub mod model_parts

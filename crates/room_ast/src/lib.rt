@@ -5,6 +5,7 @@ mod actor;
 mod chart;
 mod lookup;
 mod model;
+pub mod model_parts;
 mod name;
 mod protocol;
 mod scope;
@@ -20,6 +21,7 @@ pub use chart::{
     StateBody, StateMachine, Target, Transition, TransitionBody, Trigger, Triggers,
 };
 pub use model::{Class, Dotted, Import, ImportSource, Model};
+pub use model_parts::{PortEntry, ReferenceEntry, TypeEntry, number_type};
 pub use name::Name;
 pub use protocol::{
     Attribute, DataClass, DataItem, EmptyString, Message, Parameter, PlainValue, ProtocolClass,

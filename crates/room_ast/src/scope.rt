@@ -2,7 +2,7 @@
 ghost use Rattle.std.specs.Prelude.{◌+◌, ◌<◌, ◌^◌, length};
 
 use crate::name::Name;
-use room_kinds::{NumberType, PortKind, ReferenceKind};
+use room_kinds::{NumberType, PortKind, ReferenceKind, SharedSequence};
 
 /// A class as its actions see it.
 #[derive(Drop, Debug)]
@@ -35,10 +35,11 @@ pub struct ScopePort {
     pub kind: PortKind,
     /// Whether it sends the incoming messages of its protocol and receives the outgoing ones.
     pub conjugated: bool,
-    /// The signals of its protocol. They are numbered from 0, incoming ones first.
-    pub incoming: Vec<ScopeSignal>,
-    pub outgoing: Vec<ScopeSignal>,
-    ghost few_signals: { length incoming.items + length outgoing.items < 2 ^ 16 },
+    /// The signals of its protocol, which all its ports share. They are numbered from 0, incoming ones
+    /// first.
+    pub incoming: SharedSequence<ScopeSignal>,
+    pub outgoing: SharedSequence<ScopeSignal>,
+    ghost few_signals: { length incoming + length outgoing < 2 ^ 16 },
 }
 
 /// A message of a protocol, with the types of its numbers.

@@ -22,3 +22,5 @@ number_of kinds.Withdraw = 13
 number_of kinds.Bound = 14
 number_of kinds.Ended = 15
 number_of kinds.NameReply = 16
+number_of kinds.PartMake = 17
+number_of kinds.PartEnd = 18

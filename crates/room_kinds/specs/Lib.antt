@@ -1,2 +1,4 @@
 pub mod Kinds
+pub mod Names
 pub mod Reduction
+pub mod Structure

@@ -12,10 +12,9 @@ mod number_type;
 mod numbers;
 mod payload;
 mod sequence;
+mod shared;
 mod structure;
 mod system;
-#[cfg(test)]
-mod tests;
 
 pub use command::{Command, Commands, FrameCommand, NameCommand};
 pub use message::{Msg, Outbox};
@@ -24,5 +23,6 @@ pub use number_type::NumberType;
 pub use numbers::{ControllerId, Endpoint, Generation, Incarnation, Priority, SlotId, Stamp};
 pub use payload::Payload;
 pub use sequence::Sequence;
+pub use shared::SharedSequence;
 pub use structure::{PortKind, ReferenceKind};
 pub use system::SysKind;

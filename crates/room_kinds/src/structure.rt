@@ -1,4 +1,6 @@
 //! The kinds of ports and of actor references.
+ghost use Rattle.std.specs.Prelude.{◌≡◌};
+ghost use Rattle.room_kinds.specs.Structure.{is_end, is_imported};
 
 /// What a port of an actor class is.
 #[derive(Clone, Copy, Drop, Debug, PartialEq, Eq)]
@@ -17,6 +19,18 @@ pub enum PortKind {
     Spp,
 }
 
+impl PortKind {
+    /// Whether this is an end port, at which the actor's own behaviour works.
+    pub fn is_end(self) -> bool
+        ensures { result ≡ is_end self }
+    {
+        match self {
+            PortKind::End | PortKind::Internal => true,
+            PortKind::Frame | PortKind::Relay | PortKind::Sap | PortKind::Spp => false,
+        }
+    }
+}
+
 /// How the actors of a reference come to be.
 #[derive(Clone, Copy, Drop, Debug, PartialEq, Eq)]
 pub enum ReferenceKind {
@@ -26,4 +40,16 @@ pub enum ReferenceKind {
     Optional,
     /// Filled with an actor that lives elsewhere.
     Imported,
+}
+
+impl ReferenceKind {
+    /// Whether an actor that lives elsewhere stands here.
+    pub fn is_imported(self) -> bool
+        ensures { result ≡ is_imported self }
+    {
+        match self {
+            ReferenceKind::Imported => true,
+            ReferenceKind::Fixed | ReferenceKind::Optional => false,
+        }
+    }
 }

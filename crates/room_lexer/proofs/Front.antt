@@ -10,7 +10,7 @@ use Rattle.room_lexer.specs.Marks.{mark_text, mark_of, pair_of}
 use Rattle.room_lexer.specs.Enclosed.{is_blank, walk, After, Closes, closed_len, begins_string}
 use Rattle.room_lexer.specs.declared.enclosed.Step.TheVariants.{On}
 use Rattle.room_lexer.specs.Front.{is_letter, is_digit, is_word, on_line, max_number, value, number_of, begins, begins_two, first_or_zero, number_front, enclosed, mark_front, longest_mark, front}
-use Rattle.room_lexer.specs.Cut.{Stops, IsEnclosed, IsPiece, Ends, NoLonger, OpensNothing, Fits, StaysOpen, Offends}
+use Rattle.room_lexer.specs.Cut.{Stops, IsEnclosed, IsPiece, Ends, NoLonger, OpensNothing, Fits, StaysOpen, IsOpenText, Offends}
 use Rattle.room_lexer.specs.declared.enclosed.Place.{Place}
 use Rattle.room_lexer.specs.declared.enclosed.Place.TheVariants as places
 use Rattle.room_lexer.specs.declared.piece.Kind.{Kind}
@@ -252,8 +252,14 @@ front_not_bad (pieces.Token (Ident word)) (b ∷ bs) after is e = let found = sy
 front_not_bad (pieces.Token (Number n)) [] after is e = is.0
 front_not_bad (pieces.Token (Number n)) (b ∷ bs) after is e = number_not_bad _ _ (sym (front_digit b (bs ++ after) is.0.0) ∙ e)
 
+-- what opens a string, a block or a documentation is no strange byte
+open_not_bad : (rest : List ℕ) → IsOpenText rest → front rest ≢ Err BadByte
+open_not_bad rest (inl o) e = string_not_bad _ _ _ (sym (ap front o.1 ∙ front_quote o.0) ∙ e)
+open_not_bad rest (inr (inl o)) e = string_not_bad _ _ _ (sym (ap front o.1 ∙ front_block o.0) ∙ e)
+open_not_bad rest (inr (inr o)) e = bracket_not_bad o.0.0 (sym (ap front o.0.1) ∙ e)
+
 pub bad_offends : (bytes : List ℕ) → front bytes ≡ Err BadByte → Offends BadByte bytes
-bad_offends bytes h k text after is e = front_not_bad k text after is (ap front e ∙ h)
+bad_offends bytes h = ((λ k text after is e. front_not_bad k text after is (ap front e ∙ h)), (λ o. open_not_bad bytes o h))
 
 -- ---- what is read is a piece
 

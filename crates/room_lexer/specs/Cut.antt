@@ -106,10 +106,18 @@ StaysOpen opening place rest = (more : List ℕ) × (rest ≡ opening ++ more) �
 abbrev pub OpenDocumentation : List ℕ → Type 0
 OpenDocumentation rest = (left : StaysOpen (codes "[") places.Between rest) × (begins_string left.0 ≡ true)
 
+-- a string, a block or a documentation begins here and doesn't end
+abbrev pub IsOpenText : List ℕ → Type 0
+IsOpenText rest = StaysOpen (codes "\"") places.Text rest ⊎ (StaysOpen (codes "'''") places.Block rest ⊎ OpenDocumentation rest)
+
+-- no piece begins here
+abbrev pub BeginsNoPiece : List ℕ → Type 0
+BeginsNoPiece rest = (kind : Kind) (text after : List ℕ) → IsPiece kind text → text ++ after ≢ rest
+
 -- why the rest can't be cut at its first byte
 abbrev pub Offends : Cause → List ℕ → Type 0
-Offends BadByte rest = (kind : Kind) (text after : List ℕ) → IsPiece kind text → text ++ after ≢ rest
-Offends OpenString rest = StaysOpen (codes "\"") places.Text rest ⊎ (StaysOpen (codes "'''") places.Block rest ⊎ OpenDocumentation rest)
+Offends BadByte rest = BeginsNoPiece rest × (IsOpenText rest → ⊥)
+Offends OpenString rest = IsOpenText rest
 Offends OpenComment rest = StaysOpen (codes "/*") places.Comment rest
 Offends NumberTooLarge rest = (n : ℕ) × (text : List ℕ) × (after : List ℕ) × IsToken (Number n) text × (rest ≡ text ++ after) × Stops is_digit after × (max_number < n)
 

@@ -5,3 +5,4 @@ pub mod MemShelf
 pub mod MemSink
 pub mod Shown
 pub mod Written
+pub mod line_text

@@ -9,6 +9,7 @@
 mod calls;
 mod files;
 mod gate;
+pub mod line_text;
 mod meet;
 mod mem_shelf;
 mod mem_sink;
@@ -16,10 +17,9 @@ mod shelf;
 mod sink;
 mod sure;
 mod system;
-#[cfg(test)]
-mod tests;
 
 pub use gate::{ControllerNo, Gate, OpenGate};
+pub use line_text::{LineBuffer, Part, write_line};
 pub use meet::MeetGate;
 pub use mem_shelf::MemShelf;
 pub use mem_sink::MemSink;

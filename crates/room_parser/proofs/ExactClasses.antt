@@ -20,18 +20,18 @@ use Rattle.token_reading.specs.Single.{comes, comes_word, comes_string, before_c
 use Rattle.token_reading.proofs.Readers.{Anything}
 use Rattle.token_reading.proofs.Whole.{Reading}
 use Rattle.token_reading.proofs.Exact.{Exact, mark_exact, word_exact, name_exact, Exact-then, Exact-⊕, Exact-behind, Exact-before, Exact-as, Exact-maybe, Exact-many, Exact-flag, Exact-items, Begins, word_begins, case_takes, case_again, whole}
-use Rattle.value_parser.specs.Names.{source_comes}
-use Rattle.value_parser.specs.Values.{usercode_at}
-use Rattle.value_parser.specs.Protocols.{protocol_at}
-use Rattle.value_parser.proofs.ExactNames.{dotted_exact, import_exact, EndsImport}
-use Rattle.value_parser.proofs.ExactValues.{attribute_exact, usercode_exact}
-use Rattle.value_parser.proofs.ExactProtocols.{protocol_exact, data_class_exact}
+use Rattle.structure_parser.specs.value_parser.Names.{source_comes}
+use Rattle.structure_parser.specs.value_parser.Values.{usercode_at}
+use Rattle.structure_parser.specs.value_parser.Protocols.{protocol_at}
+use Rattle.structure_parser.proofs.value_parser.ExactNames.{dotted_exact, import_exact, EndsImport}
+use Rattle.structure_parser.proofs.value_parser.ExactValues.{attribute_exact, usercode_exact}
+use Rattle.structure_parser.proofs.value_parser.ExactProtocols.{protocol_exact, data_class_exact}
 use Rattle.structure_parser.specs.Ports.{port_at}
 use Rattle.structure_parser.specs.References.{actor_ref_at}
 use Rattle.structure_parser.proofs.ExactPorts.{port_exact, external_port_exact, provision_exact, access_exact, implementation_exact}
 use Rattle.structure_parser.proofs.ExactReferences.{actor_ref_exact, binding_exact, layer_exact}
 use Rattle.structure_parser.proofs.ExactSubsystems.{subsystem_exact, system_exact}
-use Rattle.chart_parser.proofs.ExactGraphs.{machine_exact}
+use Rattle.room_parser.proofs.chart_parser.ExactGraphs.{machine_exact}
 use Rattle.room_parser.specs.Classes.{interface_item_from, interface_item_at, interface_at, structure_item_from, structure_item_at, structure_at, behavior_at, actor_at, event_driven_from, event_driven_at, class_from, class_at, model_at, model}
 
 -- ---- interfaces

@@ -1,3 +1,2 @@
-pub mod OpenBraces
 pub mod ExactClasses
 pub mod WhatParsingAnswers

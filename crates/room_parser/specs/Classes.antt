@@ -11,13 +11,13 @@ use Rattle.room_ast.specs.declared.actor.StructureItem.{StructureItem}
 use Rattle.room_ast.specs.declared.actor.StructureItem.TheVariants as structures
 use Rattle.token_reading.specs.Reader.{Reader, ◌⊕◌, ◌▹◌, ◌◃◌, reads_as, optional, flag, all_while, to_end}
 use Rattle.token_reading.specs.Single.{comes_word, mark, word, name_at, word_here, rest_of, before_close, braces_at}
-use Rattle.value_parser.specs.Names.{dotted_at, import_at}
-use Rattle.value_parser.specs.Values.{attribute_at, usercode_at}
-use Rattle.value_parser.specs.Protocols.{protocol_at, data_class_at}
+use Rattle.structure_parser.specs.value_parser.Names.{dotted_at, import_at}
+use Rattle.structure_parser.specs.value_parser.Values.{attribute_at, usercode_at}
+use Rattle.structure_parser.specs.value_parser.Protocols.{protocol_at, data_class_at}
 use Rattle.structure_parser.specs.Ports.{port_at, external_port_at, provision_at, access_at, implementation_at}
 use Rattle.structure_parser.specs.References.{actor_ref_at, binding_at, layer_at}
 use Rattle.structure_parser.specs.Mappings.{subsystem_at, system_at}
-use Rattle.chart_parser.specs.Graphs.{machine_at}
+use Rattle.room_parser.specs.chart_parser.Graphs.{machine_at}
 
 -- ---- actor classes
 

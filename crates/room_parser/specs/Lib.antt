@@ -1,2 +1,3 @@
 pub mod Classes
 pub mod Parsed
+pub mod chart_parser

@@ -5,22 +5,22 @@ ghost use Rattle.room_ast.specs.ChartTree.{graph_view};
 ghost use Rattle.room_ast.specs.Trees.{behavior_view, actor_view};
 ghost use Rattle.token_reading.specs.Reader.{Gives, optional};
 ghost use Rattle.token_reading.specs.Single.{left, comes_word as comes_word_at, before_close as before_close_at};
-ghost use Rattle.chart_parser.specs.Graphs.{machine_at};
+ghost use Rattle.room_parser.specs.chart_parser.Graphs.{machine_at};
 ghost use Rattle.room_parser.specs.Classes.{interface_item_at, interface_at, structure_item_at, structure_at, behavior_at, actor_at};
 
-use chart_parser::state_machine;
+use crate::chart_parser::state_machine;
 use room_ast::{ActorClass, Behavior, InterfaceItem, StateMachine, StructureItem};
 use room_kinds::Sequence;
 use room_lexer::{Mark, Word};
 use std::alloc::Global;
 use structure_parser::{
-    access, actor_ref, binding, external_port, implementation, layer, port, provision,
+    access, actor_ref, attribute, binding, external_port, implementation, layer, port, provision,
+    usercode,
 };
 use token_reading::{
     Part, ReadFault, Rest, before_close, braces, comes_word, place, take_mark, take_word,
     word_here, word_if,
 };
-use value_parser::{attribute, usercode};
 
 #[tactic(auto, unfolding(crate::specs::Classes::interface_item_at))]
 fn interface_item<'a>(alloc: Global, rest: Rest<'a>) -> Result<(InterfaceItem, Rest<'a>), ReadFault>

@@ -6,9 +6,6 @@ pub enum ParseFault {
     /// No model has these tokens. The line, from 1, is that of the first token with which no model
     /// goes on, or of the end of the text.
     Syntax { line: u32 },
-    /// More braces stand open at a place than a model that can run ever needs (`MOST_OPEN`,
-    /// `MOST_OPEN_IN_ACTORS`). This is told before a fault of syntax.
-    TooDeep,
     /// Memory ran out.
     Memory,
 }

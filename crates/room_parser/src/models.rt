@@ -9,12 +9,11 @@ use crate::actors::actor_class;
 use room_ast::{Class, Model};
 use room_lexer::{Mark, Token, Word};
 use std::alloc::Global;
-use structure_parser::{subsystem, system};
+use structure_parser::{ImportPart, data_class, dotted, protocol_class, subsystem, system};
 use token_reading::{
     ReadFault, Rest, TreePart, before_close, each, each_tree, place, skip, take_mark, take_word,
     word_here,
 };
-use value_parser::{ImportPart, data_class, dotted, protocol_class};
 
 /// A class whose first word is `eventdriven`, which an actor class or a protocol class may have.
 fn event_driven<'a>(alloc: Global, rest: Rest<'a>) -> Result<(Class, Rest<'a>), ReadFault>

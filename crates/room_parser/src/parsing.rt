@@ -7,11 +7,10 @@ ghost use Rattle.room_parser.specs.Parsed.{IsParsed};
 
 use crate::fault::ParseFault;
 use crate::models::whole;
-use crate::nesting::opens_too_many;
 use room_ast::Model;
 use room_lexer::Token;
 use std::alloc::Global;
-use token_reading::{ReadFault, Rest};
+use token_reading::ReadFault;
 
 /// The line of a byte, from 1: one more than the line feeds before it.
 fn line_of(bytes: &[u8], at: usize) -> u32
@@ -26,13 +25,11 @@ fn line_of(bytes: &[u8], at: usize) -> u32
     }
 }
 
-/// The model that a text's tokens are. `tokens` are those that `lex` gave for `bytes`.
+/// The model that a text's tokens are. `tokens` are those that `lex` gave for `bytes`. Graphs are read
+/// by calls that nest as deep as they do; nested mappings take no calls.
 pub fn parse(alloc: Global, bytes: &[u8], tokens: &[Token]) -> Result<Model, ParseFault>
     ensures { IsParsed (values bytes.now tokens.now) result }
 {
-    if opens_too_many(Rest { bytes, tokens }) {
-        return Err(ParseFault::TooDeep);
-    }
     match whole(alloc, bytes, tokens) {
         Ok(model) => Ok(model),
         Err(ReadFault::Syntax(at)) => Err(ParseFault::Syntax {

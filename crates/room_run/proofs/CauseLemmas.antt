@@ -8,7 +8,7 @@ use Rattle.controller_actors.specs.declared.plant.Plant.{Plant}
 use Rattle.room_run.specs.Words.{Files}
 use Rattle.room_wiring.specs.declared.tables.Tables.{Tables}
 use Rattle.room_run.specs.Models.{IsModel, IsSound, most_bytes}
-use Rattle.inject_lines.specs.declared.accepted.Line.{Line}
+use Rattle.inject_reader.specs.declared.inject_lines.accepted.Line.{Line}
 use Rattle.inject_reader.specs.Answer.{answer}
 use Rattle.inject_reader.specs.Gives.{Fails}
 use Rattle.inject_reader.specs.declared.fault.InjectFault.{InjectFault}

@@ -8,17 +8,17 @@ use Rattle.room_lexer.specs.declared.token.Token.{Token}
 use Rattle.room_ast.specs.Trees.{ModelTree}
 use Rattle.room_ast.specs.Tokens.{model_tokens}
 use Rattle.token_reading.specs.Single.{values}
-use Rattle.token_names.specs.Names.{HasNames}
-use Rattle.token_names.proofs.NamesLaw.{named as tokens_named}
+use Rattle.token_reading.specs.token_names.Names.{HasNames}
+use Rattle.token_reading.proofs.token_names.NamesLaw.{named as tokens_named}
 use Rattle.room_ast.specs.Values.{TokenValue}
-use Rattle.room_parser.specs.Parsed.{HasNoModel, IsOnlyModel, IsParsed, opens_too_many}
+use Rattle.room_parser.specs.Parsed.{HasNoModel, IsOnlyModel, IsParsed}
 use Rattle.room_parser.specs.declared.fault.ParseFault.{ParseFault}
 use Rattle.room_parser.specs.declared.fault.ParseFault.TheVariants as parsing
-use Rattle.service_words.specs.Asked.{asks_services}
-use Rattle.model_plants.specs.Shown.{ShowCharts}
-use Rattle.model_plants.proofs.Tabled.{all_sound}
-use Rattle.slot_runs.specs.Runs.{IsDepthFirst}
-use Rattle.wiring_order.proofs.Ordered.{model_depth_first}
+use Rattle.room_run.specs.service_words.Asked.{asks_services}
+use Rattle.room_run.specs.model_plants.Shown.{ShowCharts}
+use Rattle.room_run.proofs.model_plants.Tabled.{all_sound}
+use Rattle.service_messages.specs.slot_runs.Runs.{IsDepthFirst}
+use Rattle.wiring_laws.proofs.wiring_order.Ordered.{model_depth_first}
 use Rattle.controller_actors.specs.Plants.{IsPlant}
 use Rattle.controller_actors.specs.declared.plant.Plant.{Plant}
 use Rattle.structure_check.specs.Rules.{first_broken, IsLowest}
@@ -27,16 +27,16 @@ use Rattle.structure_check.specs.Checks.{TellsLowest}
 use Rattle.structure_check.specs.declared.fault.CheckFault.{CheckFault}
 use Rattle.structure_check.specs.declared.fault.CheckFault.TheVariants as check_faults
 use Rattle.chart_model.specs.Chart.{Chart}
-use Rattle.model_charts.specs.Charts.{HasCharts, HasFaultyChart}
-use Rattle.model_charts.specs.Reads.{ReadsCharts}
-use Rattle.model_charts.specs.declared.fault.ChartsFault.{ChartsFault}
-use Rattle.model_charts.specs.declared.fault.ChartsFault.TheVariants as chart_faults
+use Rattle.chart_reader.specs.model_charts.Charts.{HasCharts, HasFaultyChart}
+use Rattle.chart_reader.specs.model_charts.Reads.{ReadsCharts}
+use Rattle.chart_reader.specs.declared.model_charts.fault.ChartsFault.{ChartsFault}
+use Rattle.chart_reader.specs.declared.model_charts.fault.ChartsFault.TheVariants as chart_faults
 use Rattle.room_wiring.specs.declared.tables.Tables.{Tables}
 use Rattle.binding_expand.specs.Answers.{Expands}
 use Rattle.binding_expand.specs.Faults.{number}
 use Rattle.binding_expand.specs.declared.fault.WiringFault.{WiringFault}
 use Rattle.binding_expand.specs.declared.fault.WiringFault.TheVariants as wiring_faults
-use Rattle.room_run.specs.Models.{most_bytes, HasTokens, HasTree, IsSoundTree, IsSoundText, IsModel, IsUncut, NestsTooDeep, HasNoTree, BreaksRule, IsGoodWiring, NeedsServices, SoundCauses, uncut, too_deep, no_tree, breaks_rule, bad_wiring, bad_chart, no_memory, TextCauses, needs_services}
+use Rattle.room_run.specs.Models.{most_bytes, HasTokens, HasTree, IsSoundTree, IsSoundText, IsModel, IsUncut, HasNoTree, BreaksRule, IsGoodWiring, NeedsServices, SoundCauses, uncut, no_tree, breaks_rule, bad_wiring, bad_chart, no_memory, TextCauses, needs_services}
 use Rattle.room_run.specs.Reading.{HasItsTokens, HasItsTree, ChartCauses, first_faulty, no_memory_for_charts, TreeCauses, breaks, miswired, faulty, no_memory_for_tree, fault_of}
 use Rattle.room_run.specs.declared.model_fault.ModelFault.{ModelFault}
 use Rattle.room_run.specs.declared.model_fault.ModelFault.TheVariants as faults
@@ -67,30 +67,13 @@ tree_found text tokens tree h one = record {
   names = subst HasNames (sym one.tokens) h.names;
 }
 
-parsed_deep : (ts : List TokenValue) (e : ParseFault) → IsParsed ts (Err e) → e ≡ parsing.TooDeep → opens_too_many ts ≡ true
-parsed_deep ts parsing.TooDeep h is = h
-parsed_deep ts (parsing.Syntax line) h is = absurd cc
-parsed_deep ts parsing.Memory h is = absurd cc
-
--- no model has the tokens, which don't nest too deep
-record IsNoModel (ts : List TokenValue) : Type 0 where
-  none : HasNoModel ts
-  shallow : opens_too_many ts ≡ false
-
-parsed_none : (ts : List TokenValue) (line : ℕ) (e : ParseFault) → IsParsed ts (Err e) → e ≡ parsing.Syntax line → IsNoModel ts
-parsed_none ts line (parsing.Syntax other) h is = record { none = h.0; shallow = h.1 }
-parsed_none ts line parsing.TooDeep h is = absurd cc
+parsed_none : (ts : List TokenValue) (line : ℕ) (e : ParseFault) → IsParsed ts (Err e) → e ≡ parsing.Syntax line → HasNoModel ts
+parsed_none ts line (parsing.Syntax other) h is = h
 parsed_none ts line parsing.Memory h is = absurd cc
-
--- the braces of the text nest too deep
-pub nests : (text : List ℕ) (tokens : List Token) (e : ParseFault) → length text ≤ most_bytes → HasItsTokens text tokens → IsParsed (values text tokens) (Err e) → e ≡ parsing.TooDeep → SoundCauses text faults.TooDeep
-nests text tokens e short h parsed is = too_deep (record { short = short; tokens = tokens; cut = h.has; deep = parsed_deep (values text tokens) e parsed is })
 
 -- the text has no tree
 pub no_model : (text : List ℕ) (tokens : List Token) (line : ℕ) (e : ParseFault) → length text ≤ most_bytes → HasItsTokens text tokens → IsParsed (values text tokens) (Err e) → e ≡ parsing.Syntax line → SoundCauses text (faults.Syntax line)
-no_model text tokens line e short h parsed is =
-    let none = parsed_none (values text tokens) line e parsed is in
-    no_tree line (record { short = short; tokens = tokens; cut = h.has; shallow = none.shallow; none = none.none })
+no_model text tokens line e short h parsed is = no_tree line (record { short = short; tokens = tokens; cut = h.has; none = parsed_none (values text tokens) line e parsed is })
 
 -- ---- the rules
 

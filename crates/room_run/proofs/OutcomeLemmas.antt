@@ -4,7 +4,7 @@ use Rattle.room_outside.specs.Shown.{Shown}
 use Rattle.room_outside.specs.Written.{Written}
 use Rattle.room_outside.proofs.SinkLemmas.{Appends-none}
 use Rattle.journal.specs.Text.{text_of}
-use Rattle.inject_lines.specs.declared.accepted.Line.{Line}
+use Rattle.inject_reader.specs.declared.inject_lines.accepted.Line.{Line}
 use Rattle.controller_actors.specs.declared.plant.Plant.{Plant}
 use Rattle.room_run.specs.Causes.{Causes}
 use Rattle.room_run.specs.Finished.{Finishes}

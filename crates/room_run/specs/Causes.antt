@@ -1,11 +1,15 @@
 -- Which texts run, and why a call is refused.
+-- The causes stand in the order in which things are looked at, and each is a fact: that the words
+-- ask for nothing; that the count of read faults of a named file rose; that a text is too long;
+-- what its tokens or its tree lack; that a line of the injections is faulty. Want of memory may
+-- come wherever the words ask for something.
 use Rattle.std.specs.Prelude.{◌≡◌, ℕ, ◌<◌, ◌≤◌, List, ◌∷◌, [], length, Some, None, IfSome, Ok, Err, codes, decimal}
 use Rattle.room_outside.specs.Faults.{Rose}
 use Rattle.room_outside.specs.Shown.{Shown}
-use Rattle.line_text.specs.Lines.{line}
+use Rattle.room_outside.specs.line_text.Lines.{line}
 use Rattle.room_wiring.specs.declared.tables.Tables.{Tables}
 use Rattle.controller_actors.specs.declared.plant.Plant.{Plant}
-use Rattle.inject_lines.specs.declared.accepted.Line.{Line}
+use Rattle.inject_reader.specs.declared.inject_lines.accepted.Line.{Line}
 use Rattle.inject_reader.specs.Answer.{answer}
 use Rattle.inject_reader.specs.declared.fault.InjectFault.{InjectFault}
 use Rattle.inject_reader.specs.declared.fault.InjectFault.TheVariants as inject_faults
@@ -86,7 +90,6 @@ pub data Causes (before after : Shown) (words : List (List ℕ)) (why : Refusal)
 -- the status of a refusal of a model's text
 abbrev pub status_of_fault : ModelFault → Status
 status_of_fault (faults.Byte offset) = statuses.ModelRefused
-status_of_fault faults.TooDeep = statuses.ModelRefused
 status_of_fault (faults.Syntax number) = statuses.ModelRefused
 status_of_fault (faults.Rule number) = statuses.ModelRefused
 status_of_fault (faults.Wiring number) = statuses.ModelRefused
@@ -107,7 +110,6 @@ status_of refusals.Memory = statuses.Memory
 -- what is told of a refusal of a model's text
 abbrev pub note_of_fault : ModelFault → List ℕ
 note_of_fault (faults.Byte offset) = line (codes "room: model refused: byte " ∷ decimal offset ∷ [])
-note_of_fault faults.TooDeep = line (codes "room: model refused: too deep" ∷ [])
 note_of_fault (faults.Syntax number) = line (codes "room: model refused: syntax " ∷ decimal number ∷ [])
 note_of_fault (faults.Rule number) = line (codes "room: model refused: rule " ∷ decimal number ∷ [])
 note_of_fault (faults.Wiring number) = line (codes "room: model refused: wiring " ∷ decimal number ∷ [])

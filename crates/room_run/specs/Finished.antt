@@ -1,8 +1,8 @@
 -- A run that has ended and is not written yet.
 use Rattle.std.specs.Prelude.{◌≡◌, ℕ, List}
-use Rattle.inject_lines.specs.declared.accepted.Line.{Line}
+use Rattle.inject_reader.specs.declared.inject_lines.accepted.Line.{Line}
 use Rattle.controller_actors.specs.declared.plant.Plant.{Plant}
-use Rattle.run_ends.specs.Runs.{IsRun}
+use Rattle.model_run.specs.run_ends.Runs.{IsRun}
 use Rattle.room_run.specs.declared.prepare.Finished.{Finished}
 
 -- it is a run of this plant over these lines with so much fuel, under the names of the plant's wiring

@@ -5,3 +5,5 @@ pub mod Reading
 pub mod Causes
 pub mod Outcome
 pub mod Finished
+pub mod model_plants
+pub mod service_words

@@ -1,4 +1,8 @@
 -- Which texts are those of models that keep all rules and whose wiring and charts have no fault, which of them run, and why others don't.
+-- `IsModel`: the text is that of a model which runs as this plant. It is short enough, it has
+-- tokens, a tree has their values, the tree keeps all rules, it has a wiring without a fault and
+-- charts; no action of it asks the frame service or the layer service for anything; and the plant
+-- has its wiring, and for each actor class the tables that show its chart.
 use Rattle.std.specs.Prelude.{◌≡◌, ℕ, ◌≤◌, List, [], length, true, false, Option, Some, None}
 use Rattle.room_lexer.specs.Cut.{Piece, CutTo, placed, FailsAt}
 use Rattle.room_lexer.specs.declared.piece.Cause.{Cause}
@@ -6,17 +10,17 @@ use Rattle.room_lexer.specs.declared.token.Token.{Token}
 use Rattle.room_ast.specs.Trees.{ModelTree}
 use Rattle.room_ast.specs.Tokens.{model_tokens}
 use Rattle.token_reading.specs.Single.{values}
-use Rattle.room_parser.specs.Parsed.{HasNoModel, opens_too_many}
+use Rattle.room_parser.specs.Parsed.{HasNoModel}
 use Rattle.structure_check.specs.Rules.{first_broken, IsLowest}
 use Rattle.structure_check.specs.List.{all_rules}
 use Rattle.chart_model.specs.Chart.{Chart}
-use Rattle.model_charts.specs.Charts.{HasCharts, HasFaultyChart}
+use Rattle.chart_reader.specs.model_charts.Charts.{HasCharts, HasFaultyChart}
 use Rattle.room_wiring.specs.declared.tables.Tables.{Tables}
 use Rattle.binding_expand.specs.Wirings.{IsWiringOf}
 use Rattle.binding_expand.specs.Faults.{HasNoFault, IsLowestFault, number as number_of}
 use Rattle.binding_expand.specs.declared.fault.WiringFault.{WiringFault}
-use Rattle.service_words.specs.Asked.{asks_services}
-use Rattle.model_plants.specs.Shown.{ShowCharts}
+use Rattle.room_run.specs.service_words.Asked.{asks_services}
+use Rattle.room_run.specs.model_plants.Shown.{ShowCharts}
 use Rattle.controller_actors.specs.declared.plant.Plant.{Plant}
 use Rattle.room_run.specs.declared.model_fault.ModelFault.{ModelFault}
 use Rattle.room_run.specs.declared.model_fault.ModelFault.TheVariants as faults
@@ -73,19 +77,11 @@ pub record IsUncut (text : List ℕ) (offset : ℕ) : Type 0 where
   pub cause : Cause
   pub fails : FailsAt cause offset text
 
--- at some place of the text more braces stand open than a text may have open
-pub record NestsTooDeep (text : List ℕ) : Type 0 where
-  pub short : length text ≤ most_bytes
-  pub tokens : List Token
-  pub cut : HasTokens text tokens
-  pub deep : opens_too_many (values text tokens) ≡ true
-
 -- the text has tokens, and no tree has their values
 pub record HasNoTree (text : List ℕ) : Type 0 where
   pub short : length text ≤ most_bytes
   pub tokens : List Token
   pub cut : HasTokens text tokens
-  pub shallow : opens_too_many (values text tokens) ≡ false
   pub none : HasNoModel (values text tokens)
 
 -- the text has a tree that breaks the rule of this number, and none of a lower one
@@ -123,11 +119,10 @@ pub record NeedsServices (text : List ℕ) : Type 0 where
   pub asks : asks_services charts ≡ true
 
 -- Why a text may be refused as that of a model which keeps all rules and whose wiring and charts have
--- no fault. The order is: the cut, the braces, the tree, the rules in order of their numbers, the wiring,
+-- no fault. The order is: the cut, the tree, the rules in order of their numbers, the wiring,
 -- the charts of the actor classes in order of declaration.
 pub data SoundCauses (text : List ℕ) : ModelFault → Type 0 where
   uncut : (offset : ℕ) → IsUncut text offset → SoundCauses text (faults.Byte offset)
-  too_deep : NestsTooDeep text → SoundCauses text faults.TooDeep
   no_tree : (line : ℕ) → HasNoTree text → SoundCauses text (faults.Syntax line)
   breaks_rule : (rule : ℕ) → BreaksRule text rule → SoundCauses text (faults.Rule rule)
   bad_wiring : (number : ℕ) → HasBadWiring text number → SoundCauses text (faults.Wiring number)

@@ -1,15 +1,23 @@
 -- How a call ends, and what it wrote.
+-- A call ends in one of four ways: the whole answer is written, with its status; writing it breaks
+-- off, with the status of a write fault; the call is refused for a cause that holds, with its one
+-- line on standard error and nothing on standard output; or writing that line breaks off. Where a
+-- shelf doesn't tell a text, nothing is said of that text; the words and the causes of faults are
+-- spoken of over every shelf and sink.
+-- The answer is `ok` of a model that keeps all rules and whose wiring and charts have no fault,
+-- the text of its wiring, or the text of journals that are a run of the model over the lines, with
+-- status done or spent as the run ended.
 use Rattle.std.specs.Prelude.{◌≡◌, ℕ, List, [], ◌∷◌, Bool, Some, codes, if◌then◌else◌}
 use Rattle.room_outside.specs.Shown.{Shown}
 use Rattle.room_outside.specs.Written.{Written, Appends, BreaksOff}
-use Rattle.line_text.specs.Lines.{line}
+use Rattle.room_outside.specs.line_text.Lines.{line}
 use Rattle.journal.specs.Text.{text_of}
 use Rattle.journal.specs.declared.entry.Journals.{Journals}
-use Rattle.inject_lines.specs.declared.accepted.Line.{Line}
+use Rattle.inject_reader.specs.declared.inject_lines.accepted.Line.{Line}
 use Rattle.controller_actors.specs.declared.plant.Plant.{Plant}
-use Rattle.run_ends.specs.Runs.{IsRun}
+use Rattle.model_run.specs.run_ends.Runs.{IsRun}
 use Rattle.room_wiring.specs.declared.tables.Tables.{Tables}
-use Rattle.tree_text.specs.Text.{tree_text}
+use Rattle.binding_expand.specs.tree_text.Text.{tree_text}
 use Rattle.room_run.specs.Words.{Files, Check, Tree, Run, asked_by}
 use Rattle.room_run.specs.Models.{IsSound}
 use Rattle.room_run.specs.Causes.{Causes, AreOf, TextIs, status_of, note_of}

@@ -4,7 +4,7 @@ use Rattle.room_lexer.specs.declared.token.Token.{Token}
 use Rattle.room_ast.specs.Trees.{ModelTree, model_view}
 use Rattle.room_ast.specs.Tokens.{model_tokens}
 use Rattle.token_reading.specs.Single.{values}
-use Rattle.token_names.specs.Names.{HasNames}
+use Rattle.token_reading.specs.token_names.Names.{HasNames}
 use Rattle.structure_check.specs.Rules.{first_broken, IsLowest}
 use Rattle.structure_check.specs.List.{all_rules}
 use Rattle.structure_check.specs.Classes.{HasClasses}
@@ -13,7 +13,7 @@ use Rattle.room_wiring.specs.declared.tables.Tables.{Tables}
 use Rattle.binding_expand.specs.Faults.{IsLowestFault, number}
 use Rattle.binding_expand.specs.declared.fault.WiringFault.{WiringFault}
 use Rattle.binding_expand.specs.declared.fault.WiringFault.TheVariants as wiring_faults
-use Rattle.model_charts.specs.Charts.{HasFaultyChart}
+use Rattle.chart_reader.specs.model_charts.Charts.{HasFaultyChart}
 use Rattle.room_run.specs.Models.{HasTokens, HasTree, IsGoodWiring}
 use Rattle.room_run.specs.declared.model_fault.ModelFault.{ModelFault}
 use Rattle.room_run.specs.declared.model_fault.ModelFault.TheVariants as faults

@@ -4,23 +4,23 @@ ghost use Rattle.room_ast.specs.Trees.{model_view};
 ghost use Rattle.structure_check.specs.Rules.{first_broken};
 ghost use Rattle.structure_check.specs.Classes.{HasClasses};
 ghost use Rattle.structure_check.specs.List.{all_rules};
-ghost use Rattle.chart_graphs.specs.Views.{chart_view};
-ghost use Rattle.model_charts.specs.Charts.{AreValid, HasCharts};
+ghost use Rattle.chart_reading.specs.chart_graphs.Views.{chart_view};
+ghost use Rattle.chart_reader.specs.model_charts.Charts.{AreValid, HasCharts};
 ghost use Rattle.controller_actors.specs.Plants.{IsPlant};
 ghost use Rattle.room_run.specs.Models.{IsGoodWiring, IsModel, IsSoundText, IsSoundTree, SoundCauses, TextCauses};
 ghost use Rattle.room_run.specs.Reading.{ChartCauses, HasItsTokens, HasItsTree, IsCheckedFor, TreeCauses, fault_of};
 
 use crate::model_fault::ModelFault;
+use crate::model_plants::plant_of;
+use crate::service_words::asks_services;
 use binding_expand::{WiringFault, expand};
-use chart_graphs::Chart;
+use chart_reader::{ChartsFault, charts_of};
+use chart_reading::Chart;
 use controller::Plant;
-use model_charts::{ChartsFault, charts_of};
-use model_plants::plant_of;
 use room_ast::Model;
 use room_lexer::{LexFault, Token, lex};
 use room_parser::{ParseFault, parse};
 use room_wiring::Wiring;
-use service_words::asks_services;
 use std::alloc::{AllocError, Global};
 use structure_check::{CheckFault, Checked, check};
 
@@ -52,7 +52,6 @@ fn read_tree(alloc: Global, text: &[u8]) -> Result<Model, ModelFault>
     };
     match parse(alloc, text, &tokens) {
         Ok(tree) => Ok(tree),
-        Err(ParseFault::TooDeep) => Err(ModelFault::TooDeep),
         Err(ParseFault::Syntax { line }) => Err(ModelFault::Syntax { line }),
         Err(ParseFault::Memory) => Err(ModelFault::Memory),
     }

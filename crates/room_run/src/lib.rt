@@ -8,14 +8,19 @@
 mod asked;
 mod judge;
 mod model_fault;
+pub mod model_plants;
 mod note;
 mod prepare;
 mod refusal;
+pub mod service_words;
 mod status;
 mod top;
 
 pub use judge::read_plant;
 pub use model_fault::ModelFault;
+pub use model_plants::plant_of;
+pub use model_run::run_local;
 pub use refusal::Refusal;
+pub use service_words::asks_services;
 pub use status::Status;
 pub use top::room_top;

@@ -10,8 +10,6 @@ use room_ast::Name;
 pub enum ModelFault {
     /// It can't be cut into tokens at this byte, counted from 0.
     Byte(usize),
-    /// More braces stand open at some place than may (`room_parser` says how many).
-    TooDeep,
     /// No model has its tokens. The line, from 1, is that of the first token with which no model
     /// goes on, or of the end of the text.
     Syntax { line: u32 },
@@ -35,7 +33,6 @@ impl ModelFault {
     {
         match self {
             ModelFault::Byte(_) => Status::ModelRefused,
-            ModelFault::TooDeep => Status::ModelRefused,
             ModelFault::Syntax { .. } => Status::ModelRefused,
             ModelFault::Rule(_) => Status::ModelRefused,
             ModelFault::Wiring(_) => Status::ModelRefused,

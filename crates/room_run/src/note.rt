@@ -1,16 +1,15 @@
 //! The lines that the program writes of its own.
 ghost use Rattle.std.specs.Prelude.{◌∷◌, [], codes, decimal, OnOk, OnErr};
-ghost use Rattle.line_text.specs.Lines.{line};
-ghost use Rattle.line_text.specs.Parts.{part_texts};
-ghost use Rattle.line_text.specs.Output.{Puts, at_rest};
+ghost use Rattle.room_outside.specs.line_text.Lines.{line};
+ghost use Rattle.room_outside.specs.line_text.Parts.{part_texts};
+ghost use Rattle.room_outside.specs.line_text.Output.{Puts, at_rest};
 ghost use Rattle.room_outside.specs.Written.{Appends, BreaksOff};
 ghost use Rattle.room_run.specs.Causes.{note_of, note_of_fault};
 ghost use Rattle.room_run.specs.Outcome.{accepted};
 
 use crate::model_fault::ModelFault;
 use crate::refusal::Refusal;
-use line_text::{LineBuffer, Part, write_line};
-use room_outside::{Sink, WriteFault};
+use room_outside::{LineBuffer, Part, Sink, WriteFault, write_line};
 
 /// Writes a line of a text.
 fn write_text<K: Sink>(notes: &mut K, text: &[u8]) -> Result<(), WriteFault>
@@ -65,7 +64,6 @@ fn write_model_fault<K: Sink>(why: &ModelFault, notes: &mut K) -> Result<(), Wri
         ModelFault::Byte(offset) => {
             write_number(notes, b"room: model refused: byte ", *offset as u64)
         }
-        ModelFault::TooDeep => write_text(notes, b"room: model refused: too deep"),
         ModelFault::Syntax { line } => {
             write_number(notes, b"room: model refused: syntax ", u64::from(*line))
         }

@@ -7,10 +7,10 @@ use crate::note::{write_note, write_ok};
 use crate::prepare::{Answer, prepare};
 use crate::refusal::Refusal;
 use crate::status::Status;
+use binding_expand::expand_text;
 use journal::text_to;
 use room_outside::{Gate, Shelf, Sink};
 use std::alloc::Global;
-use tree_text::expand_text;
 
 /// Tells why the call was refused, and gives its status.
 fn tell<K: Sink>(why: Refusal, notes: &mut K) -> Status

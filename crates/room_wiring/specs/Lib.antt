@@ -3,3 +3,4 @@ pub mod Places
 pub mod Consistent
 pub mod Single
 pub mod WellNamed
+pub mod wiring_names

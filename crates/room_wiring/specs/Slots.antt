@@ -4,6 +4,7 @@ use lib.Pointwise.{pointwise}
 use Rattle.room_wiring.specs.declared.tables.Tables.{Tables}
 use Rattle.room_wiring.specs.declared.slot.Slot.{Slot}
 use Rattle.room_wiring.specs.declared.names.ClassNames.{ClassNames}
+use Rattle.room_wiring.specs.declared.names.PortNames.{PortNames}
 
 -- the slot of a number
 abbrev pub slot_at : Tables → ℕ → Option Slot
@@ -16,6 +17,10 @@ class_at t c = slice_get t.classes c
 -- the class of a slot
 unfoldable pub class_of : Tables → ℕ → Option ClassNames
 class_of t s = option_and_then (λ (x : Slot). class_at t x.class) (slot_at t s)
+
+-- the port of a number at a slot: one of its class
+unfoldable pub port_at : Tables → ℕ → ℕ → Option PortNames
+port_at t s p = option_and_then (λ (c : ClassNames). slice_get c.ports p) (class_of t s)
 
 -- the number of the first slot with this path
 unfoldable pub slot_named : Tables → List ℕ → Option ℕ

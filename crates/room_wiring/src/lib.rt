@@ -11,9 +11,8 @@ mod names;
 mod single;
 mod slot;
 mod tables;
-#[cfg(test)]
-mod tests;
 mod wiring;
+pub mod wiring_names;
 
 pub use label::Label;
 pub use names::{AttrNames, ClassNames, PortNames, RefNames, SignalNames};

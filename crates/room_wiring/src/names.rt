@@ -1,6 +1,6 @@
 //! The names of a class and of what belongs to it.
 use crate::label::Label;
-use room_kinds::{NumberType, PortKind, ReferenceKind as Kind, Sequence};
+use room_kinds::{NumberType, PortKind, ReferenceKind as Kind, Sequence, SharedSequence};
 
 /// A signal, with a type for each number of its messages.
 #[derive(Drop, Debug)]
@@ -10,7 +10,7 @@ pub struct SignalNames {
 }
 
 /// A port, a service access point or a service provision point. Its signals are those of its
-/// protocol, numbered from 0, incoming ones first; a conjugated port sends the incoming ones and
+/// protocol, which all its ports share, numbered from 0, incoming ones first; a conjugated port sends the incoming ones and
 /// receives the outgoing ones. `conjugated` is true at a service access point, and false at a
 /// service provision point and at `frame`.
 #[derive(Drop, Debug)]
@@ -22,8 +22,8 @@ pub struct PortNames {
     pub protocol: Option<u16>,
     /// The name of the protocol class; none at `frame`.
     pub protocol_name: Option<Label>,
-    pub incoming: Sequence<SignalNames>,
-    pub outgoing: Sequence<SignalNames>,
+    pub incoming: SharedSequence<SignalNames>,
+    pub outgoing: SharedSequence<SignalNames>,
 }
 
 /// A reference to an actor class. One without a number has the count 1.

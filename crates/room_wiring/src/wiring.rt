@@ -1,11 +1,12 @@
 //! The look-ups of a wiring.
 ghost use Rattle.std.specs.Prelude.{◌≡◌, ◌+◌, ◌<◌, ◌≤◌, Some, length, slice_get, option_map, position, nat_eq, IfSome};
+ghost use Rattle.std.specs.Option.{option_copied};
 ghost use lib.Pointwise.{pointwise};
-ghost use Rattle.room_wiring.specs.Slots.{slot_at, class_at, slot_named};
+ghost use Rattle.room_wiring.specs.Slots.{slot_at, class_at, class_of, port_at, slot_named};
 ghost use Rattle.room_wiring.specs.Places.{port_count, span_at, place_count, partner_at, is_told};
 ghost use Rattle.room_wiring.specs.Consistent.{IsConsistent};
 
-use crate::names::ClassNames;
+use crate::names::{ClassNames, PortNames};
 use crate::slot::{Partner, Slot};
 use crate::tables::{PlaceSpan, Tables};
 use room_kinds::{ControllerId, SlotId};
@@ -54,6 +55,14 @@ impl Wiring {
         ensures consistent { IsConsistent self.now }
     {
         &self.tables.slots.as_slice()[usize::from(s.0)]
+    }
+
+    /// The slot of a number; none where there is no such slot.
+    pub fn get_slot(&self, s: SlotId) -> Option<&Slot>
+        ensures slot { option_copied result ≡ slot_at self.now s.0 }
+        ensures known { IfSome result (λ x. x.now.class < length self.now.classes) }
+    {
+        self.tables.slots.as_slice().get(usize::from(s.0))
     }
 
     /// How many controllers there are. The environment has this number.
@@ -120,6 +129,47 @@ impl Wiring {
         ensures consistent { IsConsistent self.now }
     {
         &self.tables.classes.as_slice()[usize::from(class)]
+    }
+
+    /// The class of a number; none where there is no such class.
+    pub fn get_class(&self, class: u16) -> Option<&ClassNames>
+        ensures { option_copied result ≡ class_at self.now class }
+    {
+        self.tables.classes.as_slice().get(usize::from(class))
+    }
+
+    /// The class of a slot; none where there is no such slot.
+    #[tactic(auto, unfolding(crate::specs::Slots::class_of))]
+    pub fn class_of(&self, s: SlotId) -> Option<&ClassNames>
+        ensures { option_copied result ≡ class_of self.now s.0 }
+    {
+        match self.get_slot(s) {
+            Some(slot) => self.get_class(slot.class),
+            None => None,
+        }
+    }
+
+    /// How many ports a slot has, `frame` among them; none where there is no such slot.
+    #[tactic(auto, unfolding(crate::specs::Places::port_count))]
+    pub fn port_count(&self, s: SlotId) -> usize
+        ensures { result ≡ port_count self.now s.0 }
+    {
+        match self.class_of(s) {
+            Some(class) => class.ports.len(),
+            None => 0,
+        }
+    }
+
+    /// A port of the class of a slot, by its number; none where the class has no such port, or where
+    /// there is no such slot.
+    #[tactic(auto, unfolding(crate::specs::Slots::port_at))]
+    pub fn port_of(&self, s: SlotId, port: u16) -> Option<&PortNames>
+        ensures { option_copied result ≡ port_at self.now s.0 port }
+    {
+        match self.class_of(s) {
+            Some(class) => class.ports.as_slice().get(usize::from(port)),
+            None => None,
+        }
     }
 
     #[tactic(auto, unfolding(crate::specs::Places::span_at))]

@@ -1,1 +1,3 @@
 pub mod Shown
+pub mod frame_messages
+pub mod slot_runs

@@ -1,13 +1,10 @@
 //! Look-ups in a wiring. The numbers may name nothing: then the answer is what the definitions say of
 //! such a number.
 ghost use Rattle.std.specs.Prelude.{◌≡◌};
-ghost use Rattle.std.specs.Option.{option_copied};
-ghost use Rattle.room_wiring.specs.Places.{port_count};
-ghost use Rattle.room_wiring.specs.Slots.{slot_at, class_of};
-ghost use Rattle.actor_duties.specs.Words.{owner_of, is_own, is_sap, is_spp, joined_at, port_at, is_endpoint};
+ghost use Rattle.actor_duties.specs.Words.{owner_of, is_own, is_sap, is_spp, joined_at, is_endpoint};
 
 use room_kinds::{ControllerId, Endpoint, PortKind, SlotId};
-use room_wiring::{ClassNames, Partner, PortNames, Slot, Wiring};
+use room_wiring::{Partner, Wiring};
 
 /// Whether two endpoints are one.
 pub fn is_same_endpoint(a: Endpoint, b: Endpoint) -> bool
@@ -16,22 +13,12 @@ pub fn is_same_endpoint(a: Endpoint, b: Endpoint) -> bool
     a.slot == b.slot && a.generation == b.generation && a.port == b.port && a.place == b.place
 }
 
-fn slot_at(wiring: &Wiring, slot: SlotId) -> Option<&Slot>
-    ensures { option_copied result ≡ slot_at wiring.now slot.0 }
-{
-    if u32::from(slot.0) < wiring.slot_count() {
-        Some(wiring.slot(slot))
-    } else {
-        None
-    }
-}
-
 /// The controller that runs the actors of a slot; controller 0 where there is no such slot.
 #[tactic(auto, unfolding(actor_duties::specs::Words::owner_of))]
 pub fn owner_of(wiring: &Wiring, slot: SlotId) -> ControllerId
     ensures { result ≡ record { 0 = owner_of wiring.now slot.0 } }
 {
-    match slot_at(wiring, slot) {
+    match wiring.get_slot(slot) {
         Some(found) => found.owner,
         None => ControllerId(0),
     }
@@ -42,61 +29,29 @@ pub fn owner_of(wiring: &Wiring, slot: SlotId) -> ControllerId
 pub fn is_own(wiring: &Wiring, me: ControllerId, slot: SlotId) -> bool
     ensures { result ≡ is_own wiring.now me.0 slot.0 }
 {
-    match slot_at(wiring, slot) {
+    match wiring.get_slot(slot) {
         Some(found) => found.owner == me,
         None => false,
     }
 }
 
-#[tactic(auto, unfolding(room_wiring::specs::Slots::class_of))]
-fn class_of(wiring: &Wiring, slot: SlotId) -> Option<&ClassNames>
-    ensures { option_copied result ≡ class_of wiring.now slot.0 }
-{
-    if u32::from(slot.0) < wiring.slot_count() {
-        Some(wiring.class(wiring.slot(slot).class))
-    } else {
-        None
-    }
-}
-
-/// How many ports a slot has, `frame` among them; none where there is no such slot.
-#[tactic(auto, unfolding(room_wiring::specs::Places::port_count))]
-pub fn port_count(wiring: &Wiring, slot: SlotId) -> usize
-    ensures { result ≡ port_count wiring.now slot.0 }
-{
-    match class_of(wiring, slot) {
-        Some(class) => class.ports.len(),
-        None => 0,
-    }
-}
-
-#[tactic(auto, unfolding(actor_duties::specs::Words::port_at))]
-fn port_at(wiring: &Wiring, slot: SlotId, port: u16) -> Option<&PortNames>
-    ensures { option_copied result ≡ port_at wiring.now slot.0 port }
-{
-    match class_of(wiring, slot) {
-        Some(class) => class.ports.as_slice().get(usize::from(port)),
-        None => None,
-    }
-}
-
 /// Whether a port of a slot is a service access point, the user's side of a service.
-#[tactic(auto, unfolding(actor_duties::specs::Words::is_sap))]
+#[tactic(auto, unfolding(actor_duties::specs::Words::is_sap, actor_duties::specs::Words::port_at, room_wiring::specs::Slots::port_at))]
 pub fn is_sap(wiring: &Wiring, slot: SlotId, port: u16) -> bool
     ensures { result ≡ is_sap wiring.now slot.0 port }
 {
-    match port_at(wiring, slot, port) {
+    match wiring.port_of(slot, port) {
         Some(found) => matches!(found.kind, PortKind::Sap),
         None => false,
     }
 }
 
 /// Whether a port of a slot is a service provision point, the provider's side of a service.
-#[tactic(auto, unfolding(actor_duties::specs::Words::is_spp))]
+#[tactic(auto, unfolding(actor_duties::specs::Words::is_spp, actor_duties::specs::Words::port_at, room_wiring::specs::Slots::port_at))]
 pub fn is_spp(wiring: &Wiring, slot: SlotId, port: u16) -> bool
     ensures { result ≡ is_spp wiring.now slot.0 port }
 {
-    match port_at(wiring, slot, port) {
+    match wiring.port_of(slot, port) {
         Some(found) => matches!(found.kind, PortKind::Spp),
         None => false,
     }
@@ -108,7 +63,7 @@ pub fn joined_at(wiring: &Wiring, slot: SlotId, port: u16, place: u32) -> Partne
     ensures { result ≡ joined_at wiring.now slot.0 port place }
 {
     if u32::from(slot.0) < wiring.slot_count()
-        && usize::from(port) < port_count(wiring, slot)
+        && usize::from(port) < wiring.port_count(slot)
         && place < wiring.places(slot, port)
     {
         wiring.partner(slot, port, place)

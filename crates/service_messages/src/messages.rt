@@ -1,6 +1,6 @@
 //! The messages of the services.
 ghost use Rattle.std.specs.Prelude.{◌≡◌};
-ghost use Rattle.actor_duties.specs.Messages.{system, frame_message, signal_number, code_number};
+ghost use Rattle.actor_duties.specs.Messages.{system, frame_message, signal_number, code_number, is_code};
 ghost use Rattle.service_messages.specs.Shown.{signal_of, code_of};
 
 use room_kinds::{ControllerId, Endpoint, Msg, Payload, Priority, Stamp, SysKind};
@@ -48,6 +48,13 @@ impl Code {
         ensures { result ≡ code_number (code_of self) }
     {
         self as u8
+    }
+
+    /// Whether a number is this code.
+    pub fn is(self, number: i64) -> bool
+        ensures { result ≡ is_code (code_of self) number }
+    {
+        number == i64::from(self.number())
     }
 }
 

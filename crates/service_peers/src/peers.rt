@@ -2,7 +2,7 @@
 ghost use Rattle.std.specs.Prelude.{◌≡◌};
 ghost use Rattle.actor_duties.specs.Peers.{peer};
 ghost use Rattle.frame_service.specs.State.{frame_in};
-ghost use Rattle.layer_links.specs.Kept.{links_of};
+ghost use Rattle.layer_service.specs.layer_links.Kept.{links_of};
 
 use frame_service::FrameState;
 use layer_service::Links;

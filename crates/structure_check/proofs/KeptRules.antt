@@ -1,10 +1,10 @@
 -- What a model keeps that breaks no rule.
 use Rattle.std.proofs.Common.{◌≡◌, ℕ, Bool, true, false, cond, List, ◌++◌, Option, Some, None, refl, sym, ◌∙◌}
 use Rattle.room_ast.specs.Trees.{ModelTree}
-use Rattle.class_rules.specs.Types.{has_fitting_values}
-use Rattle.class_rules.specs.Ends.{has_known_protocols, has_own_ports, has_known_actors}
-use Rattle.containment_rules.specs.Circles.{data_is_finite, actors_are_finite}
-use Rattle.count_rules.specs.Counts.{has_few_parts}
+use Rattle.check_classes.specs.class_rules.Types.{has_fitting_values}
+use Rattle.check_classes.specs.class_rules.Ends.{has_known_protocols, has_own_ports, has_known_actors}
+use Rattle.check_tables.specs.containment_rules.Circles.{data_is_finite, actors_are_finite}
+use Rattle.check_mappings.specs.count_rules.Counts.{has_few_parts}
 use Rattle.structure_check.specs.Rules.{Rule, first_broken}
 use Rattle.structure_check.specs.List.{name_rules, data_rules, end_rules, outer_rules, part_rules, later_rules, single_rules, count_rules, all_rules}
 use Rattle.structure_check.specs.Ranks.{ReferencesFall}

@@ -6,8 +6,8 @@ use Rattle.std.proofs.lemmas.List.{length-map}
 use Rattle.room_ast.specs.Trees.{ActorTree, actor_view}
 use Rattle.room_ast.specs.declared.actor.ActorClass.{ActorClass}
 use Rattle.room_ast.specs.declared.scope.Scope.{Scope}
-use Rattle.class_scopes.specs.Making.{actor_views}
-use Rattle.class_scopes.specs.Views.{ScopeView, scope_view}
+use Rattle.check_scopes.specs.class_scopes.Making.{actor_views}
+use Rattle.check_scopes.specs.class_scopes.Views.{ScopeView, scope_view}
 
 there : {X Y Z : Type 0} (v : X → Y) (f : Z → Y) (xs : List X) (zs : List Z) (i : ℕ) → map v xs ≡ map f zs → i < length zs → i < length xs
 there v f xs zs i e lt = let n : length xs ≡ length zs = sym (length-map xs v) ∙ ap length e ∙ length-map zs f in omega (arith, n, lt)

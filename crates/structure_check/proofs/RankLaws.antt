@@ -5,10 +5,10 @@ use Rattle.std.specs.List.{list_any, slice_index_or}
 use Rattle.std.proofs.lemmas.Bool.{or_cases, eqb-true, cases_lt, cases_eq}
 use Rattle.std.proofs.lemmas.List.{length-map}
 use Rattle.room_ast.specs.Trees.{ModelTree}
-use Rattle.model_parts.specs.Classes.{actors, actor_names, protocol_names}
-use Rattle.class_tables.specs.Containers.{actor_container, actor_containers}
-use Rattle.class_containment.specs.Containment.{parts_of, has_part, Contains, directly, through, NoneContainsItself, has_chain, contains_itself}
-use Rattle.containment_rules.specs.Circles.{classes_of_container, actors_are_finite}
+use Rattle.room_ast.specs.model_parts.Classes.{actors, actor_names, protocol_names}
+use Rattle.check_tables.specs.class_tables.Containers.{actor_container, actor_containers}
+use Rattle.number_graphs.specs.class_containment.Containment.{parts_of, has_part, Contains, directly, through, NoneContainsItself, has_chain, contains_itself}
+use Rattle.check_tables.specs.containment_rules.Circles.{classes_of_container, actors_are_finite}
 use Rattle.structure_check.specs.Ranks.{reference_classes, longest_chain, class_rank, ReferencesFall}
 
 -- ---- the longest chain

@@ -1,21 +1,21 @@
 -- The rules of ROOM models, in order of their numbers.
 use Rattle.std.specs.Prelude.{◌&&◌, Bool, List, [], ◌∷◌, ◌++◌}
 use Rattle.room_ast.specs.Trees.{ModelTree}
-use Rattle.class_tables.specs.Containers.{tables_of}
+use Rattle.check_tables.specs.class_tables.Containers.{tables_of}
 use Rattle.structure_check.specs.Rules.{Rule}
-use Rattle.class_rules.specs.Names.{has_one_system, has_class_names, has_part_names, has_message_names, has_field_names}
-use Rattle.class_rules.specs.Types.{has_known_types, has_fitting_values}
-use Rattle.class_rules.specs.Ends.{has_known_protocols, has_own_ports, has_known_actors}
-use Rattle.containment_rules.specs.Circles.{data_is_finite, actors_are_finite}
-use Rattle.class_sizes.specs.Rules.{has_small_classes}
-use Rattle.count_rules.specs.Counts.{has_few_parts}
-use Rattle.structure_rules.specs.AnyPlaces.{any_places_at_end_ports}
-use Rattle.structure_rules.specs.Imported.{imported_classes_have_end_ports}
-use Rattle.structure_rules.specs.Replication.{replicates_in_range}
-use Rattle.structure_rules.specs.Subsystems.{subsystem_references_are_plain}
-use Rattle.structure_rules.specs.Threads.{threads_are_few}
-use Rattle.binding_rules.specs.Rules.{any_places_bind_once, binding_sides_agree, binding_sides_exist, layers_are_known}
-use Rattle.mapping_rules.specs.Rules.{mappings_are_allowed, mappings_are_distinct, mappings_are_known}
+use Rattle.check_classes.specs.class_rules.Names.{has_one_system, has_class_names, has_part_names, has_message_names, has_field_names}
+use Rattle.check_classes.specs.class_rules.Types.{has_known_types, has_fitting_values}
+use Rattle.check_classes.specs.class_rules.Ends.{has_known_protocols, has_own_ports, has_known_actors}
+use Rattle.check_tables.specs.containment_rules.Circles.{data_is_finite, actors_are_finite}
+use Rattle.check_classes.specs.class_sizes.Rules.{has_small_classes}
+use Rattle.check_mappings.specs.count_rules.Counts.{has_few_parts}
+use Rattle.check_structure.specs.structure_rules.AnyPlaces.{any_places_at_end_ports}
+use Rattle.check_structure.specs.structure_rules.Imported.{imported_classes_have_end_ports}
+use Rattle.check_structure.specs.structure_rules.Replication.{replicates_in_range}
+use Rattle.check_structure.specs.structure_rules.Subsystems.{subsystem_references_are_plain}
+use Rattle.check_structure.specs.structure_rules.Threads.{threads_are_few}
+use Rattle.check_structure.specs.binding_rules.Rules.{any_places_bind_once, binding_sides_agree, binding_sides_exist, layers_are_known}
+use Rattle.check_mappings.specs.mapping_rules.Rules.{mappings_are_allowed, mappings_are_distinct, mappings_are_known}
 
 -- The rules on names.
 unfoldable pub name_rules : List Rule

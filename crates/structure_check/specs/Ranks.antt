@@ -1,10 +1,10 @@
 -- The references of actor classes, by number, and a rank that falls along them.
 use Rattle.std.specs.Prelude.{◌≡◌, ℕ, zero, suc, ◌<◌, ◌≤◌, true, List, map, length, if◌then◌else◌}
 use Rattle.room_ast.specs.Trees.{ModelTree}
-use Rattle.model_parts.specs.Classes.{actors, actor_names, protocol_names}
-use Rattle.class_tables.specs.Containers.{actor_containers}
-use Rattle.class_containment.specs.Containment.{has_part, has_chain, NoneContainsItself}
-use Rattle.containment_rules.specs.Circles.{classes_of_container}
+use Rattle.room_ast.specs.model_parts.Classes.{actors, actor_names, protocol_names}
+use Rattle.check_tables.specs.class_tables.Containers.{actor_containers}
+use Rattle.number_graphs.specs.class_containment.Containment.{has_part, has_chain, NoneContainsItself}
+use Rattle.check_tables.specs.containment_rules.Circles.{classes_of_container}
 
 -- The actor classes of the references of each actor class, by number.
 abbrev pub reference_classes : ModelTree → List (List ℕ)

@@ -3,10 +3,10 @@
 ghost use Rattle.std.specs.Prelude.{◌≡◌, ◌<◌, Some, length, map, option_map, option_and_then, slice_get};
 ghost use Rattle.room_ast.specs.ChartTree.{graph_view};
 ghost use Rattle.room_ast.specs.Trees.{actor_view, model_view};
-ghost use Rattle.model_parts.specs.Charts.{chart_of};
-ghost use Rattle.model_parts.specs.Classes.{actors};
-ghost use Rattle.class_scopes.specs.Scopes.{scope_of};
-ghost use Rattle.class_scopes.specs.Views.{scope_view};
+ghost use Rattle.room_ast.specs.model_parts.Charts.{chart_of};
+ghost use Rattle.room_ast.specs.model_parts.Classes.{actors};
+ghost use Rattle.check_scopes.specs.class_scopes.Scopes.{scope_of};
+ghost use Rattle.check_scopes.specs.class_scopes.Views.{scope_view};
 
 use room_ast::{ActorClass, Model, Scope, StateMachine};
 

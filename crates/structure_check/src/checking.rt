@@ -1,9 +1,9 @@
 //! Checking a model.
 
 ghost use Rattle.std.specs.Prelude.{◌≡◌, true, IfOk, None, List};
-ghost use Rattle.containment_rules.specs.Circles.{data_is_finite};
+ghost use Rattle.check_tables.specs.containment_rules.Circles.{data_is_finite};
 ghost use Rattle.room_ast.specs.Trees.{ModelTree, model_view};
-ghost use Rattle.class_tables.specs.Containers.{tables_of};
+ghost use Rattle.check_tables.specs.class_tables.Containers.{tables_of};
 ghost use Rattle.structure_check.specs.Rules.{Rule, first_broken, IsLowest, RiseAbove};
 ghost use Rattle.structure_check.specs.List.{name_rules, data_rules, end_rules, place_rules, binding_rules, mappings_hold, thread_rules, joint_rules, outer_rules, part_rules, later_rules, single_rules, count_rules, all_rules};
 ghost use Rattle.structure_check.specs.Checks.{IsChecked, TellsLowest};
@@ -12,25 +12,23 @@ ghost use Rattle.structure_check.specs.Ranks.{ReferencesFall};
 
 use crate::checked_model::Checked;
 use crate::fault::CheckFault;
-use binding_rules::{
-    any_places_bind_once, binding_sides_agree, binding_sides_exist, layers_are_known,
-};
-use class_rules::{
+use check_classes::{
     has_class_names, has_field_names, has_fitting_values, has_known_actors, has_known_protocols,
     has_known_types, has_message_names, has_one_system, has_own_ports, has_part_names,
+    has_small_classes,
 };
-use class_scopes::{actor_classes, scopes_of};
-use class_sizes::has_small_classes;
-use class_tables::{Tables, tables_of};
-use containment_rules::{actors_are_finite, data_is_finite};
-use count_rules::has_few_parts;
-use mapping_rules::{mappings_are_allowed, mappings_are_distinct, mappings_are_known};
-use room_ast::Model;
-use std::alloc::{AllocError, Global};
-use structure_rules::{
-    any_places_at_end_ports, imported_classes_have_end_ports, replicates_in_range,
+use check_mappings::{
+    has_few_parts, mappings_are_allowed, mappings_are_distinct, mappings_are_known,
+};
+use check_scopes::{actor_classes, scopes_of};
+use check_structure::{
+    any_places_at_end_ports, any_places_bind_once, binding_sides_agree, binding_sides_exist,
+    imported_classes_have_end_ports, layers_are_known, replicates_in_range,
     subsystem_references_are_plain, threads_are_few,
 };
+use check_tables::{Tables, actors_are_finite, data_is_finite, tables_of};
+use room_ast::Model;
+use std::alloc::{AllocError, Global};
 
 /// The first rule on names that a model breaks.
 #[tactic(auto, unfolding(crate::specs::List::name_rules))]

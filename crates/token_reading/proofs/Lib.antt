@@ -5,3 +5,4 @@ pub mod Readers
 pub mod Whole
 pub mod Singles
 pub mod Exact
+pub mod token_names

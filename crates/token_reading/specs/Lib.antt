@@ -1,3 +1,5 @@
 pub mod Reader
 pub mod Contents
 pub mod Single
+pub mod action_tokens
+pub mod token_names

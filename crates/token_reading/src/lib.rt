@@ -2,6 +2,7 @@
 //! of token values that say what a parser reads. Every parser of the repository stands on it.
 #![tactic(auto)]
 
+pub mod action_tokens;
 mod contents;
 mod fault;
 mod repeat;

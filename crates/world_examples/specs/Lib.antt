@@ -11,3 +11,4 @@ pub mod Import
 pub mod Home
 pub mod Provider
 pub mod Withdrawal
+pub mod world_rows

@@ -74,3 +74,5 @@ pub fn second_provider_of_a_name_refused()
 pub fn withdraw_what_was_not_registered()
     ensures { WithdrawalIsComputed }
 {}
+
+pub mod world_rows;

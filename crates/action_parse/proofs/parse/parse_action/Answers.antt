@@ -1,8 +1,8 @@
 use Rattle.std.proofs.Common.{◌≡◌, List, Some, None, sym, map}
 use Rattle.token_reading.specs.Reader.{to_end}
-use Rattle.action_tokens.specs.Values.{Value, token_value}
+use Rattle.token_reading.specs.action_tokens.Values.{Value, token_value}
 use Rattle.action_program.specs.Named.{program_view}
-use Rattle.action_reading.specs.StmtReading.{stmts_at, statement}
+use Rattle.action_parse.specs.action_reading.StmtReading.{stmts_at, statement}
 use Rattle.action_parse.proofs.Judged.{found_program, refused_program}
 use Rattle.action_parse.proofs.parse.parse_action.Goals as goal
 

@@ -1,8 +1,8 @@
 use Rattle.std.proofs.Common.{◌≡◌, List, Some, None, sym, map}
 use Rattle.token_reading.specs.Reader.{to_end}
-use Rattle.action_tokens.specs.Values.{Value, token_value}
+use Rattle.token_reading.specs.action_tokens.Values.{Value, token_value}
 use Rattle.action_program.specs.Named.{expr_view}
-use Rattle.action_reading.specs.ExprReading.{expression}
+use Rattle.action_parse.specs.action_reading.ExprReading.{expression}
 use Rattle.action_parse.proofs.Judged.{found_condition, refused_condition}
 use Rattle.action_parse.proofs.parse.parse_cond.Goals as goal
 

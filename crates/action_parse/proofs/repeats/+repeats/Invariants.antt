@@ -1,6 +1,6 @@
 use Rattle.std.proofs.Common.{◌≡◌, map, drop}
 use Rattle.action_program.specs.Named.{stmt_view, branch_view, stmts_of, branches_of}
-use Rattle.action_reading.specs.Written.{repeats_within, branches_repeat}
+use Rattle.action_parse.specs.action_reading.Written.{repeats_within, branches_repeat}
 use Rattle.action_parse.proofs.repeats.+repeats.Given as goal
 
 abbrev pub invariant-repeats_within-loop-statement : goal.invariant-repeats_within-loop-statement

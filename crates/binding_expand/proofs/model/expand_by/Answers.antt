@@ -1,7 +1,7 @@
 use Rattle.std.proofs.lemmas.Result.{err_from_is_err_and}
 use Rattle.room_ast.specs.Trees.{model_view}
 use Rattle.structure_check.proofs.KeptRules.{all_finite, all_few}
-use Rattle.wired_laws.proofs.Few.{numbered_from_few}
+use Rattle.wiring_slots.proofs.wired_laws.Few.{numbered_from_few}
 use Rattle.binding_expand.proofs.Whole.{are_wired, places_told, wiring_told}
 use Rattle.binding_expand.proofs.model.expand_by.Goals as goal
 

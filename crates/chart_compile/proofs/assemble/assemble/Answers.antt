@@ -1,9 +1,9 @@
 use Rattle.std.proofs.Common.{List, ℕ, map, subst, sym}
-use Rattle.chart_plan.specs.Same.{Each}
-use Rattle.chart_nodes.specs.Steps.{step_view}
-use Rattle.chart_places.specs.Places.{place_view}
-use Rattle.chart_parts.specs.Parts.{IsShared}
-use Rattle.chart_numbers.specs.Order.{AreNumbered}
+use Rattle.chart_model.specs.chart_plan.Same.{Each}
+use Rattle.chart_reader.specs.chart_nodes.Steps.{step_view}
+use Rattle.chart_compile.specs.chart_places.Places.{place_view}
+use Rattle.chart_compile.specs.chart_parts.Parts.{IsShared}
+use Rattle.chart_compile.specs.chart_numbers.Order.{AreNumbered}
 use Rattle.chart_compile.proofs.Making.{assembled}
 use Rattle.chart_compile.proofs.assemble.assemble.Goals as goal
 

@@ -1,5 +1,5 @@
 use Rattle.std.proofs.Common.{arith, map}
-use Rattle.chart_nodes.specs.Steps.{step_view}
+use Rattle.chart_reader.specs.chart_nodes.Steps.{step_view}
 use Rattle.chart_compile.proofs.Making.{are_made, made_size}
 use Rattle.chart_compile.proofs.assemble.node_rows.Goals as goal
 

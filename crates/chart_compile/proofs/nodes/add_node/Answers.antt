@@ -1,5 +1,5 @@
 use Rattle.std.proofs.Common.{map}
-use Rattle.chart_nodes.specs.Steps.{step_view}
+use Rattle.chart_reader.specs.chart_nodes.Steps.{step_view}
 use Rattle.chart_compile.proofs.Making.{node_none, node_some, step_found, step_missing}
 use Rattle.chart_compile.proofs.nodes.add_node.Goals as goal
 

@@ -1,6 +1,6 @@
 use Rattle.std.proofs.Common.{◌∷◌, [], ap, arith, length}
 use Rattle.std.proofs.lemmas.List.{length-append}
-use Rattle.chart_tables.specs.declared.tables.Node.TheVariants.{Simple}
+use Rattle.chart_run.specs.declared.chart_tables.tables.Node.TheVariants.{Simple}
 use Rattle.chart_compile.proofs.Making.{fill_more}
 use Rattle.chart_compile.proofs.nodes.fill_up.Goals as goal
 

@@ -1,9 +1,9 @@
 use Rattle.std.proofs.Common.{◌∙◌, List, ap, map, subst}
-use Rattle.chart_plan.specs.Same.{SameKind}
-use Rattle.chart_tables.specs.Tables.{kind}
-use Rattle.chart_nodes.specs.Steps.{StepTree, step_view}
-use Rattle.chart_parts.specs.Parts.{IsArrow, IsState, from_key}
-use Rattle.chart_parts.specs.Nodes.{kind_by, node_after}
+use Rattle.chart_model.specs.chart_plan.Same.{SameKind}
+use Rattle.chart_run.specs.chart_tables.Tables.{kind}
+use Rattle.chart_reader.specs.chart_nodes.Steps.{StepTree, step_view}
+use Rattle.chart_compile.specs.chart_parts.Parts.{IsArrow, IsState, from_key}
+use Rattle.chart_compile.specs.chart_parts.Nodes.{kind_by, node_after}
 use Rattle.chart_compile.proofs.nodes.node_after.Goals as goal
 
 pub returns : goal.returns

@@ -1,9 +1,9 @@
 use Rattle.std.proofs.Common.{List, ℕ, map, subst, sym, take}
-use Rattle.chart_plan.specs.Same.{Each}
-use Rattle.chart_nodes.specs.Steps.{StepTree, step_view}
-use Rattle.chart_places.specs.Groups.{picked}
-use Rattle.chart_parts.specs.Nodes.{IsNode}
-use Rattle.chart_rows.proofs.Listing.{each_start_plain, taken_all}
+use Rattle.chart_model.specs.chart_plan.Same.{Each}
+use Rattle.chart_reader.specs.chart_nodes.Steps.{StepTree, step_view}
+use Rattle.chart_compile.specs.chart_places.Groups.{picked}
+use Rattle.chart_compile.specs.chart_parts.Nodes.{IsNode}
+use Rattle.chart_compile.proofs.chart_rows.Listing.{each_start_plain, taken_all}
 use Rattle.chart_compile.proofs.Making.{picked_next}
 use Rattle.chart_compile.proofs.nodes.nodes_of.Goals as goal
 

@@ -1,7 +1,7 @@
 use Rattle.std.proofs.Common.{◌∙◌, ◌∷◌, [], ap, sym}
-use Rattle.name_numbers.specs.Names.{same}
-use Rattle.chart_nodes.specs.Keys.{codes}
-use Rattle.chart_nodes.specs.Steps.{step_view}
+use Rattle.name_tables.specs.name_numbers.Names.{same}
+use Rattle.chart_reader.specs.chart_nodes.Keys.{codes}
+use Rattle.chart_reader.specs.chart_nodes.Steps.{step_view}
 use Rattle.chart_compile.proofs.Making.{first_there, none_left, still_none}
 use Rattle.chart_compile.proofs.start.initial_arrow.Goals as goal
 

@@ -1,7 +1,7 @@
 use Rattle.std.proofs.Common.{◌≡◌, [], ◌∷◌, map, take}
-use Rattle.chart_nodes.specs.Keys.{codes}
-use Rattle.chart_nodes.specs.Steps.{step_view}
-use Rattle.chart_parts.specs.Parts.{from_key}
+use Rattle.chart_reader.specs.chart_nodes.Keys.{codes}
+use Rattle.chart_reader.specs.chart_nodes.Steps.{step_view}
+use Rattle.chart_compile.specs.chart_parts.Parts.{from_key}
 use Rattle.chart_compile.proofs.start.initial_arrow.Given as goal
 
 -- no step so far begins at the top

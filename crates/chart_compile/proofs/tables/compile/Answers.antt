@@ -1,13 +1,13 @@
 use Rattle.std.proofs.Common.{List, ◌≡◌, ◌≤◌, ◌∙◌, ap, arith, length, map, sum, sym}
 use Rattle.std.proofs.lemmas.List.{length-map}
 use Rattle.chart_model.specs.Named.{nodes_in}
-use Rattle.chart_graphs.specs.Views.{chart_view, graph_view}
-use Rattle.chart_graphs.specs.declared.graph.Graph.{Graph as CodeGraph}
-use Rattle.chart_nodes.specs.Steps.{step_view}
-use Rattle.chart_places.specs.Places.{keys_of, place_view, places_of}
-use Rattle.chart_places.specs.declared.places.Place.{Place}
-use Rattle.chart_parts.specs.Parts.{key_of}
-use Rattle.chart_numbers.proofs.Distinct.{states_distinct_as}
+use Rattle.chart_reading.specs.chart_graphs.Views.{chart_view, graph_view}
+use Rattle.chart_reading.specs.declared.chart_graphs.Graph.{Graph as CodeGraph}
+use Rattle.chart_reader.specs.chart_nodes.Steps.{step_view}
+use Rattle.chart_compile.specs.chart_places.Places.{keys_of, place_view, places_of}
+use Rattle.chart_compile.specs.declared.chart_places.places.Place.{Place}
+use Rattle.chart_compile.specs.chart_parts.Parts.{key_of}
+use Rattle.chart_compile.proofs.chart_numbers.Distinct.{states_distinct_as}
 use Rattle.chart_compile.proofs.Making.{are_keyed, enough, no_circle, starts, tables_of}
 use Rattle.chart_compile.proofs.tables.compile.Goals as goal
 

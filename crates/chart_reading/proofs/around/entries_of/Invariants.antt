@@ -1,6 +1,6 @@
 use Rattle.std.proofs.Common.{◌≡◌, take, map}
 use Rattle.std.specs.List.{filter_map}
-use Rattle.name_numbers.specs.Names.{names_of}
+use Rattle.name_tables.specs.name_numbers.Names.{names_of}
 use Rattle.room_ast.specs.ChartTree.{item_view}
 use Rattle.chart_reading.specs.Around.{state_name, entry_name, inner_entries}
 use Rattle.chart_reading.proofs.around.entries_of.Given as goal

@@ -1,7 +1,7 @@
 use Rattle.std.proofs.Common.{List, map, ap, ◌∙◌, arith}
 use Rattle.room_ast.specs.declared.chart.GraphItem.{GraphItem}
 use Rattle.room_ast.specs.ChartTree.{item_view, graph_view}
-use Rattle.chart_codes.specs.Progress.{progress}
+use Rattle.chart_reading.specs.chart_codes.Progress.{progress}
 use Rattle.chart_reading.specs.Around.{around}
 use Rattle.chart_reading.specs.Reading.{piece_of}
 use Rattle.chart_reading.specs.Views.{around_view, piece_view}

@@ -1,6 +1,6 @@
 use Rattle.std.proofs.Common.{◌≡◌, drop}
 use Rattle.room_ast.specs.ChartTree.{graph_view}
-use Rattle.chart_codes.specs.Progress.{progress}
+use Rattle.chart_reading.specs.chart_codes.Progress.{progress}
 use Rattle.chart_reading.specs.Reading.{with_items, piece_of}
 use Rattle.chart_reading.specs.Views.{around_view, piece_view}
 use Rattle.chart_reading.proofs.read.+graph.Given as goal

@@ -1,7 +1,7 @@
 use Rattle.std.proofs.Common.{◌≡◌, Option, sym, ap, ◌∙◌, subst}
 use Rattle.room_ast.specs.declared.chart.TransitionBody.{TransitionBody}
-use Rattle.chart_codes.specs.Progress.{Progress, progress, after_action}
-use Rattle.chart_codes.specs.Events.{trigger_list}
+use Rattle.chart_reading.specs.chart_codes.Progress.{Progress, progress, after_action}
+use Rattle.chart_reading.specs.chart_codes.Events.{trigger_list}
 use Rattle.chart_reading.specs.Reading.{after_transition}
 use Rattle.chart_reading.proofs.Steps.{before_met}
 use Rattle.chart_reading.proofs.transitions.transition.Goals as goal

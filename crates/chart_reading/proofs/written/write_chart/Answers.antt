@@ -1,7 +1,7 @@
 use Rattle.std.proofs.Common.{map, ap, ◌∙◌}
 use Rattle.room_ast.specs.declared.scope.ScopeAttribute.{ScopeAttribute}
 use Rattle.room_ast.specs.ChartTree.{graph_view}
-use Rattle.chart_graphs.specs.Views.{graph_view as code_graph_view}
+use Rattle.chart_reading.specs.chart_graphs.Views.{graph_view as code_graph_view}
 use Rattle.chart_reading.specs.Views.{piece_view}
 use Rattle.chart_reading.proofs.Steps.{chart_written}
 use Rattle.chart_reading.proofs.written.write_chart.Goals as goal

@@ -7,7 +7,7 @@ use Rattle.actor_duties.specs.State.{ImportPlace, Done}
 use Rattle.actor_duties.specs.Words.{of_id}
 use Rattle.actor_duties.specs.Frame.{import_code, import_with}
 use Rattle.service_messages.specs.Shown.{code_of}
-use Rattle.import_places.specs.Lending.{lending, with_places}
+use Rattle.frame_imports.specs.import_places.Lending.{lending, with_places}
 use Rattle.frame_imports.specs.Homes.{home_there}
 use Rattle.frame_imports.proofs.Requests.{through_home}
 use Rattle.frame_imports.proofs.commands.import_into.Goals as goal

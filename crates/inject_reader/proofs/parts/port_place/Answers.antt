@@ -1,5 +1,5 @@
 use Rattle.std.proofs.Common.{sym, ◌∙◌}
-use Rattle.name_numbers.specs.Names.{same}
+use Rattle.name_tables.specs.name_numbers.Names.{same}
 use Rattle.room_wiring.specs.declared.names.PortNames.{PortNames}
 use Rattle.inject_reader.proofs.GuessLemmas.{guess_right}
 use Rattle.inject_reader.proofs.parts.port_place.Goals as goal

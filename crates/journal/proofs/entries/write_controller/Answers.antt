@@ -1,6 +1,6 @@
 use Rattle.std.proofs.lemmas.Result.{err_from_is_err_and}
 use Rattle.journal.specs.Text.{title_of, journal_text, controller_text}
-use Rattle.line_text.proofs.OutputLemmas.{puts_second, breaks_first}
+use Rattle.room_outside.proofs.line_text.OutputLemmas.{puts_second, breaks_first}
 use Rattle.journal.proofs.entries.write_controller.Goals as goal
 
 pub returns-in_err-write_title : goal.returns-in_err-write_title

@@ -1,7 +1,7 @@
 use Rattle.std.proofs.Common.{drop}
-use Rattle.line_text.specs.Output.{at_rest}
+use Rattle.room_outside.specs.line_text.Output.{at_rest}
 use Rattle.journal.specs.Text.{controllers_text}
-use Rattle.line_text.proofs.Going.{Going}
+use Rattle.room_outside.proofs.line_text.Going.{Going}
 use Rattle.journal.proofs.entries.write_controllers.Given as goal
 
 abbrev pub invariant-loop-c : goal.invariant-loop-c

@@ -1,7 +1,7 @@
 use Rattle.std.proofs.lemmas.Result.{err_from_is_err_and}
 use Rattle.journal.specs.Lines.{entry_text}
 use Rattle.journal.specs.Text.{journal_text}
-use Rattle.line_text.proofs.Going.{going_begin, going_on, going_item, going_all, going_breaks}
+use Rattle.room_outside.proofs.line_text.Going.{going_begin, going_on, going_item, going_all, going_breaks}
 use Rattle.journal.proofs.entries.write_journal.Goals as goal
 
 pub loop-entry-init : goal.loop-entry-init

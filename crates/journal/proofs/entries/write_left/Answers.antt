@@ -1,7 +1,7 @@
 use Rattle.std.proofs.lemmas.Result.{err_from_is_err_and}
 use Rattle.journal.specs.Lines.{left_line}
 use Rattle.journal.specs.Text.{left_text}
-use Rattle.line_text.proofs.Going.{going_begin, going_on, going_item, going_all, going_breaks}
+use Rattle.room_outside.proofs.line_text.Going.{going_begin, going_on, going_item, going_all, going_breaks}
 use Rattle.journal.proofs.entries.write_left.Goals as goal
 
 pub loop-one-init : goal.loop-one-init

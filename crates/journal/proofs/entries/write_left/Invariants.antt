@@ -1,8 +1,8 @@
 use Rattle.std.proofs.Common.{drop}
 use Rattle.std.specs.List.{flat_map}
-use Rattle.line_text.specs.Output.{at_rest}
+use Rattle.room_outside.specs.line_text.Output.{at_rest}
 use Rattle.journal.specs.Lines.{left_line}
-use Rattle.line_text.proofs.Going.{Going}
+use Rattle.room_outside.proofs.line_text.Going.{Going}
 use Rattle.journal.proofs.entries.write_left.Given as goal
 
 abbrev pub invariant-loop-one : goal.invariant-loop-one

@@ -1,5 +1,5 @@
 use Rattle.std.proofs.lemmas.Result.{err_from_is_err_and}
-use Rattle.line_text.proofs.Going.{going_begin, going_on, going_breaks}
+use Rattle.room_outside.proofs.line_text.Going.{going_begin, going_on, going_breaks}
 use Rattle.journal.proofs.JournalGoing.{going_note, going_notes_end}
 use Rattle.journal.proofs.entries.write_notes.Goals as goal
 

@@ -1,7 +1,7 @@
 use Rattle.std.proofs.Common.{drop}
-use Rattle.line_text.specs.Output.{at_rest}
+use Rattle.room_outside.specs.line_text.Output.{at_rest}
 use Rattle.journal.specs.Lines.{note_lines}
-use Rattle.line_text.proofs.Going.{Going}
+use Rattle.room_outside.proofs.line_text.Going.{Going}
 use Rattle.journal.proofs.entries.write_notes.Given as goal
 
 abbrev pub invariant-loop-note : goal.invariant-loop-note

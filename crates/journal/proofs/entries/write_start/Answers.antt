@@ -1,7 +1,7 @@
 use Rattle.std.proofs.Common.{false, Some}
 use Rattle.std.proofs.lemmas.Result.{err_from_is_err_and}
 use Rattle.journal.specs.Lines.{start_line, note_lines}
-use Rattle.line_text.proofs.OutputLemmas.{puts_second, breaks_first}
+use Rattle.room_outside.proofs.line_text.OutputLemmas.{puts_second, breaks_first}
 use Rattle.journal.proofs.entries.write_start.Goals as goal
 
 pub returns-in_err-write_standing_line : goal.returns-in_err-write_standing_line

@@ -1,8 +1,8 @@
 use Rattle.std.proofs.Common.{[], ◌∷◌, ◌++◌, codes}
 use Rattle.std.proofs.lemmas.Result.{err_from_is_err_and}
-use Rattle.line_text.specs.Lines.{line}
+use Rattle.room_outside.specs.line_text.Lines.{line}
 use Rattle.journal.specs.Text.{controllers_text, journal_text, left_text, unposted_text, end_line, text_of}
-use Rattle.line_text.proofs.OutputLemmas.{puts_second, breaks_first, breaks_second}
+use Rattle.room_outside.proofs.line_text.OutputLemmas.{puts_second, breaks_first, breaks_second}
 use Rattle.journal.proofs.entries.write_text.Goals as goal
 
 pub returns-in_err-write_line : goal.returns-in_err-write_line

@@ -1,7 +1,7 @@
 use Rattle.std.proofs.lemmas.Result.{err_from_is_err_and}
 use Rattle.journal.specs.Lines.{unposted_line}
 use Rattle.journal.specs.Text.{unposted_text}
-use Rattle.line_text.proofs.Going.{going_begin, going_on, going_at, going_all, going_breaks}
+use Rattle.room_outside.proofs.line_text.Going.{going_begin, going_on, going_at, going_all, going_breaks}
 use Rattle.journal.proofs.entries.write_unposted.Goals as goal
 
 pub loop-number-init : goal.loop-number-init

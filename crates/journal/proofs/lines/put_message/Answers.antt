@@ -2,7 +2,7 @@ use Rattle.std.proofs.Common.{List, ℕ, [], ◌∷◌, ◌++◌, codes}
 use Rattle.std.proofs.lemmas.Result.{err_from_is_err_and}
 use Rattle.journal.specs.Names.{source_parts, endpoint_parts}
 use Rattle.journal.specs.Lines.{priority_parts, signal_parts}
-use Rattle.line_text.proofs.PartLemmas.{parts_second, parts_break_first, parts_break_second}
+use Rattle.room_outside.proofs.line_text.PartLemmas.{parts_second, parts_break_first, parts_break_second}
 use Rattle.journal.proofs.lines.put_message.Goals as goal
 
 pub returns-in_err-put_priority : goal.returns-in_err-put_priority

@@ -2,9 +2,9 @@ use Rattle.std.proofs.Common.{[], ◌∷◌, ◌++◌}
 use Rattle.std.specs.List.{concat}
 use Rattle.std.proofs.lemmas.Result.{err_from_is_err_and}
 use Rattle.journal.specs.Lines.{message_parts}
-use Rattle.line_text.specs.Parts.{part_texts}
-use Rattle.line_text.proofs.OutputLemmas.{puts_second, breaks_first}
-use Rattle.line_text.proofs.PartLemmas.{parts_two, parts_break_first, parts_break_second}
+use Rattle.room_outside.specs.line_text.Parts.{part_texts}
+use Rattle.room_outside.proofs.line_text.OutputLemmas.{puts_second, breaks_first}
+use Rattle.room_outside.proofs.line_text.PartLemmas.{parts_two, parts_break_first, parts_break_second}
 use Rattle.journal.proofs.lines.write_message_line.Goals as goal
 
 pub returns-in_err-put_all : goal.returns-in_err-put_all

@@ -1,4 +1,4 @@
-use Rattle.line_text.proofs.OutputLemmas.{puts_off}
+use Rattle.room_outside.proofs.line_text.OutputLemmas.{puts_off}
 use Rattle.journal.proofs.text.text_to.Goals as goal
 
 pub returns-clause-fault : goal.returns-clause-fault

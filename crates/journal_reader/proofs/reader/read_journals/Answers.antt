@@ -3,7 +3,7 @@ use Rattle.std.proofs.lemmas.Bool.{both_ways}
 use Rattle.room_wiring.specs.declared.tables.Tables.{Tables}
 use Rattle.journal.specs.Fits.{Fits}
 use Rattle.journal.specs.Text.{text_of}
-use Rattle.journal_lines.specs.Reading.{journals_in}
+use Rattle.journal_reader.specs.journal_lines.Reading.{journals_in}
 use Rattle.journal_reader.specs.Answer.{Differs}
 use Rattle.journal_reader.proofs.Judging.{read_is, other_text, none_fit}
 use Rattle.journal_reader.proofs.reader.read_journals.Goals as goal

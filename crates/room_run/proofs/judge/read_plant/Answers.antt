@@ -1,7 +1,7 @@
 use Rattle.std.proofs.Common.{◌≡◌, map, option_map, true, subst}
-use Rattle.chart_graphs.specs.Views.{chart_view}
-use Rattle.service_words.specs.Asked.{asks_services}
-use Rattle.model_plants.specs.Shown.{ShowCharts}
+use Rattle.chart_reading.specs.chart_graphs.Views.{chart_view}
+use Rattle.room_run.specs.service_words.Asked.{asks_services}
+use Rattle.room_run.specs.model_plants.Shown.{ShowCharts}
 use Rattle.room_run.specs.Models.{unsound, none_for_running}
 use Rattle.room_run.proofs.JudgeLemmas.{services_asked, plant_runs}
 use Rattle.room_run.proofs.judge.read_plant.Goals as goal

@@ -1,6 +1,6 @@
 use Rattle.std.proofs.Common.{◌≡◌, refl}
 use Rattle.chart_model.specs.Acting.{Handled, starts_by}
-use Rattle.chart_tables.specs.Tables.{arrow_view, plan}
+use Rattle.chart_run.specs.chart_tables.Tables.{arrow_view, plan}
 use Rattle.chart_run.specs.Machines.{acted_of, moment_at_start}
 use Rattle.chart_run.proofs.Naming.{starts_as_chart}
 use Rattle.chart_run.proofs.Taking.{started}

@@ -1,6 +1,6 @@
 use Rattle.std.proofs.Common.{ap}
-use Rattle.chart_tables.specs.Minds.{taken_view}
-use Rattle.chart_tables.specs.Tables.{arrow_view, event_view}
+use Rattle.chart_run.specs.chart_tables.Minds.{taken_view}
+use Rattle.chart_run.specs.chart_tables.Tables.{arrow_view, event_view}
 use Rattle.chart_run.proofs.Taking.{taken_up}
 use Rattle.chart_run.proofs.machine.Machine.take.Goals as goal
 

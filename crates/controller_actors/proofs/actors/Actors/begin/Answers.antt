@@ -3,10 +3,10 @@ use Rattle.std.specs.Option.{option_copied}
 use Rattle.room_kinds.specs.declared.numbers.Incarnation.{Incarnation}
 use Rattle.actor_duties.specs.Lives.{last_of}
 use Rattle.actor_world.specs.Start.{first_links}
-use Rattle.chart_tables.specs.declared.tables.Tables.{Tables}
+use Rattle.chart_run.specs.declared.chart_tables.tables.Tables.{Tables}
 use Rattle.frame_lives.specs.Shown.{shown}
-use Rattle.static_peers.specs.Static.{static_frame}
-use Rattle.actor_seats.specs.Seats.{SeatBegins}
+use Rattle.controller_actors.specs.static_peers.Static.{static_frame}
+use Rattle.controller_actors.specs.actor_seats.Seats.{SeatBegins}
 use Rattle.controller_actors.proofs.Beginnings.{actors_begin}
 use Rattle.controller_actors.proofs.SeatReads.{seat_read, read_sound}
 use Rattle.controller_actors.proofs.actors.Actors.begin.Goals as goal

@@ -4,12 +4,12 @@ use Rattle.std.proofs.lemmas.List.{get_or_past}
 use Rattle.room_kinds.specs.declared.numbers.Incarnation.{Incarnation}
 use Rattle.actor_duties.specs.Lives.{last_of}
 use Rattle.actor_world.specs.Start.{first_links}
-use Rattle.chart_tables.specs.declared.tables.Tables.{Tables}
+use Rattle.chart_run.specs.declared.chart_tables.tables.Tables.{Tables}
 use Rattle.frame_lives.specs.Shown.{shown}
-use Rattle.static_peers.specs.Static.{static_frame}
-use Rattle.actor_seats.specs.declared.seat.Seat.{Seat}
-use Rattle.actor_seats.specs.Stands.{actor_in}
-use Rattle.actor_seats.specs.Seats.{SeatTurns}
+use Rattle.controller_actors.specs.static_peers.Static.{static_frame}
+use Rattle.controller_actors.specs.declared.actor_seats.seat.Seat.{Seat}
+use Rattle.controller_actors.specs.actor_seats.Stands.{actor_in}
+use Rattle.controller_actors.specs.actor_seats.Seats.{SeatTurns}
 use Rattle.controller_actors.specs.Stands.{vacant}
 use Rattle.controller_actors.proofs.Turning.{dispatches_nobody, dispatches_actor}
 use Rattle.controller_actors.proofs.SeatReads.{seat_read, read_sound, dispatches_none}

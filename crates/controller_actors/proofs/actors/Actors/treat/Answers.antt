@@ -6,7 +6,7 @@ use Rattle.journal.specs.declared.entry.Did.TheVariants as did
 use Rattle.actor_duties.specs.Words.{is_own}
 use Rattle.actor_world.specs.Turns.{is_meant}
 use Rattle.frame_lives.specs.Shown.{shown}
-use Rattle.static_peers.specs.Static.{static_frame}
+use Rattle.controller_actors.specs.static_peers.Static.{static_frame}
 use Rattle.controller_actors.proofs.Turning.{treats_nobody, treats_stale, treats_handled}
 use Rattle.controller_actors.proofs.actors.Actors.treat.Goals as goal
 

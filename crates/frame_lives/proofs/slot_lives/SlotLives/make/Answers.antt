@@ -1,8 +1,6 @@
-use Rattle.std.proofs.Common.{ℕ, List, [], ◌∷◌, ◌++◌, pos, sym, subst}
-use Rattle.room_kinds.specs.declared.message.Msg.{Msg}
+use Rattle.std.proofs.Common.{ℕ, List, sym, subst}
 use Rattle.room_kinds.specs.declared.numbers.Incarnation.{Incarnation}
-use Rattle.actor_duties.specs.Lives.{announces}
-use Rattle.slot_runs.specs.Runs.{IsNextMade}
+use Rattle.service_messages.specs.slot_runs.Runs.{IsNextMade}
 use Rattle.frame_lives.specs.Shown.{shown}
 use Rattle.frame_lives.proofs.Making.{Making, making_begun, making_on, making_done}
 use Rattle.frame_lives.proofs.slot_lives.SlotLives.make.Goals as goal
@@ -26,16 +24,11 @@ loop-next-preserved c =
     let o = c.args.slot.0 in
     let e = c.end-end.result in
     let old = shown c.args.self.now in
-    let after = shown c.raise-actor.new.self in
-    let before = c.args.out.now in
-    let x = c.raise-actor.result in
     let n = c.loop-next.next in
     let m = c.next_made-next.result in
     let next = subst (λ (z : ℕ). IsNextMade t o z n m) (sym c.end-end.ensures.end) c.next_made-next.ensures in
-    subst (λ (ms : List Msg). Making t me o e old after before ms c.push.new.self m) (sym c.in_ok-announce.ensures)
-    (subst (λ (made : List Incarnation). Making t me o e old after before (c.loop-next.out ++ announces t me x (pos 1)) made m) (sym c.in_ok-push.ensures.ok)
-    (making_on t me o e old (shown c.loop-next.self) after before c.loop-next.out c.loop-next.made n m x
-    c.loop-next.invariant c.loop-next-test.true next c.raise-actor.ensures.actor c.raise-actor.ensures.now))
+    making_on t me o e old (shown c.loop-next.self) (shown c.make_in.new.self) c.args.out.now c.loop-next.out c.make_in.new.out c.loop-next.made c.make_in.new.made n m
+    c.loop-next.invariant c.loop-next-test.true next c.in_ok-make_in.ensures.known c.in_ok-make_in.ensures.made c.in_ok-make_in.ensures.sent
 
 pub returns-clause-known : goal.returns-clause-known
 returns-clause-known c =

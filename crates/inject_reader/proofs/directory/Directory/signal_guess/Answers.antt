@@ -1,5 +1,5 @@
 use Rattle.std.proofs.Common.{◌≡◌, ◌-◌, arith}
-use Rattle.wiring_names.specs.Lookup.{signal_called}
+use Rattle.room_wiring.specs.wiring_names.Lookup.{signal_called}
 use Rattle.inject_reader.specs.Meaning.{first_coming}
 use Rattle.inject_reader.proofs.PortLemmas.{signal_least}
 use Rattle.inject_reader.proofs.directory.Directory.signal_guess.Goals as goal

@@ -1,8 +1,0 @@
-use Rattle.action_reading.proofs.Whole.{one_program, one_condition}
-use Rattle.action_reading.proofs.laws.one_tree.Goals as goal
-
-pub returns-clause-program : goal.returns-clause-program
-returns-clause-program c = one_program
-
-pub returns-clause-condition : goal.returns-clause-condition
-returns-clause-condition c = one_condition

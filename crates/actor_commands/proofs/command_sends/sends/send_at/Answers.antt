@@ -1,0 +1,23 @@
+use Rattle.std.proofs.Common.{ℤ, [], ◌∷◌, ◌++◌, w64, refl, sym, ap, ◌∙◌}
+use Rattle.std.proofs.lemmas.Int.{to_z-of_z}
+use Rattle.room_kinds.specs.declared.note.Note.TheVariants as notes
+use Rattle.actor_commands.specs.command_sends.Adding.{content_of}
+use Rattle.actor_commands.proofs.command_sends.Sending.{adds_message, adds_note}
+use Rattle.actor_commands.proofs.command_sends.sends.send_at.Goals as goal
+
+pub returns-in_ok-push-in-Some : goal.returns-in_ok-push-in-Some
+returns-in_ok-push-in-Some g c =
+    let s = c.args.speaker.now in
+    let said = c.args.said.now in
+    adds_message s.wiring.now s.me.0 (g.P.Peers.frame_of c.args.peers.now) (g.P.Peers.links_of c.args.peers.now) s.who c.args.port c.args.at (content_of c.args.content.now)
+    c.in-Some.target c.in_ok-m-in-Some.m said (record { messages = c.push.new.self; notes = said.notes })
+    (sym c.peer.ensures.peer ∙ c.in-Some.is) c.in_ok-m-in-Some.ensures c.in_ok-push-in-Some.ensures.ok refl
+
+pub returns-in_ok-push-in-None : goal.returns-in_ok-push-in-None
+returns-in_ok-push-in-None g c =
+    let s = c.args.speaker.now in
+    let said = c.args.said.now in
+    adds_note s.wiring.now s.me.0 (g.P.Peers.frame_of c.args.peers.now) (g.P.Peers.links_of c.args.peers.now) s.who c.args.port c.args.at c.args.place (content_of c.args.content.now)
+    said (record { messages = said.messages; notes = c.push-in-None.new.self })
+    c.requires (sym c.peer.ensures.peer ∙ c.in-None.is) refl
+    (c.in_ok-push-in-None.ensures.ok ∙ ap (λ (z : ℤ). said.notes ++ notes.Unbound c.args.port z ∷ []) (to_z-of_z w64 c.args.place c.ranges.place))

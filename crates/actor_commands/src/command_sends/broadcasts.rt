@@ -1,0 +1,112 @@
+//! Broadcasts.
+ghost use Rattle.std.specs.Prelude.{◌≡◌, ◌<◌, ◌∷◌, [], length, map, nat_le, OnOk};
+ghost use Rattle.std.specs.List.{filter};
+ghost use Rattle.room_wiring.specs.Places.{port_count};
+ghost use Rattle.actor_duties.specs.State.{Link};
+ghost use Rattle.actor_duties.specs.Words.{places_of};
+ghost use Rattle.actor_duties.specs.Commands.{send_each, broadcast};
+ghost use Rattle.actor_commands.specs.command_sends.Adding.{Adds, content_of};
+
+use crate::command_sends::peers::Peers;
+use crate::command_sends::said::{Content, Said, Speaker};
+use crate::command_sends::sends::send_at;
+use service_messages::is_spp;
+use std::alloc::{AllocError, Global};
+
+/// Sends at each place that the model gives a port.
+fn send_to_places<P: Peers>(
+    alloc: Global,
+    speaker: &Speaker<'_>,
+    peers: &P,
+    port: u16,
+    content: &Content<'_>,
+    said: &mut Said,
+) -> Result<(), AllocError>
+    requires slot { speaker.now.who.slot.0 < length speaker.now.wiring.now.slots }
+    requires port { port < port_count speaker.now.wiring.now speaker.now.who.slot.0 }
+    ensures { OnOk result (Adds (send_each speaker.now.wiring.now speaker.now.me.0 (P.frame_of peers.now) (P.links_of peers.now) speaker.now.who port (content_of content.now) (places_of speaker.now.wiring.now speaker.now.who.slot.0 port)) said.old said.new) }
+{
+    for place in 0..speaker.wiring.places(speaker.who.slot, port) {
+        send_at(
+            alloc,
+            speaker,
+            peers,
+            port,
+            i64::from(place),
+            u64::from(place),
+            content,
+            said,
+        )?;
+    }
+    Ok(())
+}
+
+/// Sends at a linked place, where it stands behind those of the model.
+fn send_to_link<P: Peers>(
+    alloc: Global,
+    speaker: &Speaker<'_>,
+    peers: &P,
+    port: u16,
+    first: u32,
+    place: u32,
+    content: &Content<'_>,
+    said: &mut Said,
+) -> Result<(), AllocError>
+    ensures { OnOk result (Adds (send_each speaker.now.wiring.now speaker.now.me.0 (P.frame_of peers.now) (P.links_of peers.now) speaker.now.who port (content_of content.now) (filter (nat_le first) (place ∷ []))) said.old said.new) }
+{
+    if place < first {
+        return Ok(());
+    }
+    send_at(
+        alloc,
+        speaker,
+        peers,
+        port,
+        i64::from(place),
+        u64::from(place),
+        content,
+        said,
+    )
+}
+
+/// Sends at each place that is linked by name, from the place `first` on.
+fn send_to_links<P: Peers>(
+    alloc: Global,
+    speaker: &Speaker<'_>,
+    peers: &P,
+    port: u16,
+    first: u32,
+    content: &Content<'_>,
+    said: &mut Said,
+) -> Result<(), AllocError>
+    ensures { OnOk result (Adds (send_each speaker.now.wiring.now speaker.now.me.0 (P.frame_of peers.now) (P.links_of peers.now) speaker.now.who port (content_of content.now) (filter (nat_le first) (map (λ (x : Link). x.place) ((P.links_of peers.now).linked speaker.now.who.slot.0 port)))) said.old said.new) }
+{
+    for index in 0..peers.link_count(speaker.who.slot, port) {
+        let place = peers.linked_place(speaker.who.slot, port, index);
+        send_to_link(alloc, speaker, peers, port, first, place, content, said)?;
+    }
+    Ok(())
+}
+
+/// Sends at each place of a port of the speaker, ascending: at those of the model, and at a service
+/// provision point then at those that are linked by name. After want of memory what was said is
+/// unspecified: the controller has failed.
+pub fn broadcast<P: Peers>(
+    alloc: Global,
+    speaker: &Speaker<'_>,
+    peers: &P,
+    port: u16,
+    content: &Content<'_>,
+    said: &mut Said,
+) -> Result<(), AllocError>
+    requires slot { speaker.now.who.slot.0 < length speaker.now.wiring.now.slots }
+    requires port { port < port_count speaker.now.wiring.now speaker.now.who.slot.0 }
+    ensures { OnOk result (Adds (broadcast speaker.now.wiring.now speaker.now.me.0 (P.frame_of peers.now) (P.links_of peers.now) speaker.now.who port (content_of content.now)) said.old said.new) }
+{
+    send_to_places(alloc, speaker, peers, port, content, said)?;
+    if !is_spp(speaker.wiring, speaker.who.slot, port) {
+        return Ok(());
+    }
+    let first = speaker.wiring.places(speaker.who.slot, port);
+    send_to_links(alloc, speaker, peers, port, first, content, said)
+}

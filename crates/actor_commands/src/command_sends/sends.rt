@@ -1,0 +1,97 @@
+//! Sends.
+ghost use Rattle.std.specs.Prelude.{◌≡◌, ◌<◌, ℤ, pos, ◌<ℤ◌, [], ◌∷◌, OnOk, IfOk, MatchOption};
+ghost use Rattle.actor_duties.specs.Words.{endpoint};
+ghost use Rattle.actor_duties.specs.Commands.{message, send};
+ghost use Rattle.actor_commands.specs.command_sends.Adding.{Adds, content_of};
+
+use crate::command_sends::peers::Peers;
+use crate::command_sends::said::{Content, Said, Speaker};
+use room_kinds::{Endpoint, Msg, Note, Stamp};
+use service_messages::owner_of;
+use std::alloc::{AllocError, Global};
+
+/// A place as a natural number, unless it is negative.
+fn natural(place: i64) -> Option<u64>
+    ensures { MatchOption result (place <ℤ pos 0) (λ at. place ≡ pos at) }
+{
+    if place < 0 { None } else { Some(place as u64) }
+}
+
+/// A message from a place of a port of the speaker.
+fn message(
+    alloc: Global,
+    speaker: &Speaker<'_>,
+    port: u16,
+    place: u32,
+    target: Endpoint,
+    content: &Content<'_>,
+) -> Result<Msg, AllocError>
+    ensures { IfOk result (λ m. m ≡ message speaker.now.wiring.now speaker.now.me.0 (endpoint speaker.now.who.slot.0 speaker.now.who.generation.0 port place) target (content_of content.now)) }
+{
+    let payload = content.payload.copy(alloc)?;
+    Ok(Msg {
+        from: speaker.me,
+        to: owner_of(speaker.wiring, target.slot),
+        prio: content.prio,
+        stamp: Stamp(0),
+        source: Some(Endpoint {
+            slot: speaker.who.slot,
+            generation: speaker.who.generation,
+            port,
+            place,
+        }),
+        target,
+        signal: content.signal,
+        payload,
+    })
+}
+
+/// A send at place `at`, which is `place` as actions number it.
+pub(crate) fn send_at<P: Peers>(
+    alloc: Global,
+    speaker: &Speaker<'_>,
+    peers: &P,
+    port: u16,
+    place: i64,
+    at: u64,
+    content: &Content<'_>,
+    said: &mut Said,
+) -> Result<(), AllocError>
+    requires { place ≡ pos at }
+    ensures { OnOk result (Adds (send speaker.now.wiring.now speaker.now.me.0 (P.frame_of peers.now) (P.links_of peers.now) speaker.now.who port (pos at) (content_of content.now)) said.old said.new) }
+{
+    match peers.peer(speaker.wiring, speaker.me, speaker.who, port, at) {
+        Some(target) => {
+            let m = message(alloc, speaker, port, at as u32, target, content)?;
+            said.messages.push(m)?;
+            Ok(())
+        }
+        None => {
+            said.notes.push(Note::Unbound { port, place })?;
+            Ok(())
+        }
+    }
+}
+
+/// Sends at a place of a port of the speaker: a message goes to the peer, and without a peer, or with a
+/// place out of range, the note `unbound` is made. After want of memory what was said is unspecified: the
+/// controller has failed.
+pub fn send<P: Peers>(
+    alloc: Global,
+    speaker: &Speaker<'_>,
+    peers: &P,
+    port: u16,
+    place: i64,
+    content: &Content<'_>,
+    said: &mut Said,
+) -> Result<(), AllocError>
+    ensures { OnOk result (Adds (send speaker.now.wiring.now speaker.now.me.0 (P.frame_of peers.now) (P.links_of peers.now) speaker.now.who port place (content_of content.now)) said.old said.new) }
+{
+    match natural(place) {
+        Some(at) => send_at(alloc, speaker, peers, port, place, at, content, said),
+        None => {
+            said.notes.push(Note::Unbound { port, place })?;
+            Ok(())
+        }
+    }
+}

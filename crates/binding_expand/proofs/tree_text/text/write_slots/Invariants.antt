@@ -1,0 +1,11 @@
+use Rattle.std.proofs.Common.{◌-◌, length}
+use Rattle.room_outside.specs.line_text.Output.{at_rest}
+use Rattle.room_outside.proofs.line_text.Going.{Going}
+use Rattle.binding_expand.specs.tree_text.Walk.{texts_from}
+use Rattle.binding_expand.specs.tree_text.Text.{slot_text}
+use Rattle.binding_expand.proofs.tree_text.text.write_slots.Given as goal
+
+abbrev pub invariant-loop-s : goal.invariant-loop-s
+invariant-loop-s g l =
+    Going (at_rest (g.K.Sink.written l.initial.sink)) (at_rest (g.K.Sink.written l.sink))
+    (texts_from (slot_text l.wiring) 0 (length l.wiring.slots)) (texts_from (slot_text l.wiring) l.s ((length l.wiring.slots) - l.s))

@@ -1,0 +1,303 @@
+//! The text, line by line.
+ghost use Rattle.std.specs.Prelude.{◌≡◌, ◌<◌, ◌≤◌, length, OnOk, OnErr};
+ghost use Rattle.room_outside.specs.Written.{Appends, BreaksOff};
+ghost use Rattle.room_outside.specs.line_text.Output.{Puts, at_rest};
+ghost use Rattle.room_wiring.specs.Places.{port_count, place_count};
+ghost use Rattle.binding_expand.specs.tree_text.Text.{slot_text, is_socket, is_before, tie_line, join_text, socket_text, tie_text, has_ties, place_text, port_ties, ports_told, ports_ties, slot_ties, ties_text, slots_text, tree_text};
+
+use crate::tree_text::names::{class_name, kind_word, path, port_name};
+use crate::tree_text::place::{Place, Tie};
+use room_kinds::SlotId;
+use room_outside::{LineBuffer, Part, Sink, WriteFault, write_line};
+use room_wiring::{Partner, Wiring};
+
+#[tactic(auto, unfolding(crate::specs::tree_text::Text::slot_text))]
+fn write_slot<K: Sink>(
+    out: &mut LineBuffer,
+    sink: &mut K,
+    wiring: &Wiring,
+    s: SlotId,
+) -> Result<(), WriteFault>
+    requires { s.0 < length wiring.now.slots }
+    ensures { Puts result (at_rest (K.written sink.old)) (at_rest (K.written sink.new)) (slot_text wiring.now s.0) }
+{
+    let slot = wiring.slot(s);
+    let parts = [
+        Part::Text(b"slot "),
+        Part::Number(u64::from(s.0)),
+        Part::Text(b" "),
+        Part::Number(u64::from(slot.owner.0)),
+        Part::Text(b" "),
+        Part::Text(kind_word(slot.kind)),
+        Part::Text(b" "),
+        Part::Text(slot.path.as_bytes()),
+        Part::Text(b" "),
+        Part::Text(class_name(wiring, slot.class)),
+    ];
+    write_line(out, sink, &parts)
+}
+
+#[tactic(auto, unfolding(crate::specs::tree_text::Text::slots_text))]
+fn write_slots<K: Sink>(
+    out: &mut LineBuffer,
+    sink: &mut K,
+    wiring: &Wiring,
+) -> Result<(), WriteFault>
+    ensures { Puts result (at_rest (K.written sink.old)) (at_rest (K.written sink.new)) (slots_text wiring.now) }
+{
+    for s in 0..wiring.slot_count() {
+        write_slot(out, sink, wiring, SlotId(s as u16))?;
+    }
+    Ok(())
+}
+
+fn is_before(a: Place, b: Place) -> bool
+    ensures { result ≡ is_before a b }
+{
+    a.slot.0 < b.slot.0
+        || (a.slot.0 == b.slot.0 && (a.port < b.port || (a.port == b.port && a.place < b.place)))
+}
+
+#[tactic(auto, unfolding(crate::specs::tree_text::Text::is_socket))]
+fn is_socket(wiring: &Wiring, s: SlotId) -> bool
+    requires { s.0 < length wiring.now.slots }
+    ensures { result ≡ is_socket wiring.now s.0 }
+{
+    wiring.slot(s).kind.is_imported()
+}
+
+fn write_tie<'a, K: Sink>(
+    out: &mut LineBuffer,
+    sink: &mut K,
+    wiring: &'a Wiring,
+    word: &'a [u8],
+    a: Place,
+    b: Place,
+) -> Result<(), WriteFault>
+    ensures { Puts result (at_rest (K.written sink.old)) (at_rest (K.written sink.new)) (tie_line wiring.now word.now a b) }
+{
+    let parts = [
+        Part::Text(word),
+        Part::Text(path(wiring, a.slot)),
+        Part::Text(b"."),
+        Part::Text(port_name(wiring, a.slot, a.port)),
+        Part::Text(b"["),
+        Part::Number(u64::from(a.place)),
+        Part::Text(b"]"),
+        Part::Text(b" "),
+        Part::Text(path(wiring, b.slot)),
+        Part::Text(b"."),
+        Part::Text(port_name(wiring, b.slot, b.port)),
+        Part::Text(b"["),
+        Part::Number(u64::from(b.place)),
+        Part::Text(b"]"),
+    ];
+    write_line(out, sink, &parts)
+}
+
+/// Writes an end place beside a later one.
+fn write_join<K: Sink>(
+    out: &mut LineBuffer,
+    sink: &mut K,
+    wiring: &Wiring,
+    a: Place,
+    partner: Partner,
+) -> Result<(), WriteFault>
+    ensures { Puts result (at_rest (K.written sink.old)) (at_rest (K.written sink.new)) (join_text wiring.now a partner) }
+{
+    match partner {
+        Partner::Nobody => Ok(()),
+        Partner::Socket { .. } => Ok(()),
+        Partner::End { slot, port, place } => {
+            let b = Place { slot, port, place };
+            if is_before(a, b) {
+                write_tie(out, sink, wiring, b"join ", a, b)
+            } else {
+                Ok(())
+            }
+        }
+    }
+}
+
+/// Writes an imported place beside the place that it is joined to.
+fn write_socket<K: Sink>(
+    out: &mut LineBuffer,
+    sink: &mut K,
+    wiring: &Wiring,
+    a: Place,
+    partner: Partner,
+) -> Result<(), WriteFault>
+    ensures { Puts result (at_rest (K.written sink.old)) (at_rest (K.written sink.new)) (socket_text wiring.now a partner) }
+{
+    match partner {
+        Partner::Nobody => Ok(()),
+        Partner::End { slot, port, place } => {
+            write_tie(
+                out,
+                sink,
+                wiring,
+                b"socket ",
+                a,
+                Place { slot, port, place },
+            )
+        }
+        Partner::Socket { slot, port, place } => {
+            write_tie(
+                out,
+                sink,
+                wiring,
+                b"socket ",
+                a,
+                Place { slot, port, place },
+            )
+        }
+    }
+}
+
+fn write_partner<K: Sink>(
+    out: &mut LineBuffer,
+    sink: &mut K,
+    wiring: &Wiring,
+    tie: Tie,
+    a: Place,
+    partner: Partner,
+) -> Result<(), WriteFault>
+    ensures { Puts result (at_rest (K.written sink.old)) (at_rest (K.written sink.new)) (tie_text wiring.now tie a partner) }
+{
+    match tie {
+        Tie::Join => write_join(out, sink, wiring, a, partner),
+        Tie::Socket => write_socket(out, sink, wiring, a, partner),
+    }
+}
+
+fn has_ties(tie: Tie, imported: bool) -> bool
+    ensures { result ≡ has_ties tie imported }
+{
+    match tie {
+        Tie::Join => !imported,
+        Tie::Socket => imported,
+    }
+}
+
+#[tactic(auto, unfolding(crate::specs::tree_text::Text::place_text))]
+fn write_place<K: Sink>(
+    out: &mut LineBuffer,
+    sink: &mut K,
+    wiring: &Wiring,
+    tie: Tie,
+    a: Place,
+) -> Result<(), WriteFault>
+    requires slot { a.slot.0 < length wiring.now.slots }
+    requires port { a.port < port_count wiring.now a.slot.0 }
+    requires place { a.place < place_count wiring.now a.slot.0 a.port }
+    ensures { Puts result (at_rest (K.written sink.old)) (at_rest (K.written sink.new)) (place_text wiring.now tie a.slot.0 a.port a.place) }
+{
+    let partner = wiring.partner(a.slot, a.port, a.place);
+    write_partner(out, sink, wiring, tie, a, partner)
+}
+
+#[tactic(auto, unfolding(crate::specs::tree_text::Text::port_ties))]
+fn write_port<K: Sink>(
+    out: &mut LineBuffer,
+    sink: &mut K,
+    wiring: &Wiring,
+    tie: Tie,
+    slot: SlotId,
+    port: u16,
+) -> Result<(), WriteFault>
+    requires slot { slot.0 < length wiring.now.slots }
+    requires port { port < port_count wiring.now slot.0 }
+    ensures { Puts result (at_rest (K.written sink.old)) (at_rest (K.written sink.new)) (port_ties wiring.now tie slot.0 port) }
+{
+    for place in 0..wiring.places(slot, port) {
+        write_place(out, sink, wiring, tie, Place { slot, port, place })?;
+    }
+    Ok(())
+}
+
+/// How many ports of a slot have a number.
+#[tactic(auto, unfolding(room_wiring::specs::Places::port_count, room_wiring::specs::Slots::class_of))]
+fn ports_told(wiring: &Wiring, s: SlotId) -> usize
+    requires { s.0 < length wiring.now.slots }
+    ensures { result ≡ ports_told wiring.now s.0 }
+{
+    let class = wiring.class(wiring.slot(s).class);
+    class.ports.len().min(65536)
+}
+
+#[tactic(auto, unfolding(crate::specs::tree_text::Text::ports_ties))]
+fn write_ports<K: Sink>(
+    out: &mut LineBuffer,
+    sink: &mut K,
+    wiring: &Wiring,
+    tie: Tie,
+    s: SlotId,
+) -> Result<(), WriteFault>
+    requires { s.0 < length wiring.now.slots }
+    ensures { Puts result (at_rest (K.written sink.old)) (at_rest (K.written sink.new)) (ports_ties wiring.now tie s.0) }
+{
+    for port in 0..ports_told(wiring, s) {
+        write_port(out, sink, wiring, tie, s, port as u16)?;
+    }
+    Ok(())
+}
+
+#[tactic(auto, unfolding(crate::specs::tree_text::Text::slot_ties))]
+fn write_slot_ties<K: Sink>(
+    out: &mut LineBuffer,
+    sink: &mut K,
+    wiring: &Wiring,
+    tie: Tie,
+    s: SlotId,
+) -> Result<(), WriteFault>
+    requires { s.0 < length wiring.now.slots }
+    ensures { Puts result (at_rest (K.written sink.old)) (at_rest (K.written sink.new)) (slot_ties wiring.now tie s.0) }
+{
+    if has_ties(tie, is_socket(wiring, s)) {
+        write_ports(out, sink, wiring, tie, s)
+    } else {
+        Ok(())
+    }
+}
+
+#[tactic(auto, unfolding(crate::specs::tree_text::Text::ties_text))]
+fn write_ties<K: Sink>(
+    out: &mut LineBuffer,
+    sink: &mut K,
+    wiring: &Wiring,
+    tie: Tie,
+) -> Result<(), WriteFault>
+    ensures { Puts result (at_rest (K.written sink.old)) (at_rest (K.written sink.new)) (ties_text wiring.now tie) }
+{
+    for s in 0..wiring.slot_count() {
+        write_slot_ties(out, sink, wiring, tie, SlotId(s as u16))?;
+    }
+    Ok(())
+}
+
+#[tactic(auto, unfolding(crate::specs::tree_text::Text::tree_text))]
+fn write_tree<K: Sink>(
+    out: &mut LineBuffer,
+    sink: &mut K,
+    wiring: &Wiring,
+) -> Result<(), WriteFault>
+    ensures { Puts result (at_rest (K.written sink.old)) (at_rest (K.written sink.new)) (tree_text wiring.now) }
+{
+    write_slots(out, sink, wiring)?;
+    write_ties(out, sink, wiring, Tie::Join)?;
+    write_ties(out, sink, wiring, Tie::Socket)
+}
+
+/// Appends the text of a wiring: the lines of its slots, then those of its joined places, then
+/// those of its sockets. Each line is one piece; a line of more than 4,096 bytes is written in
+/// pieces of 4,096 bytes and then its rest. It takes no memory.
+///
+/// At a fault a front of the text was appended. Time is in proportion to the slots, ports and
+/// places.
+pub fn expand_text<K: Sink>(wiring: &Wiring, sink: &mut K) -> Result<(), WriteFault>
+    ensures ok { OnOk result (Appends (K.written sink.old) (K.written sink.new) (tree_text wiring.now)) }
+    ensures fault { OnErr result (BreaksOff (K.written sink.old) (K.written sink.new) (tree_text wiring.now)) }
+{
+    let mut out = LineBuffer::new();
+    write_tree(&mut out, sink, wiring)
+}

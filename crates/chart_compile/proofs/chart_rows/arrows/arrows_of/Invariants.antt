@@ -1,0 +1,10 @@
+use Rattle.std.proofs.Common.{map, take}
+use Rattle.chart_model.specs.chart_plan.Same.{Each}
+use Rattle.chart_run.specs.chart_tables.Tables.{arrow_views}
+use Rattle.chart_reader.specs.chart_nodes.Steps.{step_view}
+use Rattle.chart_compile.specs.chart_places.Groups.{picked}
+use Rattle.chart_compile.specs.chart_parts.Parts.{IsArrow}
+use Rattle.chart_compile.proofs.chart_rows.arrows.arrows_of.Given as goal
+
+abbrev pub invariant-loop-number : goal.invariant-loop-number
+invariant-loop-number l = Each (IsArrow l.nodes) (arrow_views l.arrows.items) (picked (map step_view l.steps) (take l.number-index l.group))

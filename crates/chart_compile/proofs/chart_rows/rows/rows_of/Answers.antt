@@ -1,0 +1,22 @@
+use Rattle.std.proofs.Common.{◌≡◌, ◌≤◌, ◌+◌, ◌++◌, ◌∷◌, ◌∙◌, ℕ, List, [], Option, Some, None, Bor, length, get_or, map, take, drop, refl, sym, ap, subst, arith, true, false}
+use Rattle.chart_model.specs.chart_plan.Same.{Each}
+use Rattle.chart_reader.specs.chart_nodes.Steps.{step_view}
+use Rattle.chart_compile.specs.chart_places.Places.{place_view}
+use Rattle.chart_compile.specs.declared.chart_places.places.Place.{Place}
+use Rattle.chart_compile.specs.chart_parts.Parts.{IsRow}
+use Rattle.chart_compile.proofs.chart_rows.Listing.{each_more_plain, each_start_plain, made_more, taken_all}
+use Rattle.chart_compile.proofs.chart_rows.rows.rows_of.Goals as goal
+
+pub loop-place-init : goal.loop-place-init
+loop-place-init c = each_start_plain (IsRow c.args.states.now c.args.graphs.now c.args.nodes.now (map step_view c.args.steps.now)) c.new-rows.result.items c.new-rows.ensures.items
+
+pub loop-place-preserved : goal.loop-place-preserved
+loop-place-preserved c =
+    let places = c.args.places.now in
+    let i = c.loop-place.place-index in
+    let p = c.place-item.result in
+    each_more_plain (IsRow c.args.states.now c.args.graphs.now c.args.nodes.now (map step_view c.args.steps.now)) c.loop-place.rows.items c.push.new.self.items c.in_ok-row.row (map place_view (take i places)) (map place_view (take (i + 1) places)) (place_view p) c.in_ok-push.ensures.items (made_more place_view places i p c.loop-place-test.true c.place-item.is) c.in_ok-row.ensures c.loop-place.invariant
+
+pub returns : goal.returns
+returns c =
+    subst (λ (l : List Place). Each (IsRow c.args.states.now c.args.graphs.now c.args.nodes.now (map step_view c.args.steps.now)) c.loop-place.rows.items (map place_view l)) (taken_all c.args.places.now c.loop-place.place-index c.loop-place-test.false) c.loop-place.invariant

@@ -1,0 +1,59 @@
+-- Rows of tables, by the keys of a chart's states, graphs and nodes.
+use Rattle.std.specs.Prelude.{◌≡◌, ℕ, List, [], ◌∷◌, Some, map, position}
+use Rattle.std.specs.Global.{Vec}
+use Rattle.std.specs.List.{filter}
+use Rattle.action_program.specs.Numbered.{program_view}
+use Rattle.name_tables.specs.name_numbers.Names.{same}
+use Rattle.chart_model.specs.chart_plan.Same.{Each}
+use Rattle.chart_model.specs.Chart.{Path}
+use Rattle.chart_model.specs.Named.{outward}
+use Rattle.chart_run.specs.chart_tables.Tables.{ArrowTree, arrow_view, arrow_views}
+use Rattle.chart_run.specs.declared.chart_tables.tables.Arrow.{Arrow}
+use Rattle.chart_run.specs.declared.chart_tables.tables.Row.{Row}
+use Rattle.chart_reader.specs.chart_nodes.Keys.{target_key}
+use Rattle.chart_reader.specs.chart_nodes.Steps.{StepTree}
+use Rattle.chart_compile.specs.chart_places.Places.{PlaceTree, shared_key, state_key}
+
+-- the steps that begin at the place with a key
+abbrev pub from_key : List ℕ → List StepTree → List StepTree
+from_key key steps = filter (λ (s : StepTree). same s.origin key) steps
+
+-- a key has a number among keys
+abbrev pub IsNumber : List (List ℕ) → List ℕ → ℕ → Type 0
+IsNumber keys key n = position (same key) keys ≡ Some n
+
+-- a number is that of the state at a path
+abbrev pub IsState : List (List ℕ) → ℕ → Path → Type 0
+IsState states n path = IsNumber states (state_key path) n
+
+-- the key of the node that a step leads to
+abbrev pub target_of : StepTree → List ℕ
+target_of s = target_key s.placed.graph s.placed.transition.target
+
+-- the key of a state
+abbrev pub key_of : PlaceTree → List ℕ
+key_of p = state_key p.path
+
+-- an arrow is that of a step, to the node with its number
+pub record IsArrow (nodes : List (List ℕ)) (a : ArrowTree) (s : StepTree) : Type 0 where
+  pub triggers : a.triggers ≡ s.placed.transition.triggers
+  pub condition : a.condition ≡ s.placed.transition.condition
+  pub action : a.action ≡ s.placed.transition.action
+  pub target : IsNumber nodes (target_of s) a.target
+
+-- the path of the state that has the graph with a state
+abbrev pub outer : Path → Path
+outer [] = []
+outer (s ∷ owner) = owner
+
+-- a row is that of a state
+pub record IsRow (states graphs nodes : List (List ℕ)) (steps : List StepTree) (r : Row) (p : PlaceTree) : Type 0 where
+  pub up : Each (IsState states) r.up.items (outward p.path)
+  pub entry : program_view r.entry ≡ p.state.entry
+  pub exit : program_view r.exit ≡ p.state.exit
+  pub own : Each (IsArrow nodes) (arrow_views r.own.items) (from_key (state_key p.path) steps)
+  pub graph : IsNumber graphs (shared_key (outer p.path)) r.graph
+
+-- arrows are those from the transition points of the graph with a key
+abbrev pub IsShared : List (List ℕ) → List StepTree → Vec Arrow → List ℕ → Type 0
+IsShared nodes steps arrows key = Each (IsArrow nodes) (arrow_views arrows.items) (from_key key steps)

@@ -1,0 +1,1 @@
+//! The law that tables which are put together from the steps of a valid chart show it.

@@ -1,0 +1,234 @@
+//! Nodes of the tables of a chart: borders, choice points, entry points and exit points.
+ghost use Rattle.std.specs.Prelude.{◌≡◌, ◌∷◌, ◌++◌, [], ℕ, List, map, nat_lt, IfOk, OnOk};
+ghost use Rattle.std.specs.List.{filter, list_all};
+ghost use Rattle.chart_model.specs.chart_plan.Same.{Each, SameKind};
+ghost use Rattle.chart_model.specs.Chart.{Name, Path};
+ghost use Rattle.chart_model.specs.Named.{a_choice, a_state, an_entry, an_exit};
+ghost use Rattle.chart_run.specs.chart_tables.Tables.{arrow_views, kind};
+ghost use Rattle.chart_reader.specs.chart_nodes.Steps.{StepTree, step_view};
+ghost use Rattle.chart_compile.specs.chart_places.Groups.{picked};
+ghost use Rattle.chart_compile.specs.chart_parts.Parts.{IsArrow, IsState};
+ghost use Rattle.chart_compile.specs.chart_parts.Nodes.{IsFirst, has_condition, has_none, is_lower, kind_by, leads_lower, node_after};
+
+use crate::chart_rows::{make_arrow, state_number, step_at};
+use chart_reader::Step;
+use chart_reading::Target;
+use chart_run::{Arrow, Node};
+use name_tables::Numbers;
+use room_ast::Name;
+use std::alloc::{AllocError, Global};
+
+/// The arrow of the first of the steps with some numbers, if there is one.
+fn first_arrow<'b, 'c>(
+    alloc: Global,
+    nodes: &Numbers<'c>,
+    steps: &[Step<'b>],
+    group: &[usize],
+) -> Result<Option<Arrow>, AllocError>
+    ensures { IfOk result (λ arrow. IsFirst nodes.now arrow (picked (map step_view steps.now) group.now)) }
+{
+    let Some(number) = group.first() else {
+        return Ok(None);
+    };
+    let Some(step) = step_at(steps, *number) else {
+        return Err(AllocError);
+    };
+    let arrow = make_arrow(alloc, nodes, step)?;
+    Ok(Some(arrow))
+}
+
+/// A state: its border where its graph has an initial transition.
+fn border<'b, 'c>(
+    alloc: Global,
+    nodes: &Numbers<'c>,
+    steps: &[Step<'b>],
+    group: &[usize],
+    state: u16,
+) -> Result<Node, AllocError>
+    ensures { IfOk result (λ n. (states : List (List ℕ)) (path : Path) → IsState states state path → SameKind (IsState states) (IsArrow nodes.now) (kind n) (kind_by (a_state path) (picked (map step_view steps.now) group.now))) }
+{
+    let first = first_arrow(alloc, nodes, steps, group)?;
+    match first {
+        Some(arrow) => Ok(Node::Border(state, arrow)),
+        None => Ok(Node::Simple(state)),
+    }
+}
+
+/// An entry point of a state.
+fn entry<'b, 'c>(
+    alloc: Global,
+    nodes: &Numbers<'c>,
+    steps: &[Step<'b>],
+    group: &[usize],
+    state: u16,
+) -> Result<Node, AllocError>
+    ensures { IfOk result (λ n. (states : List (List ℕ)) (path : Path) (e : Name) → IsState states state path → SameKind (IsState states) (IsArrow nodes.now) (kind n) (kind_by (an_entry path e) (picked (map step_view steps.now) group.now))) }
+{
+    let first = first_arrow(alloc, nodes, steps, group)?;
+    match first {
+        Some(arrow) => Ok(Node::Entry(state, arrow)),
+        None => Err(AllocError),
+    }
+}
+
+/// An exit point of a state.
+fn exit<'b, 'c>(
+    alloc: Global,
+    nodes: &Numbers<'c>,
+    steps: &[Step<'b>],
+    group: &[usize],
+    state: u16,
+) -> Result<Node, AllocError>
+    ensures { IfOk result (λ n. (states : List (List ℕ)) (s x : Name) (owner : Path) → IsState states state (s ∷ owner) → SameKind (IsState states) (IsArrow nodes.now) (kind n) (kind_by (an_exit (s ∷ owner) x) (picked (map step_view steps.now) group.now))) }
+{
+    let first = first_arrow(alloc, nodes, steps, group)?;
+    match first {
+        Some(arrow) => Ok(Node::Exit(state, arrow)),
+        None => Err(AllocError),
+    }
+}
+
+/// Adds the arrow of a branch, if it has a condition.
+fn add_branch<'b, 'c>(
+    alloc: Global,
+    nodes: &Numbers<'c>,
+    branches: &mut Vec<Arrow>,
+    step: &Step<'b>,
+) -> Result<(), AllocError>
+    ensures { OnOk result ((ss : List StepTree) → Each (IsArrow nodes.now) (arrow_views branches.old.items) (filter has_condition ss) → Each (IsArrow nodes.now) (arrow_views branches.new.items) (filter has_condition (ss ++ step_view step.now ∷ []))) }
+{
+    let has = step.transition.condition.is_some();
+    if !has {
+        return Ok(());
+    }
+    let arrow = make_arrow(alloc, nodes, step)?;
+    branches.push(arrow)?;
+    Ok(())
+}
+
+/// The branches with a condition.
+fn branches_of<'b, 'c>(
+    alloc: Global,
+    nodes: &Numbers<'c>,
+    steps: &[Step<'b>],
+    group: &[usize],
+) -> Result<Vec<Arrow>, AllocError>
+    ensures { IfOk result (λ arrows. Each (IsArrow nodes.now) (arrow_views arrows.items) (filter has_condition (picked (map step_view steps.now) group.now))) }
+{
+    let mut branches = Vec::new(alloc);
+    for number in group {
+        let Some(step) = step_at(steps, *number) else {
+            return Err(AllocError);
+        };
+        add_branch(alloc, nodes, &mut branches, step)?;
+    }
+    Ok(branches)
+}
+
+/// The first branch without a condition.
+fn default_of<'b, 'c>(
+    alloc: Global,
+    nodes: &Numbers<'c>,
+    steps: &[Step<'b>],
+    group: &[usize],
+) -> Result<Option<Arrow>, AllocError>
+    ensures { IfOk result (λ arrow. IsFirst nodes.now arrow (filter has_none (picked (map step_view steps.now) group.now))) }
+{
+    for number in group {
+        let Some(step) = step_at(steps, *number) else {
+            return Err(AllocError);
+        };
+        if step.transition.condition.is_none() {
+            let arrow = make_arrow(alloc, nodes, step)?;
+            return Ok(Some(arrow));
+        }
+    }
+    Ok(None)
+}
+
+/// A choice point.
+fn choice<'b, 'c>(
+    alloc: Global,
+    nodes: &Numbers<'c>,
+    steps: &[Step<'b>],
+    group: &[usize],
+) -> Result<Node, AllocError>
+    ensures { IfOk result (λ n. (states : List (List ℕ)) (graph : Path) (c : Name) → SameKind (IsState states) (IsArrow nodes.now) (kind n) (kind_by (a_choice graph c) (picked (map step_view steps.now) group.now))) }
+{
+    let branches = branches_of(alloc, nodes, steps, group)?;
+    let default = default_of(alloc, nodes, steps, group)?;
+    match default {
+        Some(default) => Ok(Node::Choice(branches, default)),
+        None => Err(AllocError),
+    }
+}
+
+/// The node that a step leads to, where the steps with some numbers begin.
+pub fn make_node<'b, 's, 'n>(
+    alloc: Global,
+    states: &Numbers<'s>,
+    nodes: &Numbers<'n>,
+    steps: &[Step<'b>],
+    group: &[usize],
+    step: &Step<'b>,
+) -> Result<Node, AllocError>
+    ensures { IfOk result (λ n. SameKind (IsState states.now) (IsArrow nodes.now) (kind n) (kind_by (node_after (step_view step.now)) (picked (map step_view steps.now) group.now))) }
+{
+    let owner = step.graph.owner.as_slice();
+    match &step.transition.target {
+        Target::State(name) => {
+            let state = state_number(alloc, states, name, owner)?;
+            let node = border(alloc, nodes, steps, group, state)?;
+            Ok(node)
+        }
+        Target::Point { point: _, state } => {
+            let state = state_number(alloc, states, state, owner)?;
+            let node = border(alloc, nodes, steps, group, state)?;
+            Ok(node)
+        }
+        Target::Choice(_) => {
+            let node = choice(alloc, nodes, steps, group)?;
+            Ok(node)
+        }
+        Target::Entry { point: _, state } => {
+            let state = state_number(alloc, states, state, owner)?;
+            let node = entry(alloc, nodes, steps, group, state)?;
+            Ok(node)
+        }
+        Target::Exit(_) => {
+            let Some((name, outer)) = owner.split_first() else {
+                return Err(AllocError);
+            };
+            let state = state_number(alloc, states, name, outer)?;
+            let node = exit(alloc, nodes, steps, group, state)?;
+            Ok(node)
+        }
+    }
+}
+
+fn all_below(arrows: &[Arrow], n: usize) -> bool
+    ensures { result ≡ list_all (λ a. nat_lt a.target n) arrows.now }
+{
+    arrows.iter().all(|arrow| usize::from(arrow.target) < n)
+}
+
+fn all_lower(arrows: &[Arrow], n: usize) -> bool
+    ensures { result ≡ list_all (is_lower n) (arrow_views arrows.now) }
+{
+    all_below(arrows, n)
+}
+
+/// Whether a node leads to nodes with lower numbers alone.
+pub fn leads_lower(node: &Node, n: usize) -> bool
+    ensures { result ≡ leads_lower n (kind node.now) }
+{
+    match node {
+        Node::Simple(_) => true,
+        Node::Border(_, arrow) => usize::from(arrow.target) < n,
+        Node::Choice(branches, default) => {
+            all_lower(branches, n) && usize::from(default.target) < n
+        }
+        Node::Entry(_, arrow) => usize::from(arrow.target) < n,
+        Node::Exit(_, arrow) => usize::from(arrow.target) < n,
+    }
+}

@@ -1,0 +1,1 @@
+//! When tables are those of a chart, part by part: definitions alone.

@@ -1,0 +1,49 @@
+//! Graphs by their keys.
+ghost use Rattle.std.specs.Prelude.{◌≡◌, map, option_and_then, option_map, position, slice_get, IfOk};
+ghost use Rattle.name_tables.specs.name_numbers.Names.{same, AreDistinct};
+ghost use Rattle.chart_reading.specs.chart_graphs.Views.{graph_view};
+ghost use Rattle.chart_compile.specs.chart_places.Places.{keys_of};
+
+use chart_reader::plain_key;
+use chart_reading::{Chart, Graph};
+use name_tables::{Numbers, numbered};
+use room_kinds::Sequence;
+use std::alloc::{AllocError, Global};
+
+/// The keys of graphs.
+pub fn graph_keys(alloc: Global, graphs: &[Graph]) -> Result<Vec<Sequence<u8>>, AllocError>
+    ensures { IfOk result (λ keys. keys.items ≡ keys_of (map graph_view graphs.now)) }
+{
+    let mut keys = Vec::new(alloc);
+    for graph in graphs {
+        let key = plain_key(alloc, 2, graph.owner.as_slice())?;
+        keys.push(Sequence::from(key))?;
+    }
+    Ok(keys)
+}
+
+/// The numbers of keys, in their order. It answers as where memory runs out where two keys are the
+/// same.
+pub fn numbers_of<'a>(alloc: Global, keys: &'a [Sequence<u8>]) -> Result<Numbers<'a>, AllocError>
+    ensures same { IfOk result (λ numbers. numbers ≡ keys.entry.now) }
+    ensures distinct { IfOk result (λ numbers. AreDistinct keys.entry.now) }
+{
+    let mut names = Vec::new(alloc);
+    for key in keys {
+        names.push(key.as_slice())?;
+    }
+    match numbered(alloc, names.as_slice())? {
+        Some(numbers) => Ok(numbers),
+        None => Err(AllocError),
+    }
+}
+
+/// The graph with a key.
+pub fn find_graph<'a, 'b>(chart: &'a Chart, graphs: &Numbers<'b>, key: &[u8]) -> Option<&'a Graph>
+    ensures { option_map (λ g. g.now) result ≡ option_and_then (λ i. slice_get chart.entry.now.graphs.items i) (position (same key.now) graphs.now) }
+{
+    match graphs.number_of(key) {
+        Some(number) => chart.graphs.get(number),
+        None => None,
+    }
+}

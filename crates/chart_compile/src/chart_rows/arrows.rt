@@ -1,0 +1,68 @@
+//! Transitions of the tables.
+ghost use Rattle.std.specs.Prelude.{◌≡◌, map, IfOk};
+ghost use Rattle.chart_model.specs.chart_plan.Same.{Each};
+ghost use Rattle.chart_run.specs.chart_tables.Tables.{arrow_view, arrow_views, trigger_view};
+ghost use Rattle.chart_reader.specs.chart_nodes.Steps.{step_view};
+ghost use Rattle.chart_compile.specs.chart_places.Groups.{picked};
+ghost use Rattle.chart_compile.specs.chart_parts.Parts.{IsArrow};
+
+use crate::chart_rows::lookup::{number, step_at};
+use action_program::{copy_guard, copy_program};
+use chart_reader::{Step, target_key};
+use chart_run::{Arrow, Trigger};
+use name_tables::Numbers;
+use std::alloc::{AllocError, Global};
+
+fn copy_triggers(alloc: Global, triggers: &[Trigger]) -> Result<Vec<Trigger>, AllocError>
+    ensures { IfOk result (λ copies. map trigger_view copies.items ≡ map trigger_view triggers.now) }
+{
+    let mut copies = Vec::new(alloc);
+    for trigger in triggers {
+        let events = Vec::from_slice(alloc, trigger.events.as_slice())?;
+        let guard = copy_guard(alloc, &trigger.guard)?;
+        copies.push(Trigger { events, guard })?;
+    }
+    Ok(copies)
+}
+
+/// The arrow of a step.
+pub fn make_arrow<'b, 'c>(
+    alloc: Global,
+    nodes: &Numbers<'c>,
+    step: &Step<'b>,
+) -> Result<Arrow, AllocError>
+    ensures { IfOk result (λ arrow. IsArrow nodes.now (arrow_view arrow) (step_view step.now)) }
+{
+    let transition = step.transition;
+    let key = target_key(alloc, step.graph.owner.as_slice(), &transition.target)?;
+    let target = number(nodes, key.as_slice())?;
+    let triggers = copy_triggers(alloc, &transition.triggers)?;
+    let condition = copy_guard(alloc, &transition.condition)?;
+    let action = copy_program(alloc, &transition.action)?;
+    Ok(Arrow {
+        triggers,
+        condition,
+        action,
+        target,
+    })
+}
+
+/// The arrows of the steps with some numbers, in their order.
+pub fn arrows_of<'b, 'c>(
+    alloc: Global,
+    nodes: &Numbers<'c>,
+    steps: &[Step<'b>],
+    group: &[usize],
+) -> Result<Vec<Arrow>, AllocError>
+    ensures { IfOk result (λ arrows. Each (IsArrow nodes.now) (arrow_views arrows.items) (picked (map step_view steps.now) group.now)) }
+{
+    let mut arrows = Vec::new(alloc);
+    for number in group {
+        let Some(step) = step_at(steps, *number) else {
+            return Err(AllocError);
+        };
+        let arrow = make_arrow(alloc, nodes, step)?;
+        arrows.push(arrow)?;
+    }
+    Ok(arrows)
+}

@@ -1,2 +1,0 @@
-//! The law that tables which are put together from the steps of a valid chart show it.
-#![tactic(auto)]

@@ -1,5 +1,0 @@
-use Rattle.chart_nodes.proofs.KeyLaws.{codes_done}
-use Rattle.chart_nodes.proofs.keys.put_path.Goals as goal
-
-pub returns : goal.returns
-returns c = codes_done c.loop-name.key.items _ c.args.path.now c.loop-name.name-index c.loop-name-test.false c.loop-name.invariant

@@ -1,6 +1,0 @@
-use Rattle.std.proofs.Common.{◌≡◌, map, take}
-use Rattle.chart_places.specs.Places.{PlaceTree, place_view, state_key}
-use Rattle.chart_numbers.proofs.keys.state_keys.Given as goal
-
-abbrev pub invariant-loop-place : goal.invariant-loop-place
-invariant-loop-place l = l.keys.items ≡ map (λ (p : PlaceTree). state_key p.path) (map place_view (take l.place-index l.places))

@@ -1,9 +1,0 @@
-//! Reading state machines: code, triggers, transitions, states and graphs.
-#![tactic(auto)]
-
-mod codes;
-mod graphs;
-mod transitions;
-mod trigger_lists;
-
-pub use graphs::state_machine;

@@ -1,2 +1,0 @@
-//! When tables are those of a chart, part by part: definitions alone.
-#![tactic(auto)]

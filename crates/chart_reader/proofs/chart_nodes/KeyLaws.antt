@@ -1,0 +1,86 @@
+-- Keys tell places and nodes apart.
+use Rattle.std.proofs.Common.{◌≡◌, ℕ, ◌+◌, ◌<◌, ◌≤◌, Bool, true, false, List, [], ◌∷◌, ◌++◌, length, get_or, drop, refl, sym, ap, ◌∙◌, append_assoc, nat_eq}
+use Rattle.std.specs.Prelude.{◌&&◌}
+use Rattle.std.proofs.lemmas.List.{drop_all, drop_more, append-nil}
+use Rattle.name_tables.specs.name_numbers.Names.{same}
+use Rattle.chart_model.specs.Chart.{Name, Path}
+use Rattle.chart_model.specs.Named.{same_path}
+use Rattle.chart_reader.specs.chart_nodes.Keys.{code, codes}
+
+-- ---- keys as the code writes them
+
+pub code_start : (out s : List ℕ) → out ++ code (drop 0 s) ≡ out ++ code s
+code_start out s = refl
+
+code_cons : (out : List ℕ) (b : ℕ) (rest : List ℕ) → ((out ++ 1 ∷ []) ++ b ∷ []) ++ code rest ≡ out ++ code (b ∷ rest)
+unfolding code
+code_cons out b rest = rw (append_assoc, append_assoc) refl
+
+pub code_next : (out s : List ℕ) (i d : ℕ) → i < length s → ((out ++ 1 ∷ []) ++ get_or s i d ∷ []) ++ code (drop (i + 1) s) ≡ out ++ code (drop i s)
+code_next out s i d h = code_cons out (get_or s i d) (drop (i + 1) s) ∙ ap (λ r. out ++ code r) (sym (drop_more s i d h))
+
+pub code_end : (out : List ℕ) → out ++ code [] ≡ out ++ 0 ∷ []
+unfolding code
+code_end out = refl
+
+pub code_done : (out first s : List ℕ) (n : ℕ) → length s ≤ n → out ++ code (drop n s) ≡ first → out ++ 0 ∷ [] ≡ first
+code_done out first s n h e = sym (code_end out) ∙ ap (λ r. out ++ code r) (sym (drop_all n s h)) ∙ e
+
+pub codes_start : (out : List ℕ) (p : Path) → out ++ codes (drop 0 p) ≡ out ++ codes p
+codes_start out p = refl
+
+codes_cons : (out : List ℕ) (n : Name) (rest : Path) → (out ++ code n) ++ codes rest ≡ out ++ codes (n ∷ rest)
+unfolding codes
+codes_cons out n rest = append_assoc out (code n) (codes rest)
+
+pub codes_next : (out : List ℕ) (p : Path) (i : ℕ) (d : Name) → i < length p → (out ++ code (get_or p i d)) ++ codes (drop (i + 1) p) ≡ out ++ codes (drop i p)
+codes_next out p i d h = codes_cons out (get_or p i d) (drop (i + 1) p) ∙ ap (λ r. out ++ codes r) (sym (drop_more p i d h))
+
+pub codes_end : (out : List ℕ) → out ++ codes [] ≡ out
+unfolding codes
+codes_end out = append-nil out
+
+pub codes_done : (out first : List ℕ) (p : Path) (n : ℕ) → length p ≤ n → out ++ codes (drop n p) ≡ first → out ≡ first
+codes_done out first p n h e = sym (codes_end out) ∙ ap (λ r. out ++ codes r) (sym (drop_all n p h)) ∙ e
+
+pub codes_one : (n : Name) (p : Path) → codes (n ∷ p) ≡ code n ++ codes p
+unfolding codes
+codes_one n p = refl
+
+pub codes_two : (n m : Name) (p : Path) → codes (n ∷ m ∷ p) ≡ code n ++ (code m ++ codes p)
+unfolding codes
+codes_two n m p = refl
+
+-- the key of a point of a state, part by part
+pub point_made : (k : ℕ) (n m n' m' : Name) (p : Path) (start a b c d : List ℕ) → start ≡ [] → a ≡ start ++ k ∷ [] → n' ≡ n → b ≡ a ++ code n' → m' ≡ m → c ≡ b ++ code m' → d ≡ c ++ codes p → d ≡ k ∷ codes (n ∷ m ∷ p)
+point_made k n m n' m' p start a b c d es ea en eb em ec ed = ed ∙ rw (ec, em, eb, en, ea, es) (append_assoc (k ∷ code n) (code m) (codes p)) ∙ ap (λ l. k ∷ l) (sym (codes_two n m p))
+
+-- ---- keys are the same where what they stand for is
+
+and_assoc : (a b c : Bool) → (a && (b && c)) ≡ ((a && b) && c)
+and_assoc true b c = refl
+and_assoc false b c = refl
+
+pub same_code : (a b x y : List ℕ) → same (code a ++ x) (code b ++ y) ≡ (same a b && same x y)
+unfolding code
+same_code [] [] x y = refl
+same_code [] (b ∷ bs) x y = refl
+same_code (a ∷ «as») [] x y = refl
+same_code (a ∷ «as») (b ∷ bs) x y = ap (λ t. nat_eq a b && t) (same_code «as» bs x y) ∙ and_assoc (nat_eq a b) (same «as» bs) (same x y)
+
+same_none : (n : Name) (r : List ℕ) → same [] (code n ++ r) ≡ false
+unfolding code
+same_none [] r = refl
+same_none (b ∷ bs) r = refl
+
+none_same : (n : Name) (r : List ℕ) → same (code n ++ r) [] ≡ false
+unfolding code
+none_same [] r = refl
+none_same (b ∷ bs) r = refl
+
+pub same_codes : (p q : Path) → same (codes p) (codes q) ≡ same_path p q
+unfolding codes
+same_codes [] [] = refl
+same_codes [] (m ∷ ms) = same_none m (codes ms)
+same_codes (n ∷ ns) [] = none_same n (codes ns)
+same_codes (n ∷ ns) (m ∷ ms) = same_code n m (codes ns) (codes ms) ∙ ap (λ t. same n m && t) (same_codes ns ms)

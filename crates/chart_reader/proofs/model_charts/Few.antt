@@ -1,0 +1,38 @@
+-- A model that keeps all rules has few actor classes.
+use Rattle.std.proofs.Common.{◌≡◌, ℕ, ◌+◌, ◌≤◌, Bool, true, false, cond, List, [], ◌∷◌, length, None, refl, arith}
+use Rattle.std.specs.Prelude.{◌&&◌, nat_le, count_by}
+use Rattle.std.specs.List.{filter_map, list_all}
+use Rattle.std.proofs.lemmas.Bool.Decides.{nat_tests}
+use Rattle.std.proofs.lemmas.List.Sums.{sum_by-cons}
+use Rattle.room_ast.specs.Trees.{ModelTree, ClassTree, ASystem, ASubsystem, AnActor, AProtocol, AData}
+use Rattle.room_ast.specs.model_parts.Classes.{as_actor, actors}
+use Rattle.check_mappings.specs.count_rules.Counts.{is_counted, classes_are_few, parts_are_few, numbers_are_few, has_few_parts}
+use Rattle.structure_check.specs.List.{all_rules}
+use Rattle.structure_check.specs.Rules.{first_broken}
+use Rattle.structure_check.proofs.KeptRules.{all_few}
+
+left_of : (a b : Bool) → (a && b) ≡ true → a ≡ true
+left_of true b h = refl
+left_of false b h = absurd cc
+
+few_number : (n : ℕ) → nat_le n 60000 ≡ true → n ≤ 60000
+few_number n h = grind (arith, nat_tests)
+
+-- a class more
+one_more : (k : ClassTree) (ks : List ClassTree) → count_by is_counted (k ∷ ks) ≡ cond (is_counted k) 1 0 + count_by is_counted ks
+one_more k ks = sum_by-cons (λ (x : ClassTree). cond (is_counted x) 1 0) k ks
+
+actors_counted : (ks : List ClassTree) → length (filter_map as_actor ks) ≤ count_by is_counted ks
+actors_counted [] = omega arith
+actors_counted (ASystem s ∷ ks) = let h = actors_counted ks in let e : count_by is_counted (ASystem s ∷ ks) ≡ 0 + count_by is_counted ks = one_more (ASystem s) ks in omega (arith, h, e)
+actors_counted (ASubsystem s ∷ ks) = let h = actors_counted ks in let e : count_by is_counted (ASubsystem s ∷ ks) ≡ 1 + count_by is_counted ks = one_more (ASubsystem s) ks in omega (arith, h, e)
+actors_counted (AnActor a ∷ ks) = let h = actors_counted ks in let e : count_by is_counted (AnActor a ∷ ks) ≡ 1 + count_by is_counted ks = one_more (AnActor a) ks in omega (arith, h, e)
+actors_counted (AProtocol p ∷ ks) = let h = actors_counted ks in let e : count_by is_counted (AProtocol p ∷ ks) ≡ 1 + count_by is_counted ks = one_more (AProtocol p) ks in omega (arith, h, e)
+actors_counted (AData d ∷ ks) = let h = actors_counted ks in let e : count_by is_counted (AData d ∷ ks) ≡ 1 + count_by is_counted ks = one_more (AData d) ks in omega (arith, h, e)
+
+few_by_parts : (m : ModelTree) → has_few_parts m ≡ true → count_by is_counted m.classes ≤ 60000
+unfolding has_few_parts
+few_by_parts m h = few_number (count_by is_counted m.classes) (left_of (classes_are_few m.classes) (list_all parts_are_few m.classes) (left_of (classes_are_few m.classes && list_all parts_are_few m.classes) (list_all (numbers_are_few m) (actors m)) h))
+
+pub few_actors : (m : ModelTree) → first_broken all_rules m ≡ None → length (actors m) ≤ 60000
+few_actors m h = let few = few_by_parts m (all_few m h) in let counted = actors_counted m.classes in omega (arith, few, counted)

@@ -1,9 +1,0 @@
-use Rattle.std.proofs.Common.{◌≡◌, map, drop}
-use Rattle.std.specs.List.{list_all}
-use Rattle.chart_graphs.specs.Views.{point_view, chart_view}
-use Rattle.chart_model.specs.Valid.{goes_on_once}
-use Rattle.chart_rules.proofs.rules.points_go_on.Given as goal
-
--- what was passed passes
-abbrev pub invariant-loop-point : goal.invariant-loop-point
-invariant-loop-point l = list_all (goes_on_once (chart_view l.chart) l.graph.owner) (map point_view (drop l.point-index l.graph.points.items)) ≡ list_all (goes_on_once (chart_view l.chart) l.graph.owner) (map point_view l.graph.points.items)

@@ -1,9 +1,0 @@
-use Rattle.std.proofs.Common.{◌≡◌, map, drop}
-use Rattle.std.specs.List.{list_all}
-use Rattle.chart_graphs.specs.Views.{transition_view, graph_view, chart_view}
-use Rattle.chart_model.specs.Valid.{is_right_transition}
-use Rattle.chart_rules.proofs.rules.transitions_are_right.Given as goal
-
--- what was passed passes
-abbrev pub invariant-loop-transition : goal.invariant-loop-transition
-invariant-loop-transition l = list_all (is_right_transition (chart_view l.chart) (graph_view l.graph)) (map transition_view (drop l.transition-index l.graph.transitions.items)) ≡ list_all (is_right_transition (chart_view l.chart) (graph_view l.graph)) (map transition_view l.graph.transitions.items)

@@ -1,0 +1,11 @@
+use Rattle.std.proofs.Common.{map}
+use Rattle.std.specs.List.{list_all}
+use Rattle.room_ast.specs.Trees.{class_view, model_view}
+use Rattle.check_classes.specs.class_rules.Ends.{ports_have_protocols, has_known_protocols}
+use Rattle.check_classes.proofs.class_rules.Tables.{protocol_names, named_test}
+use Rattle.check_classes.proofs.class_rules.ends.has_known_protocols.Goals as goal
+
+pub returns : goal.returns
+unfolding has_known_protocols
+returns c =
+    named_test (λ ns cs. list_all (ports_have_protocols ns) (map class_view cs)) _ _ _ _ _ c.have_protocols.ensures (protocol_names (model_view c.args.model.now) c.args.tables.now c.requires) c.as_slice.ensures

@@ -1,0 +1,8 @@
+use Rattle.std.proofs.Common.{◌≡◌, take}
+use Rattle.std.specs.List.{filter_map}
+use Rattle.name_tables.specs.name_numbers.Names.{names_of}
+use Rattle.check_classes.specs.class_rules.Ends.{interface_port}
+use Rattle.check_classes.proofs.class_rules.ends.interface_ports.Given as goal
+
+abbrev pub invariant-loop-item : goal.invariant-loop-item
+invariant-loop-item l = names_of l.names.items ≡ filter_map interface_port (take l.item-index l.items)

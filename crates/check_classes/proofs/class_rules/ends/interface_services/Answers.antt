@@ -1,0 +1,7 @@
+use Rattle.std.proofs.Common.{[]}
+use Rattle.check_classes.specs.class_rules.Ends.{interface_service}
+use Rattle.check_classes.proofs.class_rules.Lists.{behind_next}
+use Rattle.check_classes.proofs.class_rules.ends.interface_services.Goals as goal
+
+pub loop-item-preserved : goal.loop-item-preserved
+loop-item-preserved c = behind_next [] interface_service c.args.items.now c.loop-item.item-index c.item-item.result _ _ _ c.loop-item-test.true c.item-item.is c.interface_service.ensures c.loop-item.invariant c.in_ok-add_name.ensures

@@ -1,0 +1,2 @@
+pub mod class_rules
+pub mod class_sizes

@@ -1,0 +1,2 @@
+pub mod count_rules
+pub mod mapping_rules

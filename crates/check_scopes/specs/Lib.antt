@@ -1,0 +1,2 @@
+pub mod class_scopes
+pub mod number_kinds

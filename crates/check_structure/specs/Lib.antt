@@ -1,0 +1,2 @@
+pub mod binding_rules
+pub mod structure_rules

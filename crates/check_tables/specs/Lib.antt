@@ -1,0 +1,2 @@
+pub mod class_tables
+pub mod containment_rules

@@ -1,9 +1,0 @@
-use Rattle.room_ast.specs.Trees.{class_view}
-use Rattle.model_parts.specs.Classes.{as_data}
-use Rattle.class_tables.proofs.Lists.{viewed_next}
-use Rattle.class_scopes.specs.Fields.{fields_kept}
-use Rattle.class_scopes.proofs.fields.fields_of_classes.Goals as goal
-
-pub loop-class-preserved : goal.loop-class-preserved
-loop-class-preserved c =
-    viewed_next (fields_kept c.args.names.now c.args.kinds.now) as_data class_view c.args.classes.now c.loop-class.class-index c.class-item.result _ _ _ c.loop-class-test.true c.class-item.is c.in_ok-fields_if_data.ensures c.loop-class.invariant c.in_ok-add_fields.ensures

@@ -1,6 +1,0 @@
-use Rattle.std.proofs.Common.{◌≡◌, take}
-use Rattle.name_numbers.specs.Names.{names_of}
-use Rattle.class_scopes.proofs.numbers.owned_path.Given as goal
-
-abbrev pub invariant-loop-name : goal.invariant-loop-name
-invariant-loop-name l = l.names.items ≡ names_of (take l.name-index l.path)

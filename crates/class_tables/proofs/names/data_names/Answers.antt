@@ -1,8 +1,0 @@
-use Rattle.room_ast.specs.Trees.{class_view}
-use Rattle.model_parts.specs.Classes.{as_data}
-use Rattle.class_tables.proofs.Lists.{viewed_next}
-use Rattle.class_tables.proofs.names.data_names.Goals as goal
-
-pub loop-class-preserved : goal.loop-class-preserved
-loop-class-preserved c =
-    viewed_next (λ k. k.name) as_data class_view c.args.classes.now c.loop-class.class-index c.class-item.result _ _ _ c.loop-class-test.true c.class-item.is c.data_name.ensures c.loop-class.invariant c.in_ok-add_name.ensures

@@ -1,6 +1,0 @@
-use Rattle.std.proofs.Common.{◌≡◌, ◌∷◌, take, map}
-use Rattle.model_parts.specs.Ports.{frame_entry, interface_entry}
-use Rattle.class_tables.proofs.ports.interface_entries.Given as goal
-
-abbrev pub invariant-loop-item : goal.invariant-loop-item
-invariant-loop-item l = l.ports.items ≡ frame_entry ∷ map (interface_entry l.protocols l.externals) (take l.item-index l.items)

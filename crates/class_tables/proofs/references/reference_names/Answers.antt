@@ -1,7 +1,0 @@
-use Rattle.model_parts.specs.References.{as_reference}
-use Rattle.class_tables.proofs.Lists.{mapped_next}
-use Rattle.class_tables.proofs.references.reference_names.Goals as goal
-
-pub loop-item-preserved : goal.loop-item-preserved
-loop-item-preserved c =
-    mapped_next (λ r. r.name) as_reference c.args.items.now c.loop-item.item-index c.item-item.result _ _ _ c.loop-item-test.true c.item-item.is c.name_in_structure.ensures c.loop-item.invariant c.in_ok-add_name.ensures

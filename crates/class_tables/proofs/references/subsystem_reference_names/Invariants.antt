@@ -1,9 +1,0 @@
-use Rattle.std.proofs.Common.{◌≡◌, take, map}
-use Rattle.std.specs.List.{filter_map}
-use Rattle.name_numbers.specs.Names.{names_of}
-use Rattle.room_ast.specs.Trees.{subsystem_item_view}
-use Rattle.model_parts.specs.References.{as_subsystem_reference}
-use Rattle.class_tables.proofs.references.subsystem_reference_names.Given as goal
-
-abbrev pub invariant-loop-item : goal.invariant-loop-item
-invariant-loop-item l = names_of l.names.items ≡ map (λ r. r.name) (filter_map as_subsystem_reference (map subsystem_item_view (take l.item-index l.items)))

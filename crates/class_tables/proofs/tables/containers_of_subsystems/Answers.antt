@@ -1,9 +1,0 @@
-use Rattle.room_ast.specs.Trees.{class_view}
-use Rattle.model_parts.specs.Classes.{as_subsystem}
-use Rattle.class_tables.specs.Containers.{subsystem_container}
-use Rattle.class_tables.proofs.Lists.{viewed_next}
-use Rattle.class_tables.proofs.tables.containers_of_subsystems.Goals as goal
-
-pub loop-class-preserved : goal.loop-class-preserved
-loop-class-preserved c =
-    viewed_next (subsystem_container c.args.actors.now) as_subsystem class_view c.args.classes.now c.loop-class.class-index c.class-item.result _ _ _ c.loop-class-test.true c.class-item.is c.in_ok-container_if_subsystem.ensures c.loop-class.invariant c.in_ok-push_if.ensures

@@ -1,9 +1,0 @@
-use Rattle.std.proofs.Common.{◌≡◌, take, map}
-use Rattle.std.specs.List.{filter_map}
-use Rattle.room_ast.specs.Trees.{class_view}
-use Rattle.model_parts.specs.Types.{field_types}
-use Rattle.model_parts.specs.Classes.{as_data}
-use Rattle.class_tables.proofs.types.data_types.Given as goal
-
-abbrev pub invariant-loop-class : goal.invariant-loop-class
-invariant-loop-class l = l.types.items ≡ map (field_types l.classes) (filter_map as_data (map class_view (take l.class-index l.declared)))

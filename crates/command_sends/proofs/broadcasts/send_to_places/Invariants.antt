@@ -1,9 +1,0 @@
-use Rattle.std.specs.List.{range_with_len}
-use Rattle.actor_duties.specs.Commands.{send_each}
-use Rattle.command_sends.specs.Adding.{Adds, content_of}
-use Rattle.command_sends.proofs.broadcasts.send_to_places.Given as goal
-
-abbrev pub invariant-loop-place : goal.invariant-loop-place
-invariant-loop-place g l =
-    let s = l.speaker in
-    Adds (send_each s.wiring.now s.me.0 (g.P.Peers.frame_of l.peers) (g.P.Peers.links_of l.peers) s.who l.port (content_of l.content) (range_with_len 0 l.place)) l.fn.said l.said

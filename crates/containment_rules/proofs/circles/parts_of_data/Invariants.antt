@@ -1,6 +1,0 @@
-use Rattle.std.proofs.Common.{◌≡◌, take, map}
-use Rattle.containment_rules.specs.Circles.{classes_of_types}
-use Rattle.containment_rules.proofs.circles.parts_of_data.Given as goal
-
-abbrev pub invariant-loop-types : goal.invariant-loop-types
-invariant-loop-types l = l.parts.items ≡ map classes_of_types (take l.types-index l.data_types)

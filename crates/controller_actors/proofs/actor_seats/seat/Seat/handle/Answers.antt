@@ -1,0 +1,42 @@
+use Rattle.std.proofs.Common.{◌≡◌, ℕ, List, [], Option, Some, refl, sym, subst}
+use Rattle.std.specs.Option.{option_copied}
+use Rattle.room_kinds.specs.declared.message.Msg.{Msg}
+use Rattle.room_kinds.specs.declared.note.Note.{Note}
+use Rattle.room_kinds.specs.declared.command.Command.{Command}
+use Rattle.room_kinds.specs.declared.numbers.Incarnation.{Incarnation}
+use Rattle.room_wiring.specs.declared.tables.Tables.{Tables as Wiring}
+use Rattle.actor_duties.specs.State.{Frame, Links}
+use Rattle.actor_commands.specs.declared.command_sends.said.Said.{Said}
+use Rattle.controller_mail.specs.declared.controller_mail.Treatment.{Treatment}
+use Rattle.controller_actors.specs.declared.actor_seats.seat.Seat.{Seat}
+use Rattle.controller_actors.specs.actor_seats.Stands.{Reacts}
+use Rattle.controller_actors.specs.actor_seats.Seats.{Works}
+use Rattle.controller_actors.proofs.actor_seats.Working.{turns}
+use Rattle.controller_actors.proofs.actor_seats.seat.Seat.handle.Goals as goal
+
+-- the same with equal commands, nothing said before, and nothing that came back before
+same_work : (t : Wiring) (me : ℕ) (f : Frame) (l : Links) (x : Incarnation) (m : Option Msg) (cs cs' : List Command) (mid new : Seat) (said back after after' : List Msg) (notes : List Note) (last : Said)
+    → cs ≡ cs' → said ≡ [] → back ≡ [] → after' ≡ after → Works t me f l x m cs mid new (record { messages = said; notes = notes }) back last after
+    → Works t me f l x m cs' mid new (record { messages = []; notes = notes }) [] last after'
+same_work t me f l x m cs cs' mid new said back after after' notes last p q r e w =
+    subst (λ (ms : List Msg). Works t me f l x m cs' mid new (record { messages = []; notes = notes }) [] last ms) (sym e)
+    (subst (λ (ms : List Msg). Works t me f l x m cs' mid new (record { messages = []; notes = notes }) ms last after) r
+    (subst (λ (ms : List Msg). Works t me f l x m cs' mid new (record { messages = ms; notes = notes }) back last after) q
+    (subst (λ (ks : List Command). Works t me f l x m ks mid new (record { messages = said; notes = notes }) back last after) p w)))
+
+pub returns : goal.returns
+returns g c =
+    let s = c.args.speaker.now in
+    let t = s.wiring.now in
+    let f = g.P.Peers.frame_of c.args.peers.now in
+    let l = g.P.Peers.links_of c.args.peers.now in
+    let o = option_copied c.args.tables in
+    let r = c.in-Some.reaction in
+    let mid : Seat = record { stand = c.react.new.self; deferred = c.args.self.now.deferred } in
+    let last = c.in_ok-said.said in
+    let done : Treatment = record { sent = last.messages; back = c.into_sequence.result; did = c.did_of.result; notes = last.notes } in
+    let h : Reacts c.args.m.now o c.args.self.now.stand c.react.new.self r = rw c.in-Some.is at c.in_ok-reaction.ensures in
+    turns t s.me.0 f l s.who c.args.m.now o c.args.self.now mid c.work.new.self r done h refl
+    (same_work t s.me.0 f l s.who (Some c.args.m.now) c.as_slice.result.now r.commands mid c.work.new.self c.new.result c.new-none.result c.in_ok-said.back c.into_sequence.result r.notes last
+    c.as_slice.ensures c.new.ensures c.new-none.ensures c.into_sequence.ensures c.in_ok-said.ensures)
+    c.did_of.ensures c.requires.fits c.requires.prio

@@ -1,0 +1,16 @@
+use Rattle.std.proofs.Common.{false, List, refl, subst}
+use Rattle.std.specs.Option.{option_copied}
+use Rattle.room_kinds.specs.declared.message.Msg.{Msg}
+use Rattle.actor_commands.specs.Doings.{AppliesAll}
+use Rattle.controller_actors.proofs.actor_seats.seat.Seat.work.Goals as goal
+
+pub returns : goal.returns
+returns g c =
+    let s = c.args.speaker.now in
+    record {
+      kept = c.apply_all.new.doing.kept;
+      stand = refl;
+      applied = subst (λ (ds : List Msg). AppliesAll s.wiring.now s.me.0 (g.P.Peers.frame_of c.args.peers.now) (g.P.Peers.links_of c.args.peers.now) s.who (option_copied c.args.message) c.args.commands.now
+          (record { deferred = ds; said = c.args.said; back = c.args.back; kept = false }) c.apply_all.new.doing)
+          c.replace-kept.ensures.value c.in_ok-apply_all.ensures;
+    }

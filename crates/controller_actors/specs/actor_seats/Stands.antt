@@ -1,0 +1,71 @@
+-- What stands in a slot, as the world's definitions see it, and how it begins and handles messages.
+use Rattle.std.specs.Prelude.{◌≡◌, Option, Some, None}
+use Rattle.room_kinds.specs.declared.message.Msg.{Msg}
+use Rattle.room_kinds.specs.declared.numbers.Incarnation.{Incarnation}
+use Rattle.chart_run.specs.chart_tables.Tables.{IsSound}
+use Rattle.chart_run.specs.declared.chart_tables.tables.Tables.{Tables}
+use Rattle.chart_run.specs.declared.machine.Machine.{Machine}
+use Rattle.chart_run.specs.Machines.{Fits, standing_of, result_view}
+use Rattle.chart_behaviour.specs.ModelCharts.{Actor, begins, handles, handling_of, state_number}
+use Rattle.controller_actors.specs.declared.actor_seats.stand.Stand.{Stand}
+use Rattle.controller_actors.specs.declared.actor_seats.stand.Stand.TheVariants as stands
+use Rattle.controller_actors.specs.declared.actor_seats.stand.Reaction.{Reaction}
+use Rattle.controller_actors.specs.declared.actor_seats.stand.Beginning.{Beginning}
+
+-- the actor that stands there; none without a chart
+abbrev pub actor_of : Stand → Actor
+actor_of stands.Nobody = None
+actor_of stands.Chartless = None
+actor_of (stands.Charted m) = Some (standing_of m)
+
+-- the same, if anybody stands there
+abbrev pub actor_in : Stand → Option Actor
+actor_in stands.Nobody = None
+actor_in stands.Chartless = Some None
+actor_in (stands.Charted m) = Some (Some (standing_of m))
+
+-- the tables of a class are sound, if it has any
+abbrev pub AreSound : Option Tables → Type 0
+AreSound o = (v : Tables) → o ≡ Some v → IsSound v
+
+-- a machine fits the tables of its class, if there are any
+abbrev pub MachineFits : Option Tables → Machine → Type 0
+MachineFits o m = (v : Tables) → o ≡ Some v → Fits v m
+
+-- what stands there fits the tables of its class
+abbrev pub HasTables : Option Tables → Stand → Type 0
+HasTables o stands.Nobody = Unit {0}
+HasTables o stands.Chartless = Unit {0}
+HasTables o (stands.Charted m) = MachineFits o m
+
+-- what stands there, if it has a machine, is this incarnation's
+abbrev pub IsOf : Incarnation → Stand → Type 0
+IsOf x stands.Nobody = Unit {0}
+IsOf x stands.Chartless = Unit {0}
+IsOf x (stands.Charted m) = m.me ≡ x
+
+-- a machine handled a message, as an actor of its class does
+pub record MachineReacts (m : Msg) (o : Option Tables) (old new : Machine) (r : Reaction) : Type 0 where
+  pub handled : handles old.me m o (Some (standing_of old))
+      ≡ record { machine = Some (standing_of new); result = handling_of (result_view r.came_to); notes = r.notes; commands = r.commands }
+  pub state : r.state ≡ new.leaf
+  pub me : new.me ≡ old.me
+  pub fits : MachineFits o new
+
+-- an actor handled a message, as one of its class does
+pub record Reacts (m : Msg) (o : Option Tables) (old new : Stand) (r : Reaction) : Type 0 where
+  pub stood : actor_in old ≡ Some (actor_of old)
+  pub stands : actor_in new ≡ Some (actor_of new)
+  pub handled : (x : Incarnation) → IsOf x old
+      → handles x m o (actor_of old) ≡ record { machine = actor_of new; result = handling_of (result_view r.came_to); notes = r.notes; commands = r.commands }
+  pub state : r.state ≡ state_number (actor_of new)
+  pub me : (x : Incarnation) → IsOf x old → IsOf x new
+  pub fits : HasTables o new
+
+-- an actor began, as one of its class does
+pub record Begins (x : Incarnation) (o : Option Tables) (r : Beginning) : Type 0 where
+  pub stands : actor_in r.stand ≡ Some (actor_of r.stand)
+  pub began : begins x o ≡ record { machine = actor_of r.stand; notes = r.notes; commands = r.commands }
+  pub state : r.state ≡ state_number (actor_of r.stand)
+  pub me : IsOf x r.stand
+  pub fits : HasTables o r.stand

@@ -1,0 +1,177 @@
+//! A slot with what stands in it and what that keeps.
+ghost use Rattle.std.specs.Prelude.{◌≡◌, [], All, IfOk, MatchOption};
+ghost use Rattle.std.specs.Option.{option_copied};
+ghost use Rattle.controller_mail.specs.MailState.{HasPriority};
+ghost use Rattle.chart_run.specs.Machines.{result_view};
+ghost use Rattle.chart_behaviour.specs.ModelCharts.{handling_of};
+ghost use Rattle.actor_world.specs.Turns.{said};
+ghost use Rattle.controller_actors.specs.actor_seats.Stands.{AreSound, actor_in};
+ghost use Rattle.controller_actors.specs.actor_seats.Seats.{SeatFits, SeatTurns, SeatBegins, Works};
+
+use crate::actor_seats::stand::{Beginning, Reaction, Stand};
+use actor_commands::{DeferredMessages, Doing, Peers, Recalled, Said, Speaker, apply_all};
+use chart_run::{Handling, Tables};
+use controller_mail::Treatment;
+use journal::Did;
+use room_kinds::{Command, Incarnation, Msg, Outbox};
+use std::alloc::{AllocError, Global};
+use std::mem;
+
+/// What stands in a slot, and the messages that it keeps for later.
+#[derive(Drop)]
+pub struct Seat {
+    pub stand: Stand,
+    pub deferred: DeferredMessages,
+}
+
+/// What came of an actor's start: what was sent so far, with the notes of this start alone, what came back
+/// so far, and the number of the actor's state.
+#[derive(Drop)]
+pub struct Entrance {
+    pub said: Said,
+    pub back: Recalled,
+    pub state: u16,
+}
+
+/// What a journal says of a message that an actor handled.
+fn did_of(came_to: Handling, who: Incarnation, state: u16) -> Did
+    ensures { result ≡ said (handling_of (result_view came_to)) who state }
+{
+    match came_to {
+        Handling::Handled => Did::Handled { who, state },
+        Handling::Deferred => Did::Deferred { who, state },
+        Handling::Unhandled => Did::Unhandled { who, state },
+    }
+}
+
+impl Seat {
+    /// Nobody stands there. It takes no memory.
+    pub fn vacant(alloc: Global) -> Seat
+        ensures { result ≡ record { stand = Stand.Nobody; deferred = [] } }
+    {
+        Seat {
+            stand: Stand::Nobody,
+            deferred: DeferredMessages::new(alloc),
+        }
+    }
+
+    /// The commands of the actor are applied in order, with what was said and what came back before.
+    fn work<P: Peers>(
+        &mut self,
+        alloc: Global,
+        speaker: &Speaker<'_>,
+        peers: &P,
+        message: Option<&Msg>,
+        commands: &[Command],
+        said: Said,
+        back: Recalled,
+    ) -> Result<(Said, Recalled), AllocError>
+        ensures { IfOk result (λ r. Works speaker.now.wiring.now speaker.now.me.0 (P.frame_of peers.now) (P.links_of peers.now) speaker.now.who (option_copied message.entry) commands.now self.old self.new said back r.0 r.1) }
+    {
+        let kept = mem::replace(&mut self.deferred, DeferredMessages::new(alloc));
+        let mut doing = Doing {
+            deferred: kept,
+            said,
+            back,
+            kept: false,
+        };
+        apply_all(alloc, speaker, peers, message, commands, &mut doing)?;
+        let Doing {
+            deferred,
+            said: told,
+            back: all_back,
+            kept: _,
+        } = doing;
+        self.deferred = deferred;
+        Ok((told, all_back))
+    }
+
+    /// The actor handles a message, and its commands are applied; `None` where nobody stands there. After
+    /// want of memory the seat is unspecified: the controller has failed.
+    pub fn handle<P: Peers>(
+        &mut self,
+        alloc: Global,
+        speaker: &Speaker<'_>,
+        peers: &P,
+        tables: Option<&Tables>,
+        m: &Msg,
+    ) -> Result<Option<Treatment>, AllocError>
+        requires sound { AreSound (option_copied tables) }
+        requires fits { SeatFits speaker.now.who (option_copied tables) self.old }
+        requires prio { HasPriority m.now }
+        ensures { IfOk result (λ o. MatchOption o ((actor_in self.old.stand ≡ None) × (self.new ≡ self.old)) (λ done. SeatTurns speaker.now.wiring.now speaker.now.me.0 (P.frame_of peers.now) (P.links_of peers.now) speaker.now.who m.now (option_copied tables.entry) self.old self.new done)) }
+    {
+        let Some(reaction) = self.stand.react(alloc, tables, m)? else {
+            return Ok(None);
+        };
+        let Reaction {
+            came_to,
+            state,
+            notes,
+            commands,
+        } = reaction;
+        let first = Said {
+            messages: Outbox::new(alloc),
+            notes,
+        };
+        let none = Recalled::new(alloc);
+        let (said, back) = self.work(
+            alloc,
+            speaker,
+            peers,
+            Some(m),
+            commands.as_slice(),
+            first,
+            none,
+        )?;
+        Ok(Some(Treatment {
+            sent: said.messages,
+            back: back.into_sequence(),
+            did: did_of(came_to, speaker.who, state),
+            notes: said.notes,
+        }))
+    }
+
+    /// The actor of a slot begins, and its commands are applied, where so much was sent and came back
+    /// before. After want of memory the seat is unspecified: the controller has failed.
+    pub fn begin<P: Peers>(
+        &mut self,
+        alloc: Global,
+        speaker: &Speaker<'_>,
+        peers: &P,
+        tables: Option<&Tables>,
+        sent: Outbox,
+        back: Recalled,
+    ) -> Result<Entrance, AllocError>
+        requires sound { AreSound (option_copied tables) }
+        requires kept { All HasPriority self.old.deferred }
+        ensures { IfOk result (λ e. SeatBegins speaker.now.wiring.now speaker.now.me.0 (P.frame_of peers.now) (P.links_of peers.now) speaker.now.who (option_copied tables.entry) self.old self.new sent back e) }
+    {
+        let beginning = Stand::begin(alloc, tables, speaker.who)?;
+        let Beginning {
+            stand,
+            state,
+            notes,
+            commands,
+        } = beginning;
+        self.stand = stand;
+        let first = Said {
+            messages: sent,
+            notes,
+        };
+        let (said, all_back) = self.work(
+            alloc,
+            speaker,
+            peers,
+            None,
+            commands.as_slice(),
+            first,
+            back,
+        )?;
+        Ok(Entrance {
+            said,
+            back: all_back,
+            state,
+        })
+    }
+}

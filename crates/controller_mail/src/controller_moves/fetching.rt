@@ -1,0 +1,49 @@
+//! Fetches, and polls of boxes.
+ghost use Rattle.std.specs.Prelude.{◌≡◌, ◌+◌, ◌<◌, All, OnOk, IfOk};
+ghost use Rattle.mail_core.specs.Tied.{IsTied, StaysTied};
+ghost use Rattle.controller_mail.specs.MailState.{HasPriority};
+ghost use Rattle.controller_mail.specs.controller_moves.Moves.{FetchesEach, PollsInto};
+
+use crate::ControllerMail;
+use mail_core::Mail;
+use mail_core::poll::poll;
+use room_kinds::Msg;
+use std::alloc::{AllocError, Global};
+use std::collections::VecDeque;
+
+/// Fetches messages, in order. After want of memory the mail is unspecified: the controller has failed.
+pub fn fetch_all(mail: &mut ControllerMail, messages: Vec<Msg>) -> Result<(), AllocError>
+    requires { All HasPriority messages.items }
+    ensures { OnOk result (FetchesEach mail.old messages.items mail.new) }
+{
+    let mut queue = VecDeque::from_vec(messages);
+    while let Some(m) = queue.pop_front() {
+        mail.fetch(m)?;
+    }
+    Ok(())
+}
+
+/// Looks at every box of a controller's end once, in the order of a poll, takes from each until it gives
+/// nothing or has given 64, and fetches what was taken. It answers how many messages these are. After want
+/// of memory the mail is unspecified, and what was taken is lost: the controller has failed.
+pub fn poll_boxes<M: Mail>(
+    alloc: Global,
+    mail: &mut ControllerMail,
+    office: &mut M::Office,
+    end: &mut M,
+) -> Result<u32, AllocError>
+    requires controller { (M.log end.old).party + 1 < (M.log end.old).parties }
+    requires tied { IsTied M.tied (M.log end.old).party office.old end.old }
+    ensures ok { IfOk result (λ count. PollsInto M.in_box (M.box_count (M.log end.old).party (M.log end.old).parties) mail.old mail.new (M.log end.old) (M.log end.new) count) }
+    ensures party { ((M.log end.new).party ≡ (M.log end.old).party) × ((M.log end.new).parties ≡ (M.log end.old).parties) }
+    ensures tied { StaysTied M.tied (M.log end.old).party office.old office.new end.old end.new }
+{
+    let mut gave = Vec::new(alloc);
+    poll(end, office, &mut gave)?;
+    // There are at most 255 parties, and 64 messages for each lane of one: the count fits by far.
+    let Ok(count) = u32::try_from(gave.len()) else {
+        return Err(AllocError);
+    };
+    fetch_all(mail, gave)?;
+    Ok(count)
+}

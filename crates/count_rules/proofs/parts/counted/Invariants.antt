@@ -1,8 +1,0 @@
-use Rattle.std.proofs.Common.{◌≡◌, ◌≤◌, take}
-use Rattle.std.specs.Prelude.{count_by}
-use Rattle.room_ast.specs.Trees.{class_view}
-use Rattle.count_rules.specs.Counts.{is_counted}
-use Rattle.count_rules.proofs.parts.counted.Given as goal
-
-abbrev pub invariant-loop-class : goal.invariant-loop-class
-invariant-loop-class l = (l.count ≤ l.class-index) × (l.count ≡ count_by (λ c. is_counted (class_view c)) (take l.class-index l.classes))

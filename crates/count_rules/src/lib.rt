@@ -1,9 +1,0 @@
-//! The rule on how many parts a model and its classes may have.
-#![tactic(auto)]
-
-mod numbers;
-mod parts;
-mod rule;
-mod states;
-
-pub use rule::has_few_parts;

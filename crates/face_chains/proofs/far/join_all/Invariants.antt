@@ -1,9 +1,0 @@
-use Rattle.std.proofs.Common.{◌≡◌, ◌≤◌, length, drop}
-use Rattle.face_chains.specs.Chains.{far_ends}
-use Rattle.face_chains.proofs.far.join_all.Given as goal
-
-abbrev pub invariant-loop-left : goal.invariant-loop-left
-invariant-loop-left l = record { within : l.left ≤ length l.pairs; ends : l.far ≡ far_ends l.initial.far (drop l.left l.pairs) }
-
-abbrev pub decreases-loop-left : goal.decreases-loop-left
-decreases-loop-left l = l.left

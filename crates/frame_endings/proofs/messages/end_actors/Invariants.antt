@@ -1,9 +1,0 @@
-use Rattle.std.proofs.Common.{◌≡◌, ◌++◌, drop}
-use Rattle.std.specs.List.{flat_map}
-use Rattle.frame_endings.specs.Ends.{end_sends}
-use Rattle.frame_endings.proofs.messages.end_actors.Given as goal
-
-abbrev pub invariant-loop-actor : goal.invariant-loop-actor
-invariant-loop-actor g l =
-    l.initial.out ++ flat_map (end_sends l.wiring l.me.0 (g.I.Lent.places l.lent) (g.I.Lent.plugs l.lent)) l.actors
-    ≡ l.out ++ flat_map (end_sends l.wiring l.me.0 (g.I.Lent.places l.lent) (g.I.Lent.plugs l.lent)) (drop l.actor-index l.actors)

@@ -1,8 +1,0 @@
-//! How actors end: what they send, and Destroy, which ends all that lives from a slot on down.
-#![tactic(auto)]
-
-mod destruction;
-mod messages;
-
-pub use destruction::destroy;
-pub use messages::{end_actor, end_actors};

@@ -1,0 +1,155 @@
+//! The table of import places and plugs.
+ghost use Rattle.std.specs.Prelude.{◌≡◌, ◌++◌, ◌∷◌, [], ◌<◌, ℕ, not, filter, length, if◌then◌else◌, IfOk, OnOk};
+ghost use Rattle.actor_duties.specs.State.{Empty};
+ghost use Rattle.actor_duties.specs.Words.{updated, is_incarnation, is_imported};
+ghost use Rattle.service_messages.specs.slot_runs.Runs.{IsDepthFirst, AreRunEnds};
+ghost use Rattle.frame_imports.specs.import_places.Places.{place_of};
+ghost use Rattle.frame_imports.specs.import_places.Lending.{lending, with_places, with_plugs, nothing_lent, forgotten, lending_ended};
+
+use crate::frame_peers::Lent;
+use crate::import_places::place::ImportPlace;
+use crate::import_places::plugs::Plugs;
+use room_kinds::{Incarnation, SlotId};
+use room_wiring::Wiring;
+use service_messages::{SlotRuns, is_imported};
+use std::alloc::{AllocError, Global};
+use std::marker::Model;
+
+/// What each imported slot holds, and the plugs of each slot, by slot number. What the tables say
+/// (`lending`) is a pair of functions of slot numbers. No look-up takes memory.
+#[derive(Drop, Debug)]
+pub struct Imports {
+    places: Vec<ImportPlace>,
+    plugs: Vec<Plugs>,
+}
+
+impl Model for Imports {
+    ghost use Rattle.std.specs.Prelude.{◌≡◌, length};
+    ghost use Rattle.frame_imports.specs.import_places.Lending.{Kept};
+
+    ghost Value = { Kept };
+
+    ghost view = { λ x. record { places = x.places.items; plugs = x.plugs.items } };
+
+    ghost invariant = { λ x. length x.plugs.items ≡ length x.places.items };
+}
+
+impl Lent for Imports {
+    ghost places = { λ x. (lending x).places };
+
+    ghost plugs = { λ x. (lending x).plugs };
+
+    fn held(&self, slot: SlotId) -> Option<Incarnation> {
+        self.place(slot).held()
+    }
+
+    fn tied(&self, slot: SlotId) -> Option<Incarnation> {
+        self.place(slot).tied()
+    }
+
+    #[tactic(auto, unfolding(crate::specs::import_places::Lending::lending))]
+    fn plugs_of(&self, slot: SlotId) -> &[Incarnation] {
+        match self.plugs.as_slice().get(usize::from(slot.0)) {
+            Some(plugs) => plugs.as_slice(),
+            None => &[],
+        }
+    }
+}
+
+impl Imports {
+    /// For so many slots: all import places are empty, and there are no plugs.
+    #[tactic(auto, using(crate::proofs::import_places::Written::one_slot_more))]
+    pub fn new(alloc: Global, slots: u32) -> Result<Imports, AllocError>
+        ensures { IfOk result (λ x. lending x ≡ nothing_lent slots) }
+    {
+        let mut places = Vec::new(alloc);
+        let mut plugs = Vec::new(alloc);
+        while places.len() < slots as usize {
+            places.push(ImportPlace::Empty)?;
+            plugs.push(Plugs::new(alloc))?;
+        }
+        Ok(Imports { places, plugs })
+    }
+
+    /// What a slot holds; nothing where there is no such slot.
+    #[tactic(auto, unfolding(crate::specs::import_places::Lending::lending))]
+    pub fn place(&self, slot: SlotId) -> ImportPlace
+        ensures { place_of result ≡ (lending self.now).places slot.0 }
+    {
+        self.places
+            .as_slice()
+            .get(usize::from(slot.0))
+            .copied()
+            .unwrap_or(ImportPlace::Empty)
+    }
+
+    /// A slot holds something else.
+    #[tactic(auto, using(crate::proofs::import_places::Written::place_written), unfolding(crate::specs::import_places::Lending::lending))]
+    pub fn set_place(&mut self, slot: SlotId, place: ImportPlace)
+        requires { slot.0 < (lending self.old).slots }
+        ensures { lending self.new ≡ with_places (lending self.old) (updated (lending self.old).places slot.0 (place_of place)) }
+    {
+        self.places[usize::from(slot.0)] = place;
+    }
+
+    /// A slot has one more plug, its youngest.
+    pub fn add_plug(&mut self, slot: SlotId, plug: Incarnation) -> Result<(), AllocError>
+        requires { slot.0 < (lending self.old).slots }
+        ensures { OnOk result (lending self.new ≡ with_plugs (lending self.old) (updated (lending self.old).plugs slot.0 ((lending self.old).plugs slot.0 ++ plug ∷ []))) }
+    {
+        self.plugs[usize::from(slot.0)].push(plug)?;
+        Ok(())
+    }
+
+    /// A plug of a slot goes, if it is there.
+    pub fn remove_plug(&mut self, slot: SlotId, plug: Incarnation)
+        requires { slot.0 < (lending self.old).slots }
+        ensures { lending self.new ≡ with_plugs (lending self.old) (updated (lending self.old).plugs slot.0 (filter (λ q. not (is_incarnation q plug)) ((lending self.old).plugs slot.0))) }
+    {
+        self.plugs[usize::from(slot.0)].remove(plug);
+    }
+
+    /// All plugs of a slot go.
+    fn clear_plugs(&mut self, slot: SlotId)
+        requires { slot.0 < (lending self.old).slots }
+        ensures { lending self.new ≡ with_plugs (lending self.old) (updated (lending self.old).plugs slot.0 []) }
+    {
+        self.plugs[usize::from(slot.0)].clear();
+    }
+
+    /// An imported slot holds nothing any more.
+    #[tactic(auto, using(crate::proofs::import_places::Written::place_kept))]
+    fn clear_place(&mut self, wiring: &Wiring, slot: SlotId)
+        requires { slot.0 < (lending self.old).slots }
+        ensures { lending self.new ≡ with_places (lending self.old) (updated (lending self.old).places slot.0 (if is_imported wiring.now slot.0 then Empty else (lending self.old).places slot.0)) }
+    {
+        if is_imported(wiring, slot) {
+            self.set_place(slot, ImportPlace::Empty);
+        }
+    }
+
+    /// What stood in a slot has ended: nothing is lent to it or of it any more.
+    fn forget(&mut self, wiring: &Wiring, slot: SlotId)
+        requires { slot.0 < (lending self.old).slots }
+        ensures { lending self.new ≡ forgotten wiring.now slot.0 (lending self.old) }
+    {
+        self.clear_plugs(slot);
+        self.clear_place(wiring, slot);
+    }
+
+    /// All from a slot on down has ended: no import place there holds anything, and nothing there has a
+    /// plug. The time is in proportion to the run of the slot.
+    #[tactic(auto, using(crate::proofs::import_places::Ended::ended_first, crate::proofs::import_places::Ended::ended_one, crate::proofs::import_places::Ended::ended_last))]
+    pub fn end_all(&mut self, wiring: &Wiring, runs: &SlotRuns, slot: SlotId)
+        requires order { IsDepthFirst wiring.now }
+        requires runs { AreRunEnds wiring.now runs.now }
+        requires there { slot.0 < length wiring.now.slots }
+        requires whole { (lending self.old).slots ≡ length wiring.now.slots }
+        ensures { lending self.new ≡ lending_ended wiring.now slot.0 (lending self.old) }
+    {
+        let end = runs.end(wiring, slot);
+        for number in u32::from(slot.0)..end {
+            self.forget(wiring, SlotId(number as u16));
+        }
+    }
+}

@@ -1,6 +1,0 @@
-use Rattle.std.proofs.Common.{◌≡◌, ◌++◌, pos}
-use Rattle.frame_messages.proofs.Announced.{announced_to}
-use Rattle.frame_messages.proofs.messages.announce.Given as goal
-
-abbrev pub invariant-loop-number : goal.invariant-loop-number
-invariant-loop-number l = l.out ≡ l.initial.out ++ announced_to l.wiring l.me.0 l.actor (pos l.up) l.number

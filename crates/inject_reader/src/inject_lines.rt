@@ -1,0 +1,15 @@
+//! Lines of an injection text by their form: what is written on a line, before anything is looked
+//! up. Which slots, ports and signals the names mean is the reader's part (`inject_reader`).
+//!
+//! The format is this project's own.
+
+mod accepted;
+mod fields;
+mod forms;
+mod numerals;
+mod texts;
+
+pub use accepted::{Line, What};
+pub use forms::{Form, Load, Target, Wanted, read_form};
+pub use numerals::value;
+pub use texts::are_digits;

@@ -1,8 +1,0 @@
-//! Whether journals fit a wiring: whether they speak of what it has, each in its place.
-#![tactic(auto)]
-
-mod actors;
-mod journals;
-mod messages;
-
-pub use journals::fits;

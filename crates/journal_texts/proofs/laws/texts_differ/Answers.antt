@@ -1,6 +1,0 @@
-use Rattle.journal_texts.proofs.JournalsBack.{texts_differ}
-use Rattle.journal_texts.proofs.laws.texts_differ.Goals as goal
-
-pub returns : goal.returns
-returns c = λ t i j consistent named fits_i range_i fits_j range_j same_text.
-    texts_differ t i j (record { named = named; slots = consistent.slots_numbered; controllers = consistent.controllers_numbered }) fits_i range_i fits_j range_j same_text

@@ -1,8 +1,0 @@
-use Rattle.std.proofs.Common.{◌≡◌, map, drop}
-use Rattle.std.specs.List.{list_all}
-use Rattle.mapping_rules.specs.Rules.{subsystem_known}
-use Rattle.mapping_rules.specs.Wireds.{wired_view}
-use Rattle.mapping_rules.proofs.known.all_subsystems_known.Given as goal
-
-abbrev pub invariant-loop-subsystem : goal.invariant-loop-subsystem
-invariant-loop-subsystem l = list_all (subsystem_known l.classes) (map wired_view (drop l.subsystem-index l.wired)) ≡ list_all (subsystem_known l.classes) (map wired_view l.wired)

@@ -1,0 +1,129 @@
+-- One step after another, for each controller.
+use Rattle.std.proofs.Common.{◌≡◌, ℕ, zero, suc, ◌+◌, ◌<◌, ◌≤◌, Bool, true, false, List, [], ◌∷◌, length, map, set, get_or, slice_get, slice_index_or, Option, Some, None, Result, Ok, Err, OnOk, refl, sym, ap, ◌∙◌, subst, arith}
+use Rattle.std.proofs.lemmas.Option.{slice_get_read, slice_get_within, get_or_from_slice_get}
+use Rattle.std.proofs.lemmas.List.{map-set, get_or-map, get_or-set_other}
+use Rattle.room_kinds.specs.declared.numbers.ControllerId.{ControllerId}
+use Rattle.room_kinds.specs.declared.message.Msg.{Msg}
+use Rattle.mail_core.specs.EndLog.{EndLog, fresh}
+use Rattle.mail_core.specs.Lanes.{log_at}
+use Rattle.mail_core.specs.SetUp.{IsLeft}
+use Rattle.mail_core.proofs.Tied.{log_at-map}
+use Rattle.model_run.specs.run_rounds.OneByOne.{StepsBelow}
+use Rattle.model_run.proofs.run_rounds.OneByOne.{steps_one, slice_get-other, slice_get-same}
+use Rattle.controller_actors.specs.declared.plant.Plant.{Plant}
+use Rattle.controller.specs.Controllers.{IsOf, Goes}
+use Rattle.controller.specs.Calls.{FetchesLeft, Turns, took_one, took_none}
+use Rattle.controller.specs.declared.controller.Controller.{Controller}
+use Rattle.controller.proofs.Going.{goes_none}
+use Rattle.model_run.specs.run_worker.Works.{Works}
+use Rattle.model_run.specs.joined_round.Joined.{Changes, LastTurn, IsReady, Seat, seat, WorkedAt, FetchedAt, TurnedAt, Joined, RoundDone}
+
+module _ (plant : Plant) where
+  -- no turn
+  pub turn_none : (k : Controller) → k.failed ≡ false → LastTurn plant k k
+  turn_none k works = record { entries = []; goes = goes_none plant k works; only = tt; fuelled = λ h. h }
+
+  pub turn_taken : (old new : Controller) (took : Bool) → old.failed ≡ false → old.mail.turns < old.fuel → Turns plant old new took → LastTurn plant old new
+  turn_taken old new took works fuel (took_one e t is goes more) = record { entries = e ∷ []; goes = goes; only = (is, tt); fuelled = λ h. omega arith }
+  turn_taken old new took works fuel (took_none t none same) = subst (λ (z : Controller). LastTurn plant old z) (sym same) (turn_none old works)
+
+  module _ (olds mids fetched news : List Controller) (logs logs' : List EndLog) (answer : List (List Msg)) (n : ℕ)
+      (here : n ≡ length plant.wiring.controllers)
+      (s1 : StepsBelow (WorkedAt plant) n (seat olds logs) (seat mids logs'))
+      (s2 : StepsBelow (FetchedAt plant answer) n (slice_get mids) (slice_get fetched))
+      (s3 : StepsBelow (TurnedAt plant) n (slice_get fetched) (slice_get news)) where
+    joined : (c : ℕ) → c < n → (k : Controller) → slice_get olds c ≡ Some k
+        → (k' : Controller) × (slice_get news c ≡ Some k') × Joined plant k k' (log_at logs c) (log_at logs' c) (slice_index_or answer c [])
+    joined c b k at =
+        let w = s1.below c b k at in
+        let f = s2.below c b w.0 w.1 in
+        let t = s3.below c b f.0 f.1 in
+        (t.0, t.1, record { worked = w.0; fetched = f.0; works = w.2.0; fetches = f.2.0; turn = t.2.0; of = t.2.1 })
+
+    pub round_done : length news ≡ length olds → length logs' ≡ length logs → IsLeft logs' answer → RoundDone plant olds news logs logs' answer
+    round_done count parties left = record {
+      count = count;
+      parties = parties;
+      others = λ party h. ap (λ x. x.1) (s1.above party (omega (arith, here)));
+      left = left;
+      each = λ c b. joined c (omega (arith, here));
+    }
+
+same_there : {X : Type 0} (o : Option X) (x y : X) → o ≡ Some x → o ≡ Some y → x ≡ y
+same_there o x y e f = let both : Some x ≡ Some y = sym e ∙ f in cc
+
+-- one controller more has worked with its end
+pub work_step : {E : Type 0} (plant : Plant) (log : E → EndLog) (olds ks : List Controller) (before ends : List E) (i : ℕ) (k k' : Controller) (e e' : E)
+    → StepsBelow (WorkedAt plant) i (seat olds (map log before)) (seat ks (map log ends))
+    → k ≡ get_or ks i k → e ≡ get_or ends i e → i < length ks → i < length ends → Works plant k k' (log e) (log e') → IsOf plant k'
+    → StepsBelow (WorkedAt plant) (i + 1) (seat olds (map log before)) (seat (set ks i k') (map log (set ends i e')))
+work_step plant log olds ks before ends i k k' e e' s at_k at_e in_ks in_ends works of =
+    let stands : slice_get ks i ≡ Some k = slice_get_read ks (length ks) i k refl in_ks at_k in
+    let end_stands : slice_get ends i ≡ Some e = slice_get_read ends (length ends) i e refl in_ends at_e in
+    let was : log_at (map log ends) i ≡ log e = log_at-map log ends i e end_stands in
+    let is : log_at (map log (set ends i e')) i ≡ log e' = log_at-map log (set ends i e') i e' (slice_get-same ends i e' in_ends) in
+    let worked : Works plant k k' (log_at (map log ends) i) (log_at (map log (set ends i e')) i) = rw (was, is) works in
+    steps_one (WorkedAt plant) i (seat olds (map log before)) (seat ks (map log ends)) (seat (set ks i k') (map log (set ends i e'))) s
+    (λ x at. (
+      k',
+      slice_get-same ks i k' in_ks,
+      (subst (λ (z : Controller). Works plant z k' (log_at (map log ends) i) (log_at (map log (set ends i e')) i)) (same_there (slice_get ks i) k x stands at) worked, of),
+    ))
+    (λ c other.
+    let p : slice_get (set ks i k') c ≡ slice_get ks c = slice_get-other ks i c k' other in
+    let q : log_at (map log (set ends i e')) c ≡ log_at (map log ends) c =
+    ap (λ ls. log_at ls c) (map-set log ends i e') ∙ get_or-set_other (map log ends) i c (log e') (fresh 0 0) other in
+    λ j. (p j, q j))
+
+-- who stands there has not changed yet
+pub stood : (R : ℕ → Option Controller → Option Controller → Type 0) (olds ks : List Controller) (i : ℕ) (k : Controller)
+    → StepsBelow R i (slice_get olds) (slice_get ks) → k ≡ get_or ks i k → i < length ks → slice_get olds i ≡ Some k
+stood R olds ks i k s at h = sym (s.above i (omega arith)) ∙ slice_get_read ks (length ks) i k refl h at
+
+-- one controller more has changed
+pub change_step : (Q : ℕ → Controller → Controller → Type 0) (olds ks : List Controller) (i : ℕ) (k k' : Controller)
+    → StepsBelow (λ c o o'. Changes (Q c) o o') i (slice_get olds) (slice_get ks) → k ≡ get_or ks i k → i < length ks → Q i k k'
+    → StepsBelow (λ c o o'. Changes (Q c) o o') (i + 1) (slice_get olds) (slice_get (set ks i k'))
+change_step Q olds ks i k k' s at h done =
+    let stands : slice_get ks i ≡ Some k = slice_get_read ks (length ks) i k refl h at in
+    steps_one (λ c o o'. Changes (Q c) o o') i (slice_get olds) (slice_get ks) (slice_get (set ks i k')) s
+    (λ x there. (k', slice_get-same ks i k' h, subst (λ (z : Controller). Q i z k') (same_there (slice_get ks i) k x stands there) done))
+    (λ c other. slice_get-other ks i c k' other)
+
+-- the list that was there from the start
+pub list_at : {X : Type 0} (f : X → List Msg) (lists first : List X) (i : ℕ) (v : X) → slice_get lists i ≡ slice_get first i → v ≡ get_or lists i v → i < length lists
+    → f v ≡ get_or (map f first) i []
+list_at f lists first i v same at h =
+    let there : slice_get first i ≡ Some v = sym same ∙ slice_get_read lists (length lists) i v refl h at in
+    sym (get_or-map f first i v [] (slice_get_within first i v there) ∙ ap f (get_or_from_slice_get first i v v there))
+
+some_at : {X : Type 0} (xs : List X) (c : ℕ) → c < length xs → (x : X) × (slice_get xs c ≡ Some x)
+some_at [] c h = absurd (omega arith)
+some_at (x ∷ xs) zero h = (x, refl)
+some_at (x ∷ xs) (suc c) h = some_at xs c (omega arith)
+
+-- after the workers each controller is one of the plant, with nothing left to post
+pub worked_of : (plant : Plant) (olds mids : List Controller) (logs logs' : List EndLog) → StepsBelow (WorkedAt plant) (length olds) (seat olds logs) (seat mids logs')
+    → length mids ≡ length olds → (c : ℕ) (k : Controller) → slice_get mids c ≡ Some k → IsOf plant k × (k.mail.outbox ≡ [])
+worked_of plant olds mids logs logs' s count c k at =
+    let inside : c < length olds = omega (arith, slice_get_within mids c k at) in
+    let o = some_at olds c inside in
+    let w = s.below c inside o.0 o.1 in
+    let both : IsOf plant w.0 × (w.0.mail.outbox ≡ []) = (w.2.1, w.2.0.posted) in
+    subst (λ (z : Controller). IsOf plant z × (z.mail.outbox ≡ [])) (same_there (slice_get mids c) w.0 k w.1 at) both
+
+-- after the fetches each controller is ready for a turn
+pub fetched_ready : (plant : Plant) (mids fetched : List Controller) (answer : List (List Msg)) → StepsBelow (FetchedAt plant answer) (length mids) (slice_get mids) (slice_get fetched)
+    → length fetched ≡ length mids → ((c : ℕ) (k : Controller) → slice_get mids c ≡ Some k → IsOf plant k × (k.mail.outbox ≡ []))
+    → (c : ℕ) (k : Controller) → slice_get fetched c ≡ Some k → IsReady plant k
+fetched_ready plant mids fetched answer s count before c k at =
+    let inside : c < length mids = omega (arith, slice_get_within fetched c k at) in
+    let o = some_at mids c inside in
+    let f = s.below c inside o.0 o.1 in
+    let ready : IsReady plant f.0 = record { of = f.2.1; works = f.2.0.goes.works; posted = f.2.0.outbox ∙ (before c o.0 o.1).1 } in
+    subst (λ (z : Controller). IsReady plant z) (same_there (slice_get fetched c) f.0 k f.1 at) ready
+
+-- what holds after a call that ends well
+pub ok_then : {T E P R : Type 0} (r : Result T E) (Q : Type 0) → (P → R → Q) → OnOk r P → OnOk r R → OnOk r Q
+ok_then (Ok x) Q f h k = f h k
+ok_then (Err e) Q f h k = tt

@@ -1,0 +1,224 @@
+-- The journals of a run that has ended are those of a run.
+use Rattle.std.proofs.Common.{◌≡◌, ℕ, ◌+◌, ◌<◌, ◌≤◌, inl, inr, Bool, true, false, if◌then◌else◌, List, [], ◌∷◌, ◌++◌, length, map, drop, slice_get, slice_index_or, nat_lt, Some, refl, sym, ap, ◌∙◌, subst, arith, append-nil}
+use Rattle.std.specs.List.{flat_map, list_all, range_with_len}
+use Rattle.std.proofs.lemmas.Bool.{cases_lt, lt-ltb, le-ltb, true≢false}
+use Rattle.std.proofs.lemmas.List.{length-map}
+use Rattle.std.proofs.lemmas.Option.{slice_get_within}
+use Rattle.room_kinds.specs.declared.message.Msg.{Msg}
+use Rattle.journal.specs.declared.entry.Entry.{Entry}
+use Rattle.journal.specs.declared.entry.Left.{Left}
+use Rattle.journal.specs.declared.entry.Journals.{Journals}
+use Rattle.inject_reader.specs.declared.inject_lines.accepted.Line.{Line}
+use Rattle.actor_merge.specs.Mail.{lane}
+use Rattle.actor_merge.specs.Parties.{State, Plant as RunPlant}
+use Rattle.actor_merge.specs.World.{World, IsQuiet}
+use Rattle.actor_merge.proofs.Rounds.{history_lawful}
+use Rattle.actor_world.specs.Body.{Body}
+use Rattle.actor_world.specs.Start.{start_entries}
+use Rattle.actor_world.specs.Journals.{Item, lines_of, last_part, left, left_for, left_of, priorities, number_of, unposted_from, IsSpent, HasMessage, in_lane, in_pending, in_outbox, IsLawfulRun, IsPrompt, IsDone, IsStopped}
+use Rattle.chart_behaviour.specs.ModelCharts.{Actor}
+use Rattle.controller_mail.specs.MailState.{EnvironmentState, pending_of, messages_in}
+use Rattle.controller_actors.specs.Plants.{model_of}
+use Rattle.controller_actors.specs.declared.plant.Plant.{Plant}
+use Rattle.controller.specs.Controllers.{run_plant, state_in}
+use Rattle.controller.specs.declared.controller.Controller.{Controller}
+use Rattle.model_run.specs.run_rounds.Rounds.{PostsWithin}
+use Rattle.model_run.specs.run_rounds.LineParts.{CutAt}
+use Rattle.model_run.specs.run_rounds.Prompts.{PromptFrom}
+use Rattle.model_run.proofs.run_rounds.LinesLaw.{all_posted, part_posted, rest_unposted}
+use Rattle.model_run.proofs.run_rounds.PromptLists.{prompt_at}
+use Rattle.model_run.specs.run_so_far.SoFar.{world_of, whole, IsSound}
+use Rattle.controller.proofs.Standing.{some_at, state_is}
+use Rattle.model_run.proofs.run_so_far.GoesOn.{within_back}
+use Rattle.model_run.specs.part_posts.Items.{items_of}
+use Rattle.model_run.specs.run_ends.Ends.{IsAtEnd}
+use Rattle.model_run.specs.run_ends.Runs.{journal_of, IsRun}
+use Rattle.model_run.specs.run_ends.Told.{is_post_within, journals_in, left_from, AreTold}
+use Rattle.model_run.proofs.run_ends.ToldLaw.{map_at, posts_tested, fits_at, none_waits, all_empty, some_waits, six_lists, flat_nothing, left_rows, none_left, numbers_are}
+
+within_nothing : (n : ℕ) (es : List Entry) → es ≡ [] → PostsWithin n es
+within_nothing n es e = subst (PostsWithin n) (sym e) tt
+
+module _ (plant : Plant) (lines : List Line) (fuel at : ℕ) (ks : List Controller) (env : EnvironmentState) (done : Bool) (js : List (List Entry)) (ls : List Left) (unposted : List ℕ)
+    (a : IsAtEnd plant lines fuel at ks env done)
+    (t : AreTold (length plant.wiring.controllers) (length plant.wiring.controllers) ks [] js ls)
+    (posts : PostsWithin (length plant.wiring.controllers) env.journal)
+    (numbers : unposted ≡ map (λ (l : Line). l.number) (drop at lines)) where
+  abbrev n : ℕ
+  n = length plant.wiring.controllers
+
+  abbrev items : List Item
+  items = items_of plant.wiring lines
+
+  abbrev rest : List Item
+  rest = drop at (items_of plant.wiring lines)
+
+  abbrev plan : RunPlant (Body Actor)
+  plan = run_plant plant (lines_of (items_of plant.wiring lines))
+
+  abbrev w : World (Body Actor)
+  w = world_of plant ks a.v
+
+  abbrev j : Journals
+  j = record { controllers = js; environment = env.journal; left = ls; unposted = unposted; done = done }
+
+  journals_of : js ≡ journals_in ks
+  journals_of = sym (append-nil js) ∙ t.journals_are
+
+  left_told : ls ≡ left_from 0 ks
+  left_told = sym (append-nil ls) ∙ t.left_is
+
+  count_is : length js ≡ n
+  count_is = ap (λ (z : List (List Entry)). length z) journals_of ∙ length-map ks (λ (k : Controller). k.mail.journal) ∙ a.so_far.stand.count
+
+  seat : (c : ℕ) → c < n → (k : Controller) × (slice_get ks c ≡ Some k)
+  seat c b = some_at ks c (omega (arith, a.so_far.stand.count))
+
+  at_seat : (c : ℕ) (k : Controller) → slice_get ks c ≡ Some k → w.controllers c ≡ state_in plant k
+  at_seat c k e = state_is plant ks c k e
+
+  -- the journals, party by party
+  own_journal : (c : ℕ) → c < n → journal_of j c ≡ whole plant a.so_far.events c
+  own_journal c b =
+      let s = seat c b in
+      ap (λ (z : Bool). if z then slice_index_or js c [] else if nat_lt (length js) c then [] else env.journal) (lt-ltb c (length js) (omega (arith, count_is)))
+      ∙ ap (λ (z : List (List Entry)). slice_index_or z c []) journals_of
+      ∙ map_at (λ (k : Controller). k.mail.journal) ks c s.0 [] s.1 ∙ a.so_far.journals c s.0 s.1
+
+  environment_journal : journal_of j n ≡ a.so_far.events n
+  environment_journal =
+      ap (λ (z : Bool). if z then slice_index_or js n [] else if nat_lt (length js) n then [] else env.journal) (le-ltb n (length js) (omega (arith, count_is)))
+      ∙ ap (λ (z : Bool). if z then [] else env.journal) (le-ltb (length js) n (omega (arith, count_is)))
+      ∙ sym a.so_far.posted
+
+  controller_within : (c : ℕ) → c < n → PostsWithin n (a.so_far.events c)
+  controller_within c b =
+      let s = seat c b in
+      let fits = fits_at n ks c s.0 (t.fit tt) s.1 in
+      within_back n (start_entries (model_of plant) plant.wiring c) (a.so_far.events c) (subst (PostsWithin n) (a.so_far.journals c s.0 s.1) fits.within)
+
+  within : (party : ℕ) → PostsWithin n (a.so_far.events party)
+  within party = elim (cases_lt party n) [
+    | inl below ↦ controller_within party below
+    | inr past ↦ elim (cases_lt n party) [
+      | inl above ↦ within_nothing n (a.so_far.events party) (a.so_far.nobody party above)
+      | inr here ↦
+          let same : n ≡ party = omega arith in
+          subst (λ (z : ℕ). PostsWithin n (a.so_far.events z)) same (subst (PostsWithin n) (sym a.so_far.posted) posts)
+    ]
+  ]
+
+  sound : IsSound plant (lines_of (items_of plant.wiring lines)) a.so_far.events w
+  sound = a.so_far.sound within
+
+  keeps_fuel : (c : ℕ) → c < n → (w.controllers c).turns ≤ fuel
+  keeps_fuel c b =
+      let s = seat c b in
+      subst (λ (z : State (Body Actor)). z.turns ≤ fuel) (sym (at_seat c s.0 s.1)) (a.so_far.fuelled c s.0 s.1)
+
+  -- what is left
+  abbrev lanes_left : ℕ → List Left
+  lanes_left c = flat_map (λ (p : ℕ). flat_map (λ (s : ℕ). map (left c false) (w.lanes (lane s c p))) (plan.controllers ∷ range_with_len 0 plan.controllers)) priorities
+
+  no_lanes : (c : ℕ) → lanes_left c ≡ []
+  no_lanes c = flat_nothing (λ (p : ℕ). flat_map (λ (s : ℕ). map (left c false) (w.lanes (lane s c p))) (plan.controllers ∷ range_with_len 0 plan.controllers)) priorities (λ p. flat_nothing (λ (s : ℕ). map (left c false) (w.lanes (lane s c p))) (plan.controllers ∷ range_with_len 0 plan.controllers) (λ s. refl))
+
+  left_at : (c : ℕ) (k : Controller) → slice_get ks c ≡ Some k → left_for plan w c ≡ map (left c true) (messages_in k.mail.pending)
+  left_at c k e =
+      let fits = fits_at n ks c k (t.fit tt) e in
+      ap (λ (z : State (Body Actor)). flat_map (λ (p : ℕ). map (left c true) (z.pending p)) priorities ++ lanes_left c) (at_seat c k e)
+      ∙ ap (λ (z : List Left). z ++ lanes_left c) (six_lists (left c true) k.mail.pending fits.six)
+      ∙ ap (λ (z : List Left). map (left c true) (messages_in k.mail.pending) ++ z) (no_lanes c)
+      ∙ append-nil (map (left c true) (messages_in k.mail.pending))
+
+  left_in_world : left_of plan w ≡ left_from 0 ks
+  left_in_world =
+      ap (λ (z : ℕ). flat_map (left_for plan w) (range_with_len 0 z)) (sym a.so_far.stand.count)
+      ∙ left_rows (left_for plan w) 0 ks (λ i k e. subst (λ (z : ℕ). left_for plan w z ≡ map (left z true) (messages_in k.mail.pending)) (let z : i ≡ 0 + i = omega arith in z) (left_at i k e))
+
+  lawful : IsLawfulRun (model_of plant) plant.wiring (lines_of (items_of plant.wiring lines)) fuel (journal_of j) ls w
+  lawful = record {
+    events = a.so_far.events;
+    begins = own_journal;
+    environment = environment_journal;
+    run = history_lawful plan a.so_far.events w sound.history;
+    fuelled = keeps_fuel;
+    left_is = left_told ∙ sym left_in_world;
+  }
+
+  prompt : IsPrompt n (journal_of j)
+  prompt = record {
+    at_turns = λ c p before after e cb pb is turn.
+        prompt_at c [] before e after (subst (λ (z : List Entry). PromptFrom c [] z) (sym (own_journal c cb) ∙ is) (sound.prompt c cb)) turn p pb;
+  }
+
+  outbox_empty : (c : ℕ) → c < n → (w.controllers c).outbox ≡ []
+  outbox_empty c b =
+      let s = seat c b in
+      subst (λ (z : State (Body Actor)). z.outbox ≡ []) (sym (at_seat c s.0 s.1)) (a.outboxes c s.0 s.1)
+
+  module _ (is : done ≡ true) where
+    pending_empty : (c p : ℕ) → c < n → (w.controllers c).pending p ≡ []
+    pending_empty c p b =
+        let s = seat c b in
+        subst (λ (z : State (Body Actor)). z.pending p ≡ []) (sym (at_seat c s.0 s.1)) (none_waits s.0.mail.pending (a.quiet is c s.0 s.1) p)
+
+    done_law : IsDone plan w ls unposted
+    done_law = record {
+      quiet = record { lanes = λ l. refl; pending = pending_empty; outbox = outbox_empty };
+      all_posted = a.posted ∙ all_posted items (length env.journal) a.part (subst (λ (z : List Item). CutAt items z (length env.journal) a.part) (a.whole is) a.cut);
+      none_left = left_told ∙ none_left 0 ks (a.quiet is);
+      none_unposted = numbers ∙ sym (numbers_are plant.wiring lines at) ∙ ap (λ (z : List Item). map number_of z) (a.whole is);
+    }
+
+  module _ (is : done ≡ false) where
+    not_quiet : IsQuiet plan w → ⊥
+    not_quiet q =
+        let busy = a.busy is in
+        let c = busy.0 in
+        let k = busy.1 in
+        let below : c < n = omega (arith, slice_get_within ks c k busy.2, a.so_far.stand.count) in
+        let none = all_empty k.mail.pending (λ p. subst (λ (z : State (Body Actor)). z.pending p ≡ []) (at_seat c k busy.2) (q.pending c p below)) in
+        true≢false (sym busy.3 ∙ none)
+
+    spent_at : (c : ℕ) → c < n → HasMessage w c → IsSpent fuel (w.controllers c)
+    spent_at c b (in_lane s p h) = absurd (omega arith)
+    spent_at c b (in_pending p h) =
+        let s = seat c b in
+        let here : 0 < length (pending_of s.0.mail.pending p) = subst (λ (z : State (Body Actor)). 0 < length (z.pending p)) (at_seat c s.0 s.1) h in
+        subst (λ (z : State (Body Actor)). IsSpent fuel z) (sym (at_seat c s.0 s.1)) (a.spent is c s.0 s.1 (some_waits s.0.mail.pending p here))
+    spent_at c b (in_outbox h) = absurd (omega (arith, ap (λ (z : List Msg). length z) (outbox_empty c b)))
+
+    last_is : a.part ≡ last_part (lines_of (items_of plant.wiring lines)) a.v.posted
+    last_is = a.last is ∙ ap (last_part (lines_of (items_of plant.wiring lines))) (sym a.posted)
+
+    stopped_law : IsStopped plan items fuel w unposted
+    stopped_law = record {
+      busy = not_quiet;
+      spent = spent_at;
+      part_posted = λ line l there low.
+          let early : line < length env.journal = part_posted items rest (length env.journal) a.part a.cut (a.ends is) line l there (subst (λ (z : ℕ). l.part ≤ z) (sym last_is) low) in
+          subst (λ (z : ℕ). line < z) (sym a.posted) early;
+      unposted_is = numbers ∙ sym (numbers_are plant.wiring lines at) ∙ sym (rest_unposted items rest (length env.journal) a.part a.cut (a.ends is))
+          ∙ ap (λ (z : ℕ). unposted_from z items) last_is;
+    }
+
+  pub is_run : IsRun plant lines fuel j
+  is_run = record {
+    world = w;
+    count = count_is;
+    lawful = lawful;
+    prompt = prompt;
+    ended = record { posted = outbox_empty; is_done = done_law; is_stopped = stopped_law };
+  }
+
+-- the same of what was tested and told
+pub run_told : (plant : Plant) (lines : List Line) (fuel at : ℕ) (ks : List Controller) (env : EnvironmentState) (done : Bool) (count : ℕ) (js : List (List Entry)) (posts : List Entry) (ls : List Left) (unposted : List ℕ)
+    → IsAtEnd plant lines fuel at ks env done → count ≡ length plant.wiring.controllers → AreTold count count ks [] js ls → posts ≡ env.journal
+    → list_all (is_post_within count) posts ≡ true → unposted ≡ map (λ (l : Line). l.number) (drop at lines)
+    → IsRun plant lines fuel (record { controllers = js; environment = posts; left = ls; unposted = unposted; done = done })
+run_told plant lines fuel at ks env done count js posts ls unposted a same t told tested numbers =
+    let within : PostsWithin count posts = posts_tested count posts tested in
+    subst (λ (z : List Entry). IsRun plant lines fuel (record { controllers = js; environment = z; left = ls; unposted = unposted; done = done })) (sym told)
+    (is_run plant lines fuel at ks env done js ls unposted a (subst (λ (z : ℕ). AreTold z z ks [] js ls) same t)
+    (subst (λ (z : ℕ). PostsWithin z env.journal) same (subst (λ (z : List Entry). PostsWithin count z) told within)) numbers)

@@ -1,0 +1,9 @@
+pub mod joined_round
+pub mod local_run
+pub mod part_posts
+pub mod run_ends
+pub mod run_loop
+pub mod run_rounds
+pub mod run_so_far
+pub mod run_start
+pub mod run_worker

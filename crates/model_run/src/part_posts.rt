@@ -1,0 +1,6 @@
+//! The environment's posts: the lines of an injection text, part by part, over any mail.
+
+mod injected;
+mod posting;
+
+pub use posting::post_part;

@@ -1,0 +1,36 @@
+//! Messages from outside.
+ghost use Rattle.std.specs.Prelude.{◌≡◌, IfOk};
+ghost use Rattle.model_run.specs.part_posts.Items.{injected};
+
+use controller::Plant;
+use room_kinds::{ControllerId, Endpoint, Msg, Payload, Priority, Stamp};
+use std::alloc::{AllocError, Global};
+
+/// The message that a line asks for, to the owner of its target.
+#[tactic(auto, unfolding(actor_duties::specs::Words::owner_of))]
+pub(crate) fn message_from_outside(
+    alloc: Global,
+    plant: &Plant,
+    target: Endpoint,
+    signal: u16,
+    payload: &Payload,
+    prio: Priority,
+) -> Result<Msg, AllocError>
+    ensures { IfOk result (λ m. m ≡ injected plant.now.wiring target signal payload.now prio) }
+{
+    // An accepted line names a slot that is there.
+    if plant.wiring.slot_count() <= u32::from(target.slot.0) {
+        return Err(AllocError);
+    }
+    let to = plant.wiring.slot(target.slot).owner;
+    Ok(Msg {
+        from: ControllerId(0),
+        to,
+        prio,
+        stamp: Stamp(0),
+        source: None,
+        target,
+        signal,
+        payload: payload.copy(alloc)?,
+    })
+}

@@ -1,0 +1,7 @@
+//! The end of a run: when it has ended, and the journals that are told of it.
+
+mod finished;
+mod telling;
+mod within;
+
+pub use telling::told;

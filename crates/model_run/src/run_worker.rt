@@ -1,0 +1,92 @@
+//! A controller's worker: what a controller does in a round, while the others do the same.
+//!
+//! Over any mail: each turn is prompt, and what the controller's end has posted and taken is just what its
+//! journal says.
+ghost use Rattle.std.specs.Prelude.{◌≡◌, ◌+◌, ◌<◌, [], length, OnOk};
+ghost use Rattle.mail_core.specs.Tied.{IsTied, StaysTied};
+ghost use Rattle.controller_actors.specs.Plants.{IsPlant};
+ghost use Rattle.controller.specs.Controllers.{IsOf};
+ghost use Rattle.model_run.specs.run_worker.Works.{Did, Works};
+
+use controller::{Controller, Plant};
+use mail_core::Mail;
+use std::alloc::AllocError;
+
+/// After so many steps in a row that fetched and turned nothing a worker ends.
+const IDLE_STEPS: u32 = 64;
+
+/// A poll and a turn. It answers whether anything was fetched or turned.
+fn poll_and_turn<M: Mail>(
+    controller: &mut Controller,
+    plant: &Plant,
+    office: &mut M::Office,
+    end: &mut M,
+) -> Result<bool, AllocError>
+    requires plant { IsPlant plant.now }
+    requires of { IsOf plant.now controller.old }
+    requires party { (M.log end.old).party ≡ controller.old.me.0 }
+    requires parties { (M.log end.old).parties ≡ length plant.now.wiring.controllers + 1 }
+    requires tied { IsTied M.tied (M.log end.old).party office.old end.old }
+    requires posted { controller.old.mail.outbox ≡ [] }
+    requires fuel { controller.old.mail.turns < controller.old.fuel }
+    ensures ok { OnOk result (Did plant.now controller.old controller.new (M.log end.old) (M.log end.new)) }
+    ensures of { IsOf plant.now controller.new }
+    ensures tied { StaysTied M.tied (M.log end.old).party office.old office.new end.old end.new }
+{
+    let fetched = controller.poll(plant, office, end)?;
+    let turned = controller.turn(plant)?;
+    Ok(turned | (0 < fetched))
+}
+
+/// A poll, a turn, and the posts of what the turn sent. It answers whether anything was fetched or turned.
+fn step<M: Mail>(
+    controller: &mut Controller,
+    plant: &Plant,
+    office: &mut M::Office,
+    end: &mut M,
+) -> Result<bool, AllocError>
+    requires plant { IsPlant plant.now }
+    requires of { IsOf plant.now controller.old }
+    requires party { (M.log end.old).party ≡ controller.old.me.0 }
+    requires parties { (M.log end.old).parties ≡ length plant.now.wiring.controllers + 1 }
+    requires tied { IsTied M.tied (M.log end.old).party office.old end.old }
+    requires posted { controller.old.mail.outbox ≡ [] }
+    requires fuel { controller.old.mail.turns < controller.old.fuel }
+    ensures ok { OnOk result (Works plant.now controller.old controller.new (M.log end.old) (M.log end.new)) }
+    ensures of { IsOf plant.now controller.new }
+    ensures tied { StaysTied M.tied (M.log end.old).party office.old office.new end.old end.new }
+{
+    let moved = poll_and_turn(controller, plant, office, end)?;
+    controller.post_all(plant, office, end)?;
+    Ok(moved)
+}
+
+/// A controller posts what it has to post, and then goes step by step until 64 steps in a row fetched and
+/// turned nothing, or until its fuel is spent: then it polls no more.
+pub fn work<M: Mail>(
+    controller: &mut Controller,
+    plant: &Plant,
+    office: &mut M::Office,
+    end: &mut M,
+) -> Result<(), AllocError>
+    requires plant { IsPlant plant.now }
+    requires of { IsOf plant.now controller.old }
+    requires party { (M.log end.old).party ≡ controller.old.me.0 }
+    requires parties { (M.log end.old).parties ≡ length plant.now.wiring.controllers + 1 }
+    requires tied { IsTied M.tied (M.log end.old).party office.old end.old }
+    ensures ok { OnOk result (Works plant.now controller.old controller.new (M.log end.old) (M.log end.new)) }
+    ensures of { IsOf plant.now controller.new }
+    ensures tied { StaysTied M.tied (M.log end.old).party office.old office.new end.old end.new }
+{
+    controller.post_all(plant, office, end)?;
+    let mut idle = 0u32;
+    for _step in 0..u64::MAX {
+        if controller.is_spent() || IDLE_STEPS <= idle {
+            return Ok(());
+        }
+        let moved = step(controller, plant, office, end)?;
+        idle = if moved { 0 } else { idle + 1 };
+    }
+    // Never reached: of 64 steps one has an entry, and so many entries no memory holds.
+    Err(AllocError)
+}

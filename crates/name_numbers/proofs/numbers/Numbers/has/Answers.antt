@@ -1,6 +1,0 @@
-use Rattle.std.proofs.Common.{◌∙◌}
-use Rattle.name_numbers.proofs.Lists.{any_names}
-use Rattle.name_numbers.proofs.numbers.Numbers.has.Goals as goal
-
-pub returns : goal.returns
-returns c = rw (← c.self.view_is) (c.contains.ensures ∙ any_names c.args.name.now c.self.inside.names.keys)

@@ -1,6 +1,0 @@
-use Rattle.std.proofs.Common.{◌≡◌, take}
-use Rattle.name_numbers.specs.Names.{AreDistinct, names_of}
-use Rattle.name_numbers.proofs.numbers.numbered.Given as goal
-
-abbrev pub invariant-loop-name : goal.invariant-loop-name
-invariant-loop-name l = (l.numbers ≡ names_of (take l.name-index l.names)) × AreDistinct l.numbers

@@ -1,0 +1,3 @@
+pub mod class_containment
+pub mod face_chains
+pub mod face_matchings

@@ -1,7 +1,0 @@
-//! The environment's posts: the lines of an injection text, part by part, over any mail.
-#![tactic(auto)]
-
-mod injected;
-mod posting;
-
-pub use posting::post_part;

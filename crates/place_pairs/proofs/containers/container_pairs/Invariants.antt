@@ -1,6 +1,0 @@
-use Rattle.std.proofs.Common.{◌≡◌, ◌++◌, ◌+◌, ◌-◌, length}
-use Rattle.place_rules.specs.Pairs.{container_pairs}
-use Rattle.place_pairs.proofs.containers.container_pairs.Given as goal
-
-abbrev pub invariant-loop-c : goal.invariant-loop-c
-invariant-loop-c l = l.pairs.items ++ container_pairs l.plan l.slots l.first_ports l.spans l.c ((length l.slots + 1) - l.c) ≡ container_pairs l.plan l.slots l.first_ports l.spans 0 (length l.slots + 1)

@@ -1,9 +1,0 @@
--- Classes that may be missing.
-use Rattle.std.specs.Prelude.{Option, Some, None}
-use Rattle.structure_plan.specs.declared.plan.ClassPlan.{ClassPlan}
-use Rattle.place_rules.specs.Parts.{no_class}
-
--- the class, or one without parts
-abbrev pub class_or_none : Option ClassPlan → ClassPlan
-class_or_none None = no_class
-class_or_none (Some class) = class

@@ -1,6 +1,0 @@
-use Rattle.std.proofs.Common.{◌∙◌, sym, rules}
-use Rattle.place_spans.proofs.RowSteps.{port_more, port_end}
-use Rattle.place_spans.proofs.places.add_port_places.Goals as goal
-
-pub returns : goal.returns
-returns c = sym (port_end c.args.imported c.args.slot c.args.counts.now c.args.row c.args.ports.now c.loop-p.p _ c.loop-p-test.false) ∙ c.loop-p.invariant

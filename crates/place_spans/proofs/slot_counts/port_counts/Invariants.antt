@@ -1,8 +1,0 @@
-use Rattle.std.proofs.Common.{◌≡◌, ◌++◌, drop, List}
-use Rattle.binding_stretches.specs.Taken.{taken_in}
-use Rattle.place_rules.specs.declared.place.LayerJoin.{LayerJoin}
-use Rattle.place_rules.specs.Counts.{counts_of_slots, served_at}
-use Rattle.place_spans.proofs.slot_counts.port_counts.Given as goal
-
-abbrev pub invariant-loop-s : goal.invariant-loop-s
-invariant-loop-s l = (joins : List LayerJoin) → taken_in l.served ≡ served_at joins → l.counts.items ++ counts_of_slots l.plan l.slots joins l.s (drop l.s l.slots) ≡ counts_of_slots l.plan l.slots joins 0 l.slots

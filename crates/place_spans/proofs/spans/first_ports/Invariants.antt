@@ -1,6 +1,0 @@
-use Rattle.std.proofs.Common.{◌≡◌, ◌++◌, drop}
-use Rattle.place_rules.specs.Counts.{first_ports_from}
-use Rattle.place_spans.proofs.spans.first_ports.Given as goal
-
-abbrev pub invariant-loop-slot : goal.invariant-loop-slot
-invariant-loop-slot l = l.rows.items ++ first_ports_from l.plan l.row (drop l.slot-index l.slots) ≡ first_ports_from l.plan 0 l.slots

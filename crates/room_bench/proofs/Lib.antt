@@ -1,0 +1,2 @@
+pub mod EndsOfThree
+pub mod FirstTables

@@ -1,0 +1,10 @@
+//! Lines of text on their way to a sink: the parts of which a line is written, and the buffer
+//! through which it goes. Nothing here takes memory.
+
+mod buffer;
+mod lines;
+mod part;
+
+pub use buffer::LineBuffer;
+pub use lines::write_line;
+pub use part::Part;

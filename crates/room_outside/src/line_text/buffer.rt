@@ -1,0 +1,198 @@
+//! The buffer through which lines go to a sink.
+ghost use Rattle.std.specs.Prelude.{◌≡◌, ◌==◌, ◌<◌, ◌≤◌, [], ◌∷◌, ◌++◌, length, decimal, OnOk};
+ghost use Rattle.std.specs.Fmt.{signed_decimal};
+ghost use Rattle.room_outside.specs.line_text.Lines.{numbers_text};
+ghost use Rattle.std.specs.List.{concat};
+ghost use Rattle.room_outside.specs.line_text.Parts.{part_text, part_texts};
+ghost use Rattle.room_outside.specs.line_text.Output.{Puts, at_rest};
+
+use crate::line_text::part::Part;
+use crate::{Sink, WriteFault, write_whole};
+use itoa::Buffer;
+use std::marker::Model;
+
+/// The most bytes that are written in one piece.
+const PIECE: usize = 4096;
+
+/// The bytes of a line that were not written yet, at most a piece.
+#[derive(Drop)]
+pub struct LineBuffer {
+    bytes: [u8; PIECE],
+    len: usize,
+}
+
+impl Model for LineBuffer {
+    ghost use Rattle.std.specs.Prelude.{List, ℕ, ◌≤◌, take};
+
+    ghost Value = { List ℕ };
+
+    ghost view = { λ b. take b.len b.bytes };
+
+    ghost invariant = { λ b. b.len ≤ 4096 };
+}
+
+impl LineBuffer {
+    pub fn new() -> LineBuffer
+        ensures { result ≡ [] }
+    {
+        LineBuffer {
+            bytes: [0; PIECE],
+            len: 0,
+        }
+    }
+
+    /// Forgets what the buffer holds.
+    pub fn clear(&mut self)
+        ensures { self.new ≡ [] }
+    {
+        self.len = 0;
+    }
+
+    /// Writes what the buffer holds.
+    pub fn flush<K: Sink>(&mut self, sink: &mut K) -> Result<(), WriteFault>
+        ensures puts { Puts result
+            (record { written = K.written sink.old; held = self.old })
+            (at_rest (K.written sink.new)) [] }
+        ensures empty { OnOk result (self.new ≡ []) }
+    {
+        write_whole(sink, &self.bytes[..self.len])?;
+        self.len = 0;
+        Ok(())
+    }
+
+    fn is_full(&self) -> bool
+        ensures full { result ≡ (length self.now == 4096) }
+        ensures within { length self.now ≤ 4096 }
+    {
+        self.len == PIECE
+    }
+
+    fn push(&mut self, byte: u8)
+        requires { length self.old < 4096 }
+        ensures { self.new ≡ self.old ++ byte ∷ [] }
+    {
+        self.bytes[self.len] = byte;
+        self.len += 1;
+    }
+
+    /// Writes a full buffer.
+    fn make_room<K: Sink>(&mut self, sink: &mut K) -> Result<(), WriteFault>
+        ensures puts { Puts result
+            (record { written = K.written sink.old; held = self.old })
+            (record { written = K.written sink.new; held = self.new }) [] }
+        ensures room { OnOk result (length self.new < 4096) }
+    {
+        if self.is_full() {
+            return self.flush(sink);
+        }
+        Ok(())
+    }
+
+    fn put_byte<K: Sink>(&mut self, sink: &mut K, byte: u8) -> Result<(), WriteFault>
+        ensures { Puts result
+            (record { written = K.written sink.old; held = self.old })
+            (record { written = K.written sink.new; held = self.new })
+            (byte ∷ []) }
+    {
+        self.make_room(sink)?;
+        self.push(byte);
+        Ok(())
+    }
+
+    /// Adds bytes to the line. Whole pieces are written as the line goes on.
+    pub fn put<K: Sink>(&mut self, sink: &mut K, bytes: &[u8]) -> Result<(), WriteFault>
+        ensures { Puts result
+            (record { written = K.written sink.old; held = self.old })
+            (record { written = K.written sink.new; held = self.new })
+            bytes.now }
+    {
+        for byte in bytes {
+            self.put_byte(sink, *byte)?;
+        }
+        Ok(())
+    }
+
+    /// Adds a number.
+    pub fn put_number<K: Sink>(&mut self, sink: &mut K, number: u64) -> Result<(), WriteFault>
+        ensures { Puts result
+            (record { written = K.written sink.old; held = self.old })
+            (record { written = K.written sink.new; held = self.new })
+            (decimal number) }
+    {
+        let mut digits = Buffer::new();
+        self.put(sink, digits.format(number).as_bytes())
+    }
+
+    /// Adds a number with its sign.
+    pub fn put_signed<K: Sink>(&mut self, sink: &mut K, number: &i64) -> Result<(), WriteFault>
+        ensures { Puts result
+            (record { written = K.written sink.old; held = self.old })
+            (record { written = K.written sink.new; held = self.new })
+            (signed_decimal number.now) }
+    {
+        let value = *number;
+        let mut digits = Buffer::new();
+        self.put(sink, digits.format(value).as_bytes())
+    }
+
+    /// Adds a number with a blank before it.
+    fn put_after_blank<K: Sink>(&mut self, sink: &mut K, number: &i64) -> Result<(), WriteFault>
+        ensures { Puts result
+            (record { written = K.written sink.old; held = self.old })
+            (record { written = K.written sink.new; held = self.new })
+            (32 ∷ signed_decimal number.now) }
+    {
+        self.put_byte(sink, b' ')?;
+        self.put_signed(sink, number)
+    }
+
+    /// Adds numbers, each with a blank before it.
+    pub fn put_numbers<K: Sink>(&mut self, sink: &mut K, numbers: &[i64]) -> Result<(), WriteFault>
+        ensures { Puts result
+            (record { written = K.written sink.old; held = self.old })
+            (record { written = K.written sink.new; held = self.new })
+            (numbers_text numbers.now) }
+    {
+        for number in numbers {
+            self.put_after_blank(sink, number)?;
+        }
+        Ok(())
+    }
+
+    fn put_part<K: Sink>(&mut self, sink: &mut K, part: &Part) -> Result<(), WriteFault>
+        ensures { Puts result
+            (record { written = K.written sink.old; held = self.old })
+            (record { written = K.written sink.new; held = self.new })
+            (part_text part.now) }
+    {
+        match part {
+            Part::Text(text) => self.put(sink, text),
+            Part::Number(number) => self.put_number(sink, *number),
+            Part::Signed(number) => self.put_signed(sink, number),
+            Part::Numbers(numbers) => self.put_numbers(sink, numbers),
+        }
+    }
+
+    /// Adds the parts of a line.
+    pub fn put_all<K: Sink>(&mut self, sink: &mut K, parts: &[Part]) -> Result<(), WriteFault>
+        ensures { Puts result
+            (record { written = K.written sink.old; held = self.old })
+            (record { written = K.written sink.new; held = self.new })
+            (concat (part_texts parts.now)) }
+    {
+        for part in parts {
+            self.put_part(sink, part)?;
+        }
+        Ok(())
+    }
+
+    /// Ends the line, and writes what the buffer holds.
+    pub fn end_line<K: Sink>(&mut self, sink: &mut K) -> Result<(), WriteFault>
+        ensures { Puts result
+            (record { written = K.written sink.old; held = self.old })
+            (at_rest (K.written sink.new)) (10 ∷ []) }
+    {
+        self.put_byte(sink, b'\n')?;
+        self.flush(sink)
+    }
+}

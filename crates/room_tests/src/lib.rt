@@ -1,0 +1,13 @@
+//! The whole program over texts and sinks in memory, where calls fail on demand: each read, each write,
+//! each allocation, a sink without room, texts of the greatest length, and a gate at which it is held.
+//! What it answers where nothing fails is tried over files.
+#![tactic(auto)]
+
+#[cfg(test)]
+mod case;
+#[cfg(test)]
+mod limit_tests;
+#[cfg(test)]
+mod read_tests;
+#[cfg(test)]
+mod write_tests;

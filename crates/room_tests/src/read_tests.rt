@@ -1,0 +1,61 @@
+//! Reads that fail.
+use crate::case::{Case, JOURNAL, RUN, tells};
+use room_run::Status;
+use std::test::Fail;
+
+const NOTE: &str = "room: read fault\n";
+
+#[test]
+fn each_read_may_fail(rt: HostRuntime) -> Result<(), Fail> {
+    // The model takes two reads, and so do the injections.
+    for call in 1..=4 {
+        let case = Case {
+            failing_reads: &[call],
+            ..RUN
+        };
+        tells(&rt, &case, Status::ReadFault, "", NOTE)?;
+    }
+    let case = Case {
+        failing_reads: &[5],
+        ..RUN
+    };
+    tells(&rt, &case, Status::Done, JOURNAL, "")
+}
+
+#[test]
+fn a_model_that_is_not_read_is_not_judged(rt: HostRuntime) -> Result<(), Fail> {
+    for words in [["check", "model.room"], ["tree", "model.room"]] {
+        for call in 1..=2 {
+            let case = Case {
+                words: &words,
+                model: "$",
+                failing_reads: &[call],
+                ..RUN
+            };
+            tells(&rt, &case, Status::ReadFault, "", NOTE)?;
+        }
+    }
+    Ok(())
+}
+
+/// After a refused model nothing more is read.
+#[test]
+fn a_refused_model_comes_before_the_injections(rt: HostRuntime) -> Result<(), Fail> {
+    let case = Case {
+        model: "$",
+        failing_reads: &[3],
+        ..RUN
+    };
+    let note = "room: model refused: byte 0\n";
+    tells(&rt, &case, Status::ModelRefused, "", note)
+}
+
+#[test]
+fn a_read_fault_may_be_untold(rt: HostRuntime) -> Result<(), Fail> {
+    let case = Case {
+        failing_reads: &[1],
+        failing_notes: &[1],
+        ..RUN
+    };
+    tells(&rt, &case, Status::WriteFault, "", "")
+}

@@ -1,0 +1,180 @@
+//! The numbered names of a wiring.
+ghost use Rattle.std.specs.Prelude.{◌≡◌, ◌<◌, ◌≤◌, map, take, length, IfOk, option_map, option_and_then, slice_get};
+ghost use Rattle.std.specs.Option.{option_copied};
+ghost use Rattle.room_wiring.specs.Slots.{class_of};
+ghost use Rattle.room_wiring.specs.wiring_names.Lookup.{narrowed, slot_paths, place_of, slot_called, port_called, state_called, signal_called, signal_table, port_of, numbered};
+ghost use Rattle.room_wiring.specs.wiring_names.Tables.{numbers_of_class};
+ghost use Rattle.room_wiring.specs.wiring_names.Index.{IsAboveClasses};
+
+use crate::Wiring;
+use crate::wiring_names::class_names::ClassNumbers;
+use name_tables::Numbers;
+use room_kinds::{Sequence, SlotId};
+use std::alloc::{AllocError, Global};
+use std::marker::Model;
+
+/// A wiring whose names have been numbered. A contract sees the tables of the wiring.
+///
+/// Where the names of the wiring tell things apart (`IsWellNamed`) a name has the number of what it
+/// names.
+#[derive(Drop)]
+pub struct Names<'a> {
+    wiring: &'a Wiring,
+    slots: Numbers<'a>,
+    /// The names of the classes, up to the last one that a slot has.
+    classes: Sequence<ClassNumbers<'a>>,
+}
+
+impl<'a> Model for Names<'a> {
+    ghost use Rattle.room_wiring.specs.declared.tables.Tables.{Tables};
+    ghost use Rattle.room_wiring.specs.wiring_names.Index.{IsIndexOf};
+
+    ghost Value = { Tables };
+
+    ghost view = { λ n. n.wiring.now };
+
+    ghost invariant = { λ n. IsIndexOf n.wiring.now n.slots n.classes };
+}
+
+/// The place as a `u16`; 0 where it is too large, or where there is none.
+fn narrow(place: Option<usize>) -> u16
+    ensures { result ≡ narrowed place }
+{
+    match place {
+        Some(i) => { if i < 65536 { i as u16 } else { 0 } }
+        None => 0,
+    }
+}
+
+#[tactic(auto, unfolding(crate::specs::wiring_names::Lookup::place_of))]
+fn number_of(numbers: &Numbers<'_>, name: &[u8]) -> u16
+    ensures { result ≡ place_of numbers.now name.now }
+{
+    narrow(numbers.number_of(name))
+}
+
+#[tactic(auto, unfolding(crate::specs::wiring_names::Lookup::numbered))]
+fn slot_numbers(alloc: Global, wiring: &Wiring) -> Result<Numbers<'_>, AllocError>
+    ensures { IfOk result (λ n. n ≡ numbered (slot_paths wiring.now)) }
+{
+    let mut numbers = Numbers::new(alloc);
+    for s in 0..wiring.slot_count() {
+        numbers.add(wiring.slot(SlotId(s as u16)).path.as_bytes())?;
+    }
+    Ok(numbers)
+}
+
+/// One more than the greatest number of a class that a slot has.
+fn class_count(wiring: &Wiring) -> usize
+    ensures above { IsAboveClasses wiring.now result }
+    ensures within { result ≤ length wiring.now.classes }
+    ensures small { result ≤ 65536 }
+{
+    let mut count = 0;
+    for s in 0..wiring.slot_count() {
+        let class = usize::from(wiring.slot(SlotId(s as u16)).class);
+        if count <= class {
+            count = class + 1;
+        }
+    }
+    count
+}
+
+fn class_numbers(
+    alloc: Global,
+    wiring: &Wiring,
+    count: usize,
+) -> Result<Sequence<ClassNumbers<'_>>, AllocError>
+    requires within { count ≤ length wiring.now.classes }
+    requires small { count ≤ 65536 }
+    ensures { IfOk result (λ c. c ≡ map numbers_of_class (take count wiring.now.classes)) }
+{
+    let mut classes = Sequence::new(alloc);
+    for c in 0..count {
+        classes.push(ClassNumbers::of(alloc, wiring.class(c as u16))?)?;
+    }
+    Ok(classes)
+}
+
+fn class_at<'b, 'a>(classes: &'b [ClassNumbers<'a>], class: u16) -> Option<&'b ClassNumbers<'a>>
+    ensures { option_copied result ≡ slice_get classes.now class }
+{
+    classes.get(usize::from(class))
+}
+
+impl<'a> Names<'a> {
+    /// Numbers the names of a wiring. It takes time and memory in proportion to the tables.
+    pub fn of(alloc: Global, wiring: &'a Wiring) -> Result<Names<'a>, AllocError>
+        ensures { IfOk result (λ n. n ≡ wiring.now) }
+    {
+        let slots = slot_numbers(alloc, wiring)?;
+        let classes = class_numbers(alloc, wiring, class_count(wiring))?;
+        Ok(Names {
+            wiring,
+            slots,
+            classes,
+        })
+    }
+
+    /// How many controllers there are.
+    pub fn controller_count(&self) -> u8
+        ensures { result ≡ length self.now.controllers }
+    {
+        self.wiring.controller_count()
+    }
+
+    /// The slot with this path; slot 0 where there is none.
+    pub fn slot(&self, path: &[u8]) -> SlotId
+        ensures { result ≡ record { 0 = slot_called self.now path.now } }
+    {
+        SlotId(number_of(&self.slots, path))
+    }
+
+    /// The port of a slot with this name; port 0 where there is none.
+    pub fn port(&self, slot: SlotId, name: &[u8]) -> u16
+        ensures { result ≡ port_called self.now slot.0 name.now }
+    {
+        match self.class(slot) {
+            Some(class) => number_of(&class.ports, name),
+            None => 0,
+        }
+    }
+
+    /// The state of a slot's class with this label; state 0 where there is none.
+    pub fn state(&self, slot: SlotId, label: &[u8]) -> u16
+        ensures { result ≡ state_called self.now slot.0 label.now }
+    {
+        match self.class(slot) {
+            Some(class) => number_of(&class.states, label),
+            None => 0,
+        }
+    }
+
+    /// The signal of a port of a slot with this name; signal 0 where there is none.
+    pub fn signal(&self, slot: SlotId, port: u16, name: &[u8]) -> u16
+        ensures { result ≡ signal_called self.now slot.0 port name.now }
+    {
+        match self.signals(slot, port) {
+            Some(signals) => number_of(signals, name),
+            None => 0,
+        }
+    }
+
+    fn signals(&self, slot: SlotId, port: u16) -> Option<&Numbers<'a>>
+        ensures { option_copied result ≡ option_map signal_table (option_and_then (port_of port) (class_of self.now slot.0)) }
+    {
+        match self.class(slot) {
+            Some(class) => class.signals.as_slice().get(usize::from(port)),
+            None => None,
+        }
+    }
+
+    fn class(&self, slot: SlotId) -> Option<&ClassNumbers<'a>>
+        ensures { option_copied result ≡ option_map numbers_of_class (class_of self.now slot.0) }
+    {
+        match self.wiring.get_slot(slot) {
+            Some(found) => class_at(self.classes.as_slice(), found.class),
+            None => None,
+        }
+    }
+}

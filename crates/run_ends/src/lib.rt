@@ -1,8 +1,0 @@
-//! The end of a run: when it has ended, and the journals that are told of it.
-#![tactic(auto)]
-
-mod finished;
-mod telling;
-mod within;
-
-pub use telling::told;

@@ -1,0 +1,42 @@
+//! A controller's mail, and that of the environment.
+use crate::messages::own_message;
+use controller_mail::{ControllerMail, EnvironmentMail, Treatment};
+use journal::{Did, Journal};
+use room_kinds::{ControllerId, Notes, Outbox, Sequence, Stamp};
+use std::test::Fail;
+
+#[test]
+fn the_lowest_priority_has_its_turn_first(rt: HostRuntime) -> Result<(), Fail> {
+    let alloc = rt.alloc();
+    let mut mail = ControllerMail::started(alloc, Outbox::new(alloc), Journal::new(alloc))?;
+    mail.fetch(own_message(alloc, 3, 4, 7))?;
+    mail.fetch(own_message(alloc, 1, 2, 8))?;
+    assert_eq!(rt; mail.clock(), 6);
+    let first = mail.take_next().ok_or("pending")?;
+    assert_eq!(rt; first.signal, 8);
+    let mut sent = Outbox::new(alloc);
+    sent.push(own_message(alloc, 3, 0, 9))?;
+    let done = Treatment {
+        sent,
+        back: Sequence::new(alloc),
+        did: Did::Duty,
+        notes: Notes::new(alloc),
+    };
+    mail.end_turn(first.from, first.stamp, done)?;
+    let posted = mail.post(ControllerId(2))?.ok_or("posted")?;
+    assert_eq!(rt; posted.from, ControllerId(2));
+    assert_eq!(rt; posted.stamp, Stamp(8));
+    let (journal, pending) = mail.finish()?;
+    assert_eq!(rt; journal.len(), 4);
+    assert_eq!(rt; pending.len(), 1);
+    Ok(())
+}
+
+#[test]
+fn the_environment_posts(rt: HostRuntime) -> Result<(), Fail> {
+    let mut environment = EnvironmentMail::new(rt.alloc());
+    environment.catch_up(5);
+    let posted = environment.post(ControllerId(1), own_message(rt.alloc(), 3, 0, 7))?;
+    assert_eq!(rt; posted.stamp, Stamp(6));
+    Ok(())
+}

@@ -1,0 +1,146 @@
+//! What the frame service sends.
+ghost use Rattle.std.specs.Prelude.{◌≡◌, ◌++◌, ◌∷◌, [], ◌<◌, pos, length, IfOk, OnOk};
+ghost use Rattle.actor_duties.specs.Words.{reference_of, index_of};
+ghost use Rattle.actor_duties.specs.Messages.{reply, to_owner, told_of, refused_at_once, code_number};
+ghost use Rattle.actor_duties.specs.Lives.{announce_to, announces};
+ghost use Rattle.service_messages.specs.Shown.{signal_of, code_of};
+
+use crate::frame_messages::endpoints::frame_of;
+use crate::{Code, FrameSignal, frame_message, owner_of, system};
+use room_kinds::{ControllerId, Endpoint, Incarnation, Msg, Outbox, Payload, SlotId, SysKind};
+use room_wiring::Wiring;
+use std::alloc::{AllocError, Global};
+
+/// A reply to the sender of a message.
+pub fn reply(
+    me: ControllerId,
+    m: &Msg,
+    kind: SysKind,
+    source: Endpoint,
+    target: Endpoint,
+    payload: Payload,
+) -> Msg
+    ensures { result ≡ reply me.0 m.now kind source target payload }
+{
+    system(me, m.from, kind, source, target, payload)
+}
+
+/// A message to the owner of its target.
+pub fn to_owner(
+    wiring: &Wiring,
+    me: ControllerId,
+    kind: SysKind,
+    source: Endpoint,
+    target: Endpoint,
+    payload: Payload,
+) -> Msg
+    ensures { result ≡ to_owner wiring.now me.0 kind source target payload }
+{
+    system(
+        me,
+        owner_of(wiring, target.slot),
+        kind,
+        source,
+        target,
+        payload,
+    )
+}
+
+#[tactic(auto, unfolding(actor_duties::specs::Words::reference_of))]
+fn reference_of(wiring: &Wiring, slot: SlotId) -> u16
+    ensures { result ≡ reference_of wiring.now slot.0 }
+{
+    match wiring.get_slot(slot) {
+        Some(found) => found.reference,
+        None => 0,
+    }
+}
+
+#[tactic(auto, unfolding(actor_duties::specs::Words::index_of))]
+fn index_of(wiring: &Wiring, slot: SlotId) -> u32
+    ensures { result ≡ index_of wiring.now slot.0 }
+{
+    match wiring.get_slot(slot) {
+        Some(found) => found.index,
+        None => 0,
+    }
+}
+
+/// What the container of a slot is told: the slot's reference and index, and an actor's number or a code.
+pub fn told_of(
+    alloc: Global,
+    wiring: &Wiring,
+    me: ControllerId,
+    signal: FrameSignal,
+    source: Endpoint,
+    target: Endpoint,
+    slot: SlotId,
+    last: i64,
+) -> Result<Msg, AllocError>
+    ensures { IfOk result (λ m. m ≡ told_of wiring.now me.0 (signal_of signal) source target slot.0 last) }
+{
+    let reference = i64::from(reference_of(wiring, slot));
+    let index = i64::from(index_of(wiring, slot));
+    let payload = Payload::from_slice(alloc, &[reference, index, last])?;
+    Ok(frame_message(me, signal, source, target, payload))
+}
+
+/// A request that is refused when its command is applied: the actor is told its reference, the index as
+/// the action gave it, and the code.
+pub fn refused_at_once(
+    alloc: Global,
+    me: ControllerId,
+    actor: Incarnation,
+    reference: u16,
+    index: i64,
+    code: Code,
+) -> Result<Msg, AllocError>
+    ensures { IfOk result (λ m. m ≡ refused_at_once me.0 actor reference index (code_number (code_of code))) }
+{
+    let payload = Payload::from_slice(
+        alloc,
+        &[i64::from(reference), index, i64::from(code.number())],
+    )?;
+    let frame = frame_of(actor);
+    Ok(frame_message(me, FrameSignal::Refused, frame, frame, payload))
+}
+
+/// Announces to one controller that an actor came up (1) or went down (0).
+fn announce_to(
+    alloc: Global,
+    me: ControllerId,
+    actor: Incarnation,
+    up: u8,
+    controller: ControllerId,
+    out: &mut Outbox,
+) -> Result<(), AllocError>
+    ensures { OnOk result (out.new ≡ out.old ++ announce_to me.0 actor (pos up) controller.0 ∷ []) }
+{
+    let payload = Payload::from_slice(alloc, &[i64::from(up)])?;
+    let frame = frame_of(actor);
+    out.push(system(me, controller, SysKind::Announce, frame, frame, payload))?;
+    Ok(())
+}
+
+/// Announces to each controller that is told of the actor's slot, ascending: `up` is 1 where it came up,
+/// and 0 where it went down.
+#[tactic(auto, using(crate::proofs::frame_messages::Announced::all_announced))]
+pub fn announce(
+    alloc: Global,
+    wiring: &Wiring,
+    me: ControllerId,
+    actor: Incarnation,
+    up: u8,
+    out: &mut Outbox,
+) -> Result<(), AllocError>
+    requires { actor.slot.0 < length wiring.now.slots }
+    ensures { OnOk result (out.new ≡ out.old ++ announces wiring.now me.0 actor (pos up)) }
+{
+    for number in 0..wiring.controller_count() {
+        let controller = ControllerId(number);
+        if wiring.tells(actor.slot, controller) {
+            announce_to(alloc, me, actor, up, controller, out)?;
+        }
+    }
+    Ok(())
+}

@@ -1,3 +1,0 @@
-pub mod Wirings
-pub mod Rooms
-pub mod Registered

@@ -1,5 +1,0 @@
-use Rattle.service_stories.specs.Hosts.{IsHost}
-use Rattle.service_stories.proofs.telling.settle.Given as goal
-
-abbrev pub invariant-loop : goal.invariant-loop
-invariant-loop l = IsHost l.host

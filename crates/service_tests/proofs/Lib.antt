@@ -1,0 +1,4 @@
+pub mod AloneLemmas
+pub mod Wirings
+pub mod Rooms
+pub mod Registered

@@ -1,7 +1,0 @@
-use Rattle.std.proofs.Common.{◌≡◌, ℕ, ◌++◌, ◌<◌, ◌^◌, drop}
-use Rattle.place_rules.specs.Parts.{children_from}
-use Rattle.slot_children.specs.Table.{children_in}
-use Rattle.slot_children.proofs.children.children_table.Given as goal
-
-abbrev pub invariant-loop-i : goal.invariant-loop-i
-invariant-loop-i l = (c r : ℕ) → r < 2 ^ 16 → children_in l.table c r ++ children_from l.i (drop l.i l.slots) c r ≡ children_from 0 l.slots c r

@@ -1,6 +1,0 @@
-use Rattle.std.proofs.Common.{◌≡◌, ◌++◌, drop, map}
-use Rattle.slot_names.specs.Names.{labels_of}
-use Rattle.slot_names.proofs.names.all_labels.Given as goal
-
-abbrev pub invariant-loop-class : goal.invariant-loop-class
-invariant-loop-class l = l.labels.items ++ map labels_of (drop l.class-index l.classes) ≡ map labels_of l.classes

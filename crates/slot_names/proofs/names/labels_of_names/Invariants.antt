@@ -1,7 +1,0 @@
-use Rattle.std.proofs.Common.{◌≡◌, ◌++◌, drop, map}
-use Rattle.name_numbers.specs.Names.{names_of}
-use Rattle.wiring_classes.specs.Labels.{label_of}
-use Rattle.slot_names.proofs.names.labels_of_names.Given as goal
-
-abbrev pub invariant-loop-name : goal.invariant-loop-name
-invariant-loop-name l = l.labels.items ++ map label_of (names_of (drop l.name-index l.names)) ≡ map label_of (names_of l.names)

@@ -1,8 +1,0 @@
-use Rattle.std.proofs.Common.{drop, arith}
-use Rattle.name_numbers.specs.Names.{names_of}
-use Rattle.slot_names.specs.Names.{reference_label}
-use Rattle.wiring_classes.proofs.Named.{named_stops}
-use Rattle.slot_names.proofs.names.labels_with.Goals as goal
-
-pub returns-in_default : goal.returns-in_default
-returns-in_default c = named_stops reference_label (names_of (drop c.loop-name.name-index c.args.names.now)) c.loop-name.left.now c.loop-name.labels.items _ (omega arith) c.loop-name.invariant

@@ -1,8 +1,0 @@
-use Rattle.std.proofs.Common.{◌≡◌, map, take}
-use Rattle.name_numbers.specs.Names.{names_of}
-use Rattle.room_ast.specs.Trees.{subsystem_item_view}
-use Rattle.mapping_rules.specs.Rules.{thread_names}
-use Rattle.slot_names.proofs.names.thread_names.Given as goal
-
-abbrev pub invariant-loop-item : goal.invariant-loop-item
-invariant-loop-item l = names_of l.names.items ≡ thread_names (map subsystem_item_view (take l.item-index l.items))

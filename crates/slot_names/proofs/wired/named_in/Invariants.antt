@@ -1,7 +1,0 @@
-use Rattle.std.proofs.Common.{◌≡◌, drop, map}
-use Rattle.room_ast.specs.Trees.{class_view}
-use Rattle.slot_names.specs.Found.{named_in}
-use Rattle.slot_names.proofs.wired.named_in.Given as goal
-
-abbrev pub invariant-loop-class : goal.invariant-loop-class
-invariant-loop-class l = named_in (map class_view (drop l.class-index l.classes)) l.left l.name ≡ named_in (map class_view l.classes) l.subsystems l.name

@@ -1,8 +1,0 @@
-//! What the slots of a model are called, which of them are mapped to a thread, and the controllers.
-#![tactic(auto)]
-
-mod names;
-mod ways;
-mod wired;
-
-pub use names::{WiredNames, wired_names};

@@ -1,9 +1,0 @@
-use Rattle.std.proofs.Common.{◌-◌}
-use Rattle.slot_runs.proofs.Made.{IsSearched}
-use Rattle.slot_runs.proofs.runs.SlotRuns.next_made.Given as goal
-
-abbrev pub invariant-loop-next : goal.invariant-loop-next
-invariant-loop-next l = IsSearched l.wiring l.fn.top.0 l.end l.fn.slot.0 l.next
-
-abbrev pub decreases-loop-next : goal.decreases-loop-next
-decreases-loop-next l = l.end - l.next

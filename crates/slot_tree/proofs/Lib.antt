@@ -1,6 +1,0 @@
-pub mod Orders
-pub mod Depths
-pub mod Placed
-pub mod Growing
-pub mod PlaceSums
-pub mod KnownSlots

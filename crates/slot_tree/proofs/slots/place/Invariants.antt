@@ -1,9 +1,0 @@
-use Rattle.std.proofs.Common.{◌-◌, length, reverse}
-use Rattle.slot_tree.specs.Placing.{Placing, all_from}
-use Rattle.slot_tree.proofs.slots.place.Given as goal
-
-abbrev pub invariant-loop-pending : goal.invariant-loop-pending
-invariant-loop-pending l = Placing l.plan l.names l.mappings (all_from l.plan l.names l.mappings 0 (reverse l.initial.stack.items)) l.slots.items l.stack.items
-
-abbrev pub decreases-loop-pending : goal.decreases-loop-pending
-decreases-loop-pending l = 4096 - length l.slots.items

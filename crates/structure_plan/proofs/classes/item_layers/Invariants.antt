@@ -1,7 +1,0 @@
-use Rattle.std.proofs.Common.{◌≡◌, ◌++◌, drop}
-use Rattle.std.specs.List.{filter_map}
-use Rattle.structure_plan.specs.Plans.{item_layer}
-use Rattle.structure_plan.proofs.classes.item_layers.Given as goal
-
-abbrev pub invariant-loop-item : goal.invariant-loop-item
-invariant-loop-item l = l.plans.items ++ filter_map (item_layer l.actors l.class) (drop l.item-index l.items) ≡ filter_map (item_layer l.actors l.class) l.items

@@ -1,6 +1,0 @@
-use Rattle.std.proofs.Common.{◌≡◌, ◌++◌, drop, map}
-use Rattle.structure_plan.specs.Parts.{port_plan}
-use Rattle.structure_plan.proofs.classes.port_plans.Given as goal
-
-abbrev pub invariant-loop-port : goal.invariant-loop-port
-invariant-loop-port l = l.plans.items ++ map port_plan (drop l.port-index l.ports) ≡ map port_plan l.ports

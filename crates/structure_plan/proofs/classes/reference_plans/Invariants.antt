@@ -1,6 +1,0 @@
-use Rattle.std.proofs.Common.{◌≡◌, ◌++◌, drop, map}
-use Rattle.structure_plan.specs.Parts.{reference_plan}
-use Rattle.structure_plan.proofs.classes.reference_plans.Given as goal
-
-abbrev pub invariant-loop-reference : goal.invariant-loop-reference
-invariant-loop-reference l = l.plans.items ++ map reference_plan (drop l.reference-index l.references) ≡ map reference_plan l.references

@@ -1,0 +1,90 @@
+-- Single tokens: what is taken is what was there, and it is read again.
+use Rattle.std.proofs.Common.{◌≡◌, ℕ, Bool, true, false, cond, List, [], ◌∷◌, Option, Some, None, refl, ap, sym}
+use Rattle.std.proofs.lemmas.Bool.{eq-eqb}
+use Rattle.room_lexer.specs.declared.token.Mark.{Mark}
+use Rattle.token_reading.specs.Single.{mark_number}
+use Rattle.token_reading.proofs.Readers.{Sound, Reads, taken, Anything}
+use Rattle.token_reading.proofs.Singles.{same_mark_is}
+use Rattle.token_reading.specs.action_tokens.Words.{word_number}
+use Rattle.token_reading.specs.action_tokens.Values.{Value, AWord, AName, ANumber, AMark}
+use Rattle.token_reading.specs.action_tokens.Single.{comes, comes_word, rest_of, mark, word, name_at, number_at}
+use Rattle.token_reading.specs.declared.action_tokens.word.ActionWord.{ActionWord}
+use Rattle.token_reading.proofs.action_tokens.WordNumbers.{same_word_is}
+
+-- ---- what is taken
+
+pub comes_is : (m : Mark) (ts : List Value) → comes m ts ≡ true → ts ≡ AMark m ∷ rest_of ts
+unfolding comes
+comes_is m [] e = absurd cc
+comes_is m (AWord w ∷ ts) e = absurd cc
+comes_is m (AName n ∷ ts) e = absurd cc
+comes_is m (ANumber n ∷ ts) e = absurd cc
+comes_is m (AMark n ∷ ts) e = ap (λ k. AMark k ∷ ts) (sym (same_mark_is m n e))
+
+pub comes_word_is : (w : ActionWord) (ts : List Value) → comes_word w ts ≡ true → ts ≡ AWord w ∷ rest_of ts
+unfolding comes_word
+comes_word_is v [] e = absurd cc
+comes_word_is v (AWord w ∷ ts) e = ap (λ k. AWord k ∷ ts) (sym (same_word_is v w e))
+comes_word_is v (AName n ∷ ts) e = absurd cc
+comes_word_is v (ANumber n ∷ ts) e = absurd cc
+comes_word_is v (AMark n ∷ ts) e = absurd cc
+
+if_takes : (t : Value) (ts : List Value) (b : Bool) → (b ≡ true → ts ≡ t ∷ rest_of ts) → (z : Unit {0} × List Value) → cond {A = Option (Unit {0} × List Value)} b (Some (tt, rest_of ts)) None ≡ Some z → ts ≡ t ∷ z.1
+if_takes t ts false h z e = absurd cc
+if_takes t ts true h z e = taken (λ _. t ∷ []) ts (tt, rest_of ts) z (h refl) e
+
+pub mark_sound : (m : Mark) → Sound (mark m) (λ _. AMark m ∷ [])
+unfolding mark
+mark_sound m = record { takes = λ ts z e. if_takes (AMark m) ts (comes m ts) (comes_is m ts) z e }
+
+pub word_sound : (w : ActionWord) → Sound (word w) (λ _. AWord w ∷ [])
+unfolding word
+word_sound w = record { takes = λ ts z e. if_takes (AWord w) ts (comes_word w ts) (comes_word_is w ts) z e }
+
+name_takes : (ts : List Value) (z : List ℕ × List Value) → name_at ts ≡ Some z → ts ≡ AName z.0 ∷ z.1
+unfolding name_at
+name_takes [] z e = absurd cc
+name_takes (AWord w ∷ ts) z e = absurd cc
+name_takes (AName n ∷ ts) z e = taken (λ k. AName k ∷ []) (AName n ∷ ts) (n, ts) z refl e
+name_takes (ANumber n ∷ ts) z e = absurd cc
+name_takes (AMark n ∷ ts) z e = absurd cc
+
+pub name_sound : Sound name_at (λ name. AName name ∷ [])
+name_sound = record { takes = name_takes }
+
+number_takes : (ts : List Value) (z : ℕ × List Value) → number_at ts ≡ Some z → ts ≡ ANumber z.0 ∷ z.1
+unfolding number_at
+number_takes [] z e = absurd cc
+number_takes (AWord w ∷ ts) z e = absurd cc
+number_takes (AName n ∷ ts) z e = absurd cc
+number_takes (ANumber n ∷ ts) z e = taken (λ k. ANumber k ∷ []) (ANumber n ∷ ts) (n, ts) z refl e
+number_takes (AMark n ∷ ts) z e = absurd cc
+
+pub number_sound : Sound number_at (λ n. ANumber n ∷ [])
+number_sound = record { takes = number_takes }
+
+-- ---- what is read again
+
+pub comes_here : (m : Mark) (rest : List Value) → comes m (AMark m ∷ rest) ≡ true
+unfolding comes
+comes_here m rest = eq-eqb (mark_number m) (mark_number m) refl
+
+pub comes_word_here : (w : ActionWord) (rest : List Value) → comes_word w (AWord w ∷ rest) ≡ true
+unfolding comes_word
+comes_word_here w rest = eq-eqb (word_number w) (word_number w) refl
+
+pub mark_reads : (m : Mark) → Reads (mark m) (AMark m ∷ []) tt Anything
+unfolding mark
+mark_reads m = record { again = λ rest any. rw (comes_here m rest) refl }
+
+pub word_reads : (w : ActionWord) → Reads (word w) (AWord w ∷ []) tt Anything
+unfolding word
+word_reads w = record { again = λ rest any. rw (comes_word_here w rest) refl }
+
+pub name_reads : (name : List ℕ) → Reads name_at (AName name ∷ []) name Anything
+unfolding name_at
+name_reads name = record { again = λ rest any. refl }
+
+pub number_reads : (n : ℕ) → Reads number_at (ANumber n ∷ []) n Anything
+unfolding number_at
+number_reads n = record { again = λ rest any. refl }

@@ -1,0 +1,85 @@
+//! Tokens of the action language.
+ghost use Rattle.std.specs.Prelude.{◌≡◌, map, option_map};
+ghost use Rattle.token_reading.specs.Reader.{Gives};
+ghost use Rattle.token_reading.specs.Single.{text_of};
+ghost use Rattle.token_reading.specs.action_tokens.Values.{value_of, values_of, action_values, token_value};
+
+use crate::action_tokens::word::{ActionWord, word_of};
+use crate::{ReadFault, text};
+use room_lexer::{LexFault, Mark, Token, TokenKind, lex};
+use std::alloc::Global;
+
+/// What a token is.
+#[derive(Clone, Copy, Debug, PartialEq, Eq)]
+pub enum Kind {
+    Word(ActionWord),
+    /// An identifier that is no word of the action language and isn't reserved.
+    Name,
+    Number(u64),
+    Mark(Mark),
+}
+
+/// A token, whose text is the bytes from `start` to `end`.
+#[derive(Clone, Copy, Debug, PartialEq, Eq)]
+pub struct ActionToken {
+    pub kind: Kind,
+    pub start: usize,
+    pub end: usize,
+}
+
+fn with_kind(token: Token, kind: Kind) -> ActionToken
+    ensures { result ≡ record { kind = kind; start = token.start; end = token.end } }
+{
+    ActionToken {
+        kind,
+        start: token.start,
+        end: token.end,
+    }
+}
+
+/// The token of the action language that a token of the model language is, if it is one.
+fn token(bytes: &[u8], token: Token) -> Option<ActionToken>
+    ensures { option_map (token_value bytes.now) result ≡ value_of bytes.now token }
+{
+    match token.kind {
+        TokenKind::Ident(reserved) => match (word_of(text(bytes, token)), reserved) {
+            (Some(word), _) => Some(with_kind(token, Kind::Word(word))),
+            (None, None) => Some(with_kind(token, Kind::Name)),
+            (None, Some(_)) => None,
+        },
+        TokenKind::Number(n) => Some(with_kind(token, Kind::Number(n))),
+        TokenKind::Mark(mark) => Some(with_kind(token, Kind::Mark(mark))),
+        TokenKind::Str | TokenKind::Block => None,
+    }
+}
+
+fn all(alloc: Global, bytes: &[u8], tokens: &[Token]) -> Result<Vec<ActionToken>, ReadFault>
+    ensures { Gives (λ v. map (token_value bytes.now) v.items) result (values_of bytes.now tokens.now) }
+{
+    let mut found = Vec::with_capacity(alloc, tokens.len())?;
+    for one in tokens {
+        let Some(one) = token(bytes, *one) else {
+            return Err(ReadFault::Syntax(one.start));
+        };
+        found.push(one)?;
+    }
+    Ok(found)
+}
+
+/// The tokens of a text. `Syntax` is a fault of the lexer, or a token that the action language
+/// doesn't have.
+#[tactic(auto, unfolding(crate::specs::action_tokens::Values::action_values))]
+pub fn action_tokens(alloc: Global, bytes: &[u8]) -> Result<Vec<ActionToken>, ReadFault>
+    ensures { Gives (λ v. map (token_value bytes.now) v.items) result (action_values bytes.now) }
+{
+    match lex(alloc, bytes) {
+        Ok(tokens) => all(alloc, bytes, tokens.as_slice()),
+        Err(LexFault::Memory) => Err(ReadFault::Memory),
+        Err(
+            LexFault::BadByte(at)
+            | LexFault::OpenString(at)
+            | LexFault::OpenComment(at)
+            | LexFault::NumberTooLarge(at),
+        ) => Err(ReadFault::Syntax(at)),
+    }
+}

@@ -1,6 +1,0 @@
-use Rattle.std.proofs.Common.{ℕ, true, set, refl, ap, arith}
-use Rattle.told_controllers.proofs.Marking.{marking_all}
-use Rattle.told_controllers.proofs.marks.Marks.tell_all.Goals as goal
-
-pub returns-then-from-len : goal.returns-then-from-len
-returns-then-from-len c = λ n k size. marking_all n k c.args.self.now _ size refl c.args.slot (omega arith) refl (ap (λ (i : ℕ). set c.args.self.now.everyone.items i true) c.from-then-from-len.ensures)

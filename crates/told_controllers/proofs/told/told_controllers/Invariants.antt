@@ -1,5 +1,0 @@
-use Rattle.told_controllers.proofs.Telling.{AreAnswered}
-use Rattle.told_controllers.proofs.told.told_controllers.Given as goal
-
-abbrev pub invariant-loop-s : goal.invariant-loop-s
-invariant-loop-s l = AreAnswered l.slots l.places l.partners l.controllers l.s l.told

@@ -1,8 +1,0 @@
-use Rattle.std.proofs.Common.{◌≡◌, ◌++◌, drop}
-use Rattle.name_numbers.specs.Names.{names_of}
-use Rattle.wiring_classes.specs.Parts.{named, port_names_of}
-use Rattle.wiring_classes.proofs.ports.ports_of.Given as goal
-
-abbrev pub invariant-loop-name : goal.invariant-loop-name
-invariant-loop-name l =
-    l.all.items ++ named (port_names_of (names_of l.protocol_names) l.protocols) (names_of (drop l.name-index l.names)) l.left ≡ named (port_names_of (names_of l.protocol_names) l.protocols) (names_of l.names) l.ports

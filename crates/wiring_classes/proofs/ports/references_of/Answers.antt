@@ -1,8 +1,0 @@
-use Rattle.std.proofs.Common.{drop, arith}
-use Rattle.name_numbers.specs.Names.{names_of}
-use Rattle.wiring_classes.specs.Parts.{reference_names_of}
-use Rattle.wiring_classes.proofs.Named.{named_stops}
-use Rattle.wiring_classes.proofs.ports.references_of.Goals as goal
-
-pub returns-in_default : goal.returns-in_default
-returns-in_default c = named_stops reference_names_of (names_of (drop c.loop-name.name-index c.args.names.now)) c.loop-name.left.now c.loop-name.all.items _ (omega arith) c.loop-name.invariant

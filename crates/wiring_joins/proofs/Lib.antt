@@ -1,0 +1,3 @@
+pub mod join_laws
+pub mod place_faces
+pub mod slot_references

@@ -1,0 +1,22 @@
+use Rattle.std.proofs.Common.{◌∙◌}
+use Rattle.wiring_joins.proofs.joined_places.Made.{counts_made, spans_made, places_made, pairs_made, partners_made}
+use Rattle.wiring_joins.proofs.joined_places.places.places_with.Goals as goal
+
+pub returns : goal.returns
+returns c =
+    let plan = c.args.plan.now in
+    let slots = c.args.slots.now in
+    let counts_are = counts_made plan slots c.as_slice.result.now c.in_ok-counts.counts.items (c.as_slice.ensures.value ∙ c.in_ok-joins.ensures) c.in_ok-counts.ensures in
+    let spans_are = spans_made plan slots c.as_slice-2.result.now c.in_ok-spans.spans.items (c.as_slice-2.ensures.value ∙ counts_are) c.in_ok-spans.ensures in
+    let places_are = places_made plan slots c.as_slice-3.result.now c.in_ok-places.places.items (c.as_slice-3.ensures.value ∙ counts_are) c.in_ok-places.ensures in
+    let pairs_are =
+    pairs_made plan slots c.as_slice-4.result.now c.as_slice-5.result.now c.as_slice-6.result.now c.in_ok-pairs.pairs.items (c.as_slice-4.ensures.value ∙ c.in_ok-joins.ensures) (c.as_slice-5.ensures.value ∙ c.in_ok-first_ports.ensures) (c.as_slice-6.ensures.value ∙ spans_are)
+    c.in_ok-pairs.ensures in
+    let partners_are = partners_made plan slots c.as_slice-7.result.now c.as_slice-8.result.now c.in_ok-partners.partners.items (c.as_slice-7.ensures.value ∙ places_are) (c.as_slice-8.ensures.value ∙ pairs_are) c.in_ok-partners.ensures in
+    record {
+      pairing = c.requires.containers.pairing;
+      first_ports = c.from.ensures ∙ c.in_ok-first_ports.ensures;
+      spans = c.from-2.ensures ∙ spans_are;
+      places = places_are;
+      partners = c.from-3.ensures ∙ partners_are;
+    }

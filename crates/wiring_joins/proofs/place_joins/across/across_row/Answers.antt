@@ -1,0 +1,10 @@
+use Rattle.std.proofs.Common.{◌∙◌, sym}
+use Rattle.wiring_joins.proofs.place_joins.PlaceSteps.{across_more, across_end}
+use Rattle.wiring_joins.proofs.place_joins.across.across_row.Goals as goal
+
+pub loop-place-preserved : goal.loop-place-preserved
+loop-place-preserved c =
+    across_more c.args.places.now c.loop-place.place-index _ _ _ _ _ _ _ _ _ c.loop-place-test.true c.in-Some.ensures.1 c.across_face-outside.ensures c.across_face-inside.ensures c.in-Some-checked_add.ensures.1 c.in_ok-push.ensures.items c.in_ok-push-2.ensures.items ∙ c.loop-place.invariant
+
+pub returns : goal.returns
+returns c = sym (across_end c.args.places.now c.loop-place.place-index _ _ c.loop-place-test.false) ∙ c.loop-place.invariant

@@ -1,0 +1,79 @@
+-- The messages of ports have different names.
+use Rattle.std.proofs.Common.{◌≡◌, ◌∙◌, ℕ, zero, suc, Bool, true, false, cond, List, [], ◌∷◌, ◌++◌, map, Option, Some, None, refl, sym, ap, subst}
+use Rattle.std.specs.Prelude.{All, slice_get, unwrap_or, option_and_then}
+use Rattle.std.specs.List.{list_all}
+use Rattle.std.proofs.lemmas.Bool.{and_parts}
+use Rattle.std.proofs.lemmas.List.{map-append}
+use Rattle.std.proofs.lemmas.List.Elements.{All-nil, All-head, All-tail}
+use Rattle.room_ast.specs.Trees.{ModelTree}
+use Rattle.room_ast.specs.declared.protocol.Message.{Message}
+use Rattle.room_ast.specs.declared.protocol.ProtocolClass.{ProtocolClass}
+use Rattle.room_wiring.specs.WellNamed.{IsIdent}
+use Rattle.room_wiring.specs.declared.names.SignalNames.{SignalNames}
+use Rattle.name_tables.specs.name_numbers.Names.{AreDistinct}
+use Rattle.name_tables.proofs.distinct_names.Laws.{fact_of}
+use Rattle.check_classes.specs.class_rules.Names.{message_names, protocol_has_names}
+use Rattle.room_ast.specs.model_parts.Types.{incoming_of, outgoing_of}
+use Rattle.room_ast.specs.declared.model_parts.entries.PortEntry.{PortEntry}
+use Rattle.wiring_plan.specs.wiring_classes.Labels.{label_of}
+use Rattle.wiring_plan.specs.wiring_classes.Parts.{frame_signals, frame_only, no_signals, is_frame, signals_at}
+use Rattle.wiring_plan.specs.wiring_classes.Classes.{signal_of, protocol_signals}
+use Rattle.wiring_plan.specs.declared.wiring_classes.protocols.Signals.{Signals}
+use Rattle.wiring_laws.proofs.model_names.Lists.{labels_are, all_idents}
+
+-- the names of messages, incoming ones first
+abbrev pub signal_names : Signals → List (List ℕ)
+signal_names s = map (λ (x : SignalNames). x.name) (s.incoming ++ s.outgoing)
+
+-- messages whose names are distinct identifiers
+pub record AreNamed (s : Signals) : Type 0 where
+  pub idents : All IsIdent (signal_names s)
+  pub distinct : AreDistinct (signal_names s)
+
+module _ (m : ModelTree) where
+  names_made : (xs : List Message) → map (λ (x : SignalNames). x.name) (map (signal_of m) xs) ≡ map label_of (message_names xs)
+  names_made [] = refl
+  names_made (x ∷ xs) = ap (λ ys. label_of x.name ∷ ys) (names_made xs)
+
+  made_of : (p : ProtocolClass) → All IsIdent (message_names (incoming_of p) ++ message_names (outgoing_of p)) → signal_names (protocol_signals m p) ≡ message_names (incoming_of p) ++ message_names (outgoing_of p)
+  made_of p idents =
+      let name : SignalNames → List ℕ = λ x. x.name in
+      map-append name (map (signal_of m) (incoming_of p)) (map (signal_of m) (outgoing_of p)) ∙ ap (λ ys. ys ++ map name (map (signal_of m) (outgoing_of p))) (names_made (incoming_of p))
+      ∙ ap (λ ys. map label_of (message_names (incoming_of p)) ++ ys) (names_made (outgoing_of p)) ∙ sym (map-append label_of (message_names (incoming_of p)) (message_names (outgoing_of p)))
+      ∙ labels_are (message_names (incoming_of p) ++ message_names (outgoing_of p)) idents
+
+  protocol_named : (p : ProtocolClass) → All IsIdent (message_names (incoming_of p) ++ message_names (outgoing_of p)) → protocol_has_names p ≡ true → AreNamed (protocol_signals m p)
+  protocol_named p idents distinct =
+      let is = made_of p idents in
+      record {
+        idents = subst (λ ns. All IsIdent ns) (sym is) idents;
+        distinct = subst (λ ns. AreDistinct ns) (sym is) (fact_of (message_names (incoming_of p) ++ message_names (outgoing_of p)) distinct);
+      }
+
+  none_named : AreNamed no_signals
+  none_named = record { idents = All-nil IsIdent; distinct = fact_of [] refl }
+
+  frame_named : AreNamed frame_only
+  unfolding frame_signals
+  frame_named = record { idents = all_idents (signal_names frame_only) refl; distinct = fact_of (signal_names frame_only) refl }
+
+  abbrev IdentMessages : ProtocolClass → Type 0
+  IdentMessages p = All IsIdent (message_names (incoming_of p) ++ message_names (outgoing_of p))
+
+  at_number : (ps : List ProtocolClass) (n : ℕ) → All IdentMessages ps → list_all protocol_has_names ps ≡ true → AreNamed (unwrap_or (slice_get (map (protocol_signals m) ps) n) no_signals)
+  at_number [] n h k = none_named
+  at_number (p ∷ ps) zero h k = protocol_named p (All-head IdentMessages p ps h) (and_parts (protocol_has_names p) (list_all protocol_has_names ps) k).0
+  at_number (p ∷ ps) (suc n) h k = at_number ps n (All-tail IdentMessages p ps h) (and_parts (protocol_has_names p) (list_all protocol_has_names ps) k).1
+
+  module _ (ps : List ProtocolClass) (idents : All IdentMessages ps) (distinct : list_all protocol_has_names ps ≡ true) where
+    at_protocol : (o : Option ℕ) → AreNamed (unwrap_or (option_and_then (slice_get (map (protocol_signals m) ps)) o) no_signals)
+    at_protocol None = none_named
+    at_protocol (Some n) = at_number ps n idents distinct
+
+    -- the messages of a port are named so
+    pub port_signals : (p : PortEntry) → AreNamed (signals_at (map (protocol_signals m) ps) p)
+    port_signals p = pick (is_frame p.kind)
+      where
+        pick : (b : Bool) → AreNamed (cond b frame_only (unwrap_or (option_and_then (slice_get (map (protocol_signals m) ps)) p.protocol) no_signals))
+        pick true = frame_named
+        pick false = at_protocol p.protocol

@@ -1,0 +1,11 @@
+pub mod chart_state_names
+pub mod model_names
+pub mod model_paths
+pub mod name_tokens
+pub mod ports_numbered
+pub mod read_wirings
+pub mod slot_order
+pub mod slot_paths
+pub mod state_names
+pub mod well_named_wiring
+pub mod wiring_order

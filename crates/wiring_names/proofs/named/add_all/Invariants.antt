@@ -1,6 +1,0 @@
-use Rattle.std.proofs.Common.{◌≡◌, map, take}
-use Rattle.wiring_names.specs.Lookup.{numbering}
-use Rattle.wiring_names.proofs.named.add_all.Given as goal
-
-abbrev pub invariant-loop-item : goal.invariant-loop-item
-invariant-loop-item g l = l.numbers ≡ numbering l.initial.numbers (map g.T.Named.name_of (take l.item-index l.items))

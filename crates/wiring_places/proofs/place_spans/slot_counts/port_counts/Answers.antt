@@ -1,0 +1,12 @@
+use Rattle.std.proofs.Common.{◌∙◌, sym}
+use Rattle.wiring_places.proofs.place_spans.SlotSteps.{slot_counts_more, slot_counts_end}
+use Rattle.wiring_places.proofs.place_spans.slot_counts.port_counts.Goals as goal
+
+pub loop-s-preserved : goal.loop-s-preserved
+loop-s-preserved c = λ joins same.
+    slot_counts_more c.args.plan.now c.args.slots.now joins c.args.slots.now c.loop-s.s _ _ _ _ _ _ _ _ c.loop-s-test.true c.index-slots-s.is (c.taken_at-outside.ensures c.args.plan.now c.args.slots.now c.requires.containers) c.container_of_parent.ensures
+    (c.taken_at-inside.ensures c.args.plan.now c.args.slots.now c.requires.containers) same c.is_imported.ensures c.class_ports.ensures c.in_ok-add_counts.ensures
+    ∙ c.loop-s.invariant joins same
+
+pub returns : goal.returns
+returns c = λ joins same. sym (slot_counts_end c.args.plan.now c.args.slots.now joins c.args.slots.now c.loop-s.s _ c.loop-s-test.false) ∙ c.loop-s.invariant joins same

@@ -1,0 +1,5 @@
+pub mod binding_stretches
+pub mod place_pairs
+pub mod place_rules
+pub mod place_spans
+pub mod slot_children

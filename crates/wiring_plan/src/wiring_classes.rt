@@ -1,0 +1,12 @@
+//! The names of actor classes and of what belongs to them, by number, as texts name them.
+
+mod attributes;
+mod classes;
+mod labels;
+mod ports;
+mod protocols;
+mod states;
+
+pub use classes::classes_of;
+pub use labels::label_of;
+pub use protocols::Signals;

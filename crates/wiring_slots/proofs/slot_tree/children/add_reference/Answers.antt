@@ -1,0 +1,36 @@
+use Rattle.std.proofs.Common.{◌∙◌, ◌<◌, length, arith}
+use Rattle.std.proofs.lemmas.List.FromFn.{length-map-range_with_len}
+use Rattle.wiring_slots.specs.slot_tree.Slots.{pending_at}
+use Rattle.wiring_slots.proofs.slot_tree.Growing.{index_added, indexes_fit}
+use Rattle.wiring_slots.proofs.slot_tree.Handing.{handed, inside_lists, left_behind, pending_is}
+use Rattle.wiring_slots.proofs.slot_tree.children.add_reference.Goals as goal
+
+pub returns-then-count-room : goal.returns-then-count-room
+returns-then-count-room c =
+    let size = length-map-range_with_len (pending_at c.args.mappings.now c.args.above.now c.args.labels.now c.args.number c.args.reference.now) 0 c.args.reference.now.count in
+    omega (arith, size)
+
+pub index_mut-requires : goal.index_mut-requires
+index_mut-requires c =
+    let inside = inside_lists c.args.mappings.now c.args.number c.args.reference.now.count c.loop-index.index c.args.trails.now c.loop-index.lists.items c.loop-index.invariant.lists (omega arith) in
+    omega (arith, inside, c.loop-index.lists.ok.0)
+
+pub loop-index-preserved : goal.loop-index-preserved
+loop-index-preserved c =
+    let mappings = c.args.mappings.now in
+    let number = c.args.number in
+    let i = c.loop-index.index in
+    let count = c.args.reference.now.count in
+    let inside : i < length c.loop-index.lists.items = inside_lists mappings number count i c.args.trails.now c.loop-index.lists.items c.loop-index.invariant.lists (omega arith) in
+    record {
+      children =
+          c.in_ok-push.ensures.items
+          ∙ index_added (pending_at mappings c.args.above.now c.args.labels.now number c.args.reference.now) c.args.children.now.items c.loop-index.children.items i c.in_ok-pending_with.field-0 c.loop-index.invariant.children (
+          pending_is mappings c.args.above.now c.args.labels.now number c.args.reference.now i c.replace-leading.result c.in_ok-pending_with.field-0 c.in_ok-pending_with.ensures
+          (handed mappings number count i c.args.above.now.trails c.args.trails.now c.loop-index.lists.items c.replace-leading.result c.index_mut.result.now c.requires.through c.loop-index.invariant.lists (omega arith) (c.replace-leading.ensures.value ∙ c.index_mut.ensures.value) inside)
+          );
+      lists = left_behind c.loop-index.lists.items _ i c.replace-leading.new.dest c.loop-index.invariant.lists;
+    }
+
+pub returns : goal.returns
+returns c = indexes_fit (pending_at c.args.mappings.now c.args.above.now c.args.labels.now c.args.number c.args.reference.now) c.args.children.now.items c.loop-index.children.items c.loop-index.index c.args.reference.now.count c.args.room (omega arith) (omega arith) (omega arith) c.loop-index.invariant.children

@@ -1,0 +1,49 @@
+-- The trails of a container, sorted by the reference and the index with which they go on.
+use Rattle.std.specs.Prelude.{ℕ, ◌+◌, ◌==◌, false, List, [], ◌∷◌, ◌++◌, map, Option, Some, None, slice_set, slice_index_or, if◌then◌else◌}
+use Rattle.std.specs.List.{filter_map, range_with_len}
+use Rattle.std.specs.Option.{option_map_or}
+use Rattle.wiring_slots.specs.declared.slot_tree.names.MappingPlan.{MappingPlan}
+use Rattle.wiring_slots.specs.declared.slot_tree.names.StepPlan.{StepPlan}
+use Rattle.wiring_slots.specs.declared.slot_tree.owners.Trail.{Trail}
+use Rattle.wiring_slots.specs.slot_tree.Owners.{next_step, trails_at}
+
+-- One more item at the end of the list with this number, if there is such a list.
+abbrev pub added_at : {X : Type 0} → ℕ → X → List (List X) → List (List X)
+added_at number x lists = slice_set lists number (slice_index_or lists number [] ++ x ∷ [])
+
+-- One more item at the end of each list.
+abbrev pub added_to_each : {X : Type 0} → X → List (List X) → List (List X)
+added_to_each x lists = map (λ l. l ++ x ∷ []) lists
+
+-- A trail that goes on with this reference.
+abbrev pub through : List MappingPlan → ℕ → Trail → Option Trail
+through mappings reference t = if option_map_or (λ (s : StepPlan). s.reference == reference) (next_step mappings t) false then Some t else None
+
+-- The trails that go on with this reference, in their order.
+abbrev pub trails_through : List MappingPlan → List Trail → ℕ → List Trail
+trails_through mappings trails reference = filter_map (through mappings reference) trails
+
+-- For each of so many references, by number, the trails that go on with it.
+unfoldable pub by_reference : List MappingPlan → ℕ → List Trail → List (List Trail)
+by_reference mappings count trails = map (trails_through mappings trails) (range_with_len 0 count)
+
+-- A trail is added to the list of the reference with which it goes on.
+unfoldable pub sorted_by_reference : List MappingPlan → Trail → List (List Trail) → List (List Trail)
+sorted_by_reference mappings t lists = option_map_or (λ (s : StepPlan). added_at s.reference t lists) (next_step mappings t) lists
+
+-- For each of so many indexes, the trails of a container that lead to the slot of this reference and of the index.
+unfoldable pub by_index : List MappingPlan → ℕ → ℕ → List Trail → List (List Trail)
+by_index mappings reference count trails = map (λ i. trails_at mappings reference i trails) (range_with_len 0 count)
+
+-- A trail is added to the list of its index, and where it has none to each.
+abbrev pub added_by_index : Option ℕ → Trail → List (List Trail) → List (List Trail)
+added_by_index (Some index) t lists = added_at index t lists
+added_by_index None t lists = added_to_each t lists
+
+-- The trail one step further.
+abbrev pub further : Trail → Trail
+further t = record { mapping = t.mapping; steps = t.steps + 1 }
+
+-- A trail that goes on with this reference is added, one step further, by its index.
+unfoldable pub sorted_by_index : List MappingPlan → ℕ → Trail → List (List Trail) → List (List Trail)
+sorted_by_index mappings reference t lists = option_map_or (λ (s : StepPlan). if s.reference == reference then added_by_index s.index (further t) lists else lists) (next_step mappings t) lists

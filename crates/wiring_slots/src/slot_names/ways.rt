@@ -1,0 +1,195 @@
+//! Mapped paths by number.
+ghost use Rattle.std.specs.Prelude.{◌≡◌, ◌++◌, IfOk, OnOk, map, option_map, option_and_then};
+ghost use Rattle.room_ast.specs.MappingTree.{mapping_view, mappings_of as mappings_tree};
+ghost use Rattle.room_ast.specs.Trees.{subsystem_item_view};
+ghost use Rattle.wiring_slots.specs.slot_names.Ways.{stepped, step_in, further, walked, path_end, byte_or_zero, controller_of, mappings_of, all_mappings, item_mappings};
+ghost use Rattle.wiring_slots.specs.slot_names.Wireds.{way_view};
+
+use crate::slot_tree::{MappingPlan, StepPlan};
+use check_tables::Container;
+use name_tables::NameIndex;
+use room_ast::{Mapping, MappingPath, Segment, SubsystemItem};
+use room_kinds::{ControllerId, Sequence};
+use std::alloc::{AllocError, Global};
+use wiring_plan::{class_behind, number_of};
+
+/// How far a path has led.
+#[derive(Drop)]
+pub(crate) struct Way<'t> {
+    pub(crate) steps: Vec<StepPlan>,
+    /// The class in which the path goes on, if there is one.
+    pub(crate) place: Option<&'t Container<'t>>,
+}
+
+/// One step further, by the reference with this number in a class.
+fn stepped<'t>(
+    alloc: Global,
+    actors: &'t [Container<'t>],
+    way: &Way<'t>,
+    index: Option<u64>,
+    class: &Container,
+    reference: u16,
+) -> Result<Way<'t>, AllocError>
+    ensures { IfOk result (λ w. way_view w ≡ stepped actors.entry.now (way_view way.now) index class.now reference) }
+{
+    let mut steps = Vec::from_slice(alloc, way.steps.as_slice())?;
+    steps.push(StepPlan { reference, index })?;
+    let place = class_behind(actors, class, reference);
+    Ok(Way { steps, place })
+}
+
+fn step_in<'t>(
+    alloc: Global,
+    actors: &'t [Container<'t>],
+    way: &Way<'t>,
+    segment: &Segment,
+    class: &Container,
+) -> Result<Option<Way<'t>>, AllocError>
+    ensures { IfOk result (λ w. option_map way_view w ≡ step_in actors.entry.now (way_view way.now) segment.now class.now) }
+{
+    match number_of(&class.reference_names, segment.name.as_bytes()) {
+        Some(reference) => {
+            let next = stepped(alloc, actors, way, segment.index, class, reference)?;
+            Ok(Some(next))
+        }
+        None => Ok(None),
+    }
+}
+
+/// One segment further, if there is such a reference.
+#[tactic(auto, unfolding(crate::specs::slot_names::Ways::further))]
+fn further<'t>(
+    alloc: Global,
+    actors: &'t [Container<'t>],
+    way: &Way<'t>,
+    segment: &Segment,
+) -> Result<Option<Way<'t>>, AllocError>
+    ensures { IfOk result (λ w. option_map way_view w ≡ further actors.entry.now (way_view way.now) segment.now) }
+{
+    match way.place {
+        Some(class) => step_in(alloc, actors, way, segment, class),
+        None => Ok(None),
+    }
+}
+
+/// So many segments further.
+#[tactic(auto, using(crate::proofs::slot_names::Steps::walk_start, crate::proofs::slot_names::Steps::walk_more, crate::proofs::slot_names::Steps::walk_stops, crate::proofs::slot_names::Steps::walk_ends))]
+fn walked<'t>(
+    alloc: Global,
+    actors: &'t [Container<'t>],
+    way: Way<'t>,
+    segments: &[Segment],
+) -> Result<Option<Way<'t>>, AllocError>
+    ensures { IfOk result (λ w. option_map way_view w ≡ walked actors.entry.now (way_view way.entry) segments.now) }
+{
+    let mut reached = way;
+    for segment in segments {
+        let Some(next) = further(alloc, actors, &reached, segment)? else {
+            return Ok(None);
+        };
+        reached = next;
+    }
+    Ok(Some(reached))
+}
+
+/// Where a path leads, if it exists.
+fn path_end<'t>(
+    alloc: Global,
+    actors: &'t [Container<'t>],
+    way: &Way<'t>,
+    path: &MappingPath,
+) -> Result<Option<Way<'t>>, AllocError>
+    ensures { IfOk result (λ w. option_map way_view w ≡ path_end actors.entry.now (way_view way.now) path.now) }
+{
+    let Some(first) = further(alloc, actors, way, &path.first)? else {
+        return Ok(None);
+    };
+    walked(alloc, actors, first, path.others.as_slice())
+}
+
+fn byte_or_zero(number: usize) -> u8
+    ensures { result ≡ byte_or_zero number }
+{
+    if number <= 255 { number as u8 } else { 0 }
+}
+
+/// The controller of a thread.
+fn controller_of(threads: &NameIndex, name: &[u8]) -> ControllerId
+    ensures { result ≡ controller_of threads.now name.now }
+{
+    let number = match threads.place_of(name) {
+        Some(number) => number,
+        None => 0,
+    };
+    ControllerId(byte_or_zero(number))
+}
+
+/// The mapping that leads here.
+fn plan_of(alloc: Global, way: &Way, controller: ControllerId) -> Result<MappingPlan, AllocError>
+    ensures { IfOk result (λ m. m ≡ record { steps = (way_view way.now).steps; controller = controller }) }
+{
+    let steps = Vec::from_slice(alloc, way.steps.as_slice())?;
+    Ok(MappingPlan {
+        steps: Sequence::from(steps),
+        controller,
+    })
+}
+
+/// Adds a mapping, and then those in its braces.
+#[cycle(mappings)]
+fn add_mapping<'t>(
+    alloc: Global,
+    plans: &mut Vec<MappingPlan>,
+    actors: &'t [Container<'t>],
+    threads: &NameIndex,
+    way: &Way<'t>,
+    mapping: &Mapping,
+) -> Result<(), AllocError>
+    ensures { OnOk result (plans.new.items ≡ plans.old.items ++ mappings_of actors.entry.now threads.now (way_view way.now) (mapping_view mapping.now)) }
+{
+    let Some(end) = path_end(alloc, actors, way, &mapping.path)? else {
+        return Ok(());
+    };
+    let controller = controller_of(threads, mapping.thread.as_bytes());
+    plans.push(plan_of(alloc, &end, controller)?)?;
+    match &mapping.nested {
+        Some(nested) => add_all(alloc, plans, actors, threads, &end, nested),
+        None => Ok(()),
+    }
+}
+
+#[cycle(mappings)]
+fn add_all<'t>(
+    alloc: Global,
+    plans: &mut Vec<MappingPlan>,
+    actors: &'t [Container<'t>],
+    threads: &NameIndex,
+    way: &Way<'t>,
+    mappings: &Vec<Mapping>,
+) -> Result<(), AllocError>
+    ensures { OnOk result (plans.new.items ≡ plans.old.items ++ all_mappings actors.entry.now threads.now (way_view way.now) (mappings_tree (map mapping_view mappings.now.items))) }
+{
+    for mapping in mappings {
+        add_mapping(alloc, plans, actors, threads, way, mapping)?;
+    }
+    Ok(())
+}
+
+/// Adds the mappings that an item of a subsystem class is.
+pub(crate) fn add_item<'t>(
+    alloc: Global,
+    plans: &mut Vec<MappingPlan>,
+    actors: &'t [Container<'t>],
+    threads: &NameIndex,
+    way: &Way<'t>,
+    item: &SubsystemItem,
+) -> Result<(), AllocError>
+    ensures { OnOk result (plans.new.items ≡ plans.old.items ++ item_mappings actors.entry.now threads.now (way_view way.now) (subsystem_item_view item.now)) }
+{
+    match item {
+        SubsystemItem::Mapping(mapping) => {
+            add_mapping(alloc, plans, actors, threads, way, mapping)
+        }
+        _ => Ok(()),
+    }
+}

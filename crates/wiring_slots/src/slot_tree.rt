@@ -1,0 +1,17 @@
+//! The slots of a model's structure: each actor reference that is wired, with its index, depth first.
+//!
+//! A slot is a place at which an actor may stand (ROOM: Selic, Gullekson and Ward 1994). The order of
+//! the numbers, the owners and the limits are this project's own. The slots are made with a stack of
+//! those that wait, so that neither deep containment nor a structure that stands for more slots than
+//! the limit takes more room than the limit.
+
+mod children;
+mod leading;
+mod names;
+mod owners;
+mod places;
+mod slots;
+
+pub use names::{MappingPlan, ReferenceLabel, SlotNames, StepPlan};
+pub use places::has_too_many_places;
+pub use slots::slots_of;

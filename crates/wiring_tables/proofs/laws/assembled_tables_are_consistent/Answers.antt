@@ -1,5 +1,0 @@
-use Rattle.wiring_tables.proofs.Consistent.{assembled_consistent}
-use Rattle.wiring_tables.proofs.laws.assembled_tables_are_consistent.Goals as goal
-
-pub returns : goal.returns
-returns c = λ m joins partners told known few limit complete. assembled_consistent m joins partners told known few limit complete
