@@ -3,8 +3,8 @@
 # sum of 524,288 ones (1 MiB of text), which is read, checked and run once.
 set -eu
 . "$(dirname "${BASH_SOURCE[0]}")/timing.sh"
-program="$(program_of action_speed)"
+program="$(program_of room_bench)"
 
-took="$(best "$program" run 1000)"
+took="$(best "$program" actions run 1000)"
 echo "65,025,000 additions: $((took / 1000)) ms, $((65025000 / took)) million a second"
-echo "1 MiB of a sum is read, checked and run: $(($(best "$program" sum 524288) / 1000)) ms"
+echo "1 MiB of a sum is read, checked and run: $(($(best "$program" actions sum 524288) / 1000)) ms"

@@ -3,12 +3,12 @@
 # other, and on one 16 deep, where each message leaves and enters all 16 states.
 set -eu
 . "$(dirname "${BASH_SOURCE[0]}")/timing.sh"
-program="$(program_of chart_speed)"
+program="$(program_of room_bench)"
 
 # So many messages on a chart.
 measure() {
     local chart="$1" messages="$2" took
-    took="$(best "$program" "$chart" "$messages")"
+    took="$(best "$program" charts "$chart" "$messages")"
     echo "$chart: $messages messages in $((took / 1000)) ms, $((messages * 1000 / took)) thousand a second"
 }
 

@@ -21,8 +21,7 @@ model_of() {
     }'
 }
 
-model_of 1000 >"$work/model.room"
-"$top/room" check "$work/model.room" 2>"$work/notes" || true
+"$top/room" --prove
 before=0
 for size in 262144 524288 1048576; do
     model_of "$size" >"$work/model.room"

@@ -5,7 +5,7 @@
 set -eu
 . "$(dirname "${BASH_SOURCE[0]}")/timing.sh"
 count="${1:-2000000}"
-program="$(program_of mail_bench)"
+program="$(program_of room_bench)"
 
 # The best of three runs, in millions a second.
 fastest() {
@@ -14,7 +14,7 @@ fastest() {
         END { for (i = 1; i <= n; i++) printf "%-28s %7.2f million a second\n", order[i], most[order[i]] }'
 }
 
-fastest "$program" "$count"
+fastest "$program" mail "$count"
 
 command -v rustc >/dev/null || exit 0
 cat >"$work/plain.rs" <<'RUST'

@@ -36,14 +36,14 @@ Transition r: B -> A { triggers { <kick: go> } action { "n = n + 1;" } } } } }
 }
 MODEL
 
-program="$(program_of run_speed)"
-"$top/room" check "$work/one.room" >/dev/null
+program="$(program_of room_bench)"
+"$top/room" --prove
 
 # Runs a model over a file of injections five times, and tells the least times.
 measure() {
     local name="$1" inject="$2" whole
     whole="$(best "$top/room" run "$work/$name.room" "$work/$inject" --fuel 100000)"
-    for _ in 1 2 3 4 5; do "$program" "$work/$name.room" "$work/$inject"; done |
+    for _ in 1 2 3 4 5; do "$program" run "$work/$name.room" "$work/$inject"; done |
         awk -v name="$name" -v whole="$whole" '
             { run = $7; text = $11; if (NR == 1 || run < least) least = run; if (NR == 1 || text < made) made = text }
             END { printf "%s: %d messages, %d entries: run %.1f ms (%.0f thousand messages a second), text %.1f ms, the whole program %.1f ms\n",
