@@ -1,34 +1,143 @@
 #!/usr/bin/env bash
-# How long reading a model takes: texts of 256 KiB, 512 KiB and 1 MiB of many small classes, which
-# are read whole and refused by a rule. The ratio is that to the text of half the size; it should
-# stay near 2. Beside it stands how long a plain read of the same bytes takes.
+# Whether the cost of a text grows with the text: for each kind of text the instructions that the
+# whole program takes (counted by valgrind, so no load of the machine changes them) on a quarter, a
+# half and the whole of SIZE bytes, and the ratios to the text of half the size. Where the cost is
+# linear a ratio is at most 2.3; `!` marks one above it.
+#
+#   bench/front_end.sh                 64 KiB, a few minutes
+#   SIZE=1048576 bench/front_end.sh    1 MiB
+#   KINDS='states points' bench/front_end.sh
+#
+# The last column is the most memory that the program had allocated on the whole text, in bytes for
+# each byte of it. Of journals only the writing of their text is counted, and the memory of the run.
+#
+# Rule 25 and the limits of the wiring hold at any size: of a kind of which a model may have no more
+# than so many the text is as long as they allow.
 set -eu
 . "$(dirname "${BASH_SOURCE[0]}")/timing.sh"
 
-# A model of at most so many bytes: a head, and as many small actor classes as fit.
-model_of() {
-    awk -v most="$1" 'BEGIN {
-        text = "RoomModel M {\nLogicalSystem L { SubSystemRef s: S }\nSubSystemClass S { ActorRef top: C0 }\n"
-        printf "%s", text
-        size = length(text)
-        for (i = 0; ; i++) {
-            text = sprintf("ActorClass C%d { Structure { Port p: P%d Attribute a: int32 = %d } Behavior { StateMachine { Transition i: initial -> A State A State B Transition t: A -> B { triggers { <m: p> } } } } }\n", i, i, i)
-            if (size + length(text) + 1 > most) break
+size="${SIZE:-65536}"
+kinds="${KINDS:-references mappings nested_mappings bindings layers ports classes messages states
+transitions choices points composites attributes data_classes services injections journals}"
+program="${ROOM_PROGRAM:-$top/crates/room/out/room}"
+
+head='RoomModel M {\nLogicalSystem L { SubSystemRef s: S }\nProtocolClass P { incoming { Message go() } outgoing { Message ok() } }\n'
+top_class='SubSystemClass S { ActorRef a: A }\n'
+chart="${head}${top_class}ActorClass A { Interface { Port p: P } Structure { external Port p } Behavior { StateMachine {\nTransition b: initial -> S\nState S\n"
+chart_end='} } } }'
+end_class='ActorClass B { Interface { Port p: P conjugated Port q: P } Structure { external Port p external Port q } }\n'
+
+# A text of at most so many bytes: a beginning, lines with a number each, at most so many of them,
+# and an end. `#` stands for the number, `@` for the number before it.
+fill() {
+    awk -v most="$1" -v start="$2" -v line="$3" -v stop="$4" -v limit="${5:-1000000}" 'BEGIN {
+        size = length(start) + length(stop)
+        printf "%s", start
+        for (i = 1; i <= limit; i++) {
+            text = line
+            gsub(/#/, i, text)
+            gsub(/@/, i - 1, text)
+            if (size + length(text) > most) break
             printf "%s", text
             size += length(text)
         }
-        printf "}"
+        printf "%s", stop
     }'
 }
 
-"$top/room" --prove
-before=0
-for size in 262144 524288 1048576; do
-    model_of "$size" >"$work/model.room"
-    "$top/room" check "$work/model.room" >/dev/null 2>"$work/notes" || true
-    note="$(tail -n 1 "$work/notes")"
-    took="$(best "$top/room" check "$work/model.room")"
-    plain="$(best wc -c "$work/model.room")"
-    echo "$size bytes: $took us, ratio $(ratio "$took" "$before"), plain read $plain us ($note)"
-    before="$took"
+# The text of a kind, of at most so many bytes.
+text_of() {
+    local most="$2"
+    case "$1" in
+    references) fill "$most" "${head}${top_class}ActorClass B { }\nActorClass A { Structure {\n" 'ActorRef r#: B\n' '} }\n}' ;;
+    mappings) fill "$most" "${head}ActorClass A { }\nSubSystemClass S { LogicalThread t\n" 'ActorRef r#: A ActorInstanceMapping r# -> t\n' '}\n}' ;;
+    nested_mappings) fill "$most" "${head}ActorClass B { }\nActorClass A { Structure { ActorRef b: B } }\nSubSystemClass S { LogicalThread t\n" 'ActorRef r#: A ActorInstanceMapping r# -> t { ActorInstanceMapping b -> t }\n' '}\n}' ;;
+    bindings) fill "$most" "${head}${top_class}${end_class}ActorClass A { Structure { ActorRef r0: B\n" 'ActorRef r#: B Binding r#.p and r@.q\n' '} }\n}' ;;
+    layers) fill "$most" "${head}${top_class}ActorClass C { Structure { SAP s: P } }\nActorClass D { Interface { SPP s: P } }\nActorClass A { Structure { ActorRef d: D\n" 'ActorRef r#: C LayerConnection ref r# satisfied_by d.s\n' '} }\n}' ;;
+    ports) fill "$most" "${head}${top_class}ActorClass A { Structure {\n" 'Port p#: P\n' '} }\n}' 60000 ;;
+    classes) fill "$most" "${head}${top_class}ActorClass A { }\n" 'ActorClass C# { Interface { Port p: P } Structure { external Port p ActorRef a: A } }\n' '}' 59000 ;;
+    messages) fill "$most" "${head}${top_class}ActorClass A { }\nProtocolClass Q { incoming {\n" 'Message m#(int8)\n' '} } }' 60000 ;;
+    states) fill "$most" "$chart" 'State S#\n' "$chart_end" 59999 ;;
+    transitions) fill "$most" "$chart" 'State S# Transition t#: S# -> S# { triggers { <go: p> } }\n' "$chart_end" ;;
+    choices) fill "$most" "$chart" 'ChoicePoint c# Transition t#: S -> cp c# { triggers { <go: p> } } Transition d#: cp c# -> S\n' "$chart_end" ;;
+    points) fill "$most" "$chart" 'TransitionPoint q# Transition t#: my q# -> S { triggers { <go: p> } }\n' "$chart_end" ;;
+    composites) fill "$most" "$chart" 'State S# { subgraph { Transition b: initial -> S State S EntryPoint in ExitPoint out Transition f: my in -> S Transition l: S -> my out { triggers { <go: p> } } } } Transition t#: S -> in of S# { triggers { <go: p> } } Transition o#: out of S# -> S\n' "$chart_end" ;;
+    attributes) fill "$most" "${head}${top_class}ActorClass A { Structure {\n" 'Attribute an_attribute_with_a_longer_name_#: int8 = 1\n' '} }\n}' 4096 ;;
+    data_classes) fill "$most" "${head}${top_class}ActorClass A { }\n" 'DataClass D# { Attribute x: int8 = 1 Attribute y: int16 }\n' '}' 59000 ;;
+    services) fill "$most" "$chart" "Transition t#: S -> S { triggers { <go: p> } action { \"register p as name_#;\" } }\n" "$chart_end" ;;
+    *) return 1 ;;
+    esac
+}
+
+# The model of one actor that counts its messages, on which injections are read and journals written.
+one='RoomModel One {
+LogicalSystem L { SubSystemRef s: S }
+SubSystemClass S { ActorRef top: T }
+ProtocolClass G { incoming { Message kick(int32) } outgoing { } }
+ActorClass T { Structure { Port go: G Attribute n: int32 } Behavior { StateMachine {
+Transition i: initial -> A State A
+Transition k: A -> A { triggers { <kick: go> } action { "n = n + data;" } } } } }
+}'
+
+# How many instructions the program takes, whatever its status.
+instructions() {
+    valgrind --tool=callgrind --callgrind-out-file="$work/calls" "$program" "$@" 2>&1 >"$work/answer" |
+        awk '/Collected/ { print $4 }'
+}
+
+# How many of them went into the text of the journals.
+instructions_of_text() {
+    callgrind_annotate --inclusive=yes "$work/calls" 2>/dev/null |
+        awk '/ journal::|:journal::/ { gsub(",", "", $1); print $1; exit }'
+}
+
+# The most bytes that the program had allocated at once.
+most_heap() {
+    valgrind --tool=dhat --dhat-out-file=/dev/null "$program" "$@" 2>&1 >/dev/null |
+        awk '/At t-gmax/ { gsub(",", "", $4); print $4 }'
+}
+
+# Runs the program on a text of a kind and of at most so many bytes: sets `bytes`, `took` and `words`.
+run_on() {
+    case "$1" in
+    injections)
+        # No fuel for a turn more than one: what is left is the reading.
+        fill "$2" '' 'top.go kick # at low\n' '' 10000 >"$work/inject.txt"
+        printf '%s' "$one" >"$work/model.room"
+        words=(run "$work/model.room" "$work/inject.txt" --fuel 1)
+        took="$(instructions "${words[@]}")"
+        bytes="$(stat -c %s "$work/inject.txt")"
+        ;;
+    journals)
+        # The text of the journals is some ten times as long as the injections.
+        fill "$(($2 / 10))" '' 'top.go kick #\n' '' 10000 >"$work/inject.txt"
+        printf '%s' "$one" >"$work/model.room"
+        words=(run "$work/model.room" "$work/inject.txt" --fuel 100000)
+        instructions "${words[@]}" >/dev/null
+        took="$(instructions_of_text)"
+        bytes="$(stat -c %s "$work/answer")"
+        ;;
+    *)
+        text_of "$1" "$2" >"$work/model.room"
+        words=(check "$work/model.room")
+        took="$(instructions "${words[@]}")"
+        bytes="$(stat -c %s "$work/model.room")"
+        ;;
+    esac
+}
+
+[ -n "${ROOM_PROGRAM:-}" ] || "$top/room" --prove
+echo "processors $(nproc), load $(cut -d ' ' -f 1-3 /proc/loadavg)"
+printf '%-16s %10s %14s %8s %10s %12s\n' kind bytes instructions ratio per_byte heap_per_byte
+for kind in $kinds; do
+    last=0
+    for part in 4 2 1; do
+        run_on "$kind" "$((size / part))"
+        memory=-
+        [ "$part" -gt 1 ] || memory="$(($(most_heap "${words[@]}") / bytes))"
+        grown="$(ratio "$took" "$last")"
+        mark="$(awk -v r="$grown" 'BEGIN { print (r != "-" && r > 2.3) ? "!" : "" }')"
+        printf '%-16s %10s %14s %8s %10s %12s\n' "$kind" "$bytes" "$took" "$grown$mark" "$((took / bytes))" "$memory"
+        last="$took"
+    done
 done

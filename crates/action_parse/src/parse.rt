@@ -15,8 +15,8 @@ use crate::recogniser::accepts;
 use crate::repeats::repeats_within;
 use action_program::{ActionFault, Expr, Program};
 use std::alloc::Global;
-use token_reading::ReadFault;
-use token_reading::action_tokens::{ActionToken, Rest, action_tokens, place};
+use token_reading::action_tokens::{ActionToken, Rest, action_tokens};
+use token_reading::{ReadFault, place};
 
 /// How deep blocks, parentheses and signs may nest, together.
 const DEPTH: usize = 64;

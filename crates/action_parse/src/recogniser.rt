@@ -15,10 +15,8 @@ use crate::action_reading::{
 use crate::goal::Goal;
 use room_lexer::Mark;
 use std::alloc::{AllocError, Global};
-use token_reading::ReadFault;
-use token_reading::action_tokens::{
-    ActionWord, Kind, Rest, comes, comes_word, name, next, number, place, skip, take_mark,
-};
+use token_reading::action_tokens::{ActionWord, Kind, Rest};
+use token_reading::{ReadFault, comes, comes_word, name, next, number, place, skip, take_mark};
 
 // Goals in the order in which they are put on the stack: what is expected first comes last.
 

@@ -34,12 +34,12 @@ fn payload(
     ensures value { IfOk result (λ p. p ≡ payload_of (map argument_view arguments.now) vars.now at.now) }
     ensures notes { OnOk result (notes.new ≡ notes.old ++ argument_notes (map argument_view arguments.now) vars.now at.now) }
 {
-    let mut numbers = Vec::new(alloc);
+    let mut payload = Payload::empty(alloc);
     for argument in arguments {
         let number = value(&argument.value, vars, at, notes)?;
-        numbers.push(argument.kind.reduce(number))?;
+        payload.push(argument.kind.reduce(number))?;
     }
-    Ok(Payload::from_vec(numbers))
+    Ok(payload)
 }
 
 /// The value of a place, if there is one.

@@ -6,6 +6,7 @@ use Rattle.std.proofs.lemmas.List.{append-nil}
 use Rattle.room_kinds.specs.declared.message.Msg.{Msg}
 use Rattle.room_kinds.specs.declared.note.Note.{Note}
 use Rattle.room_kinds.specs.declared.command.Command.{Command}
+use Rattle.room_kinds.specs.declared.command.FrameCommand.{FrameCommand}
 use Rattle.room_kinds.specs.declared.command.Command.TheVariants as commands
 use Rattle.room_kinds.specs.declared.numbers.Incarnation.{Incarnation}
 use Rattle.room_kinds.specs.declared.numbers.Priority.{Priority}
@@ -18,6 +19,7 @@ use Rattle.frame_lives.proofs.Rows.{updated_here, updated_else}
 use Rattle.chart_behaviour.specs.ModelCharts.{Actor}
 use Rattle.actor_commands.specs.declared.command_sends.said.Said.{Said}
 use Rattle.actor_commands.specs.command_sends.Adding.{Adds}
+use Rattle.actor_commands.specs.command_sends.Asking.{FrameAsked}
 use Rattle.actor_commands.specs.deferred_messages.Steps.{Applies as KeptStep}
 use Rattle.actor_commands.specs.declared.doing.Doing.{Doing}
 use Rattle.actor_commands.specs.Doings.{doing_on, said_at, Keeps, Applies, AppliesAll}
@@ -56,6 +58,13 @@ same_doing : (f : Frame) (l : Links) (b : Body Actor) {held held' : ℕ → List
     (record { body = record b { frame = f; links = l; deferred = held' }; sent = sent'; back = back'; notes = notes'; kept = kept' })
 same_doing f l b p q r s u = cc
 
+-- the same, with another state of the services and more messages
+same_asked : (b : Body Actor) (s : ℕ) (old : Doing) {f f' : Frame} {l l' : Links} {sent sent' : List Msg} → f ≡ f' → l ≡ l' → sent ≡ sent'
+    → ◌≡◌ {A = WorldDoing Actor}
+    (record { body = record b { frame = f; links = l; deferred = updated b.deferred s old.deferred }; sent = sent; back = old.back; notes = old.said.notes; kept = old.kept })
+    (record { body = record b { frame = f'; links = l'; deferred = updated b.deferred s old.deferred }; sent = sent'; back = old.back; notes = old.said.notes; kept = old.kept })
+same_asked b s old p q r = cc
+
 module _ (t : Tables) (me : ℕ) (f : Frame) (l : Links) (x : Incarnation) (m : Option Msg) where
   keeping_on : (b : Body Actor) (k : Kept) (kept : Bool) (old new : Doing) → Keeps k kept old new
       → keeping (doing_on f l b x.slot.0 old) x.slot.0 kept k ≡ doing_on f l b x.slot.0 new
@@ -68,21 +77,21 @@ module _ (t : Tables) (me : ℕ) (f : Frame) (l : Links) (x : Incarnation) (m : 
   held_here : (b : Body Actor) (ds : List Msg) → updated b.deferred x.slot.0 ds x.slot.0 ≡ ds
   held_here b ds = updated_here b.deferred x.slot.0 x.slot.0 ds refl
 
-  pub defers : (old new : Doing) → Keeps (defer old.kept m old.deferred) true old new → Applies t me f l x m commands.Defer old new
+  pub defers : (old new : Doing) → Keeps (defer old.kept m old.deferred) true old new → Applies t me f l f l x m commands.Defer old new
   defers old new h = record {
     on = λ b.
         ap (λ ds. keeping (doing_on f l b x.slot.0 old) x.slot.0 true (defer old.kept m ds)) (held_here b old.deferred)
         ∙ keeping_on b (defer old.kept m old.deferred) true old new h;
   }
 
-  pub recalls : (old new : Doing) → Keeps (recall old.deferred) old.kept old new → Applies t me f l x m commands.Recall old new
+  pub recalls : (old new : Doing) → Keeps (recall old.deferred) old.kept old new → Applies t me f l f l x m commands.Recall old new
   recalls old new h = record {
     on = λ b.
         ap (λ ds. keeping (doing_on f l b x.slot.0 old) x.slot.0 old.kept (recall ds)) (held_here b old.deferred)
         ∙ keeping_on b (recall old.deferred) old.kept old new h;
   }
 
-  pub recalls_all : (old new : Doing) → Keeps (recall_all old.deferred) old.kept old new → Applies t me f l x m commands.RecallAll old new
+  pub recalls_all : (old new : Doing) → Keeps (recall_all old.deferred) old.kept old new → Applies t me f l f l x m commands.RecallAll old new
   recalls_all old new h = record {
     on = λ b.
         ap (λ ds. keeping (doing_on f l b x.slot.0 old) x.slot.0 old.kept (recall_all ds)) (held_here b old.deferred)
@@ -97,21 +106,30 @@ module _ (t : Tables) (me : ℕ) (f : Frame) (l : Links) (x : Incarnation) (m : 
 
   pub sends : (p : ℕ) (k : Option ℤ) (signal : ℕ) (payload : List ℤ) (prio : Priority) (old : Doing) (said : Said)
       → Adds (said_at t me f l x p k (record { signal = signal; payload = payload; prio = prio })) old.said said
-      → Applies t me f l x m (commands.Send p k signal payload prio) old (record old { said = said })
+      → Applies t me f l f l x m (commands.Send p k signal payload prio) old (record old { said = said })
   sends p (Some k) signal payload prio old said h = record { on = λ b. sending_on b _ old said h }
   sends p None signal payload prio old said h = record { on = λ b. sending_on b _ old said h }
 
+  -- ---- what is asked of the frame service
+
+  pub asks_frame : (c : FrameCommand) (f' : Frame) (l' : Links) (old : Doing) (out : List Msg) → FrameAsked t me x c f l f' l' old.said.messages out
+      → Applies t me f l f' l' x m (commands.Frame c) old (record old { said = record { messages = out; notes = old.said.notes } })
+  asks_frame c f' l' old out h = record {
+    on = λ b. same_asked b x.slot.0 old (sym h.frame) (sym h.links) (sym h.sent);
+  }
+
   -- ---- one after another
 
-  pub none_applied : (d : Doing) → AppliesAll t me f l x m [] d d
+  pub none_applied : (d : Doing) → AppliesAll t me f l f l x m [] d d
   none_applied d = record { on = λ b. refl }
 
   last_applied : (cs : List Command) (c : Command) (d : WorldDoing Actor) → apply_all t me x m (cs ++ c ∷ []) d ≡ apply t me x m (apply_all t me x m cs d) c
   last_applied [] c d = refl
   last_applied (first ∷ cs) c d = last_applied cs c (apply t me x m d first)
 
-  pub more_applied : (cs : List Command) (c : Command) (first old new : Doing) → AppliesAll t me f l x m cs first old → Applies t me f l x m c old new
-      → AppliesAll t me f l x m (cs ++ c ∷ []) first new
-  more_applied cs c first old new h k = record {
+  pub more_applied : (f' : Frame) (l' : Links) (f'' : Frame) (l'' : Links) (cs : List Command) (c : Command) (first old new : Doing)
+      → AppliesAll t me f l f' l' x m cs first old → Applies t me f' l' f'' l'' x m c old new
+      → AppliesAll t me f l f'' l'' x m (cs ++ c ∷ []) first new
+  more_applied f' l' f'' l'' cs c first old new h k = record {
     on = λ b. last_applied cs c (doing_on f l b x.slot.0 first) ∙ ap (λ d. apply t me x m d c) (h.on b) ∙ k.on b;
   }

@@ -35,10 +35,10 @@ pub record Keeps (k : Kept) (held : Bool) (old new : Doing) : Type 0 where
   pub back : new.back ≡ k.back ++ old.back
   pub kept : new.kept ≡ held
 
--- one command is applied, whatever else the body has
-pub record Applies (t : Tables) (me : ℕ) (f : Frame) (l : Links) (x : Incarnation) (m : Option Msg) (c : Command) (old new : Doing) : Type 0 where
-  pub on : (b : Body Actor) → apply t me x m (doing_on f l b x.slot.0 old) c ≡ doing_on f l b x.slot.0 new
+-- one command is applied, whatever else the body has: from this state of the services to that
+pub record Applies (t : Tables) (me : ℕ) (f : Frame) (l : Links) (f' : Frame) (l' : Links) (x : Incarnation) (m : Option Msg) (c : Command) (old new : Doing) : Type 0 where
+  pub on : (b : Body Actor) → apply t me x m (doing_on f l b x.slot.0 old) c ≡ doing_on f' l' b x.slot.0 new
 
--- commands are applied in order, whatever else the body has
-pub record AppliesAll (t : Tables) (me : ℕ) (f : Frame) (l : Links) (x : Incarnation) (m : Option Msg) (cs : List Command) (old new : Doing) : Type 0 where
-  pub on : (b : Body Actor) → apply_all t me x m cs (doing_on f l b x.slot.0 old) ≡ doing_on f l b x.slot.0 new
+-- commands are applied in order, whatever else the body has; each sees what those before it changed
+pub record AppliesAll (t : Tables) (me : ℕ) (f : Frame) (l : Links) (f' : Frame) (l' : Links) (x : Incarnation) (m : Option Msg) (cs : List Command) (old new : Doing) : Type 0 where
+  pub on : (b : Body Actor) → apply_all t me x m cs (doing_on f l b x.slot.0 old) ≡ doing_on f' l' b x.slot.0 new

@@ -1,72 +1,75 @@
 //! Commands, one and several.
-ghost use Rattle.std.specs.Prelude.{OnOk};
+ghost use Rattle.std.specs.Prelude.{◌<◌, length, OnOk};
 ghost use Rattle.std.specs.Option.{option_copied};
 ghost use Rattle.actor_duties.specs.Commands.{broadcast};
 ghost use Rattle.actor_commands.specs.command_sends.Adding.{Adds, content_of};
 ghost use Rattle.actor_commands.specs.Doings.{Applies, AppliesAll, said_at};
 
-use crate::command_sends::{Content, Peers, Said, Speaker, broadcast, send};
+use crate::command_sends::{Content, Said, Services, Speaker, broadcast, send};
 use crate::doing::Doing;
 use room_kinds::{Command, Msg};
 use std::alloc::{AllocError, Global};
 
 /// A send at all places of a port.
-fn send_to_all<P: Peers>(
+fn send_to_all<S: Services>(
     alloc: Global,
     speaker: &Speaker<'_>,
-    peers: &P,
+    services: &S,
     port: u16,
     content: &Content<'_>,
     said: &mut Said,
 ) -> Result<(), AllocError>
-    ensures { OnOk result (Adds (broadcast speaker.now.wiring.now speaker.now.me.0 (P.frame_of peers.now) (P.links_of peers.now) speaker.now.who port (content_of content.now)) said.old said.new) }
+    requires serves { S.serves speaker.now.wiring.now speaker.now.me.0 services.now }
+    requires there { speaker.now.who.slot.0 < length speaker.now.wiring.now.slots }
+    ensures { OnOk result (Adds (broadcast speaker.now.wiring.now speaker.now.me.0 (S.frame_of services.now) (S.links_of services.now) speaker.now.who port (content_of content.now)) said.old said.new) }
 {
-    // An actor stands in a slot of the wiring, and a program names ports of its class alone, so neither
-    // refusal ever comes.
-    if u32::from(speaker.who.slot.0) >= speaker.wiring.slot_count() {
-        return Err(AllocError);
-    }
+    // A program names ports of its class alone, so this refusal never comes.
     if usize::from(port) >= speaker.wiring.port_count(speaker.who.slot) {
         return Err(AllocError);
     }
-    broadcast(alloc, speaker, peers, port, content, said)
+    broadcast(alloc, speaker, services, port, content, said)
 }
 
 /// A send at a place of a port; without a place, at all of them.
-fn say<P: Peers>(
+fn say<S: Services>(
     alloc: Global,
     speaker: &Speaker<'_>,
-    peers: &P,
+    services: &S,
     port: u16,
     place: Option<i64>,
     content: &Content<'_>,
     said: &mut Said,
 ) -> Result<(), AllocError>
-    ensures { OnOk result (Adds (said_at speaker.now.wiring.now speaker.now.me.0 (P.frame_of peers.now) (P.links_of peers.now) speaker.now.who port place (content_of content.now)) said.old said.new) }
+    requires serves { S.serves speaker.now.wiring.now speaker.now.me.0 services.now }
+    requires there { speaker.now.who.slot.0 < length speaker.now.wiring.now.slots }
+    ensures { OnOk result (Adds (said_at speaker.now.wiring.now speaker.now.me.0 (S.frame_of services.now) (S.links_of services.now) speaker.now.who port place (content_of content.now)) said.old said.new) }
 {
     match place {
         Some(at) => {
-            send(alloc, speaker, peers, port, at, content, said)?;
+            send(alloc, speaker, services, port, at, content, said)?;
             Ok(())
         }
         None => {
-            send_to_all(alloc, speaker, peers, port, content, said)?;
+            send_to_all(alloc, speaker, services, port, content, said)?;
             Ok(())
         }
     }
 }
 
 /// Applies a command of the speaker, who has this message in hand, or none.
-#[tactic(auto, using(crate::proofs::Steps::sends, crate::proofs::Steps::defers, crate::proofs::Steps::recalls, crate::proofs::Steps::recalls_all))]
-fn apply<P: Peers>(
+#[tactic(auto, using(crate::proofs::Steps::sends, crate::proofs::Steps::asks_frame, crate::proofs::Steps::defers, crate::proofs::Steps::recalls, crate::proofs::Steps::recalls_all))]
+fn apply<S: Services>(
     alloc: Global,
     speaker: &Speaker<'_>,
-    peers: &P,
+    services: &mut S,
     message: Option<&Msg>,
     command: &Command,
     doing: &mut Doing,
 ) -> Result<(), AllocError>
-    ensures { OnOk result (Applies speaker.now.wiring.now speaker.now.me.0 (P.frame_of peers.now) (P.links_of peers.now) speaker.now.who (option_copied message.entry) command.now doing.old doing.new) }
+    requires serves { S.serves speaker.now.wiring.now speaker.now.me.0 services.old }
+    requires there { speaker.now.who.slot.0 < length speaker.now.wiring.now.slots }
+    ensures serves { OnOk result (S.serves speaker.now.wiring.now speaker.now.me.0 services.new) }
+    ensures applied { OnOk result (Applies speaker.now.wiring.now speaker.now.me.0 (S.frame_of services.old) (S.links_of services.old) (S.frame_of services.new) (S.links_of services.new) speaker.now.who (option_copied message.entry) command.now doing.old doing.new) }
 {
     match command {
         Command::Send {
@@ -84,7 +87,7 @@ fn apply<P: Peers>(
             say(
                 alloc,
                 speaker,
-                peers,
+                services,
                 *port,
                 *place,
                 &content,
@@ -104,8 +107,17 @@ fn apply<P: Peers>(
             doing.recall_all()?;
             Ok(())
         }
-        // A static model's programs ask neither service for anything; this comes with the services.
-        Command::Frame(_) => Err(AllocError),
+        Command::Frame(command) => {
+            services.ask_frame(
+                speaker.wiring,
+                speaker.me,
+                speaker.who,
+                command,
+                &mut doing.said.messages,
+            )?;
+            Ok(())
+        }
+        // Models that register names don't run yet; this comes with the layer service.
         Command::Name(_) => Err(AllocError),
     }
 }
@@ -113,18 +125,21 @@ fn apply<P: Peers>(
 /// Applies commands of the speaker in order, in the turn of a message, or at its start without one. After
 /// want of memory what was done is unspecified: the controller has failed.
 #[tactic(auto, using(crate::proofs::Steps::none_applied))]
-pub fn apply_all<P: Peers>(
+pub fn apply_all<S: Services>(
     alloc: Global,
     speaker: &Speaker<'_>,
-    peers: &P,
+    services: &mut S,
     message: Option<&Msg>,
     commands: &[Command],
     doing: &mut Doing,
 ) -> Result<(), AllocError>
-    ensures { OnOk result (AppliesAll speaker.now.wiring.now speaker.now.me.0 (P.frame_of peers.now) (P.links_of peers.now) speaker.now.who (option_copied message.entry) commands.now doing.old doing.new) }
+    requires serves { S.serves speaker.now.wiring.now speaker.now.me.0 services.old }
+    requires there { speaker.now.who.slot.0 < length speaker.now.wiring.now.slots }
+    ensures serves { OnOk result (S.serves speaker.now.wiring.now speaker.now.me.0 services.new) }
+    ensures applied { OnOk result (AppliesAll speaker.now.wiring.now speaker.now.me.0 (S.frame_of services.old) (S.links_of services.old) (S.frame_of services.new) (S.links_of services.new) speaker.now.who (option_copied message.entry) commands.now doing.old doing.new) }
 {
     for command in commands {
-        apply(alloc, speaker, peers, message, command, doing)?;
+        apply(alloc, speaker, services, message, command, doing)?;
     }
     Ok(())
 }

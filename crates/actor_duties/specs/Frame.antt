@@ -1,9 +1,10 @@
--- The frame service of a controller: the duties of the kinds 0 to 11, whose messages must be of the
--- form of a row, and the commands on the life and the import of actors.
+-- The frame service of a controller: the duties of the kinds 0 to 11, 17 and 18, whose messages must
+-- be of the form of a row, and the commands on the life and the import of actors.
 -- `destroy` is a Destroy with all that ends with an actor; `frame_duty` the duty of a kind at a
 -- message of its form. A message of another form does nothing. The commands tell their codes in
 -- order.
 use Rattle.std.specs.Prelude.{ℕ, ℤ, pos, negsuc, ◌==◌, ◌&&◌, ◌||◌, Bool, false, not, List, [], ◌∷◌, ◌++◌, map, flat_map, Option, Some, None, if◌then◌else◌}
+use Rattle.std.specs.Option.{option_map_or}
 use Rattle.room_kinds.specs.declared.message.Msg.{Msg}
 use Rattle.room_kinds.specs.declared.numbers.Incarnation.{Incarnation}
 use Rattle.room_kinds.specs.declared.numbers.Endpoint.{Endpoint}
@@ -13,14 +14,14 @@ use Rattle.room_kinds.specs.declared.command.FrameCommand.{FrameCommand}
 use Rattle.room_kinds.specs.declared.command.FrameCommand.TheVariants as commands
 use Rattle.room_wiring.specs.declared.tables.Tables.{Tables}
 use Rattle.room_wiring.specs.Places.{is_told}
-use Rattle.actor_duties.specs.Words.{updated, incarnation, frame_at, frame_of, whose, is_frame, is_endpoint, of_id, is_own, is_optional, is_imported, is_home, is_part_of, part_at, class_number}
+use Rattle.actor_duties.specs.Words.{updated, incarnation, frame_at, frame_of, whose, is_frame, is_endpoint, of_id, is_own, is_optional, is_imported, is_home, is_part_of, container_of, part_at, class_number}
 use Rattle.actor_duties.specs.Messages.{reply, to_owner, refused_at_once, Code, coded, code_number, NotHere, NoSlot, StaleId, WrongClass, Occupied, Busy}
-use Rattle.actor_duties.specs.State.{Frame, ImportPlace, Empty, Asking, Held, Leaving, Done}
-use Rattle.actor_duties.specs.Lives.{counts_as_live, last_of, Lived, create, create_done, create_refused, destroy_done, announce, announces, ended_slots, lives_ended, is_within}
+use Rattle.actor_duties.specs.State.{Lives, Frame, ImportPlace, Empty, Asking, Held, Leaving, Done}
+use Rattle.actor_duties.specs.Lives.{counts_as_live, last_of, Lived, create, create_done, create_refused, destroy_done, announce, announces, has_part, parts_told, goes_down, ended_slots, lives_ended, part_make}
 use Rattle.actor_duties.specs.Imports.{import, import_done, import_refused, import_ended, deport, deport_done, imported_parts, ended_plugs, given_back}
 
--- what a duty of the frame service gives: its state, the messages at once, and for Create and
--- Destroy what was made or ended, and the message that closes it
+-- what a duty of the frame service gives: its state, the messages at once, what was made or ended, and
+-- for Create and Destroy the message that closes it
 pub record FrameDone : Type 0 where
   pub frame : Frame
   pub sent : List Msg
@@ -61,34 +62,48 @@ end_messages t me f s =
     ++ (flat_map (λ i. given_back t me (incarnation i x.generation.0) (f.places i)) (imported_parts t s)
     ++ announces t me x (pos 0))
 
--- whether an imported slot's container is or lies below this slot
-abbrev pub is_import_within : Tables → ℕ → ℕ → Bool
-is_import_within t o i = is_imported t i && is_within t o i
+-- what the end of one actor sends to the other parts: where its slot is optional, a PartEnd to each
+-- other controller that has a part of it, ascending
+unfoldable pub part_ends : Tables → ℕ → Frame → ℕ → List Msg
+part_ends t me f s = if is_optional t s then parts_told t me kinds.PartEnd (last_of f.lives s) else []
 
--- the state after all from slot o on down has ended: it keeps no plug and no import place
-unfoldable pub frame_ended : Tables → ℕ → Frame → Frame
-frame_ended t o f = record {
-  lives = lives_ended t o f.lives;
+-- whether the container of an import place goes down with slot o
+abbrev pub is_place_ended : Tables → ℕ → Lives → ℕ → ℕ → Bool
+is_place_ended t me l o i = is_imported t i && option_map_or (goes_down t me l o) (container_of t i) false
+
+-- the state after slot o has ended: where an actor went down there is no plug and no import place
+unfoldable pub frame_ended : Tables → ℕ → ℕ → Frame → Frame
+frame_ended t me o f = record {
+  lives = lives_ended t me o f.lives;
   told = f.told;
-  places = λ i. if is_import_within t o i then Empty else f.places i;
-  plugs = λ s. if is_within t o s then [] else f.plugs s;
+  places = λ i. if is_place_ended t me f.lives o i then Empty else f.places i;
+  plugs = λ s. if goes_down t me f.lives o s then [] else f.plugs s;
 }
 
+-- the end set of slot o ends at this controller, in descending slot order; then the other parts are
+-- told of each optional slot in it
+unfoldable pub end_set_ended : Tables → ℕ → Frame → ℕ → Option Msg → FrameDone
+end_set_ended t me f o last =
+    let down = ended_slots t me f.lives o in
+    record {
+      frame = frame_ended t me o f;
+      sent = flat_map (end_messages t me f) down ++ flat_map (part_ends t me f) down;
+      made = [];
+      ended = map (last_of f.lives) down;
+      last = last;
+    }
+
 -- row 3, Destroy: from the container x to its optional slot o. If x doesn't live or o is empty, the
--- answer is 3; else all that lives from o on down ends, in descending slot order
+-- answer is 3; else the end set of o ends
 unfoldable pub destroy : Tables → ℕ → Frame → Msg → ℕ → Endpoint → FrameDone
 destroy t me f m o x =
     if not (counts_as_live t me f.lives (whose x)) || not (f.lives.lives o)
     then record { frame = f; sent = []; made = []; ended = []; last = Some (reply me m kinds.DestroyDone (frame_at o 0) x (coded NotHere)) }
-    else
-    let down = ended_slots t f.lives o in
-    record {
-      frame = frame_ended t o f;
-      sent = flat_map (end_messages t me f) down;
-      made = [];
-      ended = map (last_of f.lives) down;
-      last = Some (reply me m kinds.DestroyDone (frame_of (last_of f.lives o)) x (pos 0 ∷ []));
-    }
+    else end_set_ended t me f o (Some (reply me m kinds.DestroyDone (frame_of (last_of f.lives o)) x (pos 0 ∷ [])))
+
+-- row 18, PartEnd: the end set of slot o at this controller ends
+unfoldable pub part_end : Tables → ℕ → Frame → ℕ → FrameDone
+part_end t me f o = end_set_ended t me f o None
 
 -- from a container to its optional slot, generation 0: the form of Create and Destroy, at the slot's
 -- owner
@@ -112,6 +127,13 @@ is_back t me h i = is_frame i && is_frame h && is_imported t i.slot.0 && is_home
 abbrev pub is_announced : Tables → ℕ → Endpoint → Endpoint → Bool
 is_announced t me x y = is_frame x && is_endpoint x y && is_told t x.slot.0 me
 
+-- an optional slot's incarnation, at another controller that has a part of the slot: the form of
+-- PartMake and PartEnd
+abbrev pub is_part_told : Tables → ℕ → Endpoint → Endpoint → Bool
+is_part_told t me o again =
+    is_frame o && is_endpoint o again && not (o.generation.0 == 0)
+    && (is_optional t o.slot.0 && (not (is_own t me o.slot.0) && has_part t me o.slot.0))
+
 -- a duty without numbers, at a message of its form
 abbrev pub plainly : Frame → Bool → List ℤ → FrameDone → FrameDone
 plainly f fits [] done = if fits then done else nothing f
@@ -129,7 +151,7 @@ of_natural f (pos n) done = done n
 of_natural f (negsuc n) done = nothing f
 
 -- the duty of a kind, at a message from this source to that target; the kinds from 12 to 16 are the
--- layer service's, and those from 17 on, which no controller sends yet, do nothing
+-- layer service's
 abbrev pub frame_duty_of : Tables → ℕ → Frame → Msg → SysKind → Endpoint → Endpoint → FrameDone
 frame_duty_of t me f m kinds.Create x o = plainly f (is_request t me x o) m.payload (with_lives f (create t me f.lives m o.slot.0 x))
 frame_duty_of t me f m kinds.CreateDone o x =
@@ -153,8 +175,9 @@ frame_duty_of t me f m kinds.Withdraw x y = nothing f
 frame_duty_of t me f m kinds.Bound x y = nothing f
 frame_duty_of t me f m kinds.Ended x y = nothing f
 frame_duty_of t me f m kinds.NameReply x y = nothing f
-frame_duty_of t me f m kinds.PartMake x y = nothing f
-frame_duty_of t me f m kinds.PartEnd x y = nothing f
+frame_duty_of t me f m kinds.PartMake o again =
+    plainly f (is_part_told t me o again) m.payload (with_lives f (part_make t me f.lives o.slot.0))
+frame_duty_of t me f m kinds.PartEnd o again = plainly f (is_part_told t me o again) m.payload (part_end t me f o.slot.0)
 
 -- a message without a source has the form of no row
 abbrev pub frame_duty_from : Tables → ℕ → Frame → Msg → SysKind → Option Endpoint → FrameDone

@@ -1,12 +1,12 @@
 -- What making and ending do to lives, as counts of incarnations.
 use Rattle.std.proofs.Common.{◌≡◌, ℕ, ◌+◌, ◌<◌, ◌≤◌, Bool, true, false, not, ◌&&◌, ◌||◌, if◌then◌else◌, List, [], map, filter, reverse, length, refl, ap, ◌∙◌, arith}
 use Rattle.std.specs.List.{range_with_len}
-use Rattle.std.proofs.lemmas.Bool.{and_parts, and_left, and_right}
+use Rattle.std.proofs.lemmas.Bool.{and_parts}
 use Rattle.room_kinds.specs.declared.numbers.Incarnation.{Incarnation}
 use Rattle.room_wiring.specs.declared.tables.Tables.{Tables}
 use Rattle.actor_duties.specs.Words.{is_own}
 use Rattle.actor_duties.specs.State.{Lives}
-use Rattle.actor_duties.specs.Lives.{is_made_with, is_within, comes_up, made_slots, ended_slots, lives_made, lives_ended, last_of}
+use Rattle.actor_duties.specs.Lives.{is_made_with, comes_up, made_slots, is_reached, goes_down, ended_slots, lives_made, lives_ended, last_of}
 use Rattle.actor_world.specs.Life.{born, dead, born_in, dead_in}
 use Rattle.actor_world.proofs.Slots.{own_in_range}
 use Rattle.actor_world.proofs.Counts.{at_only, born_next, dead_next, dead_ends, times, times-reverse, passing, passing_hit, passing_miss}
@@ -34,6 +34,13 @@ unfolding comes_up
 up_parts t c l o s h =
     let vacant = and_parts (is_own t c s) (not (l.lives s)) (and_parts (is_made_with t o s) (is_own t c s && not (l.lives s)) h).1 in
     (vacant.0, not_true (l.lives s) vacant.1)
+
+-- an actor goes down in a slot of the controller's own where somebody lived
+pub down_parts : (t : Tables) (c : ℕ) (l : Lives) (o s : ℕ) → goes_down t c l o s ≡ true → (is_own t c s ≡ true) × (l.lives s ≡ true)
+unfolding goes_down
+down_parts t c l o s h =
+    let both = and_parts (is_own t c s && is_reached t c l o s) (l.lives s) h in
+    ((and_parts (is_own t c s) (is_reached t c l o s) both.0).0, both.1)
 
 module _ (t : Tables) (c o : ℕ) (l : Lives) where
   pub made_sound : IsSound t c l → IsSound t c (lives_made t c o l)
@@ -85,43 +92,35 @@ module _ (t : Tables) (c o : ℕ) (l : Lives) where
           rw (e, vacant) (omega (arith, n))
       down x false e = rw e (omega arith)
 
-  pub ended_sound : IsSound t c l → IsSound t c (lives_ended t o l)
+  pub ended_sound : IsSound t c l → IsSound t c (lives_ended t c o l)
   unfolding lives_ended
   ended_sound s =
       record {
         own = s.own;
-        created = λ x live. s.created x (and_parts (not (is_within t o x)) (l.lives x) live).1;
+        created = λ x live. s.created x (and_parts (not (goes_down t c l o x)) (l.lives x) live).1;
       }
 
-  pub ended_changes : IsSound t c l → Changes l (lives_ended t o l) [] (map (last_of l) (ended_slots t l o))
+  pub ended_changes : IsSound t c l → Changes l (lives_ended t c o l) [] (map (last_of l) (ended_slots t c l o))
   unfolding lives_ended ended_slots
   ended_changes s =
       record {
         born = λ x. omega arith;
-        dead = λ x. down x (is_within t o x.slot.0) refl (l.lives x.slot.0) refl;
+        dead = λ x. down x (goes_down t c l o x.slot.0) refl;
       }
     where
-      ends : ℕ → Bool
-      ends s = is_within t o s && l.lives s
-
-      down : (x : Incarnation) (b : Bool) → is_within t o x.slot.0 ≡ b → (d : Bool) → l.lives x.slot.0 ≡ d
-          → dead_in l x + times x (map (last_of l) (reverse (filter (λ s. is_within t o s && l.lives s) (range_with_len 0 (length t.slots)))))
-          ≡ dead x.generation.0 (l.generation x.slot.0) (not (is_within t o x.slot.0) && l.lives x.slot.0)
-      down x true e true f =
-          let some : 1 ≤ l.generation x.slot.0 = s.created x.slot.0 f in
+      down : (x : Incarnation) (b : Bool) → goes_down t c l o x.slot.0 ≡ b
+          → dead_in l x + times x (map (last_of l) (reverse (filter (goes_down t c l o) (range_with_len 0 (length t.slots)))))
+          ≡ dead x.generation.0 (l.generation x.slot.0) (not (goes_down t c l o x.slot.0) && l.lives x.slot.0)
+      down x true e =
+          let live : l.lives x.slot.0 ≡ true = (down_parts t c l o x.slot.0 e).1 in
+          let some : 1 ≤ l.generation x.slot.0 = s.created x.slot.0 live in
           let there : x.slot.0 < length t.slots = own_in_range t c x.slot.0 (s.own x.slot.0 some) in
-          let r = times-reverse x (last_of l) (filter ends (range_with_len 0 (length t.slots))) in
-          let h = passing_hit ends l.generation x 0 (length t.slots) (omega arith) (omega arith) in
-          let k : times x (passing ends l.generation (range_with_len 0 (length t.slots))) ≡ at_only x.generation.0 (l.generation x.slot.0) = rw (e, f) at h in
+          let r = times-reverse x (last_of l) (filter (goes_down t c l o) (range_with_len 0 (length t.slots))) in
+          let h = passing_hit (goes_down t c l o) l.generation x 0 (length t.slots) (omega arith) (omega arith) in
+          let k : times x (passing (goes_down t c l o) l.generation (range_with_len 0 (length t.slots))) ≡ at_only x.generation.0 (l.generation x.slot.0) = rw e at h in
           let n = dead_ends x.generation.0 (l.generation x.slot.0) some in
-          rw (e, f) (ap (λ z. dead x.generation.0 (l.generation x.slot.0) true + z) (r ∙ k) ∙ n)
-      down x true e false f =
-          let miss : ends x.slot.0 ≡ false = and_right (is_within t o x.slot.0) (l.lives x.slot.0) f in
-          let r = times-reverse x (last_of l) (filter ends (range_with_len 0 (length t.slots))) in
-          let k = passing_miss ends l.generation x miss (range_with_len 0 (length t.slots)) in
-          rw (e, f) (ap (λ z. dead x.generation.0 (l.generation x.slot.0) false + z) (r ∙ k) ∙ omega arith)
-      down x false e d f =
-          let miss : ends x.slot.0 ≡ false = and_left (is_within t o x.slot.0) (l.lives x.slot.0) e in
-          let r = times-reverse x (last_of l) (filter ends (range_with_len 0 (length t.slots))) in
-          let k = passing_miss ends l.generation x miss (range_with_len 0 (length t.slots)) in
+          rw (e, live) (ap (λ z. dead x.generation.0 (l.generation x.slot.0) true + z) (r ∙ k) ∙ n)
+      down x false e =
+          let r = times-reverse x (last_of l) (filter (goes_down t c l o) (range_with_len 0 (length t.slots))) in
+          let k = passing_miss (goes_down t c l o) l.generation x e (range_with_len 0 (length t.slots)) in
           rw e (ap (λ z. dead_in l x + z) (r ∙ k) ∙ omega arith)

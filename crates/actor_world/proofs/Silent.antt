@@ -1,5 +1,5 @@
--- Of all that duties and commands send, only Create and Destroy send an Announce.
-use Rattle.std.proofs.Common.{◌≡◌, ℕ, ◌+◌, ◌==◌, Bool, true, false, not, ◌&&◌, ◌||◌, if◌then◌else◌, is_some, List, [], ◌∷◌, ◌++◌, map, filter, slice_get, Option, Some, None, ℤ, pos, negsuc, refl}
+-- Of all that duties and commands send, only what makes or ends actors sends an Announce.
+use Rattle.std.proofs.Common.{◌≡◌, ℕ, ◌+◌, ◌==◌, Bool, true, false, not, ◌&&◌, ◌||◌, if◌then◌else◌, is_some, List, [], ◌∷◌, ◌++◌, map, flat_map, filter, slice_get, Option, Some, None, ℤ, pos, negsuc, refl}
 use Rattle.std.specs.Option.{option_map_or}
 use Rattle.room_kinds.specs.declared.message.Msg.{Msg}
 use Rattle.room_kinds.specs.declared.numbers.Incarnation.{Incarnation}
@@ -12,12 +12,12 @@ use Rattle.room_kinds.specs.declared.command.NameCommand.{NameCommand}
 use Rattle.room_kinds.specs.declared.command.NameCommand.TheVariants as names
 use Rattle.room_wiring.specs.declared.tables.Tables.{Tables}
 use Rattle.room_wiring.specs.Places.{place_count}
-use Rattle.actor_duties.specs.Words.{is_endpoint, endpoint, frame_of, whose, part_at, of_id, is_spp, is_sap, protocol_of, joined_at, is_joined}
+use Rattle.actor_duties.specs.Words.{is_optional, is_endpoint, endpoint, frame_of, whose, part_at, of_id, is_spp, is_sap, protocol_of, joined_at, is_joined}
 use Rattle.actor_duties.specs.State.{Lives, Frame, Links, ImportPlace, Empty, Asking, Held, Leaving, Registration, Unnamed, Asked, Registered, Leaving as LeavingName, User, Provider, Service, NameTable, Done}
 use Rattle.actor_duties.specs.Messages.{Code, to_owner, is_code, Occupied, NotHere}
-use Rattle.actor_duties.specs.Lives.{is_live, create_done, create_refused, destroy_done}
+use Rattle.actor_duties.specs.Lives.{is_live, create_done, create_refused, destroy_done, part_controllers, parts_told, last_of}
 use Rattle.actor_duties.specs.Imports.{tied_home, is_port_taken, heard, import, import_done, import_refused, import_ended, deport, deport_done, is_container_live, ended_plugs, given_back}
-use Rattle.actor_duties.specs.Frame.{asked_of, incarnate, destroy_command, import_code, import_with, import_into, import_command, deport_from, deport_of, deport_command, frame_request}
+use Rattle.actor_duties.specs.Frame.{part_ends, asked_of, incarnate, destroy_command, import_code, import_with, import_into, import_command, deport_from, deport_of, deport_command, frame_request}
 use Rattle.actor_duties.specs.Names.{same_table, Linking, linked_users, linked_first, meet_with, meet, provide, use_service, in_service, register_spp, register_sap, links_ended, link_ended, user_ended, is_user, leave, is_provider, stands_in, withdraw, register, is_name_request, table_duty_of, table_duty_from, table_duty, both_told}
 use Rattle.actor_duties.specs.Links.{same_links, name_reply, replied, links_duty_of, links_duty_from, links_duty, register_from, register_command, withdraw_from, withdraw_command, name_request, end_of, is_own_point}
 use Rattle.actor_duties.specs.Peers.{peer}
@@ -98,6 +98,20 @@ silent_deport_done t me l places h i = silent_heard t l places i _ _ _ refl
 
 pub silent_ended_plugs : (t : Tables) (me : ℕ) (x : Incarnation) (plugs : List Incarnation) → AllSilent (ended_plugs t me x plugs)
 silent_ended_plugs t me x plugs = silent_map _ (λ i. refl) plugs
+
+pub silent_part_makes : (t : Tables) (me : ℕ) (x : Incarnation) → AllSilent (parts_told t me kinds.PartMake x)
+unfolding parts_told
+silent_part_makes t me x = silent_map _ (λ d. refl) (part_controllers t me x.slot.0)
+
+silent_parts_end : (t : Tables) (me : ℕ) (x : Incarnation) → AllSilent (parts_told t me kinds.PartEnd x)
+unfolding parts_told
+silent_parts_end t me x = silent_map _ (λ d. refl) (part_controllers t me x.slot.0)
+
+pub silent_part_ends : (t : Tables) (me : ℕ) (f : Frame) (ss : List ℕ) → AllSilent (flat_map (part_ends t me f) ss)
+unfolding part_ends
+silent_part_ends t me f [] = tt
+silent_part_ends t me f (s ∷ ss) =
+    silent_append _ _ (silent_if (is_optional t s) _ _ (silent_parts_end t me (last_of f.lives s)) tt) (silent_part_ends t me f ss)
 
 silent_back : (t : Tables) (me : ℕ) (i : Incarnation) (o : Option Incarnation)
     → AllSilent (option_map_or (λ (h : Incarnation). to_owner t me kinds.Deport (frame_of i) (frame_of h) [] ∷ []) o [])

@@ -20,9 +20,9 @@ use Rattle.actor_merge.specs.Parties.{Treated}
 use Rattle.actor_duties.specs.Words.{updated, slots_of, incarnation, frame_at, frame_of, whose, is_own, owner_of, is_optional, is_frame, is_part_of}
 use Rattle.actor_duties.specs.State.{Lives, Frame}
 use Rattle.actor_duties.specs.Messages.{reply, coded, NotHere, Occupied}
-use Rattle.actor_duties.specs.Lives.{answered, announce_to, counts_as_live, create, made, lives_made, lives_ended, last_of, announces, told_controllers, made_slots, ended_slots, announce, is_within, comes_up}
+use Rattle.actor_duties.specs.Lives.{answered, announce_to, counts_as_live, create, made, part_make, lives_made, lives_ended, last_of, announces, parts_told, told_controllers, made_slots, ended_slots, announce, goes_down, comes_up}
 use Rattle.actor_duties.specs.Imports.{imported_parts, given_back, ended_plugs}
-use Rattle.actor_duties.specs.Frame.{end_messages, frame_ended, FrameDone, only_sends, plainly, with_number, of_natural, with_lives, destroy, is_request, frame_duty, frame_duty_of, frame_duty_from, frame_request}
+use Rattle.actor_duties.specs.Frame.{end_messages, part_ends, frame_ended, end_set_ended, FrameDone, only_sends, plainly, with_number, of_natural, with_lives, destroy, part_end, is_request, frame_duty, frame_duty_of, frame_duty_from, frame_request}
 use Rattle.actor_duties.specs.Links.{name_request, end_of}
 use Rattle.actor_duties.specs.Commands.{Content, Kept, defer, recall, recall_all}
 use Rattle.actor_world.specs.Behaviour.{Behaviour}
@@ -30,9 +30,9 @@ use Rattle.actor_world.specs.Body.{Body, Doing, sent_at, apply_all}
 use Rattle.actor_world.specs.Turns.{all_kinds, doing, treated, begun, all_begun, gone, all_gone, closing, with_frame, duty, system_done, said, handled, nobody_there, dispatched, is_meant, dispatch, treat}
 use Rattle.actor_world.specs.Life.{IsModest}
 use Rattle.actor_world.specs.Directories.{SendsOpenly, IsOpen}
-use Rattle.actor_world.proofs.LifeSteps.{IsSound, up_parts}
+use Rattle.actor_world.proofs.LifeSteps.{IsSound, up_parts, down_parts}
 use Rattle.actor_world.proofs.TurnLives.{frame_counts}
-use Rattle.actor_world.proofs.Silent.{announced_by, announced, AllSilent, silent_create_done, silent_create_refused, silent_destroy_done, silent_import, silent_import_done, silent_import_refused, silent_import_ended, silent_deport, silent_deport_done, silent_ended_plugs, silent_given_back, silent_request, silent_name_request, silent_end_of, silent_links, silent_table, silent_send, silent_broadcast}
+use Rattle.actor_world.proofs.Silent.{announced_by, announced, AllSilent, silent_create_done, silent_create_refused, silent_destroy_done, silent_import, silent_import_done, silent_import_refused, silent_import_ended, silent_deport, silent_deport_done, silent_ended_plugs, silent_given_back, silent_part_makes, silent_part_ends, silent_request, silent_name_request, silent_end_of, silent_links, silent_table, silent_send, silent_broadcast}
 
 -- what a message announces was created, by these last generations of slots
 abbrev pub IsTold : (ℕ → ℕ) → Msg → Type 0
@@ -246,8 +246,21 @@ module _ (t : Tables) (me : ℕ) (g : ℕ → ℕ) (f : Frame) (before : (s : �
   natural_fine (pos n) r h = h n
   natural_fine (negsuc n) r h = only_fine [] tt
 
+  made_here : (o : ℕ) → OwnBelow t me g (lives_made t me o f.lives)
+      → AllTold g (flat_map (λ (i : Incarnation). announces t me i (pos 1)) (map (last_of (lives_made t me o f.lives)) (made_slots t me f.lives o)))
+  unfolding made_slots
+  made_here o h =
+      made_told g t me (lives_made t me o f.lives) (made_slots t me f.lives o)
+      (pass_filter (comes_up t me f.lives o) (λ s. (lives_made t me o f.lives).generation s ≤ g s)
+      (λ s e. h s (own_owner t me s (up_parts t me f.lives o s e).0))
+      (slots_of t))
+
+  part_fine : (o : ℕ) → Fine t me g (with_lives f (part_make t me f.lives o))
+  unfolding part_make
+  part_fine o = λ h. record { sent = made_here o h; last = tt; told = before }
+
   create_fine : (m : Msg) (o : ℕ) (x : Endpoint) → Fine t me g (with_lives f (create t me f.lives m o x))
-  unfolding create made made_slots
+  unfolding create made part_make
   create_fine m o x = go (not (counts_as_live t me f.lives (whose x))) (f.lives.lives o)
     where
       go : (a b : Bool) → Fine t me g (with_lives f (
@@ -258,37 +271,42 @@ module _ (t : Tables) (me : ℕ) (g : ℕ → ℕ) (f : Frame) (before : (s : �
       go false true = λ h. record { sent = tt; last = refl; told = before }
       go false false = λ h.
           record {
-            sent = made_told g t me (lives_made t me o f.lives) (made_slots t me f.lives o)
-                (pass_filter (comes_up t me f.lives o) (λ s. (lives_made t me o f.lives).generation s ≤ g s)
-                (λ s e. h s (own_owner t me s (up_parts t me f.lives o s e).0))
-                (slots_of t));
+            sent = told_append g _ (parts_told t me kinds.PartMake (last_of (lives_made t me o f.lives) o)) (made_here o h)
+                (told_silent g _ (silent_part_makes t me (last_of (lives_made t me o f.lives) o)));
             last = refl;
             told = before;
           }
 
+  end_set_fine : (o : ℕ) (last : Option Msg) → IsSilentLast last → Fine t me g (end_set_ended t me f o last)
+  unfolding end_set_ended frame_ended ended_slots lives_ended
+  end_set_fine o last silent = λ h.
+      record {
+        sent = told_append g _ (flat_map (part_ends t me f) (ended_slots t me f.lives o))
+            (ended_told g t me f (ended_slots t me f.lives o)
+            (pass_onto (λ s. f.lives.generation s ≤ g s) (filter (goes_down t me f.lives o) (slots_of t)) []
+            (pass_filter (goes_down t me f.lives o) (λ s. f.lives.generation s ≤ g s)
+            (λ s e. h s (own_owner t me s (down_parts t me f.lives o s e).0)) (slots_of t)) tt))
+            (told_silent g _ (silent_part_ends t me f (ended_slots t me f.lives o)));
+        last = silent;
+        told = before;
+      }
+
   destroy_fine : (m : Msg) (o : ℕ) (x : Endpoint) → Fine t me g (destroy t me f m o x)
-  unfolding destroy frame_ended ended_slots lives_ended
+  unfolding destroy
   destroy_fine m o x = go (not (counts_as_live t me f.lives (whose x)) || not (f.lives.lives o))
     where
+      done : Option Msg
+      done = Some (reply me m kinds.DestroyDone (frame_of (last_of f.lives o)) x (pos 0 ∷ []))
+
       go : (a : Bool) → Fine t me g (
           if a then record { frame = f; sent = []; made = []; ended = []; last = Some (reply me m kinds.DestroyDone (frame_at o 0) x (coded NotHere)) }
-          else record {
-            frame = frame_ended t o f;
-            sent = flat_map (end_messages t me f) (ended_slots t f.lives o);
-            made = [];
-            ended = map (last_of f.lives) (ended_slots t f.lives o);
-            last = Some (reply me m kinds.DestroyDone (frame_of (last_of f.lives o)) x (pos 0 ∷ []));
-          })
+          else end_set_ended t me f o done)
       go true = λ h. record { sent = tt; last = refl; told = before }
-      go false = λ h.
-          record {
-            sent = ended_told g t me f (ended_slots t f.lives o)
-                (pass_onto (λ s. f.lives.generation s ≤ g s) (filter (λ s. is_within t o s && f.lives.lives s) (slots_of t)) []
-                (pass_filter (λ s. is_within t o s && f.lives.lives s) (λ s. f.lives.generation s ≤ g s)
-                (λ s e. h s (own_owner t me s (sound.own s (sound.created s (and_parts (is_within t o s) (f.lives.lives s) e).1)))) (slots_of t)) tt);
-            last = refl;
-            told = before;
-          }
+      go false = end_set_fine o done refl
+
+  part_end_fine : (o : ℕ) → Fine t me g (part_end t me f o)
+  unfolding part_end
+  part_end_fine o = end_set_fine o None tt
 
   put_below : (s n : ℕ) → n ≤ g s → (x : ℕ) → updated f.told s n x ≤ g x
   unfolding updated
@@ -327,8 +345,8 @@ module _ (t : Tables) (me : ℕ) (g : ℕ → ℕ) (f : Frame) (before : (s : �
   duty_of_fine m kinds.Bound a b s = only_fine [] tt
   duty_of_fine m kinds.Ended a b s = only_fine [] tt
   duty_of_fine m kinds.NameReply a b s = only_fine [] tt
-  duty_of_fine m kinds.PartMake a b s = only_fine [] tt
-  duty_of_fine m kinds.PartEnd a b s = only_fine [] tt
+  duty_of_fine m kinds.PartMake a b s = plainly_fine _ m.payload _ (λ h. part_fine a.slot.0)
+  duty_of_fine m kinds.PartEnd a b s = plainly_fine _ m.payload _ (λ h. part_end_fine a.slot.0)
 
   duty_from_fine : (m : Msg) (kind : SysKind) (o : Option Endpoint) → ((x : Incarnation) → announced_by (Some kind) o ≡ Some x → x.generation.0 ≤ g x.slot.0)
       → Fine t me g (frame_duty_from t me f m kind o)

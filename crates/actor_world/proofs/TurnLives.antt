@@ -14,8 +14,8 @@ use Rattle.actor_merge.specs.Parties.{Treated}
 use Rattle.actor_duties.specs.Messages.{reply, coded, NotHere, Occupied}
 use Rattle.actor_duties.specs.Words.{updated, frame_at, frame_of, whose, is_own, is_optional, is_frame, is_part_of}
 use Rattle.actor_duties.specs.State.{Lives, Frame}
-use Rattle.actor_duties.specs.Lives.{answered, ended_slots, counts_as_live, create, made, last_of}
-use Rattle.actor_duties.specs.Frame.{end_messages, frame_ended, FrameDone, plainly, with_number, of_natural, with_lives, destroy, is_request, frame_duty, frame_duty_of, frame_duty_from}
+use Rattle.actor_duties.specs.Lives.{answered, counts_as_live, create, made, part_make, last_of}
+use Rattle.actor_duties.specs.Frame.{frame_ended, end_set_ended, FrameDone, plainly, with_number, of_natural, with_lives, destroy, part_end, is_request, frame_duty, frame_duty_of, frame_duty_from}
 use Rattle.actor_world.specs.Behaviour.{Behaviour, Handling, Handled, Deferred, Unhandled}
 use Rattle.actor_world.specs.Body.{Body, Doing}
 use Rattle.actor_world.specs.Turns.{all_kinds, doing, treated, begun, all_begun, gone, all_gone, closing, with_frame, duty, system_done, said, moved, handled, nobody_there, dispatched, is_meant, dispatch, treat}
@@ -44,7 +44,7 @@ moves_natural t me f (pos n) r h = h n
 moves_natural t me f (negsuc n) r h = λ s. (s, no_change f.lives)
 
 moves_create : (t : Tables) (me : ℕ) (f : Frame) (m : Msg) (o : ℕ) (x : Endpoint) → Moves t me f.lives (with_lives f (create t me f.lives m o x))
-unfolding create made
+unfolding create made part_make
 moves_create t me f m o x = go (not (counts_as_live t me f.lives (whose x))) (f.lives.lives o)
   where
     go : (a b : Bool)
@@ -56,27 +56,30 @@ moves_create t me f m o x = go (not (counts_as_live t me f.lives (whose x))) (f.
     go false true = λ s. (s, no_change f.lives)
     go false false = λ s. (made_sound t me o f.lives s, made_changes t me o f.lives)
 
+moves_part : (t : Tables) (me : ℕ) (f : Frame) (o : ℕ) → Moves t me f.lives (with_lives f (part_make t me f.lives o))
+unfolding part_make
+moves_part t me f o = λ s. (made_sound t me o f.lives s, made_changes t me o f.lives)
+
+moves_end : (t : Tables) (me : ℕ) (f : Frame) (o : ℕ) (last : Option Msg) → Moves t me f.lives (end_set_ended t me f o last)
+unfolding end_set_ended frame_ended
+moves_end t me f o last = λ s. (ended_sound t me o f.lives s, ended_changes t me o f.lives s)
+
 moves_destroy : (t : Tables) (me : ℕ) (f : Frame) (m : Msg) (o : ℕ) (x : Endpoint) → Moves t me f.lives (destroy t me f m o x)
-unfolding destroy frame_ended
+unfolding destroy
 moves_destroy t me f m o x = go (not (counts_as_live t me f.lives (whose x)) || not (f.lives.lives o))
   where
+    done : Option Msg
+    done = Some (reply me m kinds.DestroyDone (frame_of (last_of f.lives o)) x (pos 0 ∷ []))
+
     go : (a : Bool) → Moves t me f.lives (
         if a then record { frame = f; sent = []; made = []; ended = []; last = Some (reply me m kinds.DestroyDone (frame_at o 0) x (coded NotHere)) }
-        else record {
-          frame = frame_ended t o f;
-          sent = flat_map (end_messages t me f) (ended_slots t f.lives o);
-          made = [];
-          ended = map (last_of f.lives) (ended_slots t f.lives o);
-          last = Some (reply me m kinds.DestroyDone (frame_of (last_of f.lives o)) x (pos 0 ∷ []));
-        })
+        else end_set_ended t me f o done)
     go true = λ s. (s, no_change f.lives)
-    go false = λ s. (ended_sound t me o f.lives s, ended_changes t me o f.lives s)
+    go false = moves_end t me f o done
 
-pub request_optional : (t : Tables) (me : ℕ) (x o : Endpoint) → is_request t me x o ≡ true → is_optional t o.slot.0 ≡ true
-request_optional t me x o h =
-    let a = and_parts (is_frame x && is_frame o && (o.generation.0 == 0) && is_optional t o.slot.0 && is_own t me o.slot.0) (is_part_of t o.slot.0 x.slot.0) h in
-    let b = and_parts (is_frame x && is_frame o && (o.generation.0 == 0) && is_optional t o.slot.0) (is_own t me o.slot.0) a.0 in
-    (and_parts (is_frame x && is_frame o && (o.generation.0 == 0)) (is_optional t o.slot.0) b.0).1
+moves_part_end : (t : Tables) (me : ℕ) (f : Frame) (o : ℕ) → Moves t me f.lives (part_end t me f o)
+unfolding part_end
+moves_part_end t me f o = moves_end t me f o None
 
 moves_of : (t : Tables) (me : ℕ) (f : Frame) (m : Msg) → (kind : SysKind) (a b : Endpoint) → Moves t me f.lives (frame_duty_of t me f m kind a b)
 moves_of t me f m kinds.Create x o = moves_plainly t me f (is_request t me x o) m.payload _ (λ h. moves_create t me f m o.slot.0 x)
@@ -96,8 +99,8 @@ moves_of t me f m kinds.Withdraw a b = λ s. (s, no_change f.lives)
 moves_of t me f m kinds.Bound a b = λ s. (s, no_change f.lives)
 moves_of t me f m kinds.Ended a b = λ s. (s, no_change f.lives)
 moves_of t me f m kinds.NameReply a b = λ s. (s, no_change f.lives)
-moves_of t me f m kinds.PartMake a b = λ s. (s, no_change f.lives)
-moves_of t me f m kinds.PartEnd a b = λ s. (s, no_change f.lives)
+moves_of t me f m kinds.PartMake a b = moves_plainly t me f _ m.payload _ (λ h. moves_part t me f a.slot.0)
+moves_of t me f m kinds.PartEnd a b = moves_plainly t me f _ m.payload _ (λ h. moves_part_end t me f a.slot.0)
 
 moves_from : (t : Tables) (me : ℕ) (f : Frame) (m : Msg) → (kind : SysKind) (o : Option Endpoint) → Moves t me f.lives (frame_duty_from t me f m kind o)
 moves_from t me f m kind None = λ s. (s, no_change f.lives)

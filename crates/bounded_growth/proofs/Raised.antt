@@ -8,8 +8,8 @@ use Rattle.room_kinds.specs.declared.system.SysKind.TheVariants as kinds
 use Rattle.room_wiring.specs.declared.tables.Tables.{Tables}
 use Rattle.actor_duties.specs.Words.{whose, is_own}
 use Rattle.actor_duties.specs.State.{Lives, Frame}
-use Rattle.actor_duties.specs.Lives.{Lived, counts_as_live, is_live, comes_up, lives_made, lives_ended, made, create, announce}
-use Rattle.actor_duties.specs.Frame.{FrameDone, only_sends, nothing, with_lives, with_plugs, with_places, with_told, frame_ended, destroy, is_request, is_answer, is_forth, is_back, is_announced, plainly, with_number, of_natural, frame_duty_of, frame_duty_from, frame_duty}
+use Rattle.actor_duties.specs.Lives.{Lived, counts_as_live, is_live, comes_up, lives_made, lives_ended, part_make, made, create, announce}
+use Rattle.actor_duties.specs.Frame.{FrameDone, only_sends, nothing, with_lives, with_plugs, with_places, with_told, frame_ended, end_set_ended, destroy, part_end, is_request, is_answer, is_forth, is_back, is_announced, plainly, with_number, of_natural, frame_duty_of, frame_duty_from, frame_duty}
 
 -- a duty that raises no generation by more than one
 abbrev Raises : Frame → FrameDone → Type 0
@@ -48,12 +48,25 @@ either_done f true x y first second = first
 either_done f false x y first second = second
 
 create_raises : (t : Tables) (me : ℕ) (l : Lives) (m : Msg) (o : ℕ) (x : Endpoint) (s : ℕ) → (create t me l m o x).lives.generation s ≤ l.generation s + 1
-unfolding create made lives_made
+unfolding create made part_make lives_made
 create_raises t me l m o x s = either_lived l s (not (counts_as_live t me l (whose x))) _ _ (omega arith) (either_lived l s (l.lives o) _ _ (omega arith) (next_or_same (comes_up t me l o s) (l.generation s)))
 
+part_make_raises : (t : Tables) (me : ℕ) (l : Lives) (o s : ℕ) → (part_make t me l o).lives.generation s ≤ l.generation s + 1
+unfolding part_make lives_made
+part_make_raises t me l o s = next_or_same (comes_up t me l o s) (l.generation s)
+
+end_raises : (t : Tables) (me : ℕ) (f : Frame) (o : ℕ) (last : Option Msg) → Raises f (end_set_ended t me f o last)
+unfolding end_set_ended frame_ended lives_ended
+end_raises t me f o last s = omega arith
+
 destroy_raises : (t : Tables) (me : ℕ) (f : Frame) (m : Msg) (o : ℕ) (x : Endpoint) → Raises f (destroy t me f m o x)
-unfolding destroy frame_ended lives_ended
-destroy_raises t me f m o x = either_done f (not (counts_as_live t me f.lives (whose x)) || not (f.lives.lives o)) _ _ (λ s. omega arith) (λ s. omega arith)
+unfolding destroy
+destroy_raises t me f m o x =
+    either_done f (not (counts_as_live t me f.lives (whose x)) || not (f.lives.lives o)) _ _ (λ s. omega arith) (end_raises t me f o _)
+
+part_end_raises : (t : Tables) (me : ℕ) (f : Frame) (o : ℕ) → Raises f (part_end t me f o)
+unfolding part_end
+part_end_raises t me f o = end_raises t me f o None
 
 duty_raises : (t : Tables) (me : ℕ) (f : Frame) (m : Msg) (kind : SysKind) (x y : Endpoint) → Raises f (frame_duty_of t me f m kind x y)
 duty_raises t me f m kinds.Create x o = plainly_raises f _ m.payload _ (create_raises t me f.lives m o.slot.0 x)
@@ -73,8 +86,8 @@ duty_raises t me f m kinds.Withdraw x y = none_raised f
 duty_raises t me f m kinds.Bound x y = none_raised f
 duty_raises t me f m kinds.Ended x y = none_raised f
 duty_raises t me f m kinds.NameReply x y = none_raised f
-duty_raises t me f m kinds.PartMake x y = none_raised f
-duty_raises t me f m kinds.PartEnd x y = none_raised f
+duty_raises t me f m kinds.PartMake x y = plainly_raises f _ m.payload _ (part_make_raises t me f.lives x.slot.0)
+duty_raises t me f m kinds.PartEnd x y = plainly_raises f _ m.payload _ (part_end_raises t me f x.slot.0)
 
 duty_from_raises : (t : Tables) (me : ℕ) (f : Frame) (m : Msg) (kind : SysKind) (source : Option Endpoint) → Raises f (frame_duty_from t me f m kind source)
 duty_from_raises t me f m kind None = none_raised f

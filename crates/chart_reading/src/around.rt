@@ -1,12 +1,11 @@
 //! The names of a graph, found without a search.
-ghost use Rattle.std.specs.Prelude.{◌≡◌, ◌++◌, map, option_map, IfOk, OnOk};
+ghost use Rattle.std.specs.Prelude.{◌≡◌, map, option_map, IfOk};
 ghost use Rattle.std.specs.List.{filter_map};
-ghost use Rattle.std.specs.Option.{option_to_list};
-ghost use Rattle.name_tables.specs.name_numbers.Names.{names_of};
 ghost use Rattle.room_ast.specs.ChartTree.{item_view, state_view, graph_view, subgraph};
 ghost use Rattle.chart_reading.specs.Around.{state_name, entry_name, entries_of, entries_in, entries_in_state, inner_entries, around, has_entry_inside};
 ghost use Rattle.chart_reading.specs.Views.{around_view};
 
+use check_tables::{add_name, push_if};
 use name_tables::NameIndex;
 use room_ast::{GraphItem, Name, PointKind, State};
 use std::alloc::{AllocError, Global};
@@ -18,24 +17,6 @@ pub(crate) struct Around<'a> {
     pub(crate) states: NameIndex<'a>,
     pub(crate) entries: NameIndex<'a>,
     pub(crate) inner: Vec<NameIndex<'a>>,
-}
-
-fn push_if<T: Drop>(items: &mut Vec<T>, item: Option<T>) -> Result<(), AllocError>
-    ensures { OnOk result (items.new.items ≡ items.old.items ++ option_to_list item) }
-{
-    if let Some(item) = item {
-        items.push(item)?;
-    }
-    Ok(())
-}
-
-fn add_name<'a>(names: &mut Vec<&'a [u8]>, name: Option<&'a Name>) -> Result<(), AllocError>
-    ensures { OnOk result (names_of names.new.items ≡ names_of names.old.items ++ option_to_list (option_map (λ n. n.now) name.entry)) }
-{
-    if let Some(name) = name {
-        names.push(name.as_bytes())?;
-    }
-    Ok(())
 }
 
 fn state_name<'a>(item: &'a GraphItem) -> Option<&'a Name>

@@ -2,3 +2,4 @@ pub mod Walks
 pub mod Places
 pub mod Rules
 pub mod Wireds
+pub mod TextTrees

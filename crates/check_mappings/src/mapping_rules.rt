@@ -5,6 +5,7 @@
 
 mod allowed;
 mod known;
+mod text_tree;
 mod texts;
 mod walk;
 mod wired;

@@ -10,5 +10,6 @@ mod scopes;
 mod signals;
 mod tables;
 
-pub use protocols::parameter_kinds;
+pub use protocols::signal_table;
 pub use scopes::{actor_classes, scopes_of};
+pub use signals::{SignalTable, Signals};

@@ -12,17 +12,15 @@ use Rattle.journal.specs.declared.entry.Entry.{Entry}
 use Rattle.journal.specs.declared.entry.Entry.TheVariants as entry
 use Rattle.actor_duties.specs.Words.{incarnation}
 use Rattle.actor_duties.specs.Lives.{last_of}
+use Rattle.actor_duties.specs.State.{Frame, Lives}
 use Rattle.actor_world.specs.Behaviour.{Behaviour}
 use Rattle.actor_world.specs.Body.{Body, Doing}
-use Rattle.actor_world.specs.Start.{Starting as WorldStarting, all_started, started, starting, first_state, start_entries, first_body, first_links, first_actors}
-use Rattle.frame_lives.specs.declared.row.Row.{Row}
-use Rattle.frame_lives.specs.Known.{Known}
-use Rattle.frame_lives.specs.Shown.{shown}
-use Rattle.frame_lives.specs.frame_start.First.{first_known}
+use Rattle.actor_world.specs.Start.{Starting as WorldStarting, all_started, started, starting, first_state, start_entries, first_body, first_frame, first_lives, first_links, first_actors}
 use Rattle.chart_behaviour.specs.ModelCharts.{Actor, tables_at, begins, state_number}
 use Rattle.actor_commands.proofs.command_sends.Broadcasting.{range-more}
 use Rattle.controller_mail.specs.MailState.{HasPriority}
-use Rattle.controller_actors.specs.static_peers.Static.{static_frame}
+use Rattle.frame_service.specs.State.{frame_in}
+use Rattle.controller_actors.specs.Served.{Serves}
 use Rattle.controller_actors.specs.declared.actor_seats.seat.Seat.{Seat}
 use Rattle.controller_actors.specs.declared.actor_seats.seat.Entrance.{Entrance}
 use Rattle.controller_actors.specs.actor_seats.Stands.{actor_in}
@@ -31,22 +29,22 @@ use Rattle.controller_actors.specs.declared.plant.Plant.{Plant}
 use Rattle.controller_actors.specs.declared.actors.Actors.{Actors}
 use Rattle.controller_actors.specs.declared.start.Starting.{Starting}
 use Rattle.controller_actors.specs.Plants.{model_of}
-use Rattle.controller_actors.specs.Stands.{IsWell, body_of, seat_at, vacant}
+use Rattle.controller_actors.specs.Stands.{IsSeated, body_of, lives_of, seat_at, vacant}
 use Rattle.controller_actors.specs.Steps.{ActorsBegin, Starts, StartsIn, unstarted, is_first, first_below, first_in}
-use Rattle.controller_actors.proofs.Bodies.{body_same, body_set, well_set}
+use Rattle.controller_actors.proofs.Bodies.{body_same, body_set, seated_set, empty_set}
 
 -- ---- one actor
 
 module _ (p : Plant) (me : ℕ) where
   -- the actor of a slot began
   pub actors_begin : (old new : Actors) (s : ℕ) (before after : Seat) (sent back : List Msg) (e : Entrance) → s < length old.seats.items
-      → before ≡ seat_at old.seats.items s → new.lives ≡ old.lives → new.seats.items ≡ set old.seats.items s after
-      → SeatBegins p.wiring me (static_frame (shown old.lives)) first_links (last_of (shown old.lives).lives s) (tables_at p.wiring p.tables.items s) before after sent back e
-      → IsWell p me old → ActorsBegin p me s old new sent back e
-  actors_begin old new s before after sent back e l is lives seats h well =
-      let x = last_of (shown old.lives).lives s in
+      → before ≡ seat_at old.seats.items s → new.seats.items ≡ set old.seats.items s after → Serves p.wiring me new.services
+      → SeatBegins p.wiring me (frame_in old.services.frame) first_links (frame_in new.services.frame) first_links (last_of (lives_of old) s) (tables_at p.wiring p.tables.items s) before after sent back e
+      → (lives_of old).lives s ≡ true → IsSeated p me old → ActorsBegin p me s old new sent back e
+  actors_begin old new s before after sent back e l is seats serves h live seated =
+      let x = last_of (lives_of old) s in
       let o = tables_at p.wiring p.tables.items s in
-      let f = static_frame (shown old.lives) in
+      let f = frame_in old.services.frame in
       let b = body_of p me old in
       record {
         kept = h.kept;
@@ -55,10 +53,11 @@ module _ (p : Plant) (me : ℕ) where
             (body_same p me old s ∙ ap (seat_body f first_links b s) (sym is))
             ∙ h.doing b notes held
             ∙ ap (λ (c : Body Actor). record { body = c; sent = e.said.messages; back = e.back; notes = e.said.notes; kept = h.kept })
-            (sym (body_set p me old new s after l lives seats));
+            (sym (body_set p me old new s after l seats));
         state = h.state;
-        well = well_set p me old new s after l lives seats well h.fits;
-        count = ap length seats ∙ length-set old.seats.items s after;
+        seated = seated_set p me old new s after l h.lives seats serves seated h.fits;
+        lives = h.lives;
+        empty = empty_set old new s after h.lives seats live;
       }
 
   last_started : (model : Behaviour Actor) (t : Wiring) (xs : List Incarnation) (x : Incarnation) (s : WorldStarting Actor)
@@ -78,11 +77,11 @@ module _ (p : Plant) (me : ℕ) where
   -- an actor has started after others
   pub starts_in : (slot : ℕ) (old new : Starting) (e : Entrance) → ActorsBegin p me slot old.actors new.actors old.sent old.back e
       → new.sent ≡ e.said.messages → new.back ≡ e.back
-      → new.entries ≡ old.entries ++ entry.Start (last_of (shown old.actors.lives).lives slot) e.state e.said.notes ∷ []
+      → new.entries ≡ old.entries ++ entry.Start (last_of (lives_of old.actors) slot) e.state e.said.notes ∷ []
       → StartsIn p me slot old new
   starts_in slot old new e h sent back entries = record {
     on = λ xs s.
-        let x = last_of (shown old.actors.lives).lives slot in
+        let x = last_of (lives_of old.actors) slot in
         let o = tables_at p.wiring p.tables.items slot in
         let before : Doing Actor = record { body = body_of p me old.actors; sent = old.sent; back = old.back; notes = s.notes; kept = s.kept } in
         record {
@@ -109,8 +108,8 @@ module _ (p : Plant) (me : ℕ) where
                 doing = record { body = body_of p me new.actors; sent = new.sent; back = new.back; notes = e.said.notes; kept = h.kept };
                 entries = es;
               }) (sym entries);
-          well = h.well;
-          count = h.count ∙ s.count;
+          well = record { seated = h.seated; empty = h.empty [] s.well.empty };
+          lives = h.lives ∙ s.lives;
         };
   }
 
@@ -136,17 +135,17 @@ module _ (p : Plant) (me : ℕ) where
   first_all = refl
 
   -- who lives in a slot at the start
-  module _ (rows : List Row) (known : shown rows ≡ first_known p.wiring me) (s : ℕ) where
-    lives_first : (shown rows).lives.lives s ≡ is_first p.wiring me s
-    lives_first = ap (λ (k : Known). k.lives.lives s) known
+  module _ (l : Lives) (first : l ≡ first_lives p.wiring me) (s : ℕ) where
+    lives_first : l.lives s ≡ is_first p.wiring me s
+    lives_first = ap (λ (k : Lives). k.lives s) first
 
-    pub first_there : (shown rows).lives.lives s ≡ true → first_in p.wiring me s ≡ last_of (shown rows).lives s ∷ []
+    pub first_there : l.lives s ≡ true → first_in p.wiring me s ≡ last_of l s ∷ []
     first_there e =
         let here : is_first p.wiring me s ≡ true = sym lives_first ∙ e in
-        let generation : (shown rows).lives.generation s ≡ 1 = ap (λ (k : Known). k.lives.generation s) known ∙ ap (λ b. cond b 1 0) here in
+        let generation : l.generation s ≡ 1 = ap (λ (k : Lives). k.generation s) first ∙ ap (λ b. cond b 1 0) here in
         ap (λ b. cond b (incarnation s 1 ∷ []) []) here ∙ ap (λ g. incarnation s g ∷ []) (sym generation)
 
-    pub first_nobody : (shown rows).lives.lives s ≡ false → first_in p.wiring me s ≡ []
+    pub first_nobody : l.lives s ≡ false → first_in p.wiring me s ≡ []
     first_nobody e = ap (λ b. cond b (incarnation s 1 ∷ []) []) (sym lives_first ∙ e)
 
   -- ---- before and after
@@ -164,29 +163,35 @@ module _ (p : Plant) (me : ℕ) where
   same_start e f g h = cc
 
   -- the body of actors of which none has started
-  body_none : (a : Actors) → shown a.lives ≡ first_known p.wiring me → a.seats.items ≡ replicate (length p.wiring.slots) vacant → first_body p.wiring me ≡ body_of p me a
+  body_none : (a : Actors) → frame_in a.services.frame ≡ first_frame p.wiring me → a.seats.items ≡ replicate (length p.wiring.slots) vacant → first_body p.wiring me ≡ body_of p me a
   unfolding body_of
-  body_none a known seats =
-      sym (ap (λ (k : Known). record { frame = static_frame k; links = first_links; table = []; machines = λ s. actor_in (seat_at a.seats.items s).stand; deferred = λ s. (seat_at a.seats.items s).deferred }) known
-      ∙ ap (λ (f : ℕ → Seat). record { frame = static_frame (first_known p.wiring me); links = first_links; table = []; machines = λ s. actor_in (f s).stand; deferred = λ s. (f s).deferred })
+  body_none a frame seats =
+      sym (ap (λ (f : Frame). record { frame = f; links = first_links; table = []; machines = λ s. actor_in (seat_at a.seats.items s).stand; deferred = λ s. (seat_at a.seats.items s).deferred }) frame
+      ∙ ap (λ (f : ℕ → Seat). record { frame = first_frame p.wiring me; links = first_links; table = []; machines = λ s. actor_in (f s).stand; deferred = λ s. (f s).deferred })
       (fun_ext (λ s. ap (λ (xs : List Seat). seat_at xs s) seats ∙ vacant_at (length p.wiring.slots) s)))
 
   -- nobody has started
-  pub starts_none : (s : Starting) → shown s.actors.lives ≡ first_known p.wiring me → s.actors.seats.items ≡ replicate (length p.wiring.slots) vacant
+  pub starts_none : (s : Starting) → Serves p.wiring me s.actors.services → frame_in s.actors.services.frame ≡ first_frame p.wiring me → s.actors.seats.items ≡ replicate (length p.wiring.slots) vacant
       → s.sent ≡ [] → s.back ≡ [] → s.entries ≡ [] → Starts p me [] s
-  starts_none s known seats sent back entries = record {
-    notes = [];
-    kept = false;
-    started = same_start (body_none s.actors known seats) (sym sent) (sym back) (sym entries);
-    well = record {
-      lives = known;
-      each = λ n.
-          subst (λ (x : Seat). SeatFits (last_of (shown s.actors.lives).lives n) (tables_at p.wiring p.tables.items n) x)
-          (sym (ap (λ (xs : List Seat). seat_at xs n) seats ∙ vacant_at (length p.wiring.slots) n))
-          (record { of = tt; tables = tt; kept = All-nil HasPriority });
-    };
-    count = ap length seats ∙ length-replicate (length p.wiring.slots) vacant;
-  }
+  starts_none s serves frame seats sent back entries =
+      let nobody : (n : ℕ) → seat_at s.actors.seats.items n ≡ vacant =
+      λ n. ap (λ (xs : List Seat). seat_at xs n) seats ∙ vacant_at (length p.wiring.slots) n in
+      record {
+        notes = [];
+        kept = false;
+        started = same_start (body_none s.actors frame seats) (sym sent) (sym back) (sym entries);
+        well = record {
+          seated = record {
+            serves = serves;
+            each = λ n.
+                subst (λ (x : Seat). SeatFits (last_of (lives_of s.actors) n) (tables_at p.wiring p.tables.items n) x)
+                (sym (nobody n)) (record { of = tt; tables = tt; kept = All-nil HasPriority });
+            count = ap length seats ∙ length-replicate (length p.wiring.slots) vacant;
+          };
+          empty = λ n dead out. ap (λ (x : Seat). x.stand) (nobody n);
+        };
+        lives = ap (λ (f : Frame). f.lives) frame;
+      }
 
   -- all have
   module _ (s : Starting) (h : Starts p me (first_below p.wiring me (length p.wiring.slots)) s) where

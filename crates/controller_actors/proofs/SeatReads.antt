@@ -1,5 +1,5 @@
 -- What is read of a slot before its actor does something.
-use Rattle.std.proofs.Common.{◌≡◌, ℕ, ◌<◌, List, [], length, get_or, set, All, Option, None, sym, ap, ◌∙◌, subst}
+use Rattle.std.proofs.Common.{◌≡◌, ℕ, ◌<◌, List, [], true, length, get_or, set, All, Option, None, sym, ap, ◌∙◌, subst}
 use Rattle.std.proofs.lemmas.List.{get_or_read}
 use Rattle.room_kinds.specs.declared.message.Msg.{Msg}
 use Rattle.room_kinds.specs.declared.numbers.Incarnation.{Incarnation}
@@ -10,19 +10,20 @@ use Rattle.chart_run.specs.declared.chart_tables.tables.Tables.{Tables}
 use Rattle.chart_behaviour.specs.ModelCharts.{tables_at}
 use Rattle.controller_mail.specs.MailState.{HasPriority, with_body}
 use Rattle.controller_mail.specs.declared.controller_mail.Treatment.{Treatment}
-use Rattle.controller_actors.specs.static_peers.Static.{static_frame}
+use Rattle.controller_actors.specs.declared.services.ActorServices.{ActorServices}
+use Rattle.controller_actors.specs.Served.{Serves}
 use Rattle.actor_world.specs.Start.{first_links}
-use Rattle.frame_lives.specs.Shown.{shown}
+use Rattle.frame_service.specs.State.{frame_in}
 use Rattle.controller_actors.specs.declared.actor_seats.seat.Seat.{Seat}
 use Rattle.controller_actors.specs.actor_seats.Stands.{AreSound, actor_in}
 use Rattle.controller_actors.specs.actor_seats.Seats.{SeatFits, seat_body}
 use Rattle.controller_actors.specs.declared.plant.Plant.{Plant}
 use Rattle.controller_actors.specs.declared.actors.Actors.{Actors}
 use Rattle.controller_actors.specs.Plants.{IsPlant}
-use Rattle.controller_actors.specs.Stands.{IsWell, body_of, done_of, seat_at, vacant}
+use Rattle.controller_actors.specs.Stands.{IsSeated, IsWell, body_of, done_of, lives_of, seat_at, vacant}
 use Rattle.controller_actors.specs.Steps.{Dispatches}
 use Rattle.controller_actors.proofs.Tabled.{slot_sound}
-use Rattle.controller_actors.proofs.Bodies.{body_same, body_set, well_set}
+use Rattle.controller_actors.proofs.Bodies.{body_same, body_set, seated_set, empty_set}
 use Rattle.controller_actors.proofs.Turning.{dispatches_nobody}
 
 -- a seat that is read is the one of its slot
@@ -34,33 +35,39 @@ pub read_sound : (p : Plant) → IsPlant p → (s : ℕ) (o : Option Tables) →
 read_sound p h s o is = λ v e. slot_sound p h s v (sym is ∙ e)
 
 -- it fits
-pub read_fits : (p : Plant) (me : ℕ) (a : Actors) (s : ℕ) (x : Incarnation) (o : Option Tables) (seat : Seat) → IsWell p me a
-    → x ≡ last_of (shown a.lives).lives s → o ≡ tables_at p.wiring p.tables.items s → seat ≡ seat_at a.seats.items s → SeatFits x o seat
-read_fits p me a s x o seat well who tables is =
+pub read_fits : (p : Plant) (me : ℕ) (a : Actors) (s : ℕ) (x : Incarnation) (o : Option Tables) (seat : Seat) → IsSeated p me a
+    → x ≡ last_of (lives_of a) s → o ≡ tables_at p.wiring p.tables.items s → seat ≡ seat_at a.seats.items s → SeatFits x o seat
+read_fits p me a s x o seat seated who tables is =
     subst (λ y. SeatFits y o seat) (sym who)
-    (subst (λ (v : Option Tables). SeatFits (last_of (shown a.lives).lives s) v seat) (sym tables)
-    (subst (λ (y : Seat). SeatFits (last_of (shown a.lives).lives s) (tables_at p.wiring p.tables.items s) y) (sym is) (well.each s)))
+    (subst (λ (v : Option Tables). SeatFits (last_of (lives_of a) s) v seat) (sym tables)
+    (subst (λ (y : Seat). SeatFits (last_of (lives_of a) s) (tables_at p.wiring p.tables.items s) y) (sym is) (seated.each s)))
 
 -- what it keeps has priorities
-pub read_kept : (p : Plant) (me : ℕ) (a : Actors) (s : ℕ) (seat : Seat) → IsWell p me a → seat ≡ seat_at a.seats.items s → All HasPriority seat.deferred
-read_kept p me a s seat well is = subst (λ (y : Seat). All HasPriority y.deferred) (sym is) (well.each s).kept
+pub read_kept : (p : Plant) (me : ℕ) (a : Actors) (s : ℕ) (seat : Seat) → IsSeated p me a → seat ≡ seat_at a.seats.items s → All HasPriority seat.deferred
+read_kept p me a s seat seated is = subst (λ (y : Seat). All HasPriority y.deferred) (sym is) (seated.each s).kept
 
 -- nobody stands in the slot of a message, which stays as it was
 pub dispatches_none : (p : Plant) (me : ℕ) (m : Msg) (old new : Actors) (before after : Seat) (done : Treatment) → m.target.slot.0 < length old.seats.items
-    → before ≡ seat_at old.seats.items m.target.slot.0 → new.lives ≡ old.lives → new.seats.items ≡ set old.seats.items m.target.slot.0 after
-    → (actor_in before.stand ≡ None) × (after ≡ before) → done ≡ record { sent = []; back = []; did = did.Empty (whose m.target); notes = [] }
-    → IsWell p me old → Dispatches p me m old new done
-dispatches_none p me m old new before after done l read lives seats none is well =
+    → before ≡ seat_at old.seats.items m.target.slot.0 → new.services ≡ old.services → new.seats.items ≡ set old.seats.items m.target.slot.0 after
+    → actor_in before.stand ≡ None → after ≡ before → done ≡ record { sent = []; back = []; did = did.Empty (whose m.target); notes = [] }
+    → (lives_of old).lives m.target.slot.0 ≡ true → IsWell p me old → Dispatches p me m old new done
+dispatches_none p me m old new before after done l read services seats none stays is live well =
     let s = m.target.slot.0 in
     let b = body_of p me old in
-    let same : after ≡ seat_at old.seats.items s = none.1 ∙ read in
-    let there = dispatches_nobody p me m old done (ap (λ (y : Seat). actor_in y.stand) (sym read) ∙ none.0) is well in
+    let same : after ≡ seat_at old.seats.items s = stays ∙ read in
+    let lives : lives_of new ≡ lives_of old = ap (λ (x : ActorServices). (frame_in x.frame).lives) services in
+    let there = dispatches_nobody p me m old done (ap (λ (y : Seat). actor_in y.stand) (sym read) ∙ none) is well in
     record {
       turn =
           there.turn
           ∙ ap (with_body (done_of done))
-          (body_same p me old s ∙ ap (seat_body (static_frame (shown old.lives)) first_links b s) (sym same) ∙ sym (body_set p me old new s after l lives seats));
-      well = well_set p me old new s after l lives seats well
-          (subst (λ (y : Seat). SeatFits (last_of (shown old.lives).lives s) (tables_at p.wiring p.tables.items s) y) (sym same) (well.each s));
+          (body_same p me old s ∙ ap (seat_body (frame_in old.services.frame) first_links b s) (sym same)
+          ∙ ap (λ (x : ActorServices). seat_body (frame_in x.frame) first_links b s after) (sym services)
+          ∙ sym (body_set p me old new s after l seats));
+      well = record {
+        seated = seated_set p me old new s after l lives seats (subst (Serves p.wiring me) (sym services) well.seated.serves) well.seated
+            (subst (λ (y : Seat). SeatFits (last_of (lives_of old) s) (tables_at p.wiring p.tables.items s) y) (sym same) (well.seated.each s));
+        empty = empty_set old new s after lives seats live [] well.empty;
+      };
       back = there.back;
     }

@@ -1,8 +1,10 @@
 -- A turn by the cases of the definition.
-use Rattle.std.proofs.Common.{◌≡◌, ℕ, ◌<◌, ◌==◌, ◌&&◌, not, Bool, true, false, [], length, set, All, Some, None, refl, sym, ap, ◌∙◌, subst}
-use Rattle.std.proofs.lemmas.Bool.{cond-true, cond-false}
+use Rattle.std.proofs.Common.{◌≡◌, ℕ, ◌<◌, ◌==◌, ◌&&◌, ◌||◌, not, Bool, slice_get, true, false, [], length, set, All, Some, None, refl, sym, ap, ◌∙◌, subst}
+use Rattle.std.proofs.lemmas.Bool.{and_from, cond-true, cond-false}
 use Rattle.std.proofs.lemmas.List.Elements.{All-nil}
 use Rattle.room_kinds.specs.declared.message.Msg.{Msg}
+use Rattle.room_kinds.specs.declared.numbers.SlotId.{SlotId}
+use Rattle.room_kinds.specs.declared.numbers.Incarnation.{Incarnation}
 use Rattle.room_wiring.specs.declared.tables.Tables.{Tables as Wiring}
 use Rattle.journal.specs.declared.entry.Did.TheVariants as did
 use Rattle.actor_duties.specs.Words.{is_own, whose}
@@ -10,21 +12,21 @@ use Rattle.actor_duties.specs.Lives.{last_of}
 use Rattle.actor_world.specs.Behaviour.{Behaviour}
 use Rattle.actor_world.specs.Body.{Body}
 use Rattle.actor_world.specs.Start.{first_links}
-use Rattle.actor_world.specs.Turns.{doing, treated, is_meant, nobody_there, handled, dispatched, dispatch, treat}
-use Rattle.frame_lives.specs.Shown.{shown}
+use Rattle.actor_world.specs.Turns.{doing, treated, is_meant, nobody_there, handled, all_kinds, system_done, dispatched, dispatch, treat}
+use Rattle.frame_service.specs.State.{frame_in}
 use Rattle.chart_behaviour.specs.ModelCharts.{Actor, tables_at, handles}
 use Rattle.controller_mail.specs.MailState.{HasPriority, with_body}
 use Rattle.controller_mail.specs.declared.controller_mail.Treatment.{Treatment}
-use Rattle.controller_actors.specs.static_peers.Static.{static_frame}
+use Rattle.controller_actors.specs.Served.{Serves}
 use Rattle.controller_actors.specs.declared.actor_seats.seat.Seat.{Seat}
 use Rattle.controller_actors.specs.actor_seats.Stands.{actor_in, actor_of}
 use Rattle.controller_actors.specs.actor_seats.Seats.{SeatTurns, seat_body, turned, treated_on}
 use Rattle.controller_actors.specs.declared.plant.Plant.{Plant}
 use Rattle.controller_actors.specs.declared.actors.Actors.{Actors}
 use Rattle.controller_actors.specs.Plants.{model_of}
-use Rattle.controller_actors.specs.Stands.{IsWell, body_of, done_of, seat_at}
-use Rattle.controller_actors.specs.Steps.{Dispatches}
-use Rattle.controller_actors.proofs.Bodies.{body_same, body_set, well_set}
+use Rattle.controller_actors.specs.Stands.{IsWell, body_of, done_of, lives_of, seat_at}
+use Rattle.controller_actors.specs.Steps.{Dispatches, IsLast}
+use Rattle.controller_actors.proofs.Bodies.{body_same, body_set, seated_set, empty_set}
 
 -- ---- the cases of a dispatch, over any behaviour
 
@@ -43,23 +45,27 @@ module _ {M : Type 0} (model : Behaviour M) (t : Wiring) (me : ℕ) (b : Body M)
   unfolding dispatch
   dispatch_handled e h = cond-false _ _ _ (ap not e) ∙ cond-false _ _ _ (ap not h)
 
-  treat_dispatch : (m.prio.0 == 0) ≡ false → treat model t me b m ≡ dispatch model t me b m
+  pub treat_dispatch : (m.prio.0 == 0) ≡ false → treat model t me b m ≡ dispatch model t me b m
   unfolding treat
   treat_dispatch e = cond-false _ _ _ e
+
+  pub treat_duty : (m.prio.0 == 0) ≡ true → treat model t me b m ≡ treated (system_done model t me b m (slice_get all_kinds m.signal)) did.Duty
+  unfolding treat
+  treat_duty e = cond-true _ _ _ e
 
 -- ---- the same of the actors of a controller
 
 -- whether an actor lives in a message's slot
 abbrev is_here : Wiring → ℕ → Msg → Actors → Bool
-is_here t me m a = is_own t me m.target.slot.0 && (shown a.lives).lives.lives m.target.slot.0
+is_here t me m a = is_own t me m.target.slot.0 && (lives_of a).lives m.target.slot.0
 
 -- whether it is meant
 abbrev is_for : Msg → Actors → Bool
-is_for m a = is_meant (static_frame (shown a.lives)) m
+is_for m a = is_meant (frame_in a.services.frame) m
 
 module _ (p : Plant) (me : ℕ) (m : Msg) (old : Actors) where
   -- the frame service's state of the body
-  frame_is : (body_of p me old).frame ≡ static_frame (shown old.lives)
+  frame_is : (body_of p me old).frame ≡ frame_in old.services.frame
   unfolding body_of
   frame_is = refl
 
@@ -67,29 +73,36 @@ module _ (p : Plant) (me : ℕ) (m : Msg) (old : Actors) where
   unfolding body_of
   machine_is s = refl
 
-  pub treats_nobody : (done : Treatment) → (m.prio.0 == 0) ≡ false → is_here p.wiring me m old ≡ false → done ≡ record { sent = []; back = []; did = did.Empty (whose m.target); notes = [] }
-      → treat (model_of p) p.wiring me (body_of p me old) m ≡ with_body (done_of done) (body_of p me old)
+  pub sends_nobody : (done : Treatment) → is_here p.wiring me m old ≡ false → done ≡ record { sent = []; back = []; did = did.Empty (whose m.target); notes = [] }
+      → dispatch (model_of p) p.wiring me (body_of p me old) m ≡ with_body (done_of done) (body_of p me old)
   unfolding body_of
-  treats_nobody done prio e is =
-      treat_dispatch (model_of p) p.wiring me (body_of p me old) m prio
-      ∙ dispatch_nobody (model_of p) p.wiring me (body_of p me old) m e
+  sends_nobody done e is =
+      dispatch_nobody (model_of p) p.wiring me (body_of p me old) m e
       ∙ ap (λ (d : Treatment). with_body (done_of d) (body_of p me old)) (sym is)
 
-  pub treats_stale : (done : Treatment) → (m.prio.0 == 0) ≡ false → is_here p.wiring me m old ≡ true → is_for m old ≡ false → done ≡ record { sent = []; back = []; did = did.Stale (whose m.target); notes = [] }
-      → treat (model_of p) p.wiring me (body_of p me old) m ≡ with_body (done_of done) (body_of p me old)
-  unfolding body_of
-  treats_stale done prio e h is =
-      treat_dispatch (model_of p) p.wiring me (body_of p me old) m prio
-      ∙ dispatch_stale (model_of p) p.wiring me (body_of p me old) m e h
-      ∙ ap (λ (d : Treatment). with_body (done_of d) (body_of p me old)) (sym is)
+  -- an actor that lives in the message's slot
+  module _ (who : Incarnation) (slot : who.slot ≡ m.target.slot) (last : IsLast p.wiring (lives_of old) who) (own : is_own p.wiring me m.target.slot.0 ≡ true) where
+    here : is_here p.wiring me m old ≡ true
+    here = and_from (is_own p.wiring me m.target.slot.0) ((lives_of old).lives m.target.slot.0) own (subst (λ (s : SlotId). (lives_of old).lives s.0 ≡ true) slot last.live)
 
-  pub treats_handled : (new : Actors) (done : Treatment) → (m.prio.0 == 0) ≡ false → is_here p.wiring me m old ≡ true → is_for m old ≡ true → Dispatches p me m old new done
-      → treat (model_of p) p.wiring me (body_of p me old) m ≡ with_body (done_of done) (body_of p me new)
-  unfolding body_of
-  treats_handled new done prio e h d =
-      treat_dispatch (model_of p) p.wiring me (body_of p me old) m prio
-      ∙ dispatch_handled (model_of p) p.wiring me (body_of p me old) m e h
-      ∙ d.turn
+    -- whether the message is meant
+    meant : is_for m old ≡ ((m.target.generation.0 == 0) || (m.target.generation.0 == who.generation.0))
+    meant =
+        ap (λ g. (m.target.generation.0 == 0) || (m.target.generation.0 == g))
+        (ap (λ (s : SlotId). (lives_of old).generation s.0) (sym slot) ∙ ap (λ (x : Incarnation). x.generation.0) last.last)
+
+    pub sends_stale : (done : Treatment) → ((m.target.generation.0 == 0) || (m.target.generation.0 == who.generation.0)) ≡ false
+        → done ≡ record { sent = []; back = []; did = did.Stale (whose m.target); notes = [] }
+        → dispatch (model_of p) p.wiring me (body_of p me old) m ≡ with_body (done_of done) (body_of p me old)
+    unfolding body_of
+    sends_stale done h is =
+        dispatch_stale (model_of p) p.wiring me (body_of p me old) m here (meant ∙ h)
+        ∙ ap (λ (d : Treatment). with_body (done_of d) (body_of p me old)) (sym is)
+
+    pub sends_handled : (new : Actors) (done : Treatment) → ((m.target.generation.0 == 0) || (m.target.generation.0 == who.generation.0)) ≡ true → Dispatches p me m old new done
+        → dispatch (model_of p) p.wiring me (body_of p me old) m ≡ with_body (done_of done) (body_of p me new)
+    unfolding body_of
+    sends_handled new done h d = dispatch_handled (model_of p) p.wiring me (body_of p me old) m here (meant ∙ h) ∙ d.turn
 
   -- nobody stands in the slot
   pub dispatches_nobody : (done : Treatment) → actor_in (seat_at old.seats.items m.target.slot.0).stand ≡ None → done ≡ record { sent = []; back = []; did = did.Empty (whose m.target); notes = [] }
@@ -103,25 +116,25 @@ module _ (p : Plant) (me : ℕ) (m : Msg) (old : Actors) where
   }
 
   -- the machine of a behaviour handles the message
-  handled_is : (actor : Actor) → handled (model_of p) p.wiring me (body_of p me old) (last_of (shown old.lives).lives m.target.slot.0) m actor
-      ≡ turned p.wiring me (body_of p me old) (last_of (shown old.lives).lives m.target.slot.0) m (handles (last_of (shown old.lives).lives m.target.slot.0) m (tables_at p.wiring p.tables.items m.target.slot.0) actor)
+  handled_is : (actor : Actor) → handled (model_of p) p.wiring me (body_of p me old) (last_of (lives_of old) m.target.slot.0) m actor
+      ≡ turned p.wiring me (body_of p me old) (last_of (lives_of old) m.target.slot.0) m (handles (last_of (lives_of old) m.target.slot.0) m (tables_at p.wiring p.tables.items m.target.slot.0) actor)
   unfolding handled
   handled_is actor = refl
 
   dispatched_is : (actor : Actor) → dispatched (model_of p) p.wiring me (body_of p me old) m (Some actor)
-      ≡ handled (model_of p) p.wiring me (body_of p me old) (last_of (shown old.lives).lives m.target.slot.0) m actor
+      ≡ handled (model_of p) p.wiring me (body_of p me old) (last_of (lives_of old) m.target.slot.0) m actor
   unfolding body_of
   dispatched_is actor = refl
 
   -- an actor stands in the slot
   pub dispatches_actor : (new : Actors) (before after : Seat) (done : Treatment) → m.target.slot.0 < length old.seats.items
-      → before ≡ seat_at old.seats.items m.target.slot.0 → new.lives ≡ old.lives → new.seats.items ≡ set old.seats.items m.target.slot.0 after
-      → SeatTurns p.wiring me (static_frame (shown old.lives)) first_links (last_of (shown old.lives).lives m.target.slot.0) m (tables_at p.wiring p.tables.items m.target.slot.0) before after done
-      → IsWell p me old → Dispatches p me m old new done
-  dispatches_actor new before after done l is lives seats h well =
+      → before ≡ seat_at old.seats.items m.target.slot.0 → new.seats.items ≡ set old.seats.items m.target.slot.0 after → Serves p.wiring me new.services
+      → SeatTurns p.wiring me (frame_in old.services.frame) first_links (frame_in new.services.frame) first_links (last_of (lives_of old) m.target.slot.0) m (tables_at p.wiring p.tables.items m.target.slot.0) before after done
+      → (lives_of old).lives m.target.slot.0 ≡ true → IsWell p me old → Dispatches p me m old new done
+  dispatches_actor new before after done l is seats serves h live well =
       let s = m.target.slot.0 in
-      let x = last_of (shown old.lives).lives s in
-      let f = static_frame (shown old.lives) in
+      let x = last_of (lives_of old) s in
+      let f = frame_in old.services.frame in
       let b = body_of p me old in
       let r = handles x m (tables_at p.wiring p.tables.items s) (actor_of before.stand) in
       record {
@@ -131,7 +144,10 @@ module _ (p : Plant) (me : ℕ) (m : Msg) (old : Actors) where
             ∙ handled_is (actor_of before.stand)
             ∙ ap (λ (c : Body Actor). turned p.wiring me c x m r) (body_same p me old s ∙ ap (seat_body f first_links b s) (sym is))
             ∙ h.turn b
-            ∙ ap (treated_on done) (sym (body_set p me old new s after l lives seats));
-        well = well_set p me old new s after l lives seats well h.fits;
+            ∙ ap (treated_on done) (sym (body_set p me old new s after l seats));
+        well = record {
+          seated = seated_set p me old new s after l h.lives seats serves well.seated h.fits;
+          empty = empty_set old new s after h.lives seats live [] well.empty;
+        };
         back = h.back;
       }

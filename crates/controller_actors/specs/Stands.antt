@@ -1,20 +1,22 @@
 -- Which body of the world's definitions the actors of a controller are.
-use Rattle.std.specs.Prelude.{◌≡◌, ℕ, List, [], slice_index_or}
+use Rattle.std.specs.Prelude.{◌≡◌, ℕ, ◌==◌, Bool, false, List, [], length, slice_index_or}
+use Rattle.std.specs.List.{list_any}
+use Rattle.room_kinds.specs.declared.numbers.Incarnation.{Incarnation}
+use Rattle.actor_duties.specs.State.{Lives}
 use Rattle.actor_duties.specs.Lives.{last_of}
-use Rattle.frame_lives.specs.Shown.{shown}
-use Rattle.frame_lives.specs.frame_start.First.{first_known}
 use Rattle.actor_world.specs.Body.{Body}
 use Rattle.actor_world.specs.Start.{first_links}
 use Rattle.chart_behaviour.specs.ModelCharts.{Actor, tables_at}
 use Rattle.controller_mail.specs.MailState.{TurnDone}
 use Rattle.controller_mail.specs.declared.controller_mail.Treatment.{Treatment}
-use Rattle.controller_actors.specs.static_peers.Static.{static_frame}
+use Rattle.frame_service.specs.State.{frame_in}
 use Rattle.controller_actors.specs.declared.actor_seats.stand.Stand.TheVariants as stands
 use Rattle.controller_actors.specs.declared.actor_seats.seat.Seat.{Seat}
 use Rattle.controller_actors.specs.actor_seats.Stands.{actor_in}
 use Rattle.controller_actors.specs.actor_seats.Seats.{SeatFits}
 use Rattle.controller_actors.specs.declared.plant.Plant.{Plant}
 use Rattle.controller_actors.specs.declared.actors.Actors.{Actors}
+use Rattle.controller_actors.specs.Served.{Serves}
 
 -- a slot where nobody stands
 abbrev pub vacant : Seat
@@ -27,18 +29,37 @@ seat_at seats s = slice_index_or seats s vacant
 -- the body that these actors are
 unfoldable pub body_of : Plant → ℕ → Actors → Body Actor
 body_of plant me actors = record {
-  frame = static_frame (shown actors.lives);
+  frame = frame_in actors.services.frame;
   links = first_links;
   table = [];
   machines = λ s. actor_in (seat_at actors.seats.items s).stand;
   deferred = λ s. (seat_at actors.seats.items s).deferred;
 }
 
--- the actors are those of controller me of this plant: what lives and what is known is that of the start,
--- and what stands in a slot is the incarnation that lives there, with a machine of its class
+-- who lives, and in which generation
+abbrev pub lives_of : Actors → Lives
+lives_of actors = (frame_in actors.services.frame).lives
+
+-- the services are those of controller me of this plant, each slot has its seat, and what stands in a
+-- slot is the incarnation that lives there or lived there last, with a machine of its class
+pub record IsSeated (plant : Plant) (me : ℕ) (actors : Actors) : Type 0 where
+  pub serves : Serves plant.wiring me actors.services
+  pub each : (s : ℕ) → SeatFits (last_of (lives_of actors) s) (tables_at plant.wiring plant.tables.items s) (seat_at actors.seats.items s)
+  pub count : length actors.seats.items ≡ length plant.wiring.slots
+
+-- whether an incarnation is one of this slot
+abbrev pub is_in : ℕ → Incarnation → Bool
+is_in s x = x.slot.0 == s
+
+-- nobody stands in a slot where nobody lives, but in the slots of these, which have just ended
+abbrev pub AreEmpty : List Incarnation → Actors → Type 0
+AreEmpty gone actors =
+    (s : ℕ) → (lives_of actors).lives s ≡ false → list_any (is_in s) gone ≡ false → (seat_at actors.seats.items s).stand ≡ stands.Nobody
+
+-- the actors are those of controller me of this plant, and nobody stands where nobody lives
 pub record IsWell (plant : Plant) (me : ℕ) (actors : Actors) : Type 0 where
-  pub lives : shown actors.lives ≡ first_known plant.wiring me
-  pub each : (s : ℕ) → SeatFits (last_of (shown actors.lives).lives s) (tables_at plant.wiring plant.tables.items s) (seat_at actors.seats.items s)
+  pub seated : IsSeated plant me actors
+  pub empty : AreEmpty [] actors
 
 -- what a turn made of its message, but the body
 abbrev pub done_of : Treatment → TurnDone

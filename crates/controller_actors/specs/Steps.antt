@@ -1,15 +1,17 @@
 -- What the actors of a controller do, step by step.
-use Rattle.std.specs.Prelude.{◌≡◌, ℕ, ◌&&◌, Bool, List, [], ◌∷◌, ◌++◌, All, map, filter, length, if◌then◌else◌}
+use Rattle.std.specs.Prelude.{◌≡◌, ℕ, ◌<◌, ◌&&◌, Bool, true, List, [], ◌∷◌, ◌++◌, All, Option, map, filter, length, if◌then◌else◌}
 use Rattle.std.specs.List.{range_with_len}
+use Rattle.std.specs.Option.{option_map_or}
 use Rattle.room_kinds.specs.declared.message.Msg.{Msg}
 use Rattle.room_kinds.specs.declared.note.Note.{Note}
 use Rattle.room_kinds.specs.declared.numbers.Incarnation.{Incarnation}
 use Rattle.room_wiring.specs.declared.tables.Tables.{Tables as Wiring}
 use Rattle.actor_duties.specs.Words.{incarnation, is_own}
 use Rattle.actor_duties.specs.Lives.{last_of}
-use Rattle.actor_world.specs.Start.{Starting as WorldStarting, all_started, first_body, lives_from_start}
+use Rattle.actor_duties.specs.State.{Lives}
+use Rattle.actor_world.specs.Start.{Starting as WorldStarting, all_started, first_body, first_lives, lives_from_start}
+use Rattle.actor_world.specs.Body.{Doing}
 use Rattle.actor_world.specs.Turns.{dispatched, doing}
-use Rattle.frame_lives.specs.Shown.{shown}
 use Rattle.chart_behaviour.specs.ModelCharts.{Actor, begins, state_number, tables_at}
 use Rattle.controller_mail.specs.MailState.{HasPriority, with_body}
 use Rattle.controller_mail.specs.declared.controller_mail.Treatment.{Treatment}
@@ -17,9 +19,10 @@ use Rattle.controller_actors.specs.declared.actor_seats.seat.Entrance.{Entrance}
 use Rattle.controller_actors.specs.actor_seats.Seats.{entered}
 use Rattle.controller_actors.specs.declared.plant.Plant.{Plant}
 use Rattle.controller_actors.specs.declared.actors.Actors.{Actors}
+use Rattle.controller_actors.specs.declared.changes.SoFar.{SoFar}
 use Rattle.controller_actors.specs.declared.start.Starting.{Starting}
 use Rattle.controller_actors.specs.Plants.{model_of}
-use Rattle.controller_actors.specs.Stands.{IsWell, body_of, done_of}
+use Rattle.controller_actors.specs.Stands.{AreEmpty, IsSeated, IsWell, body_of, done_of, lives_of}
 
 -- the actor of the message's slot handled it, or nobody stands there
 pub record Dispatches (plant : Plant) (me : ℕ) (m : Msg) (old new : Actors) (done : Treatment) : Type 0 where
@@ -31,12 +34,36 @@ pub record Dispatches (plant : Plant) (me : ℕ) (m : Msg) (old new : Actors) (d
 pub record ActorsBegin (plant : Plant) (me slot : ℕ) (old new : Actors) (sent before : List Msg) (e : Entrance) : Type 0 where
   pub kept : Bool
   pub doing : (notes : List Note) (held : Bool)
-      → let x = last_of (shown old.lives).lives slot in
+      → let x = last_of (lives_of old) slot in
       entered plant.wiring me x (begins x (tables_at plant.wiring plant.tables.items slot)) (record { body = body_of plant me old; sent = sent; back = before; notes = notes; kept = held })
       ≡ record { body = body_of plant me new; sent = e.said.messages; back = e.back; notes = e.said.notes; kept = kept }
-  pub state : e.state ≡ state_number (begins (last_of (shown old.lives).lives slot) (tables_at plant.wiring plant.tables.items slot)).machine
-  pub well : IsWell plant me new
-  pub count : length new.seats.items ≡ length old.seats.items
+  pub state : e.state ≡ state_number (begins (last_of (lives_of old) slot) (tables_at plant.wiring plant.tables.items slot)).machine
+  pub seated : IsSeated plant me new
+  pub lives : lives_of new ≡ lives_of old
+  pub empty : (gone : List Incarnation) → AreEmpty gone old → AreEmpty gone new
+
+-- an incarnation that lives, in a slot of the wiring
+pub record IsLast (t : Wiring) (l : Lives) (x : Incarnation) : Type 0 where
+  pub there : x.slot.0 < length t.slots
+  pub last : last_of l x.slot.0 ≡ x
+  pub live : l.lives x.slot.0 ≡ true
+
+-- what is done by actors, with the messages, notes and recalled messages so far
+abbrev pub doing_of : Plant → ℕ → Actors → SoFar → Bool → Doing Actor
+doing_of p me a s kept = record { body = body_of p me a; sent = s.said.messages; back = s.back; notes = s.said.notes; kept = kept }
+
+-- a step of the definitions, done by actors: no incarnation is made or ends in it
+pub record Moves (step : Doing Actor → Doing Actor) (plant : Plant) (me : ℕ) (old : Actors) (before : SoFar) (new : Actors) (after : SoFar) : Type 0 where
+  pub on : (held : Bool) → (kept : Bool) × (step (doing_of plant me old before held) ≡ doing_of plant me new after kept)
+  pub seated : IsSeated plant me new
+  pub lives : lives_of new ≡ lives_of old
+  pub back : All HasPriority before.back → All HasPriority after.back
+
+-- the last message is sent, if there is one
+pub record Closes (before after : SoFar) (last : Option Msg) : Type 0 where
+  pub messages : after.said.messages ≡ option_map_or (λ (m : Msg). before.said.messages ++ m ∷ []) last before.said.messages
+  pub notes : after.said.notes ≡ before.said.notes
+  pub back : after.back ≡ before.back
 
 -- before any actor of a controller has started
 abbrev pub unstarted : Wiring → ℕ → WorldStarting Actor
@@ -49,11 +76,11 @@ pub record Starts (plant : Plant) (me : ℕ) (xs : List Incarnation) (s : Starti
   pub started : all_started (model_of plant) plant.wiring me xs (unstarted plant.wiring me)
       ≡ record { doing = record { body = body_of plant me s.actors; sent = s.sent; back = s.back; notes = notes; kept = kept }; entries = s.entries }
   pub well : IsWell plant me s.actors
-  pub count : length s.actors.seats.items ≡ length plant.wiring.slots
+  pub lives : lives_of s.actors ≡ first_lives plant.wiring me
 
 -- the actor of a slot has started after these
 pub record StartsIn (plant : Plant) (me slot : ℕ) (old new : Starting) : Type 0 where
-  pub on : (xs : List Incarnation) → Starts plant me xs old → Starts plant me (xs ++ last_of (shown old.actors.lives).lives slot ∷ []) new
+  pub on : (xs : List Incarnation) → Starts plant me xs old → Starts plant me (xs ++ last_of (lives_of old.actors) slot ∷ []) new
 
 -- whether an actor lives in a slot from the start
 abbrev pub is_first : Wiring → ℕ → ℕ → Bool

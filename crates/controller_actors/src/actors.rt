@@ -1,34 +1,30 @@
 //! The actors of a controller.
-ghost use Rattle.std.specs.Prelude.{◌≡◌, ◌<◌, ◌&&◌, [], length, vec_len, All, IfOk, OnOk};
+ghost use Rattle.std.specs.Prelude.{◌≡◌, ◌<◌, ◌&&◌, ◌||◌, ◌==◌, [], false, true, length, All, IfOk, OnOk, MatchOption};
 ghost use Rattle.actor_duties.specs.Words.{is_own, whose};
 ghost use Rattle.actor_world.specs.Start.{first_state, start_entries};
-ghost use Rattle.actor_world.specs.Turns.{is_meant, treat};
-ghost use Rattle.frame_lives.specs.Shown.{shown};
-ghost use Rattle.controller_actors.specs.static_peers.Static.{static_frame};
+ghost use Rattle.actor_world.specs.Turns.{dispatch, treat};
 ghost use Rattle.controller_mail.specs.MailState.{HasPriority, with_body};
 ghost use Rattle.controller_actors.specs.Plants.{IsPlant, model_of};
-ghost use Rattle.controller_actors.specs.Stands.{IsWell, body_of, done_of};
-ghost use Rattle.controller_actors.specs.Steps.{Dispatches, ActorsBegin};
+ghost use Rattle.controller_actors.specs.Stands.{IsSeated, IsWell, body_of, done_of, lives_of};
+ghost use Rattle.controller_actors.specs.Steps.{ActorsBegin, Dispatches, IsLast};
 
 use crate::actor_seats::{Entrance, Seat};
 use crate::plant::Plant;
+use crate::services::ActorServices;
 use crate::start::start;
-use crate::static_peers::StaticPeers;
 use actor_commands::{Recalled, Speaker};
 use controller_mail::Treatment;
-use frame_lives::SlotLives;
 use journal::{Did, Journal};
-use room_kinds::{ControllerId, Msg, Notes, Outbox, Sequence, SlotId};
-use room_wiring::Wiring;
+use room_kinds::{ControllerId, Incarnation, Msg, Notes, Outbox, Sequence, SlotId};
 use service_messages::{is_own, whose};
 use std::alloc::{AllocError, Global};
 
-/// What a controller keeps besides its mail: the lives of its slots and its directory, and for each slot
-/// what stands there and what that keeps for later.
+/// What a controller keeps besides its mail: its services, and for each slot what stands there and what
+/// that keeps for later.
 #[derive(Drop)]
 pub struct Actors {
     pub(crate) alloc: Global,
-    pub(crate) lives: SlotLives,
+    pub(crate) services: ActorServices,
     pub(crate) seats: Vec<Seat>,
 }
 
@@ -60,19 +56,12 @@ fn nobody_there(alloc: Global, m: &Msg) -> Treatment
     discarded(alloc, Did::Empty { target })
 }
 
-/// Whether an actor of this controller lives in a slot.
-fn is_here(lives: &SlotLives, wiring: &Wiring, me: ControllerId, slot: SlotId) -> bool
-    ensures { result ≡ is_own wiring.now me.0 slot.0 && (shown lives.now).lives.lives slot.0 }
+/// Whether a message is for whoever stands in its slot, or for this actor, which does.
+fn is_meant(m: &Msg, who: Incarnation) -> bool
+    ensures { result ≡ (m.now.target.generation.0 == 0) || (m.now.target.generation.0 == who.generation.0) }
 {
-    is_own(wiring, me, slot) && lives.lives(slot)
-}
-
-/// Whether a message is for whoever stands in its slot, or for the actor that lives there.
-fn is_meant(lives: &SlotLives, m: &Msg) -> bool
-    ensures { result ≡ is_meant (static_frame (shown lives.now)) m.now }
-{
-    let generation = m.target.generation.0;
-    generation == 0 || generation == lives.last_of(m.target.slot).generation.0
+    let generation = m.target.generation;
+    generation.0 == 0 || generation == who.generation
 }
 
 impl Actors {
@@ -94,54 +83,93 @@ impl Actors {
         &mut self,
         plant: &Plant,
         me: ControllerId,
-        slot: SlotId,
+        who: Incarnation,
         sent: Outbox,
         back: Recalled,
     ) -> Result<Entrance, AllocError>
         requires plant { IsPlant plant.now }
-        requires well { IsWell plant.now me.0 self.old }
-        requires there { slot.0 < length self.old.seats.items }
-        ensures { IfOk result (λ e. ActorsBegin plant.now me.0 slot.0 self.old self.new sent back e) }
+        requires seated { IsSeated plant.now me.0 self.old }
+        requires last { IsLast plant.now.wiring (lives_of self.old) who }
+        ensures { IfOk result (λ e. ActorsBegin plant.now me.0 who.slot.0 self.old self.new sent back e) }
     {
         let alloc = self.alloc;
         let speaker = Speaker {
             wiring: &plant.wiring,
             me,
-            who: self.lives.last_of(slot),
+            who,
         };
-        let tables = plant.tables_of(slot);
-        let peers = StaticPeers { lives: &self.lives };
-        let seat = &mut self.seats[usize::from(slot.0)];
-        let entrance = seat.begin(alloc, &speaker, &peers, tables, sent, back)?;
+        let tables = plant.tables_of(who.slot);
+        let seat = &mut self.seats[usize::from(who.slot.0)];
+        let entrance = seat.begin(alloc, &speaker, &mut self.services, tables, sent, back)?;
         Ok(entrance)
     }
 
-    /// The actor that stands in the slot of a message handles it.
-    fn handle(&mut self, plant: &Plant, me: ControllerId, m: &Msg) -> Result<Treatment, AllocError>
+    /// The actor that lives in the slot of a message handles it.
+    fn handle(
+        &mut self,
+        plant: &Plant,
+        me: ControllerId,
+        who: Incarnation,
+        m: &Msg,
+    ) -> Result<Treatment, AllocError>
         requires plant { IsPlant plant.now }
         requires well { IsWell plant.now me.0 self.old }
+        requires last { IsLast plant.now.wiring (lives_of self.old) who }
+        requires target { who.slot ≡ m.now.target.slot }
         requires prio { HasPriority m.now }
         ensures { IfOk result (λ done. Dispatches plant.now me.0 m.now self.old self.new done) }
     {
         let alloc = self.alloc;
-        let slot = m.target.slot;
-        let at = usize::from(slot.0);
-        if at >= self.seats.len() {
-            return Ok(nobody_there(alloc, m));
-        }
         let speaker = Speaker {
             wiring: &plant.wiring,
             me,
-            who: self.lives.last_of(slot),
+            who,
         };
-        let tables = plant.tables_of(slot);
-        let peers = StaticPeers { lives: &self.lives };
-        let seat = &mut self.seats[at];
-        let handled = seat.handle(alloc, &speaker, &peers, tables, m)?;
+        let tables = plant.tables_of(who.slot);
+        let seat = &mut self.seats[usize::from(who.slot.0)];
+        let handled = seat.handle(alloc, &speaker, &mut self.services, tables, m)?;
         match handled {
             Some(done) => Ok(done),
             None => Ok(nobody_there(alloc, m)),
         }
+    }
+
+    /// The actor that lives in a slot of the wiring, if it is the controller's own.
+    fn occupant(&self, plant: &Plant, me: ControllerId, slot: SlotId) -> Option<Incarnation>
+        ensures { MatchOption result ((is_own plant.now.wiring me.0 slot.0 && (lives_of self.now).lives slot.0) ≡ false) (λ x. (x.slot ≡ slot) × IsLast plant.now.wiring (lives_of self.now) x × (is_own plant.now.wiring me.0 slot.0 ≡ true)) }
+    {
+        if !is_own(&plant.wiring, me, slot) {
+            return None;
+        }
+        match self.services.frame.live(slot) {
+            Some(generation) => Some(Incarnation { slot, generation }),
+            None => None,
+        }
+    }
+
+    /// What a turn makes of a message of priority 1 to 5.
+    fn dispatch(
+        &mut self,
+        plant: &Plant,
+        me: ControllerId,
+        m: &Msg,
+    ) -> Result<Treatment, AllocError>
+        requires plant { IsPlant plant.now }
+        requires well { IsWell plant.now me.0 self.old }
+        requires prio { HasPriority m.now }
+        ensures treated { IfOk result (λ done. dispatch (model_of plant.now) plant.now.wiring me.0 (body_of plant.now me.0 self.old) m.now ≡ with_body (done_of done) (body_of plant.now me.0 self.new)) }
+        ensures well { OnOk result (IsWell plant.now me.0 self.new) }
+        ensures back { IfOk result (λ done. All HasPriority done.back) }
+    {
+        let Some(who) = self.occupant(plant, me, m.target.slot) else {
+            return Ok(nobody_there(self.alloc, m));
+        };
+        if !is_meant(m, who) {
+            let target = whose(m.target);
+            return Ok(discarded(self.alloc, Did::Stale { target }));
+        }
+        let done = self.handle(plant, me, who, m)?;
+        Ok(done)
     }
 
     /// What a turn of controller `me` makes of a message. After want of memory the actors are unspecified:
@@ -159,18 +187,11 @@ impl Actors {
         ensures well { OnOk result (IsWell plant.now me.0 self.new) }
         ensures back { IfOk result (λ done. All HasPriority done.back) }
     {
-        // A static model sends nothing at the system level: duties come with the services.
         if m.prio.0 == 0 {
-            return Err(AllocError);
+            let done = self.duty(plant, me, m)?;
+            return Ok(done);
         }
-        if !is_here(&self.lives, &plant.wiring, me, m.target.slot) {
-            return Ok(nobody_there(self.alloc, m));
-        }
-        if !is_meant(&self.lives, m) {
-            let target = whose(m.target);
-            return Ok(discarded(self.alloc, Did::Stale { target }));
-        }
-        let done = self.handle(plant, me, m)?;
+        let done = self.dispatch(plant, me, m)?;
         Ok(done)
     }
 }

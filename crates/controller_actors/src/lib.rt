@@ -1,15 +1,20 @@
 //! The actors of a controller: what they do at the start, and what a turn makes of a message.
 //!
 //! A message of priority 1 to 5 goes to the actor that stands in its slot, whose machine handles it to
-//! completion; then the actor's commands are applied in order (ROOM: Selic, Gullekson and Ward 1994).
-//! Both calls are exactly the definitions of `actor_world`.
+//! completion; then the actor's commands are applied in order (ROOM: Selic, Gullekson and Ward 1994). A
+//! message of priority 0 is a duty of the frame service: actors come up, go down, and are lent. Each call
+//! is exactly the definition of `actor_world`. Duties of the layer service, by which service points meet
+//! by name, are answered as want of memory: no model that asks for them runs yet.
 #![tactic(auto)]
 
 pub mod actor_seats;
 mod actors;
+mod changes;
+mod duties;
 mod plant;
+mod services;
 mod start;
-pub mod static_peers;
 
 pub use actors::{Actors, Begun};
 pub use plant::Plant;
+pub use services::ActorServices;

@@ -2,16 +2,17 @@
 ghost use Rattle.std.specs.Prelude.{◌≡◌, ◌<◌, ◌++◌, [], length, replicate, IfOk, OnOk};
 ghost use Rattle.actor_world.specs.Start.{first_state, start_entries};
 ghost use Rattle.controller_actors.specs.Plants.{IsPlant, model_of};
-ghost use Rattle.controller_actors.specs.Stands.{IsWell, body_of, vacant};
-ghost use Rattle.controller_actors.specs.Steps.{Starts, StartsIn, first_below, first_in};
+ghost use Rattle.controller_actors.specs.Stands.{IsSeated, IsWell, body_of, vacant, lives_of};
+ghost use Rattle.controller_actors.specs.Steps.{IsLast, Starts, StartsIn, first_below, first_in};
 
 use crate::actor_seats::{Entrance, Seat};
 use crate::actors::{Actors, Begun};
 use crate::plant::Plant;
+use crate::services::ActorServices;
 use actor_commands::{Recalled, Said};
-use frame_lives::first_lives;
+use frame_service::FrameState;
 use journal::{Entry, Journal};
-use room_kinds::{ControllerId, Outbox, SlotId};
+use room_kinds::{ControllerId, Incarnation, Outbox, SlotId};
 use std::alloc::{AllocError, Global};
 use std::mem;
 
@@ -35,18 +36,22 @@ fn vacant_seats(alloc: Global, count: u32) -> Result<Vec<Seat>, AllocError>
 }
 
 impl Starting {
-    /// The actor of a slot starts.
-    fn start_in(&mut self, plant: &Plant, me: ControllerId, slot: SlotId) -> Result<(), AllocError>
+    /// An actor starts.
+    fn start_in(
+        &mut self,
+        plant: &Plant,
+        me: ControllerId,
+        who: Incarnation,
+    ) -> Result<(), AllocError>
         requires plant { IsPlant plant.now }
-        requires well { IsWell plant.now me.0 self.old.actors }
-        requires there { slot.0 < length self.old.actors.seats.items }
-        ensures { OnOk result (StartsIn plant.now me.0 slot.0 self.old self.new) }
+        requires seated { IsSeated plant.now me.0 self.old.actors }
+        requires last { IsLast plant.now.wiring (lives_of self.old.actors) who }
+        ensures { OnOk result (StartsIn plant.now me.0 who.slot.0 self.old self.new) }
     {
         let alloc = self.actors.alloc;
-        let who = self.actors.lives.last_of(slot);
         let sent = mem::replace(&mut self.sent, Outbox::new(alloc));
         let back = mem::replace(&mut self.back, Recalled::new(alloc));
-        let entrance = self.actors.begin(plant, me, slot, sent, back)?;
+        let entrance = self.actors.begin(plant, me, who, sent, back)?;
         let Entrance { said, back, state } = entrance;
         let Said { messages, notes } = said;
         self.sent = messages;
@@ -62,10 +67,10 @@ impl Starting {
         requires there { slot.0 < length plant.now.wiring.slots }
         ensures { OnOk result (Starts plant.now me.0 (first_below plant.now.wiring me.0 slot.0 ++ first_in plant.now.wiring me.0 slot.0) self.new) }
     {
-        if !self.actors.lives.lives(slot) {
+        let Some(generation) = self.actors.services.frame.live(slot) else {
             return Ok(());
-        }
-        self.start_in(plant, me, slot)?;
+        };
+        self.start_in(plant, me, Incarnation { slot, generation })?;
         Ok(())
     }
 
@@ -90,12 +95,12 @@ pub(crate) fn start(alloc: Global, plant: &Plant, me: ControllerId) -> Result<Be
     ensures entries { IfOk result (λ b. b.entries ≡ start_entries (model_of plant.now) plant.now.wiring me.0) }
     ensures well { IfOk result (λ b. IsWell plant.now me.0 b.actors) }
 {
-    let lives = first_lives(alloc, &plant.wiring, me)?;
+    let frame = FrameState::start(alloc, &plant.wiring, me)?;
     let seats = vacant_seats(alloc, plant.wiring.slot_count())?;
     let mut starting = Starting {
         actors: Actors {
             alloc,
-            lives,
+            services: ActorServices { frame },
             seats,
         },
         sent: Outbox::new(alloc),

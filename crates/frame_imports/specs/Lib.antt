@@ -3,3 +3,4 @@ pub mod Homes
 pub mod frame_forms
 pub mod frame_peers
 pub mod import_places
+pub mod Answered

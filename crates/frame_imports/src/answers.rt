@@ -1,12 +1,11 @@
-//! What the owner of an import place does.
-ghost use Rattle.std.specs.Prelude.{◌≡◌, ◌<◌, ◌++◌, ◌∷◌, [], OnOk};
-ghost use Rattle.actor_duties.specs.Words.{updated};
-ghost use Rattle.actor_duties.specs.Messages.{told_of};
-ghost use Rattle.actor_duties.specs.Imports.{container_frame, is_container_live, heard, import_done, import_refused, import_ended, deport_done};
+//! What the owner of an import place does at an answer.
+ghost use Rattle.std.specs.Prelude.{◌≡◌, ◌<◌, ◌++◌, OnOk};
+ghost use Rattle.actor_duties.specs.Imports.{container_frame, is_container_live};
 ghost use Rattle.service_messages.specs.Shown.{signal_of};
 ghost use Rattle.frame_lives.specs.Shown.{shown};
 ghost use Rattle.frame_imports.specs.import_places.Places.{place_of};
 ghost use Rattle.frame_imports.specs.import_places.Lending.{lending, with_places};
+ghost use Rattle.frame_imports.specs.Answered.{is_awaited, place_after, signal_for, told_last, answered};
 
 use crate::import_places::{ImportPlace, Imports};
 use frame_lives::SlotLives;
@@ -14,6 +13,76 @@ use room_kinds::{ControllerId, Endpoint, Outbox, SlotId};
 use room_wiring::Wiring;
 use service_messages::{Code, FrameSignal, container_of, frame_at, id_of, told_of, whose};
 use std::alloc::{AllocError, Global};
+
+/// What the owner of a home says to an import place.
+#[derive(Clone, Copy, Debug)]
+pub enum What {
+    /// ImportDone: the home is lent.
+    Lent,
+    /// ImportRefused: it isn't, for this code. A code that no row sends says nothing.
+    Refused(i64),
+    /// ImportEnded: the home has ended.
+    Ended,
+    /// DeportDone: the home is back.
+    Back,
+}
+
+/// An answer from the owner of a home to an import place.
+#[derive(Clone, Copy, Debug)]
+pub struct Answer {
+    pub home: Endpoint,
+    pub place: Endpoint,
+    pub what: What,
+}
+
+impl Answer {
+    /// Whether the import place waits for this answer, by what it holds.
+    fn is_awaited(self, held: ImportPlace) -> bool
+        ensures { result ≡ is_awaited self (place_of held) }
+    {
+        let home = whose(self.home);
+        match self.what {
+            What::Lent => held.asks_for(home),
+            What::Refused(code) => {
+                (Code::StaleId.is(code) || Code::PortTaken.is(code)) && held.asks_for(home)
+            }
+            What::Ended => held.holds(home),
+            What::Back => held.gives_back(home),
+        }
+    }
+
+    /// What the import place holds after it.
+    fn place_after(self) -> ImportPlace
+        ensures { place_of result ≡ place_after self }
+    {
+        match self.what {
+            What::Lent => ImportPlace::Held(whose(self.home)),
+            What::Refused(_) | What::Ended | What::Back => ImportPlace::Empty,
+        }
+    }
+
+    /// The signal by which the container is told.
+    fn signal(self) -> FrameSignal
+        ensures { signal_of result ≡ signal_for self }
+    {
+        match self.what {
+            What::Lent => FrameSignal::Imported,
+            What::Refused(_) => FrameSignal::Refused,
+            What::Ended => FrameSignal::Ended,
+            What::Back => FrameSignal::Deported,
+        }
+    }
+
+    /// The last number that the container is told: a code, or the home's number.
+    fn told_last(self) -> i64
+        ensures { result ≡ told_last self }
+    {
+        match self.what {
+            What::Refused(code) => code,
+            What::Lent | What::Ended | What::Back => id_of(whose(self.home)),
+        }
+    }
+}
 
 /// The container of an import place, in the place's generation.
 fn container_frame(wiring: &Wiring, place: Endpoint) -> Endpoint
@@ -32,160 +101,38 @@ fn is_container_live(wiring: &Wiring, lives: &SlotLives, place: Endpoint) -> boo
     lives.is_live(whose(container_frame(wiring, place)))
 }
 
-/// An import place holds something else, and its container is told.
-fn tell(
-    imports: &mut Imports,
-    alloc: Global,
-    wiring: &Wiring,
-    me: ControllerId,
-    signal: FrameSignal,
-    home: Endpoint,
-    place: Endpoint,
-    next: ImportPlace,
-    last: i64,
-    out: &mut Outbox,
-) -> Result<(), AllocError>
-    requires { place.slot.0 < (lending imports.old).slots }
-    ensures now { OnOk result (lending imports.new ≡ with_places (lending imports.old) (updated (lending imports.old).places place.slot.0 (place_of next))) }
-    ensures sent { OnOk result (out.new ≡ out.old ++ told_of wiring.now me.0 (signal_of signal) home (container_frame wiring.now place) place.slot.0 last ∷ []) }
-{
-    let container = container_frame(wiring, place);
-    imports.set_place(place.slot, next);
-    out.push(told_of(alloc, wiring, me, signal, home, container, place.slot, last)?)?;
-    Ok(())
-}
-
-/// An answer to an import place: where its container lives and the place is as the answer needs it, it
-/// holds something else, and its container is told.
-fn hear(
+/// An answer to an import place: where its container lives and the place waits for the answer, it holds
+/// something else, and its container is told. Who asked for the home holds it, and is told `imported`, or
+/// nothing, and is told `refused` with the code; who holds the home holds nothing, and is told `ended`;
+/// who gave it back holds nothing, and is told `deported`.
+pub fn hear(
     imports: &mut Imports,
     alloc: Global,
     wiring: &Wiring,
     me: ControllerId,
     lives: &SlotLives,
-    signal: FrameSignal,
-    home: Endpoint,
-    place: Endpoint,
-    fits: bool,
-    next: ImportPlace,
-    last: i64,
+    answer: Answer,
     out: &mut Outbox,
 ) -> Result<(), AllocError>
-    requires { place.slot.0 < (lending imports.old).slots }
-    ensures now { OnOk result (lending imports.new ≡ with_places (lending imports.old) ((heard wiring.now (shown lives.now).lives (lending imports.old).places place fits (place_of next) (told_of wiring.now me.0 (signal_of signal) home (container_frame wiring.now place) place.slot.0 last)).now)) }
-    ensures sent { OnOk result (out.new ≡ out.old ++ (heard wiring.now (shown lives.now).lives (lending imports.old).places place fits (place_of next) (told_of wiring.now me.0 (signal_of signal) home (container_frame wiring.now place) place.slot.0 last)).sent) }
+    requires { answer.place.slot.0 < (lending imports.old).slots }
+    ensures now { OnOk result (lending imports.new ≡ with_places (lending imports.old) ((answered wiring.now me.0 (shown lives.now).lives (lending imports.old).places answer).now)) }
+    ensures sent { OnOk result (out.new ≡ out.old ++ (answered wiring.now me.0 (shown lives.now).lives (lending imports.old).places answer).sent) }
 {
-    if is_container_live(wiring, lives, place) && fits {
-        tell(
-            imports, alloc, wiring, me, signal, home, place, next, last, out,
-        )?;
-        return Ok(());
+    let Answer { home, place, .. } = answer;
+    if is_container_live(wiring, lives, place) && answer.is_awaited(imports.place(place.slot)) {
+        let container = container_frame(wiring, place);
+        let last = answer.told_last();
+        imports.set_place(place.slot, answer.place_after());
+        out.push(told_of(
+            alloc,
+            wiring,
+            me,
+            answer.signal(),
+            home,
+            container,
+            place.slot,
+            last,
+        )?)?;
     }
-    Ok(())
-}
-
-/// ImportDone: who asked for the home holds it, and its container is told `imported`.
-#[tactic(auto, unfolding(actor_duties::specs::Imports::import_done))]
-pub fn import_done(
-    imports: &mut Imports,
-    alloc: Global,
-    wiring: &Wiring,
-    me: ControllerId,
-    lives: &SlotLives,
-    home: Endpoint,
-    place: Endpoint,
-    out: &mut Outbox,
-) -> Result<(), AllocError>
-    requires { place.slot.0 < (lending imports.old).slots }
-    ensures now { OnOk result (lending imports.new ≡ with_places (lending imports.old) ((import_done wiring.now me.0 (shown lives.now).lives (lending imports.old).places home place).now)) }
-    ensures sent { OnOk result (out.new ≡ out.old ++ (import_done wiring.now me.0 (shown lives.now).lives (lending imports.old).places home place).sent) }
-{
-    let fits = imports.place(place.slot).asks_for(whose(home));
-    let next = ImportPlace::Held(whose(home));
-    let id = id_of(whose(home));
-    let signal = FrameSignal::Imported;
-    hear(
-        imports, alloc, wiring, me, lives, signal, home, place, fits, next, id, out,
-    )?;
-    Ok(())
-}
-
-/// ImportRefused, with the code 4 or 5: who asked for the home holds nothing, and its container is told
-/// `refused`, with the code. Another code says nothing.
-#[tactic(auto, unfolding(actor_duties::specs::Imports::import_refused))]
-pub fn import_refused(
-    imports: &mut Imports,
-    alloc: Global,
-    wiring: &Wiring,
-    me: ControllerId,
-    lives: &SlotLives,
-    home: Endpoint,
-    place: Endpoint,
-    code: i64,
-    out: &mut Outbox,
-) -> Result<(), AllocError>
-    requires { place.slot.0 < (lending imports.old).slots }
-    ensures now { OnOk result (lending imports.new ≡ with_places (lending imports.old) ((import_refused wiring.now me.0 (shown lives.now).lives (lending imports.old).places home place code).now)) }
-    ensures sent { OnOk result (out.new ≡ out.old ++ (import_refused wiring.now me.0 (shown lives.now).lives (lending imports.old).places home place code).sent) }
-{
-    let is_refusal = Code::StaleId.is(code) || Code::PortTaken.is(code);
-    let fits = is_refusal && imports.place(place.slot).asks_for(whose(home));
-    let next = ImportPlace::Empty;
-    let signal = FrameSignal::Refused;
-    hear(
-        imports, alloc, wiring, me, lives, signal, home, place, fits, next, code, out,
-    )?;
-    Ok(())
-}
-
-/// ImportEnded: who holds the home holds nothing, and its container is told `ended`.
-#[tactic(auto, unfolding(actor_duties::specs::Imports::import_ended))]
-pub fn import_ended(
-    imports: &mut Imports,
-    alloc: Global,
-    wiring: &Wiring,
-    me: ControllerId,
-    lives: &SlotLives,
-    home: Endpoint,
-    place: Endpoint,
-    out: &mut Outbox,
-) -> Result<(), AllocError>
-    requires { place.slot.0 < (lending imports.old).slots }
-    ensures now { OnOk result (lending imports.new ≡ with_places (lending imports.old) ((import_ended wiring.now me.0 (shown lives.now).lives (lending imports.old).places home place).now)) }
-    ensures sent { OnOk result (out.new ≡ out.old ++ (import_ended wiring.now me.0 (shown lives.now).lives (lending imports.old).places home place).sent) }
-{
-    let fits = imports.place(place.slot).holds(whose(home));
-    let next = ImportPlace::Empty;
-    let id = id_of(whose(home));
-    let signal = FrameSignal::Ended;
-    hear(
-        imports, alloc, wiring, me, lives, signal, home, place, fits, next, id, out,
-    )?;
-    Ok(())
-}
-
-/// DeportDone: who gave the home back holds nothing, and its container is told `deported`.
-#[tactic(auto, unfolding(actor_duties::specs::Imports::deport_done))]
-pub fn deport_done(
-    imports: &mut Imports,
-    alloc: Global,
-    wiring: &Wiring,
-    me: ControllerId,
-    lives: &SlotLives,
-    home: Endpoint,
-    place: Endpoint,
-    out: &mut Outbox,
-) -> Result<(), AllocError>
-    requires { place.slot.0 < (lending imports.old).slots }
-    ensures now { OnOk result (lending imports.new ≡ with_places (lending imports.old) ((deport_done wiring.now me.0 (shown lives.now).lives (lending imports.old).places home place).now)) }
-    ensures sent { OnOk result (out.new ≡ out.old ++ (deport_done wiring.now me.0 (shown lives.now).lives (lending imports.old).places home place).sent) }
-{
-    let fits = imports.place(place.slot).gives_back(whose(home));
-    let next = ImportPlace::Empty;
-    let id = id_of(whose(home));
-    let signal = FrameSignal::Deported;
-    hear(
-        imports, alloc, wiring, me, lives, signal, home, place, fits, next, id, out,
-    )?;
     Ok(())
 }

@@ -3,12 +3,13 @@
 ghost use Rattle.std.specs.Prelude.{◌≡◌, ◌<◌, length};
 ghost use Rattle.room_wiring.specs.Places.{is_told};
 ghost use Rattle.actor_duties.specs.Words.{is_home};
-ghost use Rattle.actor_duties.specs.Frame.{is_request, is_answer, is_forth, is_back, is_announced};
+ghost use Rattle.actor_duties.specs.Frame.{is_request, is_answer, is_forth, is_back, is_announced, is_part_told};
+ghost use Rattle.service_messages.specs.slot_runs.Runs.{IsDepthFirst, AreRunEnds};
 
 use room_kinds::{ControllerId, Endpoint, SlotId};
 use room_wiring::Wiring;
 use service_messages::{
-    is_fixed, is_frame, is_imported, is_optional, is_own, is_part_of, is_same_endpoint,
+    SlotRuns, is_fixed, is_frame, is_imported, is_optional, is_own, is_part_of, is_same_endpoint,
 };
 
 /// Whether an actor of a slot may be lent: the slot is fixed or optional.
@@ -85,4 +86,26 @@ pub fn is_announced(wiring: &Wiring, me: ControllerId, actor: Endpoint, again: E
     ensures { result ≡ is_announced wiring.now me.0 actor again }
 {
     is_frame(actor) && is_same_endpoint(actor, again) && is_told(wiring, actor.slot, me)
+}
+
+/// An optional slot's actor, at another controller that has a part of the slot: the form of PartMake and
+/// PartEnd.
+#[tactic(auto, using(crate::proofs::frame_forms::Told::optional_there))]
+pub fn is_part_told(
+    wiring: &Wiring,
+    runs: &SlotRuns,
+    me: ControllerId,
+    actor: Endpoint,
+    again: Endpoint,
+) -> bool
+    requires order { IsDepthFirst wiring.now }
+    requires runs { AreRunEnds wiring.now runs.now }
+    ensures { result ≡ is_part_told wiring.now me.0 actor again }
+{
+    is_frame(actor)
+        && is_same_endpoint(actor, again)
+        && actor.generation.0 != 0
+        && is_optional(wiring, actor.slot)
+        && !is_own(wiring, me, actor.slot)
+        && runs.has_part(wiring, me, actor.slot)
 }

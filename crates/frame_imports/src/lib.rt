@@ -12,9 +12,9 @@ mod homes;
 pub mod import_places;
 mod ports;
 
-pub use answers::{deport_done, import_done, import_ended, import_refused};
+pub use answers::{Answer, What, hear};
 pub use commands::{Asked, request_deport, request_import};
-pub use frame_forms::{is_announced, is_answer, is_back, is_forth, is_request};
+pub use frame_forms::{is_announced, is_answer, is_back, is_forth, is_part_told, is_request};
 pub use frame_peers::{Lent, peer};
 pub use homes::{deport, import};
 pub use import_places::Imports;

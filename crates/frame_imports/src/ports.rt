@@ -39,7 +39,8 @@ fn is_plugged(
     ensures { result ≡ list_any (λ q. not (is_incarnation q import) && is_end (joined_at wiring.now q.slot.0 port place)) plugs.now }
 {
     plugs.iter().any(|plug| {
-        !is_same_actor(*plug, import) && is_end(joined_at(wiring, plug.slot, port, place))
+        !is_same_actor(*plug, import)
+            && is_end(joined_at(wiring, plug.slot, port, u64::from(place)))
     })
 }
 
@@ -55,13 +56,13 @@ fn is_taken_at(
 ) -> bool
     ensures { result ≡ is_taken_at wiring.now plugs.now import home port place }
 {
-    is_end(joined_at(wiring, import.slot, port, place))
-        && (is_joined(joined_at(wiring, home.slot, port, place))
+    is_end(joined_at(wiring, import.slot, port, u64::from(place)))
+        && (is_joined(joined_at(wiring, home.slot, port, u64::from(place)))
             || is_plugged(wiring, plugs, import, port, place))
 }
 
 /// Whether a place of a port does.
-#[tactic(auto, using(crate::proofs::Searched::found_in, crate::proofs::Searched::none_in))]
+#[tactic(auto, using(service_messages::proofs::slot_runs::Searched::found_in, service_messages::proofs::slot_runs::Searched::none_in))]
 fn is_any_place_taken(
     wiring: &Wiring,
     plugs: &[Incarnation],
@@ -83,7 +84,7 @@ fn is_any_place_taken(
 
 /// Whether a place of any port does. The time is in proportion to the number of the import place's
 /// places, and to that of the plugs.
-#[tactic(auto, using(crate::proofs::Searched::found_in, crate::proofs::Searched::none_in), unfolding(actor_duties::specs::Imports::is_port_taken))]
+#[tactic(auto, using(service_messages::proofs::slot_runs::Searched::found_in, service_messages::proofs::slot_runs::Searched::none_in), unfolding(actor_duties::specs::Imports::is_port_taken))]
 pub fn is_port_taken(
     wiring: &Wiring,
     plugs: &[Incarnation],

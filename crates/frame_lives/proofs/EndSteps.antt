@@ -1,44 +1,127 @@
 -- Actors that end.
-use Rattle.std.proofs.Common.{◌≡◌, ℕ, zero, suc, ◌+◌, ◌<◌, ◌≤◌, ◌==◌, Bool, true, false, not, ◌&&◌, cond, List, [], ◌∷◌, ◌++◌, map, filter, reverse, length, ◌⊎◌, refl, sym, ap, ◌∙◌, subst, arith, inl, inr}
-use Rattle.std.proofs.Math.Path.{fun_ext}
-use Rattle.std.specs.Prelude.{nat_lt, nat_le}
-use Rattle.std.proofs.lemmas.Bool.{cases_eq, cases_lt, eq-eqb, ne_eqb, lt-ltb, le-ltb, le-leb, lt-leb, and_right, and_left, and_from}
+use Rattle.std.proofs.Common.{◌≡◌, ℕ, zero, suc, ◌+◌, ◌<◌, ◌≤◌, ◌==◌, Bool, true, false, not, ◌&&◌, ◌||◌, cond, List, [], ◌∷◌, ◌++◌, map, filter, reverse, length, Some, ◌⊎◌, refl, sym, ap, ◌∙◌, subst, eqb-true, arith, inl, inr}
+use Rattle.std.proofs.lemmas.Bool.{cases_lt, eq-eqb, and_right, and_left, or_cases}
 use Rattle.std.proofs.lemmas.List.{map-append, reverse-append}
 use Rattle.room_kinds.specs.declared.numbers.Incarnation.{Incarnation}
 use Rattle.room_wiring.specs.declared.tables.Tables.{Tables}
+use Rattle.actor_duties.specs.Words.{container_of, is_own}
 use Rattle.actor_duties.specs.State.{Lives}
-use Rattle.actor_duties.specs.Lives.{is_within, lives_ended, ended_slots, last_of}
+use Rattle.actor_duties.specs.Lives.{ends_by, is_reached, goes_down, ended_slots, last_of}
 use Rattle.service_messages.specs.slot_runs.Runs.{IsDepthFirst, IsRunEnd}
 use Rattle.service_messages.proofs.slot_runs.Kept.{kept, kept_one, kept_none}
-use Rattle.service_messages.proofs.slot_runs.RunLemmas.{run_within, outside_within}
-use Rattle.frame_lives.specs.Known.{Known}
-use Rattle.frame_lives.specs.Steps.{ended, is_ending}
-use Rattle.frame_lives.proofs.Rows.{updated_here, updated_else}
+use Rattle.service_messages.proofs.slot_runs.RunLemmas.{held_true, same_some, inside_by, run_nested, run_behind}
+use Rattle.frame_lives.specs.Steps.{ends_with}
+use Rattle.frame_lives.proofs.Reached.{reached_itself, reached_part, not_outside, not_in_run}
 
--- the actors that end in slots below n
-abbrev pub ending_below : Tables → Lives → ℕ → ℕ → List Incarnation
-ending_below t l o n = map (last_of l) (kept (is_ending t l o) n)
+-- what isn't reached doesn't go down
+not_down : (t : Tables) (me : ℕ) (l : Lives) (o s : ℕ) → is_reached t me l o s ≡ false → goes_down t me l o s ≡ false
+unfolding goes_down
+not_down t me l o s h = and_left (is_own t me s && is_reached t me l o s) (l.lives s) (and_right (is_own t me s) (is_reached t me l o s) h)
 
-not_ending : (t : Tables) → IsDepthFirst t → (l : Lives) (o e s : ℕ) → IsRunEnd t o e → ((o ≤ s) × (s < e) → ⊥) → is_ending t l o s ≡ false
-not_ending t first l o e s run out = and_left (is_within t o s) (l.lives s) (outside_within t first o e s run out)
+and_true : (b : Bool) → b && true ≡ b
+and_true true = refl
+and_true false = refl
 
-pub ending_begun : (t : Tables) → IsDepthFirst t → (l : Lives) (o e : ℕ) → IsRunEnd t o e → [] ≡ ending_below t l o o
-ending_begun t first l o e run =
-    sym (ap (map (last_of l)) (kept_none (is_ending t l o) 0 o (omega arith) (λ u a b. not_ending t first l o e u run (λ c. let from = c.0 in omega arith))))
+-- what is reached goes down if it is the controller's own and lives
+down_here : (t : Tables) (me : ℕ) (l : Lives) (o s : ℕ) → is_reached t me l o s ≡ true → goes_down t me l o s ≡ (is_own t me s && l.lives s)
+unfolding goes_down
+down_here t me l o s h = ap (λ b. (is_own t me s && b) && l.lives s) h ∙ ap (λ b. b && l.lives s) (and_true (is_own t me s))
 
--- one more lives
-pub ending_on : (t : Tables) → IsDepthFirst t → (l : Lives) (o e n : ℕ) (so_far : List Incarnation) → IsRunEnd t o e → o ≤ n → n < e → l.lives n ≡ true
-    → so_far ≡ ending_below t l o n → so_far ++ last_of l n ∷ [] ≡ ending_below t l o (n + 1)
-ending_on t first l o e n so_far run a b h is =
-    let ends : is_ending t l o n ≡ true = and_from (is_within t o n) (l.lives n) (run_within t first o e n run a b) h in
-    ap (λ (xs : List Incarnation). xs ++ last_of l n ∷ []) is
-    ∙ sym (ap (map (last_of l)) (kept_one (is_ending t l o) n ends) ∙ map-append (last_of l) (kept (is_ending t l o) n) (n ∷ []))
+-- the actors that go down in slots below n are found, and each container before n of a slot from n on, if
+-- it isn't before o, is reached
+pub record Ending (t : Tables) (me : ℕ) (l : Lives) (o e : ℕ) (so_far : List Incarnation) (n : ℕ) : Type 0 where
+  pub from : o ≤ n
+  pub within : n ≤ e
+  pub containers : (v c : ℕ) → container_of t v ≡ Some c → n ≤ v → o ≤ c → c < n → is_reached t me l o c ≡ true
+  pub actors : so_far ≡ map (last_of l) (kept (goes_down t me l o) n)
 
--- the next one doesn't live
-pub ending_passed : (t : Tables) (l : Lives) (o n : ℕ) (so_far : List Incarnation) → l.lives n ≡ false → so_far ≡ ending_below t l o n → so_far ≡ ending_below t l o (n + 1)
-ending_passed t l o n so_far h is =
-    is
-    ∙ sym (ap (map (last_of l)) (kept_none (is_ending t l o) n (n + 1) (omega arith) (λ u a b. let same : u ≡ n = omega arith in and_right (is_within t o u) (l.lives u) (ap l.lives same ∙ h))))
+pub ending_begun : (t : Tables) → IsDepthFirst t → (me : ℕ) (l : Lives) (o e : ℕ) → IsRunEnd t o e → Ending t me l o e [] o
+ending_begun t first me l o e run =
+    let behind = run.behind in
+    record {
+      from = omega arith;
+      within = omega arith;
+      containers = λ v c is a b d. absurd (omega arith);
+      actors =
+          sym (ap (map (last_of l)) (kept_none (goes_down t me l o) 0 o (omega arith)
+          (λ u a b. not_down t me l o u (not_outside t first me l o e u run (λ c. let from = c.0 in omega arith)))));
+    }
+
+-- the next slot is reached, if it is o or ends with its container
+next_reached : (t : Tables) → IsDepthFirst t → (me : ℕ) (l : Lives) (o e n : ℕ) (so_far : List Incarnation) → IsRunEnd t o e → n < e → Ending t me l o e so_far n
+    → ((n == o) || ends_with t me l n) ≡ true → is_reached t me l o n ≡ true
+next_reached t first me l o e n so_far run below w h = elim (or_cases (n == o) (ends_with t me l n) h) [
+  | inl here ↦ subst (λ z. is_reached t me l o z ≡ true) (sym (eqb-true n o here)) (reached_itself t me l o)
+  | inr ends ↦
+      let c = held_true (ends_by t me l n) (container_of t n) ends in
+      let less : c.0 < n = first.behind n c.0 c.1 in
+      let from = w.from in
+      elim (cases_lt o n) [
+        | inl behind ↦
+            let i = inside_by t o n (run.inside n behind below) in
+            let least = i.from in
+            let same : i.container ≡ c.0 = same_some t n i.container c.0 i.is c.1 in
+            reached_part t first me l o n c.0 c.1 c.2 (w.containers n c.0 c.1 (omega arith) (omega arith) less)
+        | inr top ↦
+            let same : n ≡ o = omega arith in subst (λ z. is_reached t me l o z ≡ true) (sym same) (reached_itself t me l o)
+      ]
+]
+
+-- the next slot is reached
+pub ending_on : (t : Tables) → IsDepthFirst t → (me : ℕ) (l : Lives) (o e n : ℕ) (so_far after : List Incarnation) → IsRunEnd t o e → n < e
+    → ((n == o) || ends_with t me l n) ≡ true → after ≡ cond (is_own t me n && l.lives n) (so_far ++ last_of l n ∷ []) so_far
+    → Ending t me l o e so_far n → Ending t me l o e after (n + 1)
+ending_on t first me l o e n so_far after run below h is w =
+    let reached : is_reached t me l o n ≡ true = next_reached t first me l o e n so_far run below w h in
+    let from = w.from in
+    record {
+      from = omega arith;
+      within = omega arith;
+      containers =
+          λ v c is a b d. elim (cases_lt c n) [
+            | inl before ↦ w.containers v c is (omega arith) b before
+            | inr here ↦ let same : c ≡ n = omega arith in subst (λ z. is_reached t me l o z ≡ true) (sym same) reached
+          ];
+      actors = is ∙ one (goes_down t me l o n) refl (down_here t me l o n reached);
+    }
+  where
+    one : (b : Bool) → goes_down t me l o n ≡ b → goes_down t me l o n ≡ (is_own t me n && l.lives n)
+        → cond (is_own t me n && l.lives n) (so_far ++ last_of l n ∷ []) so_far ≡ map (last_of l) (kept (goes_down t me l o) (n + 1))
+    one true d q =
+        ap (λ b. cond b (so_far ++ last_of l n ∷ []) so_far) (sym q ∙ d) ∙ ap (λ (xs : List Incarnation). xs ++ last_of l n ∷ []) w.actors
+        ∙ sym (ap (map (last_of l)) (kept_one (goes_down t me l o) n d) ∙ map-append (last_of l) (kept (goes_down t me l o) n) (n ∷ []))
+    one false d q =
+        ap (λ b. cond b (so_far ++ last_of l n ∷ []) so_far) (sym q ∙ d) ∙ w.actors
+        ∙ sym (ap (map (last_of l)) (kept_none (goes_down t me l o) n (n + 1) (omega arith) (λ u a b. let same : u ≡ n = omega arith in ap (goes_down t me l o) same ∙ d)))
+
+not_or : (a b : Bool) → (a || b) ≡ false → (a ≡ false) × (b ≡ false)
+not_or true b h = absurd cc
+not_or false b h = (refl, h)
+
+-- the run of a slot that isn't reached is passed over
+pub ending_past : (t : Tables) → IsDepthFirst t → (me : ℕ) (l : Lives) (o e n f : ℕ) (so_far : List Incarnation) → IsRunEnd t o e → n < e
+    → ((n == o) || ends_with t me l n) ≡ false → IsRunEnd t n f → Ending t me l o e so_far n → Ending t me l o e so_far f
+ending_past t first me l o e n f so_far run below h skipped w =
+    let both = not_or (n == o) (ends_with t me l n) h in
+    let from = w.from in
+    let ends = skipped.behind in
+    let behind : o < n = elim (cases_lt o n) [ inl a ↦ a | inr a ↦ let same : n ≡ o = omega arith in absurd (apart same both.0) ] in
+    record {
+      from = omega arith;
+      within = run_nested t o e n f run skipped behind below;
+      containers =
+          λ v c is a b d. elim (cases_lt c n) [
+            | inl before ↦ w.containers v c is (omega arith) b before
+            | inr here ↦ absurd (run_behind t first n f v c skipped is a here d)
+          ];
+      actors =
+          w.actors
+          ∙ sym (ap (map (last_of l)) (kept_none (goes_down t me l o) n f (omega arith)
+          (λ u a b. not_down t me l o u (not_in_run t first me l o n f u behind both.1 skipped a b))));
+    }
+  where
+    apart : n ≡ o → (n == o) ≡ false → ⊥
+    apart same none = let k : (n == o) ≡ true = eq-eqb n o same in absurd cc
 
 reverse_map : (f : ℕ → Incarnation) (xs : List ℕ) → reverse (map f xs) ≡ map f (reverse xs)
 reverse_map f [] = refl
@@ -46,60 +129,15 @@ reverse_map f (x ∷ xs) =
     reverse-append (f x ∷ []) (map f xs) ∙ ap (λ (ys : List Incarnation). ys ++ f x ∷ []) (reverse_map f xs) ∙ sym (map-append f (reverse xs) (x ∷ []))
     ∙ sym (ap (map f) (reverse-append (x ∷ []) xs))
 
--- all that lives in the run
-pub ending_done : (t : Tables) → IsDepthFirst t → (l : Lives) (o e n : ℕ) (so_far : List Incarnation) → IsRunEnd t o e → n ≡ e
-    → so_far ≡ ending_below t l o n → reverse so_far ≡ map (last_of l) (ended_slots t l o)
+-- all that goes down is found
+pub ending_done : (t : Tables) → IsDepthFirst t → (me : ℕ) (l : Lives) (o e n : ℕ) (so_far : List Incarnation) → IsRunEnd t o e → e ≤ n
+    → Ending t me l o e so_far n → reverse so_far ≡ map (last_of l) (ended_slots t me l o)
 unfolding ended_slots
-ending_done t first l o e n so_far run same is =
+ending_done t first me l o e n so_far run over w =
     let there = run.there in
-    let all : kept (is_ending t l o) (length t.slots) ≡ kept (is_ending t l o) n =
-    kept_none (is_ending t l o) e (length t.slots) there (λ u a b. not_ending t first l o e u run (λ c. let to = c.1 in omega arith)) ∙ sym (ap (kept (is_ending t l o)) same) in
-    ap (λ (xs : List Incarnation). reverse xs) is ∙ reverse_map (last_of l) (kept (is_ending t l o) n)
+    let within = w.within in
+    let all : kept (goes_down t me l o) (length t.slots) ≡ kept (goes_down t me l o) n =
+    kept_none (goes_down t me l o) n (length t.slots) (omega arith)
+    (λ u a b. not_down t me l o u (not_outside t first me l o e u run (λ c. let to = c.1 in omega arith))) in
+    ap (λ (xs : List Incarnation). reverse xs) w.actors ∙ reverse_map (last_of l) (kept (goes_down t me l o) n)
     ∙ ap (λ (xs : List ℕ). map (last_of l) (reverse xs)) (sym all)
-
--- lives when nothing lives any more from slot o on and below n
-abbrev pub ended_below : ℕ → ℕ → Lives → Lives
-ended_below o n l = record { generation = l.generation; lives = λ s. not (nat_le o s && nat_lt s n) && l.lives s }
-
-same_lives : (l : Lives) {a b : ℕ → Bool} → a ≡ b → ◌≡◌ {A = Lives} (record { generation = l.generation; lives = a }) (record { generation = l.generation; lives = b })
-same_lives l e = cc
-
-pub ended_first : (o : ℕ) (l : Lives) → l ≡ ended_below o o l
-ended_first o l = same_lives l (fun_ext (λ s. sym (ap (λ b. not b && l.lives s) (none s))))
-  where
-    none : (s : ℕ) → nat_le o s && nat_lt s o ≡ false
-    none s = elim (cases_lt s o) [ inl a ↦ and_left (nat_le o s) (nat_lt s o) (lt-leb o s a) | inr a ↦ and_right (nat_le o s) (nat_lt s o) (le-ltb s o a) ]
-
-pub ended_one : (o n : ℕ) (l : Lives) → o ≤ n → ended n (ended_below o n l) ≡ ended_below o (n + 1) l
-ended_one o n l a =
-    same_lives l (fun_ext (λ s.
-    elim (cases_eq s n) [
-      | inl e ↦
-          updated_here (ended_below o n l).lives n s false e
-          ∙ sym (ap (λ b. not b && l.lives s) (and_from (nat_le o s) (nat_lt s (n + 1)) (le-leb o s (omega arith)) (lt-ltb s (n + 1) (omega arith))))
-      | inr other ↦
-          updated_else (ended_below o n l).lives n s false other ∙ ap (λ b. not (nat_le o s && b) && l.lives s) (same_test s other)
-    ]))
-  where
-    same_test : (s : ℕ) → (s ≡ n → ⊥) → nat_lt s n ≡ nat_lt s (n + 1)
-    same_test s other = elim (cases_lt s n) [
-      | inl b ↦ lt-ltb s n b ∙ sym (lt-ltb s (n + 1) (omega arith))
-      | inr b ↦ le-ltb s n b ∙ sym (le-ltb s (n + 1) (omega arith))
-    ]
-
-pub ended_last : (t : Tables) → IsDepthFirst t → (o e n : ℕ) → IsRunEnd t o e → n ≡ e → (l : Lives) → ended_below o n l ≡ lives_ended t o l
-unfolding lives_ended
-ended_last t first o e n run same l = same_lives l (fun_ext (λ s. ap (λ b. not b && l.lives s) (test s)))
-  where
-    outside : (s : ℕ) → ((o ≤ s) × (s < e) → ⊥) → nat_le o s && nat_lt s n ≡ false → nat_le o s && nat_lt s n ≡ is_within t o s
-    outside s out none = none ∙ sym (outside_within t first o e s run out)
-
-    test : (s : ℕ) → nat_le o s && nat_lt s n ≡ is_within t o s
-    test s = elim (cases_lt s o) [
-      | inl a ↦ outside s (λ c. let from = c.0 in omega arith) (and_left (nat_le o s) (nat_lt s n) (lt-leb o s a))
-      | inr a ↦
-          elim (cases_lt s e) [
-            | inl b ↦ and_from (nat_le o s) (nat_lt s n) (le-leb o s a) (lt-ltb s n (omega arith)) ∙ sym (run_within t first o e s run a b)
-            | inr b ↦ outside s (λ c. let to = c.1 in omega arith) (and_right (nat_le o s) (nat_lt s n) (le-ltb s n (omega arith)))
-          ]
-    ]

@@ -1,3 +1,5 @@
 pub mod Rows
 pub mod Making
 pub mod EndSteps
+pub mod Reached
+pub mod Gone

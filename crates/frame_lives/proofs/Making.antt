@@ -63,7 +63,7 @@ made_first t first me o e run l =
     (fun_ext (λ s. sym (ap (λ b. cond b (l.generation s + 1) (l.generation s)) (none s))))
     (fun_ext (λ s. sym (ap (λ b. b || l.lives s) (none s))))
 
-and_true : (b : Bool) → b && true ≡ b
+pub and_true : (b : Bool) → b && true ≡ b
 and_true true = refl
 and_true false = refl
 
@@ -81,7 +81,7 @@ unfolding lives_made
 made_last t first me o e run l = same_below l (λ s. comes_up t me l o s && nat_lt s e) (comes_up t me l o) (λ s. all_below t me l o s first e run)
 
 -- which slots below m pass a test, when between n and m none does
-one_below : (p : ℕ → Bool) (n m s : ℕ) → n < m → ((u : ℕ) → n < u → u < m → p u ≡ false) → p s && nat_lt s m ≡ cond (s == n) (p n) (p s && nat_lt s n)
+pub one_below : (p : ℕ → Bool) (n m s : ℕ) → n < m → ((u : ℕ) → n < u → u < m → p u ≡ false) → p s && nat_lt s m ≡ cond (s == n) (p n) (p s && nat_lt s n)
 one_below p n m s behind none =
     elim (cases_order s n) [
       | inl here ↦
@@ -308,13 +308,7 @@ making_done t first me o e old now before out made n run l w =
       sent = w.sent;
     }
 
--- the next slot is there, and its generation can be raised
-pub making_room : (t : Tables) (me o e : ℕ) (old now : Known) (before out : List Msg) (made : List Incarnation) (n most : ℕ)
-    → Making t me o e old now before out made n → ((s : ℕ) → old.lives.generation s < most) → now.lives.generation n < most
-making_room t me o e old now before out made n most w few =
-    let is : now.lives.generation n ≡ old.lives.generation n = ap (λ (k : Known). k.lives.generation n) w.known ∙ not_yet t me o n old.lives in
-    subst (λ g. g < most) (sym is) (few n)
-
+-- the next slot is there
 pub making_slots : (t : Tables) (me o e : ℕ) (old now : Known) (before out : List Msg) (made : List Incarnation) (n : ℕ)
     → Making t me o e old now before out made n → now.slots ≡ old.slots
 making_slots t me o e old now before out made n w = ap (λ (k : Known). k.slots) w.known

@@ -3,4 +3,3 @@ pub mod Shown
 pub mod Steps
 pub mod Done
 pub mod frame_requests
-pub mod frame_start

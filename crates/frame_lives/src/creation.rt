@@ -1,10 +1,11 @@
-//! Create: an actor is made in an optional slot, with all that is fixed in it.
+//! Create and PartMake: an actor is made in an optional slot, with all that is fixed in it, by each
+//! controller that has a part.
 ghost use Rattle.std.specs.Prelude.{◌≡◌, ◌++◌, ◌∷◌, [], ◌+◌, ◌<◌, ℕ, pos, length, map, if◌then◌else◌, IfOk, OnOk};
 ghost use Rattle.std.specs.List.{flat_map};
 ghost use Rattle.room_kinds.specs.declared.system.SysKind.{SysKind};
 ghost use Rattle.actor_duties.specs.Words.{frame_at, incarnation};
 ghost use Rattle.actor_duties.specs.Messages.{reply, coded};
-ghost use Rattle.actor_duties.specs.Lives.{create, announces, last_of, is_vacant, lives_made, made_slots};
+ghost use Rattle.actor_duties.specs.Lives.{create, part_make, announces, last_of, is_vacant, lives_made, made_slots};
 ghost use Rattle.service_messages.specs.Shown.{code_of};
 ghost use Rattle.frame_lives.specs.Shown.{shown, with_lives};
 ghost use Rattle.frame_lives.specs.Steps.{raised};
@@ -18,7 +19,9 @@ use room_kinds::{
     SysKind,
 };
 use room_wiring::Wiring;
-use service_messages::{Code, SlotRuns, announce, frame_at, frame_of, is_own, reply, whose};
+use service_messages::{
+    Code, SlotRuns, announce, frame_at, frame_of, is_own, reply, tell_parts, whose,
+};
 use std::alloc::{AllocError, Global};
 
 impl SlotLives {
@@ -35,7 +38,6 @@ impl SlotLives {
     ) -> Result<(), AllocError>
         requires slot { slot.0 < length wiring.now.slots }
         requires there { slot.0 < (shown self.old).slots }
-        requires room { (shown self.old).lives.generation slot.0 < 4294967295 }
         ensures known { OnOk result (shown self.new ≡ with_lives (shown self.old) (if is_vacant wiring.now me.0 (shown self.old).lives slot.0 then raised slot.0 (shown self.old).lives else (shown self.old).lives)) }
         ensures made { OnOk result (made.new ≡ (if is_vacant wiring.now me.0 (shown self.old).lives slot.0 then made.old ++ incarnation slot.0 ((shown self.old).lives.generation slot.0 + 1) ∷ [] else made.old)) }
         ensures sent { OnOk result (out.new ≡ (if is_vacant wiring.now me.0 (shown self.old).lives slot.0 then out.old ++ announces wiring.now me.0 (incarnation slot.0 ((shown self.old).lives.generation slot.0 + 1)) (pos 1) else out.old)) }
@@ -43,7 +45,7 @@ impl SlotLives {
         if !(is_own(wiring, me, slot) && !self.lives(slot)) {
             return Ok(());
         }
-        let actor = self.raise(slot);
+        let actor = self.raise(slot)?;
         announce(alloc, wiring, me, actor, 1, out)?;
         made.push(actor)?;
         Ok(())
@@ -52,7 +54,7 @@ impl SlotLives {
     /// Makes an actor in a slot and in all slots that it reaches by fixed references, in slot order, where
     /// they are the controller's own and nobody lives there; each with its next generation, and announces
     /// each. The time is in proportion to what is made with the slot.
-    #[tactic(auto, using(crate::proofs::Making::making_room, crate::proofs::Making::making_slots))]
+    #[tactic(auto, using(crate::proofs::Making::making_slots))]
     fn make(
         &mut self,
         alloc: Global,
@@ -66,7 +68,6 @@ impl SlotLives {
         requires runs { AreRunEnds wiring.now runs.now }
         requires there { slot.0 < length wiring.now.slots }
         requires whole { (shown self.old).slots ≡ length wiring.now.slots }
-        requires room { (s : ℕ) → (shown self.old).lives.generation s < 4294967295 }
         ensures known { OnOk result (shown self.new ≡ with_lives (shown self.old) (lives_made wiring.now me.0 slot.0 (shown self.old).lives)) }
         ensures made { IfOk result (λ made. made ≡ map (last_of (lives_made wiring.now me.0 slot.0 (shown self.old).lives)) (made_slots wiring.now me.0 (shown self.old).lives slot.0)) }
         ensures sent { IfOk result (λ made. out.new ≡ out.old ++ flat_map (λ i. announces wiring.now me.0 i (pos 1)) made) }
@@ -82,9 +83,37 @@ impl SlotLives {
         Ok(made)
     }
 
+    /// A PartMake of slot `slot`, which another controller owns: this controller's part of it is made.
+    #[tactic(auto, unfolding(actor_duties::specs::Lives::part_make))]
+    pub fn part_make(
+        &mut self,
+        alloc: Global,
+        wiring: &Wiring,
+        runs: &SlotRuns,
+        me: ControllerId,
+        slot: SlotId,
+        out: &mut Outbox,
+    ) -> Result<DutyDone, AllocError>
+        requires order { IsDepthFirst wiring.now }
+        requires runs { AreRunEnds wiring.now runs.now }
+        requires there { slot.0 < length wiring.now.slots }
+        requires whole { (shown self.old).slots ≡ length wiring.now.slots }
+        ensures known { OnOk result (shown self.new ≡ with_lives (shown self.old) ((part_make wiring.now me.0 (shown self.old).lives slot.0).lives)) }
+        ensures sent { OnOk result (out.new ≡ out.old ++ (part_make wiring.now me.0 (shown self.old).lives slot.0).sent) }
+        ensures done { IfOk result (λ d. d ≡ done_of (part_make wiring.now me.0 (shown self.old).lives slot.0)) }
+    {
+        let made = self.make(alloc, wiring, runs, me, slot, out)?;
+        Ok(DutyDone {
+            made,
+            ended: Sequence::new(alloc),
+            last: None,
+        })
+    }
+
     /// A Create from the container `from` for its optional slot `slot`: where the container doesn't live
     /// it is refused with code 3, and where an actor lives in the slot with code 1; else an actor is made,
-    /// with all that is fixed in it.
+    /// with all that is fixed in it and the controller's own, and each other controller that has a part is
+    /// told.
     #[tactic(auto, unfolding(actor_duties::specs::Lives::create, actor_duties::specs::Lives::made))]
     pub fn create(
         &mut self,
@@ -101,7 +130,6 @@ impl SlotLives {
         requires runs { AreRunEnds wiring.now runs.now }
         requires there { slot.0 < length wiring.now.slots }
         requires whole { (shown self.old).slots ≡ length wiring.now.slots }
-        requires room { (s : ℕ) → (shown self.old).lives.generation s < 4294967295 }
         ensures known { OnOk result (shown self.new ≡ with_lives (shown self.old) ((create wiring.now me.0 (shown self.old).lives m.now slot.0 from).lives)) }
         ensures sent { OnOk result (out.new ≡ out.old ++ (create wiring.now me.0 (shown self.old).lives m.now slot.0 from).sent) }
         ensures done { IfOk result (λ d. d ≡ done_of (create wiring.now me.0 (shown self.old).lives m.now slot.0 from)) }
@@ -112,20 +140,20 @@ impl SlotLives {
         if self.lives(slot) {
             return refused(alloc, me, m, slot, from, Code::Occupied);
         }
-        let made = self.make(alloc, wiring, runs, me, slot, out)?;
-        let actor = frame_of(self.last_of(slot));
+        let here = self.part_make(alloc, wiring, runs, me, slot, out)?;
+        let actor = self.last_of(slot);
+        tell_parts(alloc, wiring, runs, me, SysKind::PartMake, actor, out)?;
         let last = reply(
             me,
             m,
             SysKind::CreateDone,
-            actor,
+            frame_of(actor),
             from,
             Payload::empty(alloc),
         );
         Ok(DutyDone {
-            made,
-            ended: Sequence::new(alloc),
             last: Some(last),
+            ..here
         })
     }
 }

@@ -8,12 +8,10 @@ mod creation;
 mod done;
 mod ending;
 pub mod frame_requests;
-pub mod frame_start;
 mod row;
 mod slot_lives;
 
 pub use done::DutyDone;
 pub use frame_requests::{create_done, create_refused, destroy, destroy_done, incarnate};
-pub use frame_start::first_lives;
 pub use row::Row;
 pub use slot_lives::SlotLives;

@@ -1,5 +1,5 @@
 //! The table of slots.
-ghost use Rattle.std.specs.Prelude.{◌≡◌, ◌+◌, ◌<◌, ℕ};
+ghost use Rattle.std.specs.Prelude.{◌≡◌, ◌+◌, ◌<◌, ℕ, IfOk, OnOk};
 ghost use Rattle.actor_duties.specs.Words.{updated, incarnation};
 ghost use Rattle.actor_duties.specs.Lives.{is_live, counts_as_live, last_of, announce};
 ghost use Rattle.frame_lives.specs.Known.{live_in, known_in, some_generation};
@@ -10,6 +10,7 @@ use crate::row::{NO_ROW, Row};
 use room_kinds::{ControllerId, Generation, Incarnation, SlotId};
 use room_wiring::Wiring;
 use service_messages::is_own;
+use std::alloc::AllocError;
 use std::marker::Model;
 
 /// What a controller knows of the actors in slots: a row for each slot. What the rows say (`shown`) is
@@ -126,16 +127,18 @@ impl SlotLives {
         }
     }
 
-    /// An actor is made in a slot, with the next generation.
+    /// An actor is made in a slot, with the next generation. Where the numbers of generations are used
+    /// up, after 4,294,967,295 actors in the slot, want of memory is answered.
     #[tactic(auto, using(crate::proofs::Rows::row_of_lives))]
-    pub fn raise(&mut self, slot: SlotId) -> Incarnation
-        requires there { slot.0 < (shown self.old).slots }
-        requires room { (shown self.old).lives.generation slot.0 < 4294967295 }
-        ensures actor { result ≡ incarnation slot.0 ((shown self.old).lives.generation slot.0 + 1) }
-        ensures now { shown self.new ≡ with_lives (shown self.old) (raised slot.0 (shown self.old).lives) }
+    pub fn raise(&mut self, slot: SlotId) -> Result<Incarnation, AllocError>
+        requires { slot.0 < (shown self.old).slots }
+        ensures actor { IfOk result (λ x. x ≡ incarnation slot.0 ((shown self.old).lives.generation slot.0 + 1)) }
+        ensures now { OnOk result (shown self.new ≡ with_lives (shown self.old) (raised slot.0 (shown self.old).lives)) }
     {
         let row = self.row(slot);
-        let generation = row.generation + 1;
+        let Some(generation) = row.generation.checked_add(1) else {
+            return Err(AllocError);
+        };
         self.set_row(
             slot,
             Row {
@@ -144,10 +147,10 @@ impl SlotLives {
                 told: row.told,
             },
         );
-        Incarnation {
+        Ok(Incarnation {
             slot,
             generation: Generation(generation),
-        }
+        })
     }
 
     /// The actor of a slot has ended.

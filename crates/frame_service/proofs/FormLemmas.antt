@@ -1,5 +1,5 @@
 -- Duties by whether their message is of the form of its kind.
-use Rattle.std.proofs.Common.{◌≡◌, ◌≢◌, ℕ, suc, ◌<◌, ◌==◌, ◌&&◌, Bool, true, false, cond, List, [], ◌∷◌, length, ℤ, pos, negsuc, Option, Some, None, refl, ap, arith, inl, inr}
+use Rattle.std.proofs.Common.{◌≡◌, ◌≢◌, ℕ, suc, ◌<◌, ◌==◌, ◌&&◌, Bool, true, false, not, cond, List, [], ◌∷◌, length, ℤ, pos, negsuc, Option, Some, None, refl, ap, arith, inl, inr}
 use Rattle.std.specs.Option.{option_map_or}
 use Rattle.std.proofs.lemmas.Bool.{and_parts, cases_lt, ne_eqb}
 use Rattle.std.proofs.lemmas.Bool.Decides.{nat_tests}
@@ -16,9 +16,9 @@ use Rattle.room_wiring.specs.Places.{is_told}
 use Rattle.room_wiring.specs.Consistent.{IsConsistent}
 use Rattle.actor_duties.specs.Words.{is_frame, is_endpoint, is_own, is_optional, is_imported, is_home, is_part_of, is_imported_kind}
 use Rattle.actor_duties.specs.State.{Frame}
-use Rattle.actor_duties.specs.Lives.{destroy_done, announce}
-use Rattle.actor_duties.specs.Frame.{FrameDone, nothing, only_sends, with_told, plainly, with_number, of_natural, frame_duty_of, is_request, is_forth, is_back, is_announced}
-use Rattle.frame_imports.proofs.frame_forms.Told.{told_past}
+use Rattle.actor_duties.specs.Lives.{destroy_done, announce, has_part}
+use Rattle.actor_duties.specs.Frame.{FrameDone, nothing, only_sends, with_told, plainly, with_number, of_natural, frame_duty_of, is_request, is_forth, is_back, is_announced, is_part_told}
+use Rattle.frame_imports.proofs.frame_forms.Told.{told_past, optional_there}
 use Rattle.frame_service.specs.Forms.{may_go, has_form, first_number}
 
 not_empty : (n : ℕ) → (suc n == 0) ≡ false
@@ -70,8 +70,8 @@ unformed t me f m kinds.Withdraw x y h = refl
 unformed t me f m kinds.Bound x y h = refl
 unformed t me f m kinds.Ended x y h = refl
 unformed t me f m kinds.NameReply x y h = refl
-unformed t me f m kinds.PartMake x y h = refl
-unformed t me f m kinds.PartEnd x y h = refl
+unformed t me f m kinds.PartMake x y h = plain_unfit f (may_go t me kinds.PartMake x y) m.payload _ h
+unformed t me f m kinds.PartEnd x y h = plain_unfit f (may_go t me kinds.PartEnd x y) m.payload _ h
 
 -- a slot of which a test is true is there
 there_by : (t : Tables) (test : Slot → Bool) (s : ℕ) → option_map_or test (slot_at t s) false ≡ true → s < length t.slots
@@ -95,6 +95,13 @@ asked_there t me ns kind x o h =
     let form = (and_parts (length ns == 0) (is_request t me x o) h).1 in
     let front = (and_parts (is_frame x && is_frame o && (o.generation.0 == 0) && is_optional t o.slot.0 && is_own t me o.slot.0) (is_part_of t o.slot.0 x.slot.0) form).0 in
     own_there t me o.slot.0 (and_parts (is_frame x && is_frame o && (o.generation.0 == 0) && is_optional t o.slot.0) (is_own t me o.slot.0) front).1
+
+-- the slot of a PartMake or a PartEnd
+pub part_there : (t : Tables) (me : ℕ) (ns : List ℤ) (o again : Endpoint) → ((length ns == 0) && is_part_told t me o again) ≡ true → o.slot.0 < length t.slots
+part_there t me ns o again h =
+    let form = (and_parts (length ns == 0) (is_part_told t me o again) h).1 in
+    let slot = (and_parts (is_frame o && is_endpoint o again && not (o.generation.0 == 0)) (is_optional t o.slot.0 && (not (is_own t me o.slot.0) && has_part t me o.slot.0)) form).1 in
+    optional_there t o.slot.0 (and_parts (is_optional t o.slot.0) (not (is_own t me o.slot.0) && has_part t me o.slot.0) slot).0
 
 -- the import place and the home of an Import or a Deport
 pub forth_there : (t : Tables) (me : ℕ) (ns : List ℤ) (i h : Endpoint) → ((length ns == 0) && is_forth t me i h) ≡ true → (i.slot.0 < length t.slots) × (h.slot.0 < length t.slots)

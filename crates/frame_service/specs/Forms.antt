@@ -4,7 +4,7 @@ use Rattle.room_kinds.specs.declared.numbers.Endpoint.{Endpoint}
 use Rattle.room_kinds.specs.declared.system.SysKind.{SysKind}
 use Rattle.room_kinds.specs.declared.system.SysKind.TheVariants as kinds
 use Rattle.room_wiring.specs.declared.tables.Tables.{Tables}
-use Rattle.actor_duties.specs.Frame.{is_request, is_answer, is_forth, is_back, is_announced}
+use Rattle.actor_duties.specs.Frame.{is_request, is_answer, is_forth, is_back, is_announced, is_part_told}
 
 -- whether a message of a kind may go from this source to that target
 abbrev pub may_go : Tables → ℕ → SysKind → Endpoint → Endpoint → Bool
@@ -25,8 +25,8 @@ may_go t me kinds.Withdraw x y = false
 may_go t me kinds.Bound x y = false
 may_go t me kinds.Ended x y = false
 may_go t me kinds.NameReply x y = false
-may_go t me kinds.PartMake x y = false
-may_go t me kinds.PartEnd x y = false
+may_go t me kinds.PartMake o again = is_part_told t me o again
+may_go t me kinds.PartEnd o again = is_part_told t me o again
 
 -- how many numbers a message of a kind has
 abbrev pub numbers_of : SysKind → ℕ

@@ -2,3 +2,4 @@ pub mod State
 pub mod Forms
 pub mod Done
 pub mod frame_endings
+pub mod frame_start

@@ -39,7 +39,6 @@ impl FrameState {
     ) -> Result<DutyDone, AllocError>
         requires fits { IsFrameOf wiring.now self.old }
         requires ports { ArePortsNumbered wiring.now }
-        requires room { (s : ℕ) → (frame_in self.old).lives.generation s < 4294967295 }
         requires form { has_form wiring.now self.old.me.0 kind m.now.payload source target ≡ true }
         ensures { IfOk result (λ d. IsDone wiring.now self.old self.new (frame_duty_of wiring.now self.old.me.0 (frame_in self.old) m.now kind source target) out.old out.new d) }
     {
@@ -56,13 +55,13 @@ impl FrameState {
             SysKind::Deport => self.hear_deport(wiring, m, source, target, out),
             SysKind::DeportDone => self.hear_deport_done(wiring, m, source, target, out),
             SysKind::Announce => self.hear_announce(wiring, m, source, target, out),
+            SysKind::PartMake => self.hear_part_make(wiring, m, source, target, out),
+            SysKind::PartEnd => self.hear_part_end(wiring, m, source, target, out),
             SysKind::Register
             | SysKind::Withdraw
             | SysKind::Bound
             | SysKind::Ended
-            | SysKind::NameReply
-            | SysKind::PartMake
-            | SysKind::PartEnd => Ok(nothing(self.alloc)),
+            | SysKind::NameReply => Ok(nothing(self.alloc)),
         }
     }
 
@@ -76,11 +75,11 @@ impl FrameState {
     ) -> Result<DutyDone, AllocError>
         requires fits { IsFrameOf wiring.now self.old }
         requires ports { ArePortsNumbered wiring.now }
-        requires room { (s : ℕ) → (frame_in self.old).lives.generation s < 4294967295 }
         ensures { IfOk result (λ d. IsDone wiring.now self.old self.new (frame_duty_of wiring.now self.old.me.0 (frame_in self.old) m.now kind source m.now.target) out.old out.new d) }
     {
         let target = m.target;
-        if has_form(wiring, self.me, kind, m.payload.numbers(), source, target) {
+        let numbers = m.payload.numbers();
+        if has_form(wiring, &self.runs, self.me, kind, numbers, source, target) {
             return self.duty_in_form(wiring, kind, m, source, target, out);
         }
         Ok(nothing(self.alloc))
@@ -96,7 +95,6 @@ impl FrameState {
     ) -> Result<DutyDone, AllocError>
         requires fits { IsFrameOf wiring.now self.old }
         requires ports { ArePortsNumbered wiring.now }
-        requires room { (s : ℕ) → (frame_in self.old).lives.generation s < 4294967295 }
         ensures { IfOk result (λ d. IsDone wiring.now self.old self.new (frame_duty wiring.now self.old.me.0 (frame_in self.old) kind m.now) out.old out.new d) }
     {
         match m.source {
@@ -105,11 +103,11 @@ impl FrameState {
         }
     }
 
-    /// What the controller does at a message of priority 0 of the kinds 0 to 11: what comes of its row,
-    /// where the message is of the form of its kind; else nothing. At the other kinds, which are the
-    /// layer service's or sent by no controller yet, and at numbers that are no kind's it does nothing. Afterwards the controller
+    /// What the controller does at a message of priority 0 of the kinds 0 to 11, 17 and 18: what comes of
+    /// its row, where the message is of the form of its kind; else nothing. At the other kinds, which are
+    /// the layer service's, and at numbers that are no kind's it does nothing. Afterwards the controller
     /// takes the initial transitions of what was made, or withdraws what the ended have registered, and
-    /// sends the last message.
+    /// sends the last message, if there is one.
     pub fn duty(
         &mut self,
         wiring: &Wiring,
@@ -118,7 +116,6 @@ impl FrameState {
     ) -> Result<DutyDone, AllocError>
         requires fits { IsFrameOf wiring.now self.old }
         requires ports { ArePortsNumbered wiring.now }
-        requires room { (s : ℕ) → (frame_in self.old).lives.generation s < 4294967295 }
         ensures fits { OnOk result (IsFrameOf wiring.now self.new) }
         ensures me { OnOk result (self.new.me ≡ self.old.me) }
         ensures done { IfOk result (λ d. (kind : SysKind) → number_of kind ≡ m.now.signal

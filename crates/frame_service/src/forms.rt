@@ -1,20 +1,25 @@
 //! Whether a message is of the form of its kind.
 ghost use Rattle.std.specs.Prelude.{◌≡◌, ◌≢◌, ◌<◌, pos, length, MatchOption};
+ghost use Rattle.service_messages.specs.slot_runs.Runs.{IsDepthFirst, AreRunEnds};
 ghost use Rattle.frame_service.specs.Forms.{may_go, numbers_of, has_form, first_number};
 
-use frame_imports::{is_announced, is_answer, is_back, is_forth, is_request};
+use frame_imports::{is_announced, is_answer, is_back, is_forth, is_part_told, is_request};
 use room_kinds::{ControllerId, Endpoint, Msg, SysKind};
 use room_wiring::Wiring;
+use service_messages::SlotRuns;
 
 /// Whether a message of a kind may go from this source to that target.
 fn may_go(
     wiring: &Wiring,
+    runs: &SlotRuns,
     me: ControllerId,
     kind: SysKind,
     source: Endpoint,
     target: Endpoint,
 ) -> bool
-    requires { me.0 < length wiring.now.controllers }
+    requires order { IsDepthFirst wiring.now }
+    requires runs { AreRunEnds wiring.now runs.now }
+    requires me { me.0 < length wiring.now.controllers }
     ensures { result ≡ may_go wiring.now me.0 kind source target }
 {
     match kind {
@@ -28,13 +33,12 @@ fn may_go(
         SysKind::ImportDone | SysKind::ImportRefused | SysKind::ImportEnded | SysKind::DeportDone =>
             is_back(wiring, me, source, target),
         SysKind::Announce => is_announced(wiring, me, source, target),
+        SysKind::PartMake | SysKind::PartEnd => is_part_told(wiring, runs, me, source, target),
         SysKind::Register
         | SysKind::Withdraw
         | SysKind::Bound
         | SysKind::Ended
-        | SysKind::NameReply
-        | SysKind::PartMake
-        | SysKind::PartEnd => false,
+        | SysKind::NameReply => false,
     }
 }
 
@@ -68,16 +72,19 @@ fn numbers_of(kind: SysKind) -> usize
 /// Whether a message is of the form of its kind.
 pub fn has_form(
     wiring: &Wiring,
+    runs: &SlotRuns,
     me: ControllerId,
     kind: SysKind,
     numbers: &[i64],
     source: Endpoint,
     target: Endpoint,
 ) -> bool
-    requires { me.0 < length wiring.now.controllers }
+    requires order { IsDepthFirst wiring.now }
+    requires runs { AreRunEnds wiring.now runs.now }
+    requires me { me.0 < length wiring.now.controllers }
     ensures { result ≡ has_form wiring.now me.0 kind numbers.now source target }
 {
-    numbers.len() == numbers_of(kind) && may_go(wiring, me, kind, source, target)
+    numbers.len() == numbers_of(kind) && may_go(wiring, runs, me, kind, source, target)
 }
 
 /// The first number of a message; 0 where it has none.

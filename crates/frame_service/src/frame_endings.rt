@@ -1,7 +1,6 @@
-//! How actors end: what they send, and Destroy, which ends all that lives from a slot on down.
+//! How actors end: what they send, and Destroy and PartEnd, which end the end set of a slot.
 
 mod destruction;
 mod messages;
 
-pub use destruction::destroy;
-pub use messages::{end_actor, end_actors};
+pub use messages::{end_actors, end_parts};

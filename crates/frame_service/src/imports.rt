@@ -10,7 +10,7 @@ ghost use Rattle.frame_imports.specs.Numbered.{ArePortsNumbered};
 use crate::duties::nothing;
 use crate::forms::first_number;
 use crate::state::FrameState;
-use frame_imports::{deport, deport_done, import, import_done, import_ended, import_refused};
+use frame_imports::{Answer, What, deport, hear, import};
 use frame_lives::DutyDone;
 use room_kinds::{Endpoint, Msg, Outbox};
 use room_wiring::Wiring;
@@ -58,14 +58,15 @@ impl FrameState {
         requires form { has_form wiring.now self.old.me.0 SysKind.ImportDone m.now.payload home place ≡ true }
         ensures { IfOk result (λ d. IsDone wiring.now self.old self.new (frame_duty_of wiring.now self.old.me.0 (frame_in self.old) m.now SysKind.ImportDone home place) out.old out.new d) }
     {
-        import_done(
+        let what = What::Lent;
+        let answer = Answer { home, place, what };
+        hear(
             &mut self.imports,
             self.alloc,
             wiring,
             self.me,
             &self.lives,
-            home,
-            place,
+            answer,
             out,
         )?;
         Ok(nothing(self.alloc))
@@ -85,15 +86,15 @@ impl FrameState {
         ensures { IfOk result (λ d. IsDone wiring.now self.old self.new (frame_duty_of wiring.now self.old.me.0 (frame_in self.old) m.now SysKind.ImportRefused home place) out.old out.new d) }
     {
         let code = first_number(m);
-        import_refused(
+        let what = What::Refused(code);
+        let answer = Answer { home, place, what };
+        hear(
             &mut self.imports,
             self.alloc,
             wiring,
             self.me,
             &self.lives,
-            home,
-            place,
-            code,
+            answer,
             out,
         )?;
         Ok(nothing(self.alloc))
@@ -112,14 +113,15 @@ impl FrameState {
         requires form { has_form wiring.now self.old.me.0 SysKind.ImportEnded m.now.payload home place ≡ true }
         ensures { IfOk result (λ d. IsDone wiring.now self.old self.new (frame_duty_of wiring.now self.old.me.0 (frame_in self.old) m.now SysKind.ImportEnded home place) out.old out.new d) }
     {
-        import_ended(
+        let what = What::Ended;
+        let answer = Answer { home, place, what };
+        hear(
             &mut self.imports,
             self.alloc,
             wiring,
             self.me,
             &self.lives,
-            home,
-            place,
+            answer,
             out,
         )?;
         Ok(nothing(self.alloc))
@@ -164,14 +166,15 @@ impl FrameState {
         requires form { has_form wiring.now self.old.me.0 SysKind.DeportDone m.now.payload home place ≡ true }
         ensures { IfOk result (λ d. IsDone wiring.now self.old self.new (frame_duty_of wiring.now self.old.me.0 (frame_in self.old) m.now SysKind.DeportDone home place) out.old out.new d) }
     {
-        deport_done(
+        let what = What::Back;
+        let answer = Answer { home, place, what };
+        hear(
             &mut self.imports,
             self.alloc,
             wiring,
             self.me,
             &self.lives,
-            home,
-            place,
+            answer,
             out,
         )?;
         Ok(nothing(self.alloc))

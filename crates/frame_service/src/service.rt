@@ -1,15 +1,16 @@
 //! The start of a frame service, and what it tells.
-ghost use Rattle.std.specs.Prelude.{◌≡◌, ◌<◌, length, IfOk};
+ghost use Rattle.std.specs.Prelude.{◌≡◌, ◌<◌, ◌^◌, length, IfOk, IfSome};
 ghost use Rattle.actor_duties.specs.Peers.{frame_peer, known};
+ghost use Rattle.actor_duties.specs.Words.{endpoint};
 ghost use Rattle.actor_world.specs.Start.{first_frame};
 ghost use Rattle.service_messages.specs.slot_runs.Runs.{IsDepthFirst};
 ghost use Rattle.frame_lives.specs.Known.{live_in, some_generation};
 ghost use Rattle.frame_service.specs.State.{frame_in, IsFrameOf};
 
+use crate::frame_start::first_lives;
 use crate::state::FrameState;
 use frame_imports::Imports;
-use frame_lives::first_lives;
-use room_kinds::{ControllerId, Endpoint, Generation, SlotId};
+use room_kinds::{ControllerId, Endpoint, Generation, Incarnation, SlotId};
 use room_wiring::Wiring;
 use service_messages::SlotRuns;
 use std::alloc::{AllocError, Global};
@@ -37,12 +38,22 @@ impl FrameState {
         })
     }
 
-    /// The peer of a place of a live actor, but for links by name. It takes no memory.
+    /// The peer of a place of a port of a live actor, but for links by name. No place whose number has
+    /// more than 32 bits has one. It takes no memory.
     #[tactic(auto, unfolding(crate::specs::State::frame_in))]
-    pub fn peer(&self, wiring: &Wiring, from: Endpoint) -> Option<Endpoint>
-        ensures { result ≡ frame_peer wiring.now self.now.me.0 (frame_in self.now) from }
+    pub fn peer(&self, wiring: &Wiring, who: Incarnation, port: u16, place: u64) -> Option<Endpoint>
+        ensures peer { result ≡ frame_peer wiring.now self.now.me.0 (frame_in self.now) (endpoint who.slot.0 who.generation.0 port place) }
+        ensures near { IfSome result (λ e. place < 2 ^ 32) }
     {
-        frame_imports::frame_peers::peer(&self.lives, &self.imports, wiring, self.me, from)
+        frame_imports::peer(
+            &self.lives,
+            &self.imports,
+            wiring,
+            self.me,
+            who,
+            port,
+            place,
+        )
     }
 
     /// The generation that lives in a slot of the controller's own. It takes no memory.

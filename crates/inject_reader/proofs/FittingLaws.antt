@@ -1,19 +1,15 @@
 -- What is read names what the wiring has.
-use Rattle.std.proofs.Common.{◌≡◌, ℕ, suc, ◌+◌, ◌<◌, ◌≤◌, Bool, true, false, cond, List, [], ◌∷◌, ◌++◌, length, map, refl, sym, ap, ◌∙◌, subst, arith, Option, Some, None, Result, Ok, Err, ℤ, codes, nat_lt, nat_le}
-use Rattle.std.specs.Prelude.{◌&&◌, ◌==◌, ◌⊎◌, IsTrue, slice_get, position, option_map, option_and_then}
+use Rattle.std.proofs.Common.{◌≡◌, ℕ, suc, ◌+◌, ◌<◌, ◌≤◌, Bool, true, false, cond, List, [], ◌∷◌, ◌++◌, length, refl, sym, ap, ◌∙◌, subst, arith, Option, Some, None, Result, Ok, Err, ℤ, codes, nat_lt, nat_le}
+use Rattle.std.specs.Prelude.{◌&&◌, ◌==◌, IsTrue, slice_get, position, option_map, option_and_then}
 use Rattle.std.specs.Option.{option_map_or}
-use Rattle.std.specs.List.{AllByRecursion, zip}
 use Rattle.std.proofs.lemmas.Bool.{and_parts}
 use Rattle.std.proofs.lemmas.Bool.Decides.{nat_tests}
-use Rattle.std.proofs.lemmas.Option.{option_and_then_some}
 use Rattle.name_tables.specs.name_numbers.Names.{same}
 use Rattle.room_wiring.specs.WellNamed.{is_ident}
 use Rattle.room_kinds.specs.declared.number_type.NumberType.{NumberType}
-use Rattle.room_kinds.specs.Reduction.{reduced}
 use Rattle.room_kinds.specs.Structure.{is_end}
 use Rattle.room_wiring.specs.declared.tables.Tables.{Tables}
 use Rattle.room_wiring.specs.declared.slot.Slot.{Slot}
-use Rattle.room_wiring.specs.declared.names.ClassNames.{ClassNames}
 use Rattle.room_wiring.specs.declared.names.PortNames.{PortNames}
 use Rattle.room_wiring.specs.declared.names.SignalNames.{SignalNames}
 use Rattle.room_wiring.specs.Slots.{slot_at, class_of, slot_named}
@@ -22,16 +18,16 @@ use Rattle.room_wiring.specs.wiring_names.Lookup.{port_of}
 use Rattle.inject_reader.specs.declared.inject_lines.accepted.What.{What}
 use Rattle.inject_reader.specs.declared.inject_lines.accepted.What.TheVariants as whats
 use Rattle.inject_reader.specs.declared.inject_lines.accepted.Line.{Line}
-use Rattle.inject_reader.specs.inject_lines.Numerals.{value_of, number_in}
-use Rattle.inject_reader.specs.inject_lines.Forms.{LoadForm, MessageForm, LineForm, Settle, Message, loaded, with_number, priority_in, priority_of, load_in, message_in, settle_in, target_in, form_of, form_in}
+use Rattle.text_reading.specs.Numerals.{value_of, number_in}
+use Rattle.inject_reader.specs.inject_lines.Forms.{LoadForm, MessageForm, LineForm, Settle, Message, loaded, with_number, priority_in, priority_of, load_in, target_in, form_of, form_in}
 use Rattle.inject_reader.specs.inject_lines.Fields.{fields}
-use Rattle.inject_reader.specs.Meaning.{Fault, ◌>>=◌, coded, is_own, own_slot, slot_meant, end_place, narrow, port_named, port_in_class, port_meant, coming, first_coming, coming_at, signal_meant, reduced_all, payload_meant, whoever, message_meant, form_meant, line_meant}
-use Rattle.inject_reader.specs.Answer.{is_passed_over, numbered, entry_at, joined, entries_from, answer}
+use Rattle.inject_reader.specs.Meaning.{Fault, ◌>>=◌, coded, is_own, own_slot, slot_meant, end_place, port_named, port_in_class, port_meant, coming, first_coming, coming_at, signal_meant, reduced_all, payload_meant, whoever, message_meant, form_meant, line_meant}
+use Rattle.inject_reader.specs.Answer.{is_passed_over, numbered, entry_at, entries_from, answer}
 use Rattle.inject_reader.specs.declared.fault.InjectFault.{InjectFault}
 use Rattle.inject_reader.specs.Gives.{Gives}
 use Rattle.std.specs.Str.Lines.{lines}
 use Rattle.std.specs.Result.{IfOk}
-use Rattle.inject_reader.specs.Fitting.{IsOwnSlot, IsTarget, ComesIn, FitsMessage, FitsWhat, FitLines}
+use Rattle.inject_reader.specs.Fitting.{IsOwnSlot, ComesIn, FitsWhat, FitLines}
 
 bind_ok : {A B : Type 0} (r : Result A Fault) (f : A → Result B Fault) (y : B) → (r >>= f) ≡ Ok y → (x : A) × (r ≡ Ok x) × (f x ≡ Ok y)
 bind_ok (Ok x) f y h = (x, refl, h)

@@ -1,12 +1,10 @@
 -- Numbers of names as guesses of their places.
-use Rattle.std.proofs.Common.{◌≡◌, ℕ, suc, zero, ◌+◌, ◌-◌, ◌<◌, ◌≤◌, min, Bool, true, false, cond, List, [], ◌∷◌, ◌++◌, length, map, get_or, not, refl, sym, ap, ◌∙◌, subst, append_assoc, append-nil, arith, Option, Some, None, nat_lt}
-use Rattle.std.specs.Prelude.{position, slice_get, ◌==◌, ◌||◌}
+use Rattle.std.proofs.Common.{◌≡◌, ℕ, suc, zero, ◌+◌, ◌-◌, ◌<◌, ◌≤◌, min, Bool, true, false, cond, List, [], ◌∷◌, ◌++◌, length, map, not, refl, sym, ap, ◌∙◌, subst, append_assoc, append-nil, arith, Option, Some, None, nat_lt}
+use Rattle.std.specs.Prelude.{position, slice_get, ◌||◌}
 use Rattle.std.specs.Option.{option_map_or}
 use Rattle.std.specs.List.{position_or_len, list_any}
 use Rattle.std.proofs.lemmas.Bool.Decides.{nat_tests}
-use Rattle.std.proofs.lemmas.Option.{slice_get_within, get_or_from_slice_get}
-use Rattle.std.proofs.lemmas.List.Sums.{fails_before_first, prefix_len-le-length}
-use Rattle.std.proofs.lemmas.List.Folds.{prefix_len-append}
+use Rattle.std.proofs.lemmas.Option.{slice_get_within}
 use lib.Pointwise.{bytes_decides}
 use Rattle.name_tables.specs.name_numbers.Names.{same, is_among}
 use Rattle.room_wiring.specs.wiring_names.Lookup.{added, numbering, numbered, narrowed, place_of}

@@ -1,9 +1,9 @@
 -- Slots, classes and ports at a wiring.
-use Rattle.std.proofs.Common.{◌≡◌, ℕ, ◌+◌, ◌-◌, ◌<◌, ◌≤◌, Bool, true, false, cond, List, length, map, refl, sym, ap, ◌∙◌, subst, Option, Some, None, arith}
-use Rattle.std.specs.Prelude.{slice_get, position, option_and_then}
+use Rattle.std.proofs.Common.{◌≡◌, ℕ, ◌-◌, ◌<◌, ◌≤◌, Bool, true, false, cond, List, length, refl, sym, ap, ◌∙◌, subst, Option, Some, None, arith}
+use Rattle.std.specs.Prelude.{position, option_and_then}
 use Rattle.std.specs.Option.{option_map_or}
 use Rattle.std.specs.List.{position_or_len}
-use Rattle.std.proofs.lemmas.Option.{slice_get_within, slice_get_past}
+use Rattle.std.proofs.lemmas.Option.{slice_get_within}
 use Rattle.name_tables.specs.name_numbers.Names.{same}
 use Rattle.room_wiring.specs.declared.tables.Tables.{Tables}
 use Rattle.room_wiring.specs.declared.slot.Slot.{Slot}
@@ -13,7 +13,7 @@ use Rattle.room_wiring.specs.declared.names.SignalNames.{SignalNames}
 use Rattle.room_wiring.specs.Slots.{slot_at, class_at, class_of, slot_named}
 use Rattle.room_wiring.specs.Places.{port_count}
 use Rattle.room_wiring.specs.WellNamed.{signals_of}
-use Rattle.room_wiring.specs.wiring_names.Lookup.{numbered, place_of, slot_called, port_in, port_called, signal_in, signal_called, signal_table, port_of}
+use Rattle.room_wiring.specs.wiring_names.Lookup.{slot_called, port_in, port_called, signal_in, signal_called, port_of}
 use Rattle.inject_reader.specs.Guesses.{IsNoLater}
 use Rattle.inject_reader.specs.Meaning.{coming, first_coming}
 use Rattle.inject_reader.proofs.GuessLemmas.{named_le, front_guess, back_guess, guess_right}

@@ -1,4 +1,2 @@
 pub mod FieldCuts
-pub mod TextCuts
-pub mod Values
 pub mod Loads

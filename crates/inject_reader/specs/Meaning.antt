@@ -1,5 +1,5 @@
 -- What a line asks for at a wiring: names are looked up, numbers are reduced to their types.
-use Rattle.std.specs.Prelude.{ℕ, ℤ, ◌+◌, ◌*◌, List, ◌&&◌, ◌==◌, nat_lt, nat_le, if◌then◌else◌, Bool, not, true, false, Option, Some, None, Result, Ok, Err, option_and_then, position, slice_get, length, map}
+use Rattle.std.specs.Prelude.{ℕ, ℤ, ◌+◌, List, ◌&&◌, ◌==◌, nat_lt, nat_le, if◌then◌else◌, Bool, not, false, Option, Some, None, Result, Ok, Err, option_and_then, position, slice_get, length, map}
 use Rattle.std.specs.List.{zip}
 use Rattle.std.specs.Option.{option_map_or}
 use Rattle.name_tables.specs.name_numbers.Names.{same}
@@ -17,7 +17,7 @@ use Rattle.room_wiring.specs.Slots.{slot_at, class_of, slot_named}
 use Rattle.room_wiring.specs.Places.{place_count}
 use Rattle.inject_reader.specs.declared.inject_lines.accepted.What.{What}
 use Rattle.inject_reader.specs.declared.inject_lines.accepted.What.TheVariants as whats
-use Rattle.inject_reader.specs.inject_lines.Numerals.{value_of}
+use Rattle.text_reading.specs.Numerals.{value_of}
 use Rattle.inject_reader.specs.inject_lines.Forms.{MessageForm, LineForm, Settle, Message, form_in}
 
 -- the number of a faulty line, and its code

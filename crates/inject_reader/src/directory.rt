@@ -6,16 +6,16 @@ ghost use Rattle.room_wiring.specs.Slots.{slot_at, class_of, slot_named};
 ghost use Rattle.room_wiring.specs.Places.{place_count};
 ghost use Rattle.inject_reader.specs.Guesses.{IsNoLater};
 ghost use Rattle.room_wiring.specs.wiring_names.Lookup.{port_of};
-ghost use Rattle.inject_reader.specs.inject_lines.Numerals.{value_of};
+ghost use Rattle.text_reading.specs.Numerals.{value_of};
 ghost use Rattle.inject_reader.specs.Meaning.{is_own, slot_meant, end_place, port_named, port_in_class, port_meant, coming, signal_meant};
 
-use crate::inject_lines::value;
 use crate::parts::{coming, coming_at, first_coming, narrow, port_place, signal_place};
 use room_kinds::SlotId;
 use room_wiring::wiring_names::Names;
 use room_wiring::{ClassNames, PortNames, SignalNames, Wiring};
 use std::alloc::{AllocError, Global};
 use std::marker::Model;
+use text_reading::value;
 
 /// A wiring with its names numbered. A contract sees the tables of the wiring.
 ///

@@ -6,10 +6,7 @@
 mod accepted;
 mod fields;
 mod forms;
-mod numerals;
 mod texts;
 
 pub use accepted::{Line, What};
 pub use forms::{Form, Load, Target, Wanted, read_form};
-pub use numerals::value;
-pub use texts::are_digits;

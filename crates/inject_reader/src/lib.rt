@@ -13,5 +13,4 @@ mod reader;
 
 pub use crate::inject_lines::{Line, What};
 pub use fault::InjectFault;
-pub use inject_lines::{are_digits, value};
 pub use reader::read_injections;

@@ -1,14 +1,8 @@
 //! A text, cut into lines.
-ghost use Rattle.std.specs.Prelude.{◌≡◌, ◌<◌, ◌≤◌, ◌==◌, not, length, [], ◌∷◌, MatchOption, IfSome};
-ghost use Rattle.std.specs.List.{prefix_len};
+ghost use Rattle.std.specs.Prelude.{◌≡◌, ◌<◌, length, [], ◌∷◌, MatchOption, IfSome};
 ghost use Rattle.std.specs.Str.Lines.{lines, strip_carriage_return};
 
-fn length_before_end(bytes: &[u8]) -> usize
-    ensures len { result ≡ prefix_len (λ b. not (b == 10)) bytes.now }
-    ensures within { result ≤ length bytes.now }
-{
-    bytes.iter().take_while(|b| **b != b'\n').count()
-}
+use text_reading::length_before;
 
 /// A line without the carriage return at its end, if it has one.
 fn without_return(line: &[u8]) -> &[u8]
@@ -29,7 +23,7 @@ pub fn first_line(bytes: &[u8]) -> Option<(&[u8], &[u8])>
     if bytes.is_empty() {
         return None;
     }
-    let (line, rest) = bytes.split_at(length_before_end(bytes));
+    let (line, rest) = bytes.split_at(length_before(bytes, b'\n'));
     match rest {
         [_, behind @ ..] => Some((without_return(line), behind)),
         [] => Some((line, rest)),

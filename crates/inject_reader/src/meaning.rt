@@ -10,17 +10,6 @@ use crate::inject_lines::{Form, Wanted, What, read_form};
 use room_kinds::{Endpoint, Generation, NumberType, Payload};
 use std::alloc::{AllocError, Global};
 
-/// Each number, reduced to its type.
-fn reduced(alloc: Global, types: &[NumberType], numbers: &[i64]) -> Result<Vec<i64>, AllocError>
-    ensures reduced { IfOk result (λ v. v.items ≡ reduced_all types.now numbers.now) }
-{
-    types
-        .iter()
-        .zip(numbers)
-        .map(|(kind, number)| kind.reduce(*number))
-        .collect(alloc)
-}
-
 /// The numbers of a message, if there is one for each type.
 #[tactic(auto, unfolding(crate::specs::Meaning::payload_meant))]
 fn payload(
@@ -33,8 +22,11 @@ fn payload(
     if numbers.len() != types.len() || numbers.len() > Payload::MAX_LEN {
         return Ok(None);
     }
-    let numbers = reduced(alloc, types, numbers)?;
-    Ok(Some(Payload::from_vec(numbers)))
+    let mut payload = Payload::empty(alloc);
+    for (kind, number) in types.iter().zip(numbers) {
+        payload.push(kind.reduce(*number))?;
+    }
+    Ok(Some(payload))
 }
 
 #[tactic(auto, unfolding(crate::specs::Meaning::message_meant))]

@@ -2,7 +2,7 @@
 use Rattle.std.specs.Prelude.{◌≡◌, Option, Some, None, Result, Ok, Err, List, ℕ}
 use Rattle.journal.specs.declared.entry.Journals.{Journals}
 use Rattle.journal_reader.specs.declared.fault.ReadFaultOf.{ReadFaultOf}
-use Rattle.journal_reader.specs.declared.fault.ReadFaultOf.TheVariants.{Malformed, Memory}
+use Rattle.journal_reader.specs.declared.fault.ReadFaultOf.TheVariants.{Memory}
 
 -- these journals, unless memory ran out
 abbrev pub Answers : Result Journals ReadFaultOf → Journals → Type 0

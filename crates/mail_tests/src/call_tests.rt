@@ -1,5 +1,5 @@
 //! The calls of a mailbox, over any mail on one thread.
-ghost use Rattle.std.specs.Prelude.{◌≡◌, ◌+◌, ◌<◌, length};
+ghost use Rattle.std.specs.Prelude.{◌≡◌, ◌+◌, ◌<◌, length, OnOk};
 
 use crate::messages::{message, stamps};
 use mail_core::caller::{close_unused, exchange, post_at};
@@ -40,6 +40,28 @@ fn what_is_posted_is_taken_once(rt: HostRuntime) -> Result<(), Fail> {
     exchanges::<MailLanes>(&rt, rt.alloc(), 5)
 }
 
+/// Posts a message of one of two controllers or the environment, whose number is 2.
+fn post<M: Mail>(
+    alloc: Global,
+    office: &mut M::Office,
+    ends: &mut Vec<M>,
+    from: u8,
+    to: u8,
+    prio: u8,
+    stamp: u64,
+) -> Result<(), Fail>
+    requires parties { length ends.old.items ≡ 3 }
+    requires from { from < 3 }
+    requires to { to < 2 }
+    requires prio { prio < 6 }
+    requires tied { M.tied office.old ends.old.items }
+    ensures parties { OnOk result (length ends.new.items ≡ 3) }
+    ensures tied { M.tied office.new ends.new.items }
+{
+    post_at(office, ends, message(alloc, from, to, prio, stamp))?;
+    Ok(())
+}
+
 /// What two controllers and the environment post to the controllers, and nobody takes.
 fn untaken<M: Mail>(alloc: Global) -> Result<Vec<Vec<Msg>>, Fail>
 where
@@ -47,11 +69,11 @@ where
     M: Drop,
 {
     let (mut office, mut ends) = M::set_up(alloc, 3)?;
-    post_at(&mut office, &mut ends, message(alloc, 2, 0, 0, 1))?;
-    post_at(&mut office, &mut ends, message(alloc, 0, 0, 5, 2))?;
-    post_at(&mut office, &mut ends, message(alloc, 1, 0, 5, 3))?;
-    post_at(&mut office, &mut ends, message(alloc, 2, 0, 5, 4))?;
-    post_at(&mut office, &mut ends, message(alloc, 1, 1, 3, 5))?;
+    post(alloc, &mut office, &mut ends, 2, 0, 0, 1)?;
+    post(alloc, &mut office, &mut ends, 0, 0, 5, 2)?;
+    post(alloc, &mut office, &mut ends, 1, 0, 5, 3)?;
+    post(alloc, &mut office, &mut ends, 2, 0, 5, 4)?;
+    post(alloc, &mut office, &mut ends, 1, 1, 3, 5)?;
     Ok(M::close(alloc, office, ends)?)
 }
 

@@ -1,5 +1,6 @@
 pub mod joined_round
 pub mod local_run
+pub mod parallel_run
 pub mod part_posts
 pub mod run_ends
 pub mod run_loop

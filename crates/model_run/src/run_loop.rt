@@ -1,10 +1,11 @@
-//! The loop of a run on one thread, over any mail: part by part the environment posts its lines, and the
-//! controllers go round by round until nothing moves any more.
+//! How a run goes, over any mail: part by part the environment posts its lines, and the controllers go round by
+//! round until nothing moves any more. What is done in a round stands between two calls of these.
 
 mod lines;
-mod parts;
-mod played;
+mod next;
 mod rests;
 mod rounds;
+mod state;
 
-pub use played::{Played, play};
+pub(crate) use next::next_round;
+pub(crate) use state::Run;

@@ -10,18 +10,23 @@ ghost use Rattle.model_run.specs.run_worker.Works.{Did, Works};
 
 use controller::{Controller, Plant};
 use mail_core::Mail;
+use room_outside::{ControllerNo, Gate};
 use std::alloc::AllocError;
 
 /// After so many steps in a row that fetched and turned nothing a worker ends.
 const IDLE_STEPS: u32 = 64;
 
-/// A poll and a turn. It answers whether anything was fetched or turned.
-fn poll_and_turn<M: Mail>(
+/// A poll, and a turn if a message waits for one: then the controller first enters the gate, under its
+/// number and with the turns that it has taken. It answers whether anything was fetched or turned.
+fn poll_and_turn<M: Mail, G: Gate>(
+    number: ControllerNo,
     controller: &mut Controller,
     plant: &Plant,
     office: &mut M::Office,
     end: &mut M,
+    gate: &G,
 ) -> Result<bool, AllocError>
+    requires number { number ≡ controller.old.me.0 }
     requires plant { IsPlant plant.now }
     requires of { IsOf plant.now controller.old }
     requires party { (M.log end.old).party ≡ controller.old.me.0 }
@@ -34,17 +39,23 @@ fn poll_and_turn<M: Mail>(
     ensures tied { StaysTied M.tied (M.log end.old).party office.old office.new end.old end.new }
 {
     let fetched = controller.poll(plant, office, end)?;
-    let turned = controller.turn(plant)?;
-    Ok(turned | (0 < fetched))
+    if !controller.has_pending() {
+        return Ok(0 < fetched);
+    }
+    gate.enter(number, controller.turns());
+    controller.turn(plant)
 }
 
 /// A poll, a turn, and the posts of what the turn sent. It answers whether anything was fetched or turned.
-fn step<M: Mail>(
+fn step<M: Mail, G: Gate>(
+    number: ControllerNo,
     controller: &mut Controller,
     plant: &Plant,
     office: &mut M::Office,
     end: &mut M,
+    gate: &G,
 ) -> Result<bool, AllocError>
+    requires number { number ≡ controller.old.me.0 }
     requires plant { IsPlant plant.now }
     requires of { IsOf plant.now controller.old }
     requires party { (M.log end.old).party ≡ controller.old.me.0 }
@@ -56,19 +67,23 @@ fn step<M: Mail>(
     ensures of { IsOf plant.now controller.new }
     ensures tied { StaysTied M.tied (M.log end.old).party office.old office.new end.old end.new }
 {
-    let moved = poll_and_turn(controller, plant, office, end)?;
+    let moved = poll_and_turn(number, controller, plant, office, end, gate)?;
     controller.post_all(plant, office, end)?;
     Ok(moved)
 }
 
 /// A controller posts what it has to post, and then goes step by step until 64 steps in a row fetched and
-/// turned nothing, or until its fuel is spent: then it polls no more.
-pub fn work<M: Mail>(
+/// turned nothing, or until its fuel is spent: then it polls no more. Before each turn, and nowhere else, it
+/// enters the gate.
+pub fn work<M: Mail, G: Gate>(
+    number: ControllerNo,
     controller: &mut Controller,
     plant: &Plant,
     office: &mut M::Office,
     end: &mut M,
+    gate: &G,
 ) -> Result<(), AllocError>
+    requires number { number ≡ controller.old.me.0 }
     requires plant { IsPlant plant.now }
     requires of { IsOf plant.now controller.old }
     requires party { (M.log end.old).party ≡ controller.old.me.0 }
@@ -84,7 +99,7 @@ pub fn work<M: Mail>(
         if controller.is_spent() || IDLE_STEPS <= idle {
             return Ok(());
         }
-        let moved = step(controller, plant, office, end)?;
+        let moved = step(number, controller, plant, office, end, gate)?;
         idle = if moved { 0 } else { idle + 1 };
     }
     // Never reached: of 64 steps one has an entry, and so many entries no memory holds.

@@ -8,7 +8,7 @@ use room_outside::{FileShelf, OpenGate, OutSink, read_whole, write_whole};
 use room_run::{Status, room_top};
 use std::process::ExitCode;
 use std::rt::Env;
-use std::thread::Builder;
+use std::thread::{Builder, Threads};
 use std::{env, io};
 
 /// The words behind the program's name; none at all where one of them is no text, which belongs to no
@@ -43,12 +43,14 @@ fn stack_of_words(rt: HostRuntime, words: &[String]) -> usize {
     }
 }
 
-/// The work that words ask for, on the stack of the thread that calls it.
-fn work(rt: HostRuntime, words: &[String]) -> Status {
+/// The work that words ask for, on the stack of the thread that calls it; the controllers of a run work on
+/// threads of their own.
+fn work<R: Threads + Sync>(rt: HostRuntime, threads: &R, words: &[String]) -> Status {
     let mut out = OutSink::output(rt.stdout());
     let mut notes = OutSink::errors(rt.stderr());
     let mut shelf = FileShelf::new(rt);
     room_top(
+        threads,
         rt.alloc(),
         words,
         &mut shelf,
@@ -65,7 +67,7 @@ fn main(rt: HostRuntime) -> ExitCode {
         return ExitCode::from(without_memory(rt).number());
     };
     let thread = Builder::new().stack_size(stack_of_words(rt, &words));
-    let status = match thread.spawn(&rt, move || work(rt, &words)) {
+    let status = match thread.spawn(&rt, move || work(rt, &rt, &words)) {
         Ok(thread) => thread.join(&rt),
         Err(_) => without_memory(rt),
     };

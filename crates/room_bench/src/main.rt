@@ -12,6 +12,7 @@
 
 mod actions;
 mod charts;
+mod frame;
 mod mail;
 mod run;
 mod wiring;
@@ -65,8 +66,8 @@ fn main(rt: HostRuntime) -> io::Result<()> {
             report(&rt, "x", actions::result(alloc, is_sum, number(count)))
         }
         ("frame", [slots, times]) => {
-            let model = service_tests::body_model(alloc, number(slots))?;
-            let made = service_tests::made_and_ended(alloc, model.as_str(), number(times));
+            let model = frame::body_model(alloc, number(slots))?;
+            let made = frame::made_and_ended(alloc, model.as_str(), number(times));
             report(&rt, "actors made", made.map(|(made, _)| made))
         }
         _ => println!(rt; "no such measure"),

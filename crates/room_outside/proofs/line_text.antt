@@ -1,3 +1,4 @@
 pub mod OutputLemmas
 pub mod PartLemmas
 pub mod Going
+pub mod Digits

@@ -14,11 +14,13 @@ use Rattle.room_ast.specs.Values.{TokenValue}
 use Rattle.room_parser.specs.Parsed.{HasNoModel, IsOnlyModel, IsParsed}
 use Rattle.room_parser.specs.declared.fault.ParseFault.{ParseFault}
 use Rattle.room_parser.specs.declared.fault.ParseFault.TheVariants as parsing
-use Rattle.room_run.specs.service_words.Asked.{asks_services}
-use Rattle.room_run.specs.model_plants.Shown.{ShowCharts}
+use Rattle.room_run.specs.service_words.Asked.{asks_for_names}
+use Rattle.named_runs.specs.Charts.{ShowCharts}
 use Rattle.room_run.proofs.model_plants.Tabled.{all_sound}
 use Rattle.service_messages.specs.slot_runs.Runs.{IsDepthFirst}
 use Rattle.wiring_laws.proofs.wiring_order.Ordered.{model_depth_first}
+use Rattle.wiring_laws.proofs.ports_numbered.Numbered.{checked_numbered}
+use Rattle.frame_imports.specs.Numbered.{ArePortsNumbered}
 use Rattle.controller_actors.specs.Plants.{IsPlant}
 use Rattle.controller_actors.specs.declared.plant.Plant.{Plant}
 use Rattle.structure_check.specs.Rules.{first_broken, IsLowest}
@@ -133,10 +135,10 @@ pub text_sound : (text : List ℕ) (tree : ModelTree) (wiring : Tables) (charts 
 text_sound text tree wiring charts short h sound = record { short = short; tree = tree; read = h.has; sound = sound }
 
 -- the plant of a text that asks for no services
-pub model_judged : (text : List ℕ) (wiring : Tables) (charts : List (Option Chart)) (p : Plant) → IsSoundText text wiring charts → asks_services charts ≡ false → p.wiring ≡ wiring → ShowCharts p.tables.items charts → IsModel text p
+pub model_judged : (text : List ℕ) (wiring : Tables) (charts : List (Option Chart)) (p : Plant) → IsSoundText text wiring charts → asks_for_names charts ≡ false → p.wiring ≡ wiring → ShowCharts p.tables.items charts → IsModel text p
 model_judged text wiring charts p is plain wired shown = record { charts = charts; is = subst (λ w. IsSoundText text w charts) (sym wired) is; plain = plain; tables = shown }
 
-pub services_asked : (text : List ℕ) (wiring : Tables) (charts : List (Option Chart)) → IsSoundText text wiring charts → asks_services charts ≡ true → TextCauses text faults.Later
+pub services_asked : (text : List ℕ) (wiring : Tables) (charts : List (Option Chart)) → IsSoundText text wiring charts → asks_for_names charts ≡ true → TextCauses text faults.Later
 services_asked text wiring charts is asks = needs_services (record { wiring = wiring; charts = charts; is = is; asks = asks })
 
 -- controllers run on a plant of a sound text
@@ -144,4 +146,5 @@ pub plant_runs : (text : List ℕ) (wiring : Tables) (charts : List (Option Char
 plant_runs text wiring charts p is wired shown = record {
   sound = λ class v at. all_sound p.tables.items charts shown class v at;
   order = subst IsDepthFirst (sym wired) (model_depth_first is.tree wiring is.sound.wired.wired.slots);
+  ports = subst ArePortsNumbered (sym wired) (checked_numbered is.tree wiring is.sound.keeps is.sound.wired.wired.classes);
 }

@@ -1,14 +1,21 @@
 -- How the parts of a call make its outcome.
-use Rattle.std.proofs.Common.{◌≡◌, ℕ, List, sym, ap, subst}
+use Rattle.std.proofs.Common.{◌≡◌, ℕ, List, Option, Some, None, IfSome, sym, ap, subst}
 use Rattle.room_outside.specs.Shown.{Shown}
 use Rattle.room_outside.specs.Written.{Written}
 use Rattle.room_outside.proofs.SinkLemmas.{Appends-none}
 use Rattle.journal.specs.Text.{text_of}
 use Rattle.inject_reader.specs.declared.inject_lines.accepted.Line.{Line}
 use Rattle.controller_actors.specs.declared.plant.Plant.{Plant}
-use Rattle.room_run.specs.Causes.{Causes}
+use Rattle.journal.specs.declared.entry.Journals.{Journals}
+use Rattle.chart_model.specs.Chart.{Chart}
+use Rattle.model_run.specs.run_ends.Runs.{IsRun}
+use Rattle.named_runs.specs.Charts.{IsRunByCharts}
+use Rattle.named_runs.proofs.ByCharts.{by_charts}
+use Rattle.room_run.specs.Words.{Files}
+use Rattle.room_run.specs.Models.{IsModel, IsSoundText}
+use Rattle.room_run.specs.Causes.{AreOf, Causes}
 use Rattle.room_run.specs.Finished.{Finishes}
-use Rattle.room_run.specs.Outcome.{Answers, Outcome, Prints, written, cut, Tells, told, broken, whole, cut_short, refused, refused_unheard}
+use Rattle.room_run.specs.Outcome.{Answers, IsByCharts, Outcome, Prints, written, cut, Tells, told, broken, whole, cut_short, refused, refused_unheard}
 use Rattle.room_run.specs.declared.prepare.Finished.{Finished}
 use Rattle.room_run.specs.declared.refusal.Refusal.{Refusal}
 use Rattle.room_run.specs.declared.status.Status.{Status}
@@ -16,6 +23,15 @@ use Rattle.room_run.specs.declared.status.Status.{Status}
 -- the text of a run's journals
 pub text_is : (p : Plant) (lines : List Line) (fuel : ℕ) (f : Finished) → Finishes p lines fuel f → text_of f.wiring f.journals ≡ text_of p.wiring f.journals
 text_is p lines fuel f h = ap (λ w. text_of w f.journals) h.wiring
+
+-- a run of a plant is one of its model's charts
+by_model : (o : Option (List ℕ)) (p : Plant) (lines : List Line) (fuel : ℕ) (j : Journals) → IfSome o (λ text. IsModel text p) → IsRun p lines fuel j
+    → IfSome o (λ text. (charts : List (Option Chart)) × IsSoundText text p.wiring charts × IsRunByCharts p.wiring charts lines fuel j)
+by_model None p lines fuel j h run = tt
+by_model (Some text) p lines fuel j h run = (h.charts, h.is, by_charts p h.charts lines fuel j h.tables run)
+
+pub is_by_charts : (shelf : Shown) (files : Files) (p : Plant) (lines : List Line) (fuel : ℕ) (j : Journals) → AreOf shelf files p lines → IsRun p lines fuel j → IsByCharts shelf files p lines fuel j
+is_by_charts shelf files p lines fuel j h run = by_model (shelf.text files.model) p lines fuel j h.model_accepted run
 
 -- the answer was written
 pub printed_outcome : (before after : Shown) (words : List (List ℕ)) (out_before out_after notes : Written) (text : List ℕ) (wanted status : Status) → Answers before words text wanted → Prints out_before out_after text wanted status

@@ -1,7 +1,7 @@
 -- Which texts are those of models that keep all rules and whose wiring and charts have no fault, which of them run, and why others don't.
 -- `IsModel`: the text is that of a model which runs as this plant. It is short enough, it has
 -- tokens, a tree has their values, the tree keeps all rules, it has a wiring without a fault and
--- charts; no action of it asks the frame service or the layer service for anything; and the plant
+-- charts; no action of it registers or withdraws a name; and the plant
 -- has its wiring, and for each actor class the tables that show its chart.
 use Rattle.std.specs.Prelude.{◌≡◌, ℕ, ◌≤◌, List, [], length, true, false, Option, Some, None}
 use Rattle.room_lexer.specs.Cut.{Piece, CutTo, placed, FailsAt}
@@ -19,8 +19,8 @@ use Rattle.room_wiring.specs.declared.tables.Tables.{Tables}
 use Rattle.binding_expand.specs.Wirings.{IsWiringOf}
 use Rattle.binding_expand.specs.Faults.{HasNoFault, IsLowestFault, number as number_of}
 use Rattle.binding_expand.specs.declared.fault.WiringFault.{WiringFault}
-use Rattle.room_run.specs.service_words.Asked.{asks_services}
-use Rattle.room_run.specs.model_plants.Shown.{ShowCharts}
+use Rattle.room_run.specs.service_words.Asked.{asks_for_names}
+use Rattle.named_runs.specs.Charts.{ShowCharts}
 use Rattle.controller_actors.specs.declared.plant.Plant.{Plant}
 use Rattle.room_run.specs.declared.model_fault.ModelFault.{ModelFault}
 use Rattle.room_run.specs.declared.model_fault.ModelFault.TheVariants as faults
@@ -64,11 +64,11 @@ pub record IsSound (text : List ℕ) (wiring : Tables) : Type 0 where
   pub charts : List (Option Chart)
   pub is : IsSoundText text wiring charts
 
--- the text is that of such a model, whose actors ask neither the frame service nor the layer service for anything; the plant has its wiring, and for each actor class the tables that show its chart
+-- the text is that of such a model, whose actions register and withdraw no name; the plant has its wiring, and for each actor class the tables that show its chart
 pub record IsModel (text : List ℕ) (plant : Plant) : Type 0 where
   pub charts : List (Option Chart)
   pub is : IsSoundText text plant.wiring charts
-  pub plain : asks_services charts ≡ false
+  pub plain : asks_for_names charts ≡ false
   pub tables : ShowCharts plant.tables.items charts
 
 -- the text can't be cut at this byte, before which it can
@@ -116,7 +116,7 @@ pub record NeedsServices (text : List ℕ) : Type 0 where
   pub wiring : Tables
   pub charts : List (Option Chart)
   pub is : IsSoundText text wiring charts
-  pub asks : asks_services charts ≡ true
+  pub asks : asks_for_names charts ≡ true
 
 -- Why a text may be refused as that of a model which keeps all rules and whose wiring and charts have
 -- no fault. The order is: the cut, the tree, the rules in order of their numbers, the wiring,

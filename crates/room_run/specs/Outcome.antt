@@ -7,7 +7,7 @@
 -- The answer is `ok` of a model that keeps all rules and whose wiring and charts have no fault,
 -- the text of its wiring, or the text of journals that are a run of the model over the lines, with
 -- status done or spent as the run ended.
-use Rattle.std.specs.Prelude.{◌≡◌, ℕ, List, [], ◌∷◌, Bool, Some, codes, if◌then◌else◌}
+use Rattle.std.specs.Prelude.{◌≡◌, ℕ, List, [], ◌∷◌, Bool, Option, Some, codes, if◌then◌else◌}
 use Rattle.room_outside.specs.Shown.{Shown}
 use Rattle.room_outside.specs.Written.{Written, Appends, BreaksOff}
 use Rattle.room_outside.specs.line_text.Lines.{line}
@@ -16,10 +16,13 @@ use Rattle.journal.specs.declared.entry.Journals.{Journals}
 use Rattle.inject_reader.specs.declared.inject_lines.accepted.Line.{Line}
 use Rattle.controller_actors.specs.declared.plant.Plant.{Plant}
 use Rattle.model_run.specs.run_ends.Runs.{IsRun}
+use Rattle.chart_model.specs.Chart.{Chart}
+use Rattle.named_runs.specs.Charts.{IsRunByCharts}
+use Rattle.run_promises.specs.Promises.{RunPromises}
 use Rattle.room_wiring.specs.declared.tables.Tables.{Tables}
 use Rattle.binding_expand.specs.tree_text.Text.{tree_text}
 use Rattle.room_run.specs.Words.{Files, Check, Tree, Run, asked_by}
-use Rattle.room_run.specs.Models.{IsSound}
+use Rattle.room_run.specs.Models.{IsSound, IsSoundText}
 use Rattle.room_run.specs.Causes.{Causes, AreOf, TextIs, status_of, note_of}
 use Rattle.room_run.specs.declared.prepare.Answer.{Answer}
 use Rattle.room_run.specs.declared.prepare.Answer.TheVariants as answers
@@ -31,15 +34,21 @@ use Rattle.room_run.specs.declared.status.Status.TheVariants as statuses
 abbrev pub accepted : List ℕ
 accepted = line (codes "ok" ∷ [])
 
+-- the journals are those of a run of the model's charts, told by the names of their states
+abbrev pub IsByCharts : Shown → Files → Plant → List Line → ℕ → Journals → Type 0
+IsByCharts shelf files plant lines fuel j =
+    TextIs shelf files.model (λ text. (charts : List (Option Chart)) × IsSoundText text plant.wiring charts × IsRunByCharts plant.wiring charts lines fuel j)
+
 -- how a run ended: done, or by its fuel
 abbrev pub status_of_run : Bool → Status
 status_of_run done = if done then statuses.Done else statuses.Spent
 
--- THE HEADLINE. What the words ask for, as a text with the status of a call that writes it whole: `ok` of a model that keeps all rules and whose wiring and charts have no fault; the slots and joined places of such a model; or the text of one journal for each controller and one for the environment, which are those of a run of the model over the lines (`IsRun`: each controller's journal is the replay of its own fetches, run to completion; merged by stamp they are one run of the world; what is taken in each lane is a prefix of what was sent, and all of it where the run is done).
+-- THE HEADLINE. What the words ask for, as a text with the status of a call that writes it whole: `ok` of a model that keeps all rules and whose wiring and charts have no fault; the slots and joined places of such a model; or the text of one journal for each controller and one for the environment, which are those of a run of the model over the lines (`IsRun`: each controller's journal is the replay of its own fetches, run to completion; merged by stamp they are one run of the world; what is taken in each lane is a prefix of what was sent, and all of it where the run is done). What a reader may rely on is said sentence by sentence (`RunPromises`), and the run is one of the model's charts (`IsByCharts`).
 pub data Answers (shelf : Shown) (words : List (List ℕ)) (text : List ℕ) (status : Status) : Type 0 where
   says_ok : (name : List ℕ) → asked_by words ≡ Some (Check name) → TextIs shelf name (λ bytes. (wiring : Tables) × IsSound bytes wiring) → text ≡ accepted → status ≡ statuses.Done → Answers shelf words text status
   says_tree : (name : List ℕ) (wiring : Tables) → asked_by words ≡ Some (Tree name) → TextIs shelf name (λ bytes. IsSound bytes wiring) → text ≡ tree_text wiring → status ≡ statuses.Done → Answers shelf words text status
   says_run : (files : Files) (fuel : ℕ) (plant : Plant) (lines : List Line) (journals : Journals) → asked_by words ≡ Some (Run files fuel) → AreOf shelf files plant lines → IsRun plant lines fuel journals
+      → RunPromises plant lines fuel journals → IsByCharts shelf files plant lines fuel journals
       → text ≡ text_of plant.wiring journals → status ≡ status_of_run journals.done → Answers shelf words text status
 
 -- the text of what the program has found out

@@ -1,8 +1,7 @@
 -- What the words of a call ask for.
 use Rattle.std.specs.Prelude.{ℕ, List, [], ◌∷◌, Bool, ◌==◌, ◌&&◌, nat_le, Option, Some, None, option_map, if◌then◌else◌, nat_eq, codes}
 use lib.Pointwise.{pointwise}
-use Rattle.inject_reader.specs.inject_lines.Texts.{are_digits}
-use Rattle.inject_reader.specs.inject_lines.Numerals.{value_of}
+use Rattle.text_reading.specs.Numerals.{are_digits, value_of}
 use Rattle.room_run.specs.declared.asked.Asked.{Asked as CodeAsked}
 use Rattle.room_run.specs.declared.asked.Asked.TheVariants as code
 use Rattle.room_run.specs.declared.asked.Files.{Files as CodeFiles}

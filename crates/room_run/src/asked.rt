@@ -3,7 +3,7 @@ ghost use Rattle.std.specs.Prelude.{◌≡◌, option_map, map};
 ghost use Rattle.std.specs.String.{string_bytes};
 ghost use Rattle.room_run.specs.Words.{Run, asked_by, asked_of, asked_of_files, asked_view, asked_with, files_view, fuel_in, fuel_of};
 
-use inject_reader::{are_digits, value};
+use text_reading::{are_digits, value};
 
 /// The fuel of a run whose words name none: the most turns that each controller takes.
 const USUAL_FUEL: u64 = 10_000;

@@ -12,7 +12,7 @@ ghost use Rattle.room_run.specs.Reading.{ChartCauses, HasItsTokens, HasItsTree, 
 
 use crate::model_fault::ModelFault;
 use crate::model_plants::plant_of;
-use crate::service_words::asks_services;
+use crate::service_words::asks_for_names;
 use binding_expand::{WiringFault, expand};
 use chart_reader::{ChartsFault, charts_of};
 use chart_reading::Chart;
@@ -155,7 +155,7 @@ pub(crate) fn sound_model(alloc: Global, text: &[u8]) -> Result<SoundModel, Mode
 }
 
 /// The plant of a text, where it is that of a model which keeps all rules, whose wiring and charts have no
-/// fault, and whose actions ask neither the frame service nor the layer service for anything.
+/// fault, and whose actions ask for no name.
 pub fn read_plant(alloc: Global, text: &[u8]) -> Result<Plant, ModelFault>
     requires { length text.now ≤ 1048576 }
     ensures ok { IfOk result (λ plant. IsModel text.now plant) }
@@ -166,7 +166,7 @@ pub fn read_plant(alloc: Global, text: &[u8]) -> Result<Plant, ModelFault>
         Ok(sound) => sound,
         Err(why) => return Err(why),
     };
-    if asks_services(&sound.charts) {
+    if asks_for_names(&sound.charts) {
         return Err(ModelFault::Later);
     }
     match plant_of(alloc, sound.wiring, &sound.charts) {

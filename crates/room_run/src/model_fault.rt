@@ -22,7 +22,7 @@ pub enum ModelFault {
     /// first whose chart has a fault; the lowest one has this number, 1 to 8.
     Chart { class: Name, number: u8 },
     /// The model keeps all rules, its wiring and its charts have no fault, and an action of it has
-    /// `incarnate`, `destroy`, `import`, `deport`, `register` or `withdraw`, which don't run yet.
+    /// `register` or `withdraw`, which don't run yet.
     Later,
     Memory,
 }

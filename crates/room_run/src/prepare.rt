@@ -18,10 +18,12 @@ use controller::Plant;
 use inject_reader::InjectFault;
 use inject_reader::inject_lines::Line;
 use journal::Journals;
-use model_run::run_local;
-use room_outside::{ReadRefused, Shelf, read_whole};
+use mail_lanes::MailLanes;
+use model_run::run_model;
+use room_outside::{Gate, ReadRefused, Shelf, read_whole};
 use room_wiring::Wiring;
 use std::alloc::{AllocError, Global};
+use std::thread::Threads;
 
 /// A run that has ended and is not written yet.
 #[derive(Drop)]
@@ -131,12 +133,19 @@ fn read_injections<S: Shelf>(
     judge_lines(alloc, text.as_slice(), wiring)
 }
 
-/// The run of a plant over lines, which the words named.
-fn run(alloc: Global, plant: Plant, lines: &[Line], fuel: u64) -> Result<Finished, AllocError>
+/// The run of a plant over lines, which the words named: all controllers at once, with a deque for each lane.
+fn run<G: Gate + Sync, R: Threads + Sync>(
+    rt: &R,
+    alloc: Global,
+    plant: Plant,
+    lines: &[Line],
+    fuel: u64,
+    gate: &G,
+) -> Result<Finished, AllocError>
     requires { IsPlant plant }
     ensures { IfOk result (λ f. Finishes plant lines.now fuel f) }
 {
-    let journals = run_local(alloc, &plant, lines, fuel)?;
+    let journals = run_model::<MailLanes, G, R>(rt, alloc, &plant, lines, fuel, gate)?;
     Ok(Finished {
         wiring: plant.wiring,
         journals,
@@ -144,11 +153,13 @@ fn run(alloc: Global, plant: Plant, lines: &[Line], fuel: u64) -> Result<Finishe
 }
 
 /// The run of the model and the injections of two files, each controller with so much fuel.
-fn run_files<S: Shelf>(
+fn run_files<S: Shelf, G: Gate + Sync, R: Threads + Sync>(
+    rt: &R,
     alloc: Global,
     shelf: &mut S,
     files: Files,
     fuel: u64,
+    gate: &G,
 ) -> Result<Finished, Refusal>
     ensures ok { IfOk result (λ f. (plant : RunPlant) × (lines : List InjectedLine) × AreOf (S.shown shelf.old) (files_view files.entry) plant lines × Finishes plant lines fuel f) }
     ensures err { IfErr result (λ why. RunCauses (S.shown shelf.old) (S.shown shelf.new) (files_view files.entry) why) }
@@ -162,17 +173,19 @@ fn run_files<S: Shelf>(
         Ok(lines) => lines,
         Err(why) => return Err(why),
     };
-    match run(alloc, plant, lines.as_slice(), fuel) {
+    match run(rt, alloc, plant, lines.as_slice(), fuel, gate) {
         Ok(finished) => Ok(finished),
         Err(AllocError) => Err(Refusal::Memory),
     }
 }
 
 /// All that comes before the first written byte.
-pub(crate) fn prepare<S: Shelf>(
+pub(crate) fn prepare<S: Shelf, G: Gate + Sync, R: Threads + Sync>(
+    rt: &R,
     alloc: Global,
     words: &[String],
     shelf: &mut S,
+    gate: &G,
 ) -> Result<Answer, Refusal>
     ensures ok { IfOk result (λ a. Answers (S.shown shelf.old) (map string_bytes words.now) (answer_text a) (answer_status a)) }
     ensures err { IfErr result (λ why. Causes (S.shown shelf.old) (S.shown shelf.new) (map string_bytes words.now) why) }
@@ -188,7 +201,7 @@ pub(crate) fn prepare<S: Shelf>(
             Ok(wiring) => Ok(Answer::Wired(wiring)),
             Err(why) => Err(why),
         },
-        Some(Asked::Run(files, fuel)) => match run_files(alloc, shelf, files, fuel) {
+        Some(Asked::Run(files, fuel)) => match run_files(rt, alloc, shelf, files, fuel, gate) {
             Ok(finished) => Ok(Answer::Ran(finished)),
             Err(why) => Err(why),
         },

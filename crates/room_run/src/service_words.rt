@@ -6,4 +6,4 @@
 mod charts;
 mod programs;
 
-pub use charts::asks_services;
+pub use charts::asks_for_names;

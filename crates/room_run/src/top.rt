@@ -11,6 +11,7 @@ use binding_expand::expand_text;
 use journal::text_to;
 use room_outside::{Gate, Shelf, Sink};
 use std::alloc::Global;
+use std::thread::Threads;
 
 /// Tells why the call was refused, and gives its status.
 fn tell<K: Sink>(why: Refusal, notes: &mut K) -> Status
@@ -64,17 +65,22 @@ fn print<K: Sink>(answer: &Answer, out: &mut K) -> Status
 /// the model, the model (its text, its rules, its wiring, its charts), reading the injections, the
 /// injections, the run, writing. After a failed read nothing more is read, and want of memory never
 /// comes once something was written.
-pub fn room_top<S: Shelf, K: Sink, G: Gate + Sync>(
+///
+/// The controllers of a run work at once, on as many threads as there are, and each enters the gate before
+/// a turn that it takes while others work. One controller runs on the calling thread. Where the system gives
+/// no more threads they work one after another.
+pub fn room_top<S: Shelf, K: Sink, G: Gate + Sync, R: Threads + Sync>(
+    rt: &R,
     alloc: Global,
     words: &[String],
     shelf: &mut S,
     out: &mut K,
     notes: &mut K,
-    _gate: &G,
+    gate: &G,
 ) -> Status
     ensures { Outcome (S.shown shelf.old) (S.shown shelf.new) (map string_bytes words.now) (record { out_before = K.written out.old; out_after = K.written out.new; notes_before = K.written notes.old; notes_after = K.written notes.new }) result }
 {
-    match prepare(alloc, words, shelf) {
+    match prepare(rt, alloc, words, shelf, gate) {
         Ok(answer) => print(&answer, out),
         Err(why) => tell(why, notes),
     }

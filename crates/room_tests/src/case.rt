@@ -4,6 +4,7 @@ use room_run::{Status, room_top};
 use std::alloc::{AllocError, Global};
 use std::process::Abort;
 use std::test::Fail;
+use std::thread::Threads;
 
 /// Two controllers, of which one asks and the other answers.
 pub(crate) const MODEL: &str = "RoomModel M {
@@ -91,8 +92,9 @@ fn file(alloc: Global, name: &str, text: &str) -> Result<(String, Vec<u8>), Allo
 
 impl Case<'_> {
     /// Runs the program at a gate.
-    pub(crate) fn run_at<G: Gate + Sync>(
+    pub(crate) fn run_at<G: Gate + Sync, R: Threads + Sync>(
         &self,
+        rt: &R,
         alloc: Global,
         gate: &G,
     ) -> Result<Told, AllocError> {
@@ -104,6 +106,7 @@ impl Case<'_> {
         let mut out = MemSink::new(alloc, self.room, self.failing_writes.to_vec(alloc)?)?;
         let mut notes = MemSink::new(alloc, 10_000, self.failing_notes.to_vec(alloc)?)?;
         let status = room_top(
+            rt,
             alloc,
             words.as_slice(),
             &mut shelf,
@@ -115,20 +118,20 @@ impl Case<'_> {
     }
 
     /// Runs the program at a gate that holds nobody.
-    pub(crate) fn run(&self, alloc: Global) -> Result<Told, AllocError> {
-        self.run_at(alloc, &OpenGate)
+    pub(crate) fn run<R: Threads + Sync>(&self, rt: &R, alloc: Global) -> Result<Told, AllocError> {
+        self.run_at(rt, alloc, &OpenGate)
     }
 }
 
 /// A case has this status, and just this output and these notes.
 pub(crate) fn tells(
-    rt: &(impl Abort + AllocGlobal),
+    rt: &(impl Abort + AllocGlobal + Threads + Sync),
     case: &Case,
     status: Status,
     out: &str,
     notes: &str,
 ) -> Result<(), Fail> {
-    let told = case.run(rt.alloc())?;
+    let told = case.run(rt, rt.alloc())?;
     assert_eq!(rt; told.status, status);
     assert_eq!(rt; told.out.bytes(), out.as_bytes());
     assert_eq!(rt; told.notes.bytes(), notes.as_bytes());

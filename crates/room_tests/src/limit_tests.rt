@@ -66,7 +66,7 @@ fn is_whole(told: &Told) -> bool {
 /// nothing to see.
 #[test]
 fn each_allocation_may_fail(rt: HostRuntime) {
-    match RUN.run(rt.alloc()) {
+    match RUN.run(&rt, rt.alloc()) {
         Ok(told) => assert!(rt; is_whole(&told), "{:?}", told.status),
         Err(AllocError) => {}
     }
@@ -76,7 +76,7 @@ fn each_allocation_may_fail(rt: HostRuntime) {
 #[test]
 fn a_gate_changes_nothing(rt: HostRuntime) -> Result<(), Fail> {
     let gate = MeetGate::new(1_000);
-    let told = RUN.run_at(rt.alloc(), &gate)?;
+    let told = RUN.run_at(&rt, rt.alloc(), &gate)?;
     assert_eq!(rt; told.status, Status::Done);
     assert_eq!(rt; told.out.bytes(), JOURNAL.as_bytes());
     assert!(rt; told.notes.bytes().is_empty());

@@ -1,4 +1,7 @@
--- The signals and codes of the code, as the rows name them.
+-- The signals and codes of the code, as the rows name them, and which controllers have other parts.
+use Rattle.std.specs.Prelude.{ℕ, ◌==◌, ◌&&◌, Bool, not}
+use Rattle.room_wiring.specs.declared.tables.Tables.{Tables}
+use Rattle.actor_duties.specs.Lives.{has_part}
 use Rattle.actor_duties.specs.Messages as rows
 use Rattle.service_messages.specs.declared.messages.FrameSignal.{FrameSignal}
 use Rattle.service_messages.specs.declared.messages.FrameSignal.TheVariants as signals
@@ -28,3 +31,7 @@ code_of codes.Busy = rows.Busy
 code_of codes.WrongClass = rows.WrongClass
 code_of codes.NameTaken = rows.NameTaken
 code_of codes.NotRegistered = rows.NotRegistered
+
+-- whether controller d is another one, with a part of slot o
+abbrev pub is_other_part : Tables → ℕ → ℕ → ℕ → Bool
+is_other_part t me o d = not (d == me) && has_part t d o

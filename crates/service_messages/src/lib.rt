@@ -11,7 +11,8 @@ mod messages;
 pub mod slot_runs;
 
 pub use frame_messages::{
-    announce, frame_at, frame_of, id_of, is_frame, refused_at_once, reply, to_owner, told_of, whose,
+    announce, frame_at, frame_of, id_of, is_frame, refused_at_once, reply, tell_parts, to_owner,
+    told_of, whose,
 };
 pub use look_up::{is_own, is_same_endpoint, is_sap, is_spp, joined_at, owner_of};
 pub use messages::{Code, FrameSignal, frame_message, system};

@@ -1,6 +1,7 @@
 //! Look-ups in a wiring. The numbers may name nothing: then the answer is what the definitions say of
 //! such a number.
-ghost use Rattle.std.specs.Prelude.{◌≡◌};
+ghost use Rattle.std.specs.Prelude.{◌≡◌, ◌≤◌, ◌^◌};
+ghost use Rattle.room_wiring.specs.declared.slot.Partner.TheVariants.{Nobody};
 ghost use Rattle.actor_duties.specs.Words.{owner_of, is_own, is_sap, is_spp, joined_at, is_endpoint};
 
 use room_kinds::{ControllerId, Endpoint, PortKind, SlotId};
@@ -57,16 +58,18 @@ pub fn is_spp(wiring: &Wiring, slot: SlotId, port: u16) -> bool
     }
 }
 
-/// What a place of a port of a slot is joined to; nobody where there is no such place.
+/// What a place of a port of a slot is joined to; nobody where there is no such place, as where its
+/// number has more than 32 bits.
 #[tactic(auto, unfolding(actor_duties::specs::Words::joined_at))]
-pub fn joined_at(wiring: &Wiring, slot: SlotId, port: u16, place: u32) -> Partner
-    ensures { result ≡ joined_at wiring.now slot.0 port place }
+pub fn joined_at(wiring: &Wiring, slot: SlotId, port: u16, place: u64) -> Partner
+    ensures joined { result ≡ joined_at wiring.now slot.0 port place }
+    ensures near { 2 ^ 32 ≤ place → result ≡ Nobody }
 {
     if u32::from(slot.0) < wiring.slot_count()
         && usize::from(port) < wiring.port_count(slot)
-        && place < wiring.places(slot, port)
+        && place < u64::from(wiring.places(slot, port))
     {
-        wiring.partner(slot, port, place)
+        wiring.partner(slot, port, place as u32)
     } else {
         Partner::Nobody
     }

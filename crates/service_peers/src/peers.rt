@@ -8,6 +8,7 @@ use frame_service::FrameState;
 use layer_service::Links;
 use room_kinds::Endpoint;
 use room_wiring::Wiring;
+use service_messages::whose;
 
 /// The peer of a place of a live actor of the controller that has this frame service and these links, by
 /// the first case that fits: the endpoint that a link by name gives for the place; else what the frame
@@ -19,6 +20,6 @@ pub fn peer(frame: &FrameState, links: &Links, wiring: &Wiring, from: Endpoint) 
 {
     match links.peer(from) {
         Some(linked) => Some(linked),
-        None => frame.peer(wiring, from),
+        None => frame.peer(wiring, whose(from), from.port, u64::from(from.place)),
     }
 }

@@ -1,4 +1,1 @@
-pub mod AloneLemmas
-pub mod Wirings
-pub mod Rooms
 pub mod Registered

@@ -135,3 +135,10 @@ pub(crate) fn push_messages(
     }
     Ok(())
 }
+
+/// Adds a line that says no step.
+pub(crate) fn push_unread(text: &mut String, line: &str) -> Result<(), AllocError> {
+    text.push_str("unread ")?;
+    text.push_str(line)?;
+    text.push('\n')
+}

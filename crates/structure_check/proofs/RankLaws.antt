@@ -1,13 +1,13 @@
 -- The rank of classes falls along references where none contains itself.
-use Rattle.std.proofs.Common.{◌≡◌, ◌⊎◌, inl, inr, ℕ, zero, suc, ◌+◌, ◌<◌, ◌≤◌, Bool, true, false, cond, nat_eq, List, [], ◌∷◌, length, map, refl, sym, ap, ◌∙◌, subst, arith}
+use Rattle.std.proofs.Common.{◌≡◌, ◌⊎◌, inl, inr, ℕ, zero, suc, ◌<◌, ◌≤◌, Bool, true, false, cond, nat_eq, List, [], ◌∷◌, length, map, refl, sym, ap, ◌∙◌, subst, arith}
 use Rattle.std.specs.Prelude.{not, ◌||◌}
 use Rattle.std.specs.List.{list_any, slice_index_or}
-use Rattle.std.proofs.lemmas.Bool.{or_cases, eqb-true, cases_lt, cases_eq}
+use Rattle.std.proofs.lemmas.Bool.{or_cases, eqb-true, cases_eq}
 use Rattle.std.proofs.lemmas.List.{length-map}
 use Rattle.room_ast.specs.Trees.{ModelTree}
 use Rattle.room_ast.specs.model_parts.Classes.{actors, actor_names, protocol_names}
 use Rattle.check_tables.specs.class_tables.Containers.{actor_container, actor_containers}
-use Rattle.number_graphs.specs.class_containment.Containment.{parts_of, has_part, Contains, directly, through, NoneContainsItself, has_chain, contains_itself}
+use Rattle.number_graphs.specs.class_containment.Containment.{parts_of, has_part, Contains, directly, through, has_chain, contains_itself}
 use Rattle.check_tables.specs.containment_rules.Circles.{classes_of_container, actors_are_finite}
 use Rattle.structure_check.specs.Ranks.{reference_classes, longest_chain, class_rank, ReferencesFall}
 

@@ -1,13 +1,13 @@
 -- One turn of the loop that reads mappings up to a closing brace.
-use Rattle.std.proofs.Common.{◌≡◌, ℕ, zero, suc, Bool, true, false, List, [], ◌∷◌, ◌++◌, map, reverse, Option, Some, None, refl, sym, ap, ◌∙◌, append-nil}
+use Rattle.std.proofs.Common.{◌≡◌, ℕ, suc, true, false, List, [], ◌∷◌, ◌++◌, map, reverse, Option, Some, None, refl, sym, ap, ◌∙◌, append-nil}
 use Rattle.std.specs.Prelude.{option_and_then, length}
 use Rattle.std.proofs.lemmas.List.{map_push, reverse-append}
 use Rattle.room_lexer.specs.declared.token.Mark.TheVariants as marks
 use Rattle.room_ast.specs.Values.{TokenValue}
 use Rattle.room_ast.specs.MappingTree.{MappingTree, MappingOf, no_braces}
 use Rattle.room_ast.specs.declared.system.MappingPath.{MappingPath}
-use Rattle.token_reading.specs.Reader.{Fails}
-use Rattle.token_reading.specs.Single.{comes, rest_of, before_close}
+use Rattle.token_reading.specs.Reader.{Fails, rest_of}
+use Rattle.token_reading.specs.Single.{comes, before_close}
 use Rattle.token_reading.specs.declared.fault.ReadFault.{ReadFault}
 use Rattle.token_reading.specs.declared.fault.ReadFault.TheVariants as faults
 use Rattle.structure_parser.specs.declared.mapping.OpenMapping.{OpenMapping}

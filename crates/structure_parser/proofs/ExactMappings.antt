@@ -1,14 +1,15 @@
 -- Mappings are read as their tokens are written, and nothing else is.
-use Rattle.std.proofs.Common.{◌≡◌, ℕ, zero, suc, ◌+◌, ◌<◌, ◌≤◌, Bool, true, false, cond, List, [], ◌∷◌, ◌++◌, length, Option, Some, None, refl, sym, ap, ◌∙◌, append_assoc, append-nil, length-append, arith}
+use Rattle.std.proofs.Common.{◌≡◌, ℕ, zero, suc, ◌+◌, ◌≤◌, Bool, true, false, cond, List, [], ◌∷◌, ◌++◌, length, Option, Some, None, refl, sym, ap, ◌∙◌, append_assoc, append-nil, length-append, arith}
 use Rattle.std.specs.Prelude.{option_and_then}
 use Rattle.room_lexer.specs.declared.token.Mark.TheVariants as marks
 use Rattle.room_lexer.specs.declared.word.Word.TheVariants as words
-use Rattle.room_ast.specs.Values.{TokenValue, AWord, AName, ANumber, AMark}
-use Rattle.room_ast.specs.Tokens.{each, maybe, index_tokens, segment, slash_if, slash_segment, mapping_path, mapping_tokens, nested_tokens, mappings_tokens}
+use Rattle.room_ast.specs.Values.{TokenValue, AWord, AName, AMark}
+use Rattle.room_ast.specs.Tokens.{each, maybe, segment, slash_if, slash_segment, mapping_path, mapping_tokens, nested_tokens, mappings_tokens}
 use Rattle.room_ast.specs.MappingTree.{MappingTree, MappingOf, NestedTree, no_braces, in_braces, Mappings, no_mappings, mapping, mappings_of}
 use Rattle.room_ast.specs.declared.system.MappingPath.{MappingPath}
 use Rattle.room_ast.specs.declared.system.Segment.{Segment}
-use Rattle.token_reading.specs.Single.{comes, rest_of, before_close}
+use Rattle.token_reading.specs.Reader.{rest_of}
+use Rattle.token_reading.specs.Single.{comes, before_close}
 use Rattle.token_reading.proofs.Readers.{Anything}
 use Rattle.token_reading.proofs.Singles.{comes_is, comes_here}
 use Rattle.token_reading.proofs.Exact.{Exact, mark_exact, word_exact, name_exact, number_exact, Exact-then, Exact-⊕, Exact-behind, Exact-as, Exact-maybe, Exact-many, Exact-flag, Exact-where}

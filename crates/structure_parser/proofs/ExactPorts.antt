@@ -1,9 +1,9 @@
 -- Ports and services are read as their tokens are written, and nothing else is.
-use Rattle.std.proofs.Common.{◌≡◌, ℕ, Bool, true, false, List, [], ◌∷◌, ◌++◌, Option, Some, None, refl}
+use Rattle.std.proofs.Common.{◌≡◌, true, List, [], ◌∷◌, ◌++◌, Some, refl}
 use Rattle.room_lexer.specs.declared.token.Mark.TheVariants as marks
 use Rattle.room_lexer.specs.declared.word.Word.TheVariants as words
-use Rattle.room_ast.specs.Values.{TokenValue, AWord, AName, ANumber, AString, ABlock, AMark}
-use Rattle.room_ast.specs.Tokens.{maybe, word_if, places_tokens, port, external_port, provision, access, implementation}
+use Rattle.room_ast.specs.Values.{TokenValue, ANumber, AMark}
+use Rattle.room_ast.specs.Tokens.{word_if, places_tokens, port, external_port, provision, access, implementation}
 use Rattle.room_ast.specs.declared.actor.Places.{Places}
 use Rattle.room_ast.specs.declared.actor.Places.TheVariants as places
 use Rattle.token_reading.specs.Single.{comes, comes_word}

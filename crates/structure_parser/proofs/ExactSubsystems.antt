@@ -1,14 +1,14 @@
 -- Subsystem classes and the logical system are read as their tokens are written, and nothing else is.
-use Rattle.std.proofs.Common.{◌≡◌, ℕ, ◌<◌, Bool, true, false, List, [], ◌∷◌, ◌++◌, length, Option, Some, None, refl, ◌∙◌, arith}
+use Rattle.std.proofs.Common.{◌≡◌, false, List, ◌∷◌, ◌++◌, Option, Some, None, refl, ◌∙◌, arith}
 use Rattle.room_lexer.specs.declared.token.Mark.TheVariants as marks
 use Rattle.room_lexer.specs.declared.word.Word.{Word}
 use Rattle.room_lexer.specs.declared.word.Word.TheVariants as words
 use Rattle.room_kinds.specs.declared.structure.ReferenceKind.{ReferenceKind}
 use Rattle.room_kinds.specs.declared.structure.ReferenceKind.TheVariants as kinds
-use Rattle.room_ast.specs.Values.{TokenValue, AWord, AName, ANumber, AMark}
+use Rattle.room_ast.specs.Values.{TokenValue, AWord}
 use Rattle.room_ast.specs.MappingTree.{MappingTree, MappingOf}
-use Rattle.room_ast.specs.Tokens.{maybe, ref_kind, actor_ref, binding, layer, thread, mapping_tokens, subsystem_item, subsystem, subsystem_ref, system}
-use Rattle.room_ast.specs.Trees.{SubsystemItemTree, AReference, ABinding, ALayer, AThread, AMapping, SubsystemTree}
+use Rattle.room_ast.specs.Tokens.{maybe, ref_kind, thread, mapping_tokens, subsystem_item, subsystem, subsystem_ref, system}
+use Rattle.room_ast.specs.Trees.{SubsystemItemTree, AReference, ABinding, ALayer, AThread, AMapping}
 use Rattle.token_reading.specs.Reader.{reads_as}
 use Rattle.token_reading.specs.Single.{comes, before_close, word_here}
 use Rattle.token_reading.proofs.Readers.{Anything}

@@ -5,7 +5,7 @@ use Rattle.room_lexer.specs.declared.token.Mark.TheVariants as marks
 use Rattle.room_lexer.specs.declared.word.Word.{Word}
 use Rattle.room_lexer.specs.declared.word.Word.TheVariants as words
 use Rattle.room_ast.specs.Values.{TokenValue}
-use Rattle.room_ast.specs.MappingTree.{MappingTree, MappingOf, NestedTree, no_braces, in_braces, Mappings, mappings_of, mapping_views}
+use Rattle.room_ast.specs.MappingTree.{MappingTree, MappingOf, NestedTree, no_braces, in_braces, mappings_of, mapping_views}
 use Rattle.room_ast.specs.Trees.{SubsystemItemTree, AReference, ABinding, ALayer, AThread, AMapping, SubsystemTree}
 use Rattle.room_ast.specs.declared.system.Mapping.{Mapping}
 use Rattle.room_ast.specs.declared.system.MappingPath.{MappingPath}
@@ -13,8 +13,8 @@ use Rattle.room_ast.specs.declared.system.Segment.{Segment}
 use Rattle.room_ast.specs.declared.system.SubsystemRef.{SubsystemRef}
 use Rattle.room_ast.specs.declared.system.System.{System}
 use Rattle.structure_parser.specs.declared.mapping.OpenMapping.{OpenMapping}
-use Rattle.token_reading.specs.Reader.{Reader, ◌⊕◌, ◌▹◌, ◌◃◌, reads_as, optional, flag, all_while}
-use Rattle.token_reading.specs.Single.{comes, rest_of, mark, word, name_at, number_at, word_here, before_close, braces_at}
+use Rattle.token_reading.specs.Reader.{Reader, ◌⊕◌, ◌▹◌, reads_as, optional, flag, all_while, rest_of}
+use Rattle.token_reading.specs.Single.{comes, mark, word, name_at, number_at, word_here, before_close, braces_at}
 use Rattle.structure_parser.specs.References.{actor_ref_at, binding_at, layer_at, thread_at}
 
 -- name [ ":" NUMBER ]

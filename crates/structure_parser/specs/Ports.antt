@@ -1,8 +1,8 @@
 -- The grammar of ports and services, read from left to right.
-use Rattle.std.specs.Prelude.{ℕ, List, [], ◌∷◌, Option, Some, None}
+use Rattle.std.specs.Prelude.{◌∷◌, Some, None}
 use Rattle.room_lexer.specs.declared.token.Mark.TheVariants as marks
 use Rattle.room_lexer.specs.declared.word.Word.TheVariants as words
-use Rattle.room_ast.specs.Values.{TokenValue, AWord, AName, ANumber, AString, ABlock, AMark}
+use Rattle.room_ast.specs.Values.{TokenValue, ANumber, AMark}
 use Rattle.room_ast.specs.declared.actor.ExternalPort.{ExternalPort}
 use Rattle.room_ast.specs.declared.actor.Places.{Places}
 use Rattle.room_ast.specs.declared.actor.Places.TheVariants as places

@@ -1,8 +1,8 @@
 -- A reader that takes the tokens of its tree and nothing else: what it reads has the tokens taken, and the tokens of a tree are read back.
-use Rattle.std.proofs.Common.{◌≡◌, ℕ, ◌<◌, Bool, true, false, cond, List, [], ◌∷◌, ◌++◌, length, Option, Some, None, refl, sym, ap, ◌∙◌, subst, append_assoc, append-nil, arith}
+use Rattle.std.proofs.Common.{◌≡◌, ◌<◌, Bool, true, false, cond, List, [], ◌∷◌, ◌++◌, length, Option, Some, None, refl, sym, ap, ◌∙◌, append-nil, arith}
 use Rattle.std.specs.Prelude.{option_map, option_and_then}
-use Rattle.token_reading.specs.Reader.{Reader, ◌⊕◌, ◌▹◌, ◌◃◌, reads_as, optional, flag, all_while, to_end, if_last}
-use Rattle.token_reading.specs.Single.{comes, before_close, word_here, rest_of, word_as, comes_as, braces_at, mark, word, name_at, number_at, string_at, block_at}
+use Rattle.token_reading.specs.Reader.{Reader, ◌⊕◌, ◌▹◌, ◌◃◌, reads_as, optional, flag, all_while, to_end, if_last, rest_of}
+use Rattle.token_reading.specs.Single.{comes, before_close, word_here, word_as, comes_as, braces_at, mark, word, name_at, number_at, string_at, block_at}
 use Rattle.token_reading.proofs.Readers.{Sound, Reads, taken, Sound-⊕, Reads-⊕, Sound-as, Reads-as, Sound-maybe, Reads-maybe, Sound-many, Reads-many, Anything, last_takes}
 use Rattle.token_reading.proofs.Singles.{word_here_is, mark_sound, word_sound, name_sound, number_sound, string_sound, block_sound, mark_reads, word_reads, name_reads, number_reads, string_reads, block_reads}
 use Rattle.token_reading.proofs.Whole.{Reading}

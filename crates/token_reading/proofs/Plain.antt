@@ -1,10 +1,10 @@
 -- A plain value is the same as itself, and as no other.
-use Rattle.std.proofs.Common.{◌≡◌, ℕ, Bool, true, false, List, Option, Some, None, refl, ap}
+use Rattle.std.proofs.Common.{◌≡◌, ℕ, true, List, Option, Some, None, refl, ap}
 use Rattle.std.proofs.lemmas.Bool.{eq-eqb, eqb-true}
 use Rattle.room_ast.specs.Values.{TokenValue, spelled}
 use Rattle.room_ast.specs.declared.protocol.PlainValue.{PlainValue}
 use Rattle.room_ast.specs.declared.protocol.PlainValue.TheVariants as plain
-use Rattle.token_reading.specs.Single.{same_plain, string_if, string_at, string_value}
+use Rattle.token_reading.specs.Single.{same_plain, string_if}
 
 pub same_itself : (o : Option PlainValue) → same_plain o o ≡ true
 same_itself None = refl

@@ -1,7 +1,7 @@
 -- What a reader takes is what the writer of its values gives, and it reads that again.
 use Rattle.std.proofs.Common.{◌≡◌, ℕ, zero, suc, Bool, true, false, cond, ◌<◌, List, [], ◌∷◌, ◌++◌, length, Option, Some, None, refl, sym, ap, ◌∙◌, subst, append_assoc, append-nil, length-append, arith}
 use Rattle.std.specs.Prelude.{option_map, option_and_then}
-use Rattle.token_reading.specs.Reader.{Reader, ◌⊕◌, reads_as, optional, many, all_while, if_last}
+use Rattle.token_reading.specs.Reader.{Reader, ◌⊕◌, reads_as, optional, many, all_while, if_last, rest_of, take_if}
 use Rattle.room_ast.specs.Tokens.{each, maybe}
 
 -- what p takes from the front is what out gives for its value
@@ -143,3 +143,17 @@ pub last_takes : {V A : Type 0} (out : A → List V) (ts : List V) (r : Option (
 last_takes out ts None x h e = absurd cc
 last_takes {V = V} {A = A} out ts (Some (a, [])) x h e = let same : a ≡ x = cc in h (a, []) refl ∙ append-nil (out a) ∙ ap out same
 last_takes out ts (Some (a, t ∷ us)) x h e = absurd cc
+
+-- ---- the first, if it comes
+
+if_takes : {V : Type 0} (t : V) (ts : List V) (b : Bool) → (b ≡ true → ts ≡ t ∷ rest_of ts) → (z : Unit {0} × List V) → cond {A = Option (Unit {0} × List V)} b (Some (tt, rest_of ts)) None ≡ Some z → ts ≡ t ∷ z.1
+if_takes t ts false h z e = absurd cc
+if_takes t ts true h z e = taken (λ _. t ∷ []) ts (tt, rest_of ts) z (h refl) e
+
+pub take_if_sound : {V : Type 0} (t : V) (here : List V → Bool) → ((ts : List V) → here ts ≡ true → ts ≡ t ∷ rest_of ts) → Sound (take_if here) (λ _. t ∷ [])
+unfolding take_if
+take_if_sound t here is = record { takes = λ ts z e. if_takes t ts (here ts) (is ts) z e }
+
+pub take_if_reads : {V : Type 0} (t : V) (here : List V → Bool) → ((rest : List V) → here (t ∷ rest) ≡ true) → Reads (take_if here) (t ∷ []) tt Anything
+unfolding take_if
+take_if_reads t here comes = record { again = λ rest any. rw (comes rest) refl }

@@ -1,5 +1,5 @@
 -- Single tokens are taken as they are, and read again.
-use Rattle.std.proofs.Common.{◌≡◌, ℕ, zero, suc, Bool, true, false, cond, eqb, List, [], ◌∷◌, ◌++◌, Option, Some, None, refl, sym, ap, ◌∙◌}
+use Rattle.std.proofs.Common.{◌≡◌, ℕ, zero, suc, Bool, true, false, List, [], ◌∷◌, ◌++◌, Option, Some, None, refl, sym, ap, ◌∙◌}
 use Rattle.std.proofs.lemmas.Bool.{eq-eqb, eqb-true}
 use Rattle.room_lexer.specs.declared.token.Mark.{Mark}
 use Rattle.room_lexer.specs.declared.token.Mark.TheVariants as marks
@@ -8,19 +8,19 @@ use Rattle.room_lexer.specs.declared.word.Word.TheVariants as words
 use Rattle.room_ast.specs.declared.protocol.PlainValue.{PlainValue}
 use Rattle.room_ast.specs.Values.{TokenValue, AWord, AName, ANumber, AString, ABlock, AMark, spelled}
 use Rattle.room_ast.specs.Tokens.{string}
-use Rattle.token_reading.specs.Reader.{Reader}
-use Rattle.token_reading.specs.Single.{mark_number, word_number, same_mark, same_word, same_plain, comes, comes_word, comes_name, comes_string, word_here, rest_of, mark, word, name_at, number_at, string_if, string_at, block_at}
+use Rattle.token_reading.specs.Reader.{rest_of}
+use Rattle.token_reading.specs.Single.{mark_number, word_number, same_mark, same_word, same_plain, comes, comes_word, word_here, mark, word, name_at, number_at, string_if, string_at, block_at}
 use Rattle.token_reading.proofs.Plain.{same_is, string_again}
-use Rattle.token_reading.proofs.Readers.{Sound, Reads, taken, Anything}
+use Rattle.token_reading.proofs.Readers.{Sound, Reads, taken, Anything, take_if_sound, take_if_reads}
 
 -- ---- marks and words are told apart by their numbers
 
-nth : {A : Type 0} → List A → ℕ → Option A
+unfoldable pub nth : {A : Type 0} → List A → ℕ → Option A
 nth [] n = None
 nth (x ∷ xs) zero = Some x
 nth (x ∷ xs) (suc n) = nth xs n
 
-some_is : {A : Type 0} (x y : A) → Some x ≡ Some y → x ≡ y
+pub some_is : {A : Type 0} (x y : A) → Some x ≡ Some y → x ≡ y
 some_is x y e = cc
 
 all_marks : List Mark
@@ -159,17 +159,11 @@ word_here_is v (AString a b ∷ ts) e = absurd cc
 word_here_is v (ABlock n ∷ ts) e = absurd cc
 word_here_is v (AMark n ∷ ts) e = absurd cc
 
-if_takes : (t : TokenValue) (ts : List TokenValue) (b : Bool) → (b ≡ true → ts ≡ t ∷ rest_of ts) → (z : Unit {0} × List TokenValue) → cond {A = Option (Unit {0} × List TokenValue)} b (Some (tt, rest_of ts)) None ≡ Some z → ts ≡ t ∷ z.1
-if_takes t ts false h z e = absurd cc
-if_takes t ts true h z e = taken (λ _. t ∷ []) ts (tt, rest_of ts) z (h refl) e
-
 pub mark_sound : (m : Mark) → Sound (mark m) (λ _. AMark m ∷ [])
-unfolding mark
-mark_sound m = record { takes = λ ts z e. if_takes (AMark m) ts (comes m ts) (comes_is m ts) z e }
+mark_sound m = take_if_sound (AMark m) (comes m) (comes_is m)
 
 pub word_sound : (w : Word) → Sound (word w) (λ _. AWord w ∷ [])
-unfolding word
-word_sound w = record { takes = λ ts z e. if_takes (AWord w) ts (comes_word w ts) (comes_word_is w ts) z e }
+word_sound w = take_if_sound (AWord w) (comes_word w) (comes_word_is w)
 
 name_takes : (ts : List TokenValue) (z : List ℕ × List TokenValue) → name_at ts ≡ Some z → ts ≡ AName z.0 ∷ z.1
 unfolding name_at
@@ -238,12 +232,10 @@ unfolding comes_word
 comes_word_here w rest = eq-eqb (word_number w) (word_number w) refl
 
 pub mark_reads : (m : Mark) → Reads (mark m) (AMark m ∷ []) tt Anything
-unfolding mark
-mark_reads m = record { again = λ rest any. rw (comes_here m rest) refl }
+mark_reads m = take_if_reads (AMark m) (comes m) (comes_here m)
 
 pub word_reads : (w : Word) → Reads (word w) (AWord w ∷ []) tt Anything
-unfolding word
-word_reads w = record { again = λ rest any. rw (comes_word_here w rest) refl }
+word_reads w = take_if_reads (AWord w) (comes_word w) (comes_word_here w)
 
 pub name_reads : (name : List ℕ) → Reads name_at (AName name ∷ []) name Anything
 unfolding name_at

@@ -1,5 +1,5 @@
 -- Readers of a list. A reader answers what it read and what is left, or None.
-use Rattle.std.specs.Prelude.{◌≡◌, ℕ, zero, suc, List, [], ◌∷◌, ◌++◌, length, Bool, true, false, Option, Some, None, option_map, option_and_then, Result, Ok, Err, if◌then◌else◌}
+use Rattle.std.specs.Prelude.{◌≡◌, ℕ, zero, suc, List, [], ◌∷◌, length, Bool, true, false, Option, Some, None, option_map, option_and_then, Result, Ok, Err, if◌then◌else◌}
 use Rattle.token_reading.specs.declared.fault.ReadFault.{ReadFault}
 use Rattle.token_reading.specs.declared.fault.ReadFault.TheVariants as faults
 
@@ -15,6 +15,15 @@ Gives view (Err e) read = Fails e read
 
 abbrev pub Reader : Type 0 → Type 0 → Type 0
 Reader V A = List V → Option (A × List V)
+
+-- all but the first
+abbrev pub rest_of : {V : Type 0} → List V → List V
+rest_of [] = []
+rest_of (t ∷ ts) = ts
+
+-- the first, if the test says that it comes
+unfoldable pub take_if : {V : Type 0} → (List V → Bool) → Reader V (Unit {0})
+take_if here ts = if here ts then Some (tt, rest_of ts) else None
 
 -- one reader, and then another
 infixr 30 ◌⊕◌

@@ -1,5 +1,5 @@
 -- Readers of single tokens, and the values of the lexer's tokens.
-use Rattle.std.specs.Prelude.{ℕ, ◌-◌, List, [], ◌∷◌, map, length, take, drop, Option, Some, None, is_some, option_map, Bool, true, false, ◌==◌, if◌then◌else◌}
+use Rattle.std.specs.Prelude.{◌≡◌, refl, ℕ, List, [], ◌∷◌, map, Option, Some, None, is_some, option_map, Bool, true, false, ◌==◌, if◌then◌else◌}
 use Rattle.room_lexer.specs.declared.token.Mark.{Mark}
 use Rattle.room_lexer.specs.declared.token.Mark.TheVariants as marks
 use Rattle.room_lexer.specs.declared.word.Word.{Word}
@@ -11,7 +11,8 @@ use Rattle.room_ast.specs.Values.{TokenValue, AWord, AName, ANumber, AString, AB
 use Rattle.room_ast.specs.declared.protocol.PlainValue.{PlainValue}
 use Rattle.room_ast.specs.declared.protocol.PlainValue.TheVariants as plain
 use Rattle.token_reading.specs.Contents.{string_contents, block_contents}
-use Rattle.token_reading.specs.Reader.{Reader, ◌▹◌, ◌◃◌, all_while}
+use Rattle.token_reading.specs.Reader.{Reader, ◌▹◌, ◌◃◌, all_while, rest_of, take_if}
+use Rattle.token_reading.specs.Cursor.{left_of, between}
 use Rattle.token_reading.specs.declared.rest.Rest.{Rest}
 
 -- ---- the value that a token of the lexer has
@@ -29,7 +30,7 @@ value_of_kind (kinds.Mark m) text = AMark m
 
 -- the bytes of a token
 abbrev pub text_of : List ℕ → Token → List ℕ
-text_of bytes t = take (t.end - t.start) (drop t.start bytes)
+text_of bytes t = between bytes (t.start, t.end)
 
 abbrev pub value_of : List ℕ → Token → TokenValue
 value_of bytes t = value_of_kind t.kind (text_of bytes t)
@@ -37,14 +38,13 @@ value_of bytes t = value_of_kind t.kind (text_of bytes t)
 abbrev pub values : List ℕ → List Token → List TokenValue
 values bytes ts = map (value_of bytes) ts
 
--- what is left to read
-abbrev pub left : Rest → List TokenValue
-left r = values r.bytes.now r.tokens.now
+-- where the text of a token begins and ends
+abbrev pub span_of : Token → ℕ × ℕ
+span_of t = (t.start, t.end)
 
--- where it begins: at the first token, or at the end of the bytes
-abbrev pub place_of : List ℕ → List Token → ℕ
-place_of bytes [] = length bytes
-place_of bytes (t ∷ ts) = t.start
+-- what is left to read
+abbrev pub left : Rest Token → List TokenValue
+left r = left_of value_of r
 
 -- ---- marks and words
 
@@ -163,15 +163,20 @@ unfoldable pub word_here : List TokenValue → Option Word
 word_here (AWord w ∷ ts) = Some w
 word_here ts = None
 
-abbrev pub rest_of : List TokenValue → List TokenValue
-rest_of [] = []
-rest_of (t ∷ ts) = ts
+-- nothing comes at the end
+pub no_mark : (m : Mark) → comes m [] ≡ false
+unfolding comes
+no_mark m = refl
 
-unfoldable pub mark : Mark → Reader TokenValue (Unit {0})
-mark m ts = if comes m ts then Some (tt, rest_of ts) else None
+pub no_word : (w : Word) → comes_word w [] ≡ false
+unfolding comes_word
+no_word w = refl
 
-unfoldable pub word : Word → Reader TokenValue (Unit {0})
-word w ts = if comes_word w ts then Some (tt, rest_of ts) else None
+abbrev pub mark : Mark → Reader TokenValue (Unit {0})
+mark m = take_if (comes m)
+
+abbrev pub word : Word → Reader TokenValue (Unit {0})
+word w = take_if (comes_word w)
 
 -- what a word stands for, by a table of words
 unfoldable pub word_as : {A : Type 0} → (Option Word → Option A) → Reader TokenValue A
@@ -187,6 +192,10 @@ unfoldable pub name_at : Reader TokenValue (List ℕ)
 name_at (AName text ∷ ts) = Some (text, ts)
 name_at ts = None
 
+pub no_name : name_at [] ≡ None
+unfolding name_at
+no_name = refl
+
 -- whether a name comes
 unfoldable pub comes_name : List TokenValue → Bool
 comes_name (AName text ∷ ts) = true
@@ -195,6 +204,10 @@ comes_name ts = false
 unfoldable pub number_at : Reader TokenValue ℕ
 number_at (ANumber n ∷ ts) = Some (n, ts)
 number_at ts = None
+
+pub no_number : number_at [] ≡ None
+unfolding number_at
+no_number = refl
 
 -- whether two plain values, or none, are the same
 abbrev pub same_plain : Option PlainValue → Option PlainValue → Bool

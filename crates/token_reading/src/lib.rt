@@ -5,13 +5,16 @@
 pub mod action_tokens;
 mod contents;
 mod fault;
+mod lexeme;
+mod model_token;
 mod repeat;
 mod rest;
 
 pub use contents::{block_contents, spelled, string_contents};
 pub use fault::ReadFault;
+pub use lexeme::Lexeme;
+pub use model_token::{before_close, block, comes_name, comes_string, string, word_here, word_if};
 pub use repeat::{Part, TreePart, braces, each, each_tree};
 pub use rest::{
-    Rest, before_close, block, comes, comes_name, comes_string, comes_word, name, next, number,
-    place, skip, string, take_mark, take_word, text, word_here, word_if,
+    Rest, comes, comes_word, name, next, number, place, skip, take_mark, take_word, text,
 };

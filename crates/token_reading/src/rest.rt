@@ -1,43 +1,44 @@
 //! What is left to read, and single tokens of it.
 ghost use Rattle.std.specs.Prelude.{◌≡◌, ◌∷◌, [], MatchOption, IfSome};
-ghost use Rattle.token_reading.specs.Reader.{Gives, flag};
-ghost use Rattle.token_reading.specs.Single.{mark_number, word_number, same_mark, same_word, left, place_of, value_of, text_of, rest_of, comes, comes_word, comes_name, comes_string, word_here, before_close, mark as mark_at, word as word_at, name_at, number_at, string_at, block_at};
+ghost use Rattle.token_reading.specs.Reader.{Gives, rest_of, take_if};
+ghost use Rattle.token_reading.specs.Cursor.{left_of, place_from, between};
 
-use crate::contents::{block_contents, string_contents};
 use crate::fault::ReadFault;
-use room_ast::{Name, Text};
-use room_lexer::{Mark, Token, TokenKind, Word};
+use crate::lexeme::Lexeme;
+use room_ast::Name;
+use room_lexer::{Mark, Token};
 use std::alloc::Global;
 
 /// What is left to read: tokens, and the bytes of the text that they are of.
 #[derive(Clone, Copy)]
-pub struct Rest<'a> {
+pub struct Rest<'a, T = Token> {
     pub bytes: &'a [u8],
-    pub tokens: &'a [Token],
+    pub tokens: &'a [T],
 }
 
 /// Where what is left begins: at its first token, or at the end of the text.
-pub fn place(rest: Rest) -> usize
-    ensures { result ≡ place_of rest.entry.bytes.now rest.entry.tokens.now }
+pub fn place<T: Lexeme>(rest: Rest<'_, T>) -> usize
+    ensures { result ≡ place_from T.span rest.entry.bytes.now rest.entry.tokens.now }
 {
     match rest.tokens {
         [] => rest.bytes.len(),
-        [first, ..] => first.start,
+        [first, ..] => first.span().0,
     }
 }
 
 /// The bytes of a token.
-pub fn text<'a>(bytes: &'a [u8], token: Token) -> &'a [u8]
-    ensures { result.now ≡ text_of bytes.now token }
+pub fn text<T: Lexeme>(bytes: &[u8], token: T) -> &[u8]
+    ensures { result.now ≡ between bytes.now (T.span token) }
 {
-    let end = token.end.min(bytes.len());
-    let start = token.start.min(end);
+    let (start, end) = token.span();
+    let end = end.min(bytes.len());
+    let start = start.min(end);
     &bytes[start..end]
 }
 
 /// The first token and the ones after it.
-pub fn next(rest: Rest) -> Option<(Token, Rest)>
-    ensures first { MatchOption result (left rest.entry ≡ []) (λ x. left rest.entry ≡ value_of rest.entry.bytes.now x.0 ∷ left x.1) }
+pub fn next<'a, T: Lexeme>(rest: Rest<'a, T>) -> Option<(T, Rest<'a, T>)>
+    ensures first { MatchOption result (left_of T.value rest.entry ≡ []) (λ x. left_of T.value rest.entry ≡ T.value rest.entry.bytes.now x.0 ∷ left_of T.value x.1) }
     ensures same { IfSome result (λ x. x.1.bytes.now ≡ rest.entry.bytes.now) }
 {
     match rest.tokens {
@@ -53,8 +54,8 @@ pub fn next(rest: Rest) -> Option<(Token, Rest)>
 }
 
 /// All but the first token.
-pub fn skip<'a>(rest: Rest<'a>) -> Rest<'a>
-    ensures { left result ≡ rest_of (left rest.entry) }
+pub fn skip<'a, T: Lexeme>(rest: Rest<'a, T>) -> Rest<'a, T>
+    ensures { left_of T.value result ≡ rest_of (left_of T.value rest.entry) }
 {
     match next(rest) {
         Some((_, others)) => others,
@@ -62,112 +63,30 @@ pub fn skip<'a>(rest: Rest<'a>) -> Rest<'a>
     }
 }
 
-fn mark_number(mark: Mark) -> u8
-    ensures { result ≡ mark_number mark }
-{
-    mark as u8
-}
-
-fn word_number(word: Word) -> u8
-    ensures { result ≡ word_number word }
-{
-    word as u8
-}
-
-fn same_mark(a: Mark, b: Mark) -> bool
-    ensures { result ≡ same_mark a b }
-{
-    mark_number(a) == mark_number(b)
-}
-
-fn same_word(a: Word, b: Word) -> bool
-    ensures { result ≡ same_word a b }
-{
-    word_number(a) == word_number(b)
-}
-
 /// Whether a mark comes.
-#[tactic(auto, unfolding(crate::specs::Single::comes))]
-pub fn comes(rest: Rest, mark: Mark) -> bool
-    ensures { result ≡ comes mark (left rest.entry) }
+pub fn comes<T: Lexeme>(rest: Rest<'_, T>, mark: Mark) -> bool
+    ensures { result ≡ T.comes mark (left_of T.value rest.entry) }
 {
     match next(rest) {
-        Some((token, _)) => match token.kind {
-            TokenKind::Mark(other) => same_mark(mark, other),
-            _ => false,
-        },
+        Some((token, _)) => token.is_mark(mark),
         None => false,
     }
 }
 
 /// Whether a word comes.
-#[tactic(auto, unfolding(crate::specs::Single::comes_word))]
-pub fn comes_word(rest: Rest, word: Word) -> bool
-    ensures { result ≡ comes_word word (left rest.entry) }
+pub fn comes_word<T: Lexeme>(rest: Rest<'_, T>, word: T::Word) -> bool
+    ensures { result ≡ T.comes_word word (left_of T.value rest.entry) }
 {
     match next(rest) {
-        Some((token, _)) => match token.kind {
-            TokenKind::Ident(Some(other)) => same_word(word, other),
-            _ => false,
-        },
+        Some((token, _)) => token.is_word(word),
         None => false,
     }
-}
-
-/// The word that comes, if one does.
-#[tactic(auto, unfolding(crate::specs::Single::word_here))]
-pub fn word_here(rest: Rest) -> Option<Word>
-    ensures { result ≡ word_here (left rest.entry) }
-{
-    match next(rest) {
-        Some((token, _)) => match token.kind {
-            TokenKind::Ident(word) => word,
-            _ => None,
-        },
-        None => None,
-    }
-}
-
-/// Whether a name comes.
-#[tactic(auto, unfolding(crate::specs::Single::comes_name))]
-pub fn comes_name(rest: Rest) -> bool
-    ensures { result ≡ comes_name (left rest.entry) }
-{
-    match next(rest) {
-        Some((token, _)) => match token.kind {
-            TokenKind::Ident(None) => true,
-            _ => false,
-        },
-        None => false,
-    }
-}
-
-/// Whether a STRING comes.
-#[tactic(auto, unfolding(crate::specs::Single::comes_string))]
-pub fn comes_string(rest: Rest) -> bool
-    ensures { result ≡ comes_string (left rest.entry) }
-{
-    match next(rest) {
-        Some((token, _)) => match token.kind {
-            TokenKind::Str => true,
-            _ => false,
-        },
-        None => false,
-    }
-}
-
-/// Whether no closing brace comes.
-#[tactic(auto, unfolding(crate::specs::Single::before_close))]
-pub fn before_close(rest: Rest) -> bool
-    ensures { result ≡ before_close (left rest.entry) }
-{
-    !comes(rest, Mark::CloseBrace)
 }
 
 /// Reads a mark.
-#[tactic(auto, unfolding(crate::specs::Single::mark))]
-pub fn take_mark<'a>(rest: Rest<'a>, mark: Mark) -> Result<Rest<'a>, ReadFault>
-    ensures { Gives (λ r. (tt, left r)) result (mark_at mark (left rest.entry)) }
+#[tactic(auto, unfolding(crate::specs::Reader::take_if))]
+pub fn take_mark<'a, T: Lexeme>(rest: Rest<'a, T>, mark: Mark) -> Result<Rest<'a, T>, ReadFault>
+    ensures { Gives (λ r. (tt, left_of T.value r)) result (take_if (T.comes mark) (left_of T.value rest.entry)) }
 {
     if comes(rest, mark) {
         Ok(skip(rest))
@@ -177,9 +96,9 @@ pub fn take_mark<'a>(rest: Rest<'a>, mark: Mark) -> Result<Rest<'a>, ReadFault>
 }
 
 /// Reads a word.
-#[tactic(auto, unfolding(crate::specs::Single::word))]
-pub fn take_word<'a>(rest: Rest<'a>, word: Word) -> Result<Rest<'a>, ReadFault>
-    ensures { Gives (λ r. (tt, left r)) result (word_at word (left rest.entry)) }
+#[tactic(auto, unfolding(crate::specs::Reader::take_if))]
+pub fn take_word<'a, T: Lexeme>(rest: Rest<'a, T>, word: T::Word) -> Result<Rest<'a, T>, ReadFault>
+    ensures { Gives (λ r. (tt, left_of T.value r)) result (take_if (T.comes_word word) (left_of T.value rest.entry)) }
 {
     if comes_word(rest, word) {
         Ok(skip(rest))
@@ -188,70 +107,32 @@ pub fn take_word<'a>(rest: Rest<'a>, word: Word) -> Result<Rest<'a>, ReadFault>
     }
 }
 
-/// Whether a word comes, which is read then.
-#[tactic(auto, unfolding(crate::specs::Reader::flag))]
-pub fn word_if<'a>(rest: Rest<'a>, word: Word) -> Result<(bool, Rest<'a>), ReadFault>
-    ensures { Gives (λ x. (x.0, left x.1)) result (flag (comes_word word) (word_at word) (left rest.entry)) }
-{
-    if !comes_word(rest, word) {
-        return Ok((false, rest));
-    }
-    let rest = take_word(rest, word)?;
-    Ok((true, rest))
-}
-
 /// Reads a name.
-#[tactic(auto, unfolding(crate::specs::Single::name_at))]
-pub fn name<'a>(alloc: Global, rest: Rest<'a>) -> Result<(Name, Rest<'a>), ReadFault>
-    ensures { Gives (λ x. (x.0, left x.1)) result (name_at (left rest.entry)) }
+pub fn name<'a, T: Lexeme>(
+    alloc: Global,
+    rest: Rest<'a, T>,
+) -> Result<(Name, Rest<'a, T>), ReadFault>
+    ensures { Gives (λ x. (x.0, left_of T.value x.1)) result (T.name_at (left_of T.value rest.entry)) }
 {
     let Some((token, others)) = next(rest) else {
         return Err(ReadFault::Syntax(place(rest)));
     };
-    match token.kind {
-        TokenKind::Ident(None) => Ok((Name::from_slice(alloc, text(rest.bytes, token))?, others)),
-        _ => Err(ReadFault::Syntax(place(rest))),
+    if token.is_name() {
+        Ok((Name::from_slice(alloc, text(rest.bytes, token))?, others))
+    } else {
+        Err(ReadFault::Syntax(place(rest)))
     }
 }
 
 /// Reads a number.
-#[tactic(auto, unfolding(crate::specs::Single::number_at))]
-pub fn number<'a>(rest: Rest<'a>) -> Result<(u64, Rest<'a>), ReadFault>
-    ensures { Gives (λ x. (x.0, left x.1)) result (number_at (left rest.entry)) }
+pub fn number<'a, T: Lexeme>(rest: Rest<'a, T>) -> Result<(u64, Rest<'a, T>), ReadFault>
+    ensures { Gives (λ x. (x.0, left_of T.value x.1)) result (T.number_at (left_of T.value rest.entry)) }
 {
     let Some((token, others)) = next(rest) else {
         return Err(ReadFault::Syntax(place(rest)));
     };
-    match token.kind {
-        TokenKind::Number(n) => Ok((n, others)),
-        _ => Err(ReadFault::Syntax(place(rest))),
-    }
-}
-
-/// Reads a STRING, and answers its contents.
-#[tactic(auto, using(crate::proofs::Plain::string_again), unfolding(crate::specs::Single::string_at))]
-pub fn string<'a>(alloc: Global, rest: Rest<'a>) -> Result<(Text, Rest<'a>), ReadFault>
-    ensures { Gives (λ x. (x.0, left x.1)) result (string_at (left rest.entry)) }
-{
-    let Some((token, others)) = next(rest) else {
-        return Err(ReadFault::Syntax(place(rest)));
-    };
-    match token.kind {
-        TokenKind::Str => Ok((string_contents(alloc, text(rest.bytes, token))?, others)),
-        _ => Err(ReadFault::Syntax(place(rest))),
-    }
-}
-
-/// Reads a BLOCK, and answers its contents.
-#[tactic(auto, unfolding(crate::specs::Single::block_at))]
-pub fn block<'a>(alloc: Global, rest: Rest<'a>) -> Result<(Text, Rest<'a>), ReadFault>
-    ensures { Gives (λ x. (x.0, left x.1)) result (block_at (left rest.entry)) }
-{
-    let Some((token, others)) = next(rest) else {
-        return Err(ReadFault::Syntax(place(rest)));
-    };
-    match token.kind {
-        TokenKind::Block => Ok((block_contents(alloc, text(rest.bytes, token))?, others)),
-        _ => Err(ReadFault::Syntax(place(rest))),
+    match token.number() {
+        Some(n) => Ok((n, others)),
+        None => Err(ReadFault::Syntax(place(rest))),
     }
 }

@@ -4,7 +4,6 @@ pub mod model_paths
 pub mod name_tokens
 pub mod ports_numbered
 pub mod read_wirings
-pub mod slot_order
 pub mod slot_paths
 pub mod state_names
 pub mod well_named_wiring

@@ -1,4 +1,3 @@
 pub mod Ascii
 pub mod KindLaws
-pub mod Turns
 pub mod Named

@@ -4,9 +4,8 @@ mod attributes;
 mod classes;
 mod labels;
 mod ports;
-mod protocols;
+mod signals;
 mod states;
 
 pub use classes::classes_of;
 pub use labels::label_of;
-pub use protocols::Signals;

@@ -6,3 +6,4 @@ pub mod PlaceSums
 pub mod KnownSlots
 pub mod Sorting
 pub mod Handing
+pub mod Alike

@@ -6,12 +6,14 @@
 //! the limit takes more room than the limit.
 
 mod children;
+mod counts;
 mod leading;
 mod names;
 mod owners;
 mod places;
 mod slots;
 
+pub use counts::has_few_slots;
 pub use names::{MappingPlan, ReferenceLabel, SlotNames, StepPlan};
 pub use places::has_too_many_places;
 pub use slots::slots_of;

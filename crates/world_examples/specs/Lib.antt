@@ -12,3 +12,5 @@ pub mod Home
 pub mod Provider
 pub mod Withdrawal
 pub mod world_rows
+pub mod OtherPart
+pub mod NestedEnd

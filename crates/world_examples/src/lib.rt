@@ -14,6 +14,8 @@ ghost use Rattle.world_examples.specs.Import.{ImportIsComputed};
 ghost use Rattle.world_examples.specs.Home.{HomeIsComputed};
 ghost use Rattle.world_examples.specs.Provider.{ProviderIsComputed};
 ghost use Rattle.world_examples.specs.Withdrawal.{WithdrawalIsComputed};
+ghost use Rattle.world_examples.specs.OtherPart.{OtherPartIsComputed};
+ghost use Rattle.world_examples.specs.NestedEnd.{NestedEndIsComputed};
 
 /// Incarnate of an empty slot, of an occupied one, and with an index out of range.
 pub fn boundaries_of_incarnate()
@@ -73,6 +75,16 @@ pub fn second_provider_of_a_name_refused()
 /// A user withdraws what it never registered.
 pub fn withdraw_what_was_not_registered()
     ensures { WithdrawalIsComputed }
+{}
+
+/// What is fixed in an optional actor lives on another controller, and comes and goes with it.
+pub fn part_on_another_controller()
+    ensures { OtherPartIsComputed }
+{}
+
+/// An optional actor ends with all that ends with it, over two controllers.
+pub fn nested_ends_over_two_controllers()
+    ensures { NestedEndIsComputed }
 {}
 
 pub mod world_rows;

@@ -11,10 +11,8 @@ use action_program::{BinaryOp, Expr, Step, UnaryOp};
 use room_ast::Name;
 use room_lexer::Mark;
 use std::alloc::{AllocError, Global};
-use token_reading::ReadFault;
-use token_reading::action_tokens::{
-    ActionWord, Kind, Rest, comes, name, next, number, place, skip, take_mark,
-};
+use token_reading::action_tokens::{ActionWord, Kind, Rest};
+use token_reading::{ReadFault, comes, name, next, number, place, skip, take_mark};
 
 /// The level of whole expressions; level 0 is an operand alone.
 pub const WEAKEST: usize = 5;

@@ -12,10 +12,9 @@ use action_program::{Branch, Expr, FrameVerb, IfStmt, SendStmt, Stmt};
 use room_kinds::Priority;
 use room_lexer::Mark;
 use std::alloc::Global;
-use token_reading::ReadFault;
-use token_reading::action_tokens::{
-    ActionWord, Kind, Rest, comes, comes_word, name, next, number, place, skip, take_mark,
-    take_word,
+use token_reading::action_tokens::{ActionWord, Kind, Rest};
+use token_reading::{
+    ReadFault, comes, comes_word, name, next, number, place, skip, take_mark, take_word,
 };
 
 /// A whole expression.

@@ -7,30 +7,31 @@ ghost use Rattle.actor_duties.specs.Words.{places_of};
 ghost use Rattle.actor_duties.specs.Commands.{send_each, broadcast};
 ghost use Rattle.actor_commands.specs.command_sends.Adding.{Adds, content_of};
 
-use crate::command_sends::peers::Peers;
 use crate::command_sends::said::{Content, Said, Speaker};
 use crate::command_sends::sends::send_at;
+use crate::command_sends::services::Services;
 use service_messages::is_spp;
 use std::alloc::{AllocError, Global};
 
 /// Sends at each place that the model gives a port.
-fn send_to_places<P: Peers>(
+fn send_to_places<S: Services>(
     alloc: Global,
     speaker: &Speaker<'_>,
-    peers: &P,
+    services: &S,
     port: u16,
     content: &Content<'_>,
     said: &mut Said,
 ) -> Result<(), AllocError>
+    requires serves { S.serves speaker.now.wiring.now speaker.now.me.0 services.now }
     requires slot { speaker.now.who.slot.0 < length speaker.now.wiring.now.slots }
     requires port { port < port_count speaker.now.wiring.now speaker.now.who.slot.0 }
-    ensures { OnOk result (Adds (send_each speaker.now.wiring.now speaker.now.me.0 (P.frame_of peers.now) (P.links_of peers.now) speaker.now.who port (content_of content.now) (places_of speaker.now.wiring.now speaker.now.who.slot.0 port)) said.old said.new) }
+    ensures { OnOk result (Adds (send_each speaker.now.wiring.now speaker.now.me.0 (S.frame_of services.now) (S.links_of services.now) speaker.now.who port (content_of content.now) (places_of speaker.now.wiring.now speaker.now.who.slot.0 port)) said.old said.new) }
 {
     for place in 0..speaker.wiring.places(speaker.who.slot, port) {
         send_at(
             alloc,
             speaker,
-            peers,
+            services,
             port,
             i64::from(place),
             u64::from(place),
@@ -42,17 +43,18 @@ fn send_to_places<P: Peers>(
 }
 
 /// Sends at a linked place, where it stands behind those of the model.
-fn send_to_link<P: Peers>(
+fn send_to_link<S: Services>(
     alloc: Global,
     speaker: &Speaker<'_>,
-    peers: &P,
+    services: &S,
     port: u16,
     first: u32,
     place: u32,
     content: &Content<'_>,
     said: &mut Said,
 ) -> Result<(), AllocError>
-    ensures { OnOk result (Adds (send_each speaker.now.wiring.now speaker.now.me.0 (P.frame_of peers.now) (P.links_of peers.now) speaker.now.who port (content_of content.now) (filter (nat_le first) (place ∷ []))) said.old said.new) }
+    requires serves { S.serves speaker.now.wiring.now speaker.now.me.0 services.now }
+    ensures { OnOk result (Adds (send_each speaker.now.wiring.now speaker.now.me.0 (S.frame_of services.now) (S.links_of services.now) speaker.now.who port (content_of content.now) (filter (nat_le first) (place ∷ []))) said.old said.new) }
 {
     if place < first {
         return Ok(());
@@ -60,7 +62,7 @@ fn send_to_link<P: Peers>(
     send_at(
         alloc,
         speaker,
-        peers,
+        services,
         port,
         i64::from(place),
         u64::from(place),
@@ -70,20 +72,21 @@ fn send_to_link<P: Peers>(
 }
 
 /// Sends at each place that is linked by name, from the place `first` on.
-fn send_to_links<P: Peers>(
+fn send_to_links<S: Services>(
     alloc: Global,
     speaker: &Speaker<'_>,
-    peers: &P,
+    services: &S,
     port: u16,
     first: u32,
     content: &Content<'_>,
     said: &mut Said,
 ) -> Result<(), AllocError>
-    ensures { OnOk result (Adds (send_each speaker.now.wiring.now speaker.now.me.0 (P.frame_of peers.now) (P.links_of peers.now) speaker.now.who port (content_of content.now) (filter (nat_le first) (map (λ (x : Link). x.place) ((P.links_of peers.now).linked speaker.now.who.slot.0 port)))) said.old said.new) }
+    requires serves { S.serves speaker.now.wiring.now speaker.now.me.0 services.now }
+    ensures { OnOk result (Adds (send_each speaker.now.wiring.now speaker.now.me.0 (S.frame_of services.now) (S.links_of services.now) speaker.now.who port (content_of content.now) (filter (nat_le first) (map (λ (x : Link). x.place) ((S.links_of services.now).linked speaker.now.who.slot.0 port)))) said.old said.new) }
 {
-    for index in 0..peers.link_count(speaker.who.slot, port) {
-        let place = peers.linked_place(speaker.who.slot, port, index);
-        send_to_link(alloc, speaker, peers, port, first, place, content, said)?;
+    for index in 0..services.link_count(speaker.who.slot, port) {
+        let place = services.linked_place(speaker.who.slot, port, index);
+        send_to_link(alloc, speaker, services, port, first, place, content, said)?;
     }
     Ok(())
 }
@@ -91,22 +94,23 @@ fn send_to_links<P: Peers>(
 /// Sends at each place of a port of the speaker, ascending: at those of the model, and at a service
 /// provision point then at those that are linked by name. After want of memory what was said is
 /// unspecified: the controller has failed.
-pub fn broadcast<P: Peers>(
+pub fn broadcast<S: Services>(
     alloc: Global,
     speaker: &Speaker<'_>,
-    peers: &P,
+    services: &S,
     port: u16,
     content: &Content<'_>,
     said: &mut Said,
 ) -> Result<(), AllocError>
+    requires serves { S.serves speaker.now.wiring.now speaker.now.me.0 services.now }
     requires slot { speaker.now.who.slot.0 < length speaker.now.wiring.now.slots }
     requires port { port < port_count speaker.now.wiring.now speaker.now.who.slot.0 }
-    ensures { OnOk result (Adds (broadcast speaker.now.wiring.now speaker.now.me.0 (P.frame_of peers.now) (P.links_of peers.now) speaker.now.who port (content_of content.now)) said.old said.new) }
+    ensures { OnOk result (Adds (broadcast speaker.now.wiring.now speaker.now.me.0 (S.frame_of services.now) (S.links_of services.now) speaker.now.who port (content_of content.now)) said.old said.new) }
 {
-    send_to_places(alloc, speaker, peers, port, content, said)?;
+    send_to_places(alloc, speaker, services, port, content, said)?;
     if !is_spp(speaker.wiring, speaker.who.slot, port) {
         return Ok(());
     }
     let first = speaker.wiring.places(speaker.who.slot, port);
-    send_to_links(alloc, speaker, peers, port, first, content, said)
+    send_to_links(alloc, speaker, services, port, first, content, said)
 }

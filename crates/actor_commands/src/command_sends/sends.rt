@@ -4,8 +4,8 @@ ghost use Rattle.actor_duties.specs.Words.{endpoint};
 ghost use Rattle.actor_duties.specs.Commands.{message, send};
 ghost use Rattle.actor_commands.specs.command_sends.Adding.{Adds, content_of};
 
-use crate::command_sends::peers::Peers;
 use crate::command_sends::said::{Content, Said, Speaker};
+use crate::command_sends::services::Services;
 use room_kinds::{Endpoint, Msg, Note, Stamp};
 use service_messages::owner_of;
 use std::alloc::{AllocError, Global};
@@ -47,20 +47,21 @@ fn message(
 }
 
 /// A send at place `at`, which is `place` as actions number it.
-pub(crate) fn send_at<P: Peers>(
+pub(crate) fn send_at<S: Services>(
     alloc: Global,
     speaker: &Speaker<'_>,
-    peers: &P,
+    services: &S,
     port: u16,
     place: i64,
     at: u64,
     content: &Content<'_>,
     said: &mut Said,
 ) -> Result<(), AllocError>
-    requires { place ≡ pos at }
-    ensures { OnOk result (Adds (send speaker.now.wiring.now speaker.now.me.0 (P.frame_of peers.now) (P.links_of peers.now) speaker.now.who port (pos at) (content_of content.now)) said.old said.new) }
+    requires serves { S.serves speaker.now.wiring.now speaker.now.me.0 services.now }
+    requires place { place ≡ pos at }
+    ensures { OnOk result (Adds (send speaker.now.wiring.now speaker.now.me.0 (S.frame_of services.now) (S.links_of services.now) speaker.now.who port (pos at) (content_of content.now)) said.old said.new) }
 {
-    match peers.peer(speaker.wiring, speaker.me, speaker.who, port, at) {
+    match services.peer(speaker.wiring, speaker.me, speaker.who, port, at) {
         Some(target) => {
             let m = message(alloc, speaker, port, at as u32, target, content)?;
             said.messages.push(m)?;
@@ -76,19 +77,20 @@ pub(crate) fn send_at<P: Peers>(
 /// Sends at a place of a port of the speaker: a message goes to the peer, and without a peer, or with a
 /// place out of range, the note `unbound` is made. After want of memory what was said is unspecified: the
 /// controller has failed.
-pub fn send<P: Peers>(
+pub fn send<S: Services>(
     alloc: Global,
     speaker: &Speaker<'_>,
-    peers: &P,
+    services: &S,
     port: u16,
     place: i64,
     content: &Content<'_>,
     said: &mut Said,
 ) -> Result<(), AllocError>
-    ensures { OnOk result (Adds (send speaker.now.wiring.now speaker.now.me.0 (P.frame_of peers.now) (P.links_of peers.now) speaker.now.who port place (content_of content.now)) said.old said.new) }
+    requires serves { S.serves speaker.now.wiring.now speaker.now.me.0 services.now }
+    ensures { OnOk result (Adds (send speaker.now.wiring.now speaker.now.me.0 (S.frame_of services.now) (S.links_of services.now) speaker.now.who port place (content_of content.now)) said.old said.new) }
 {
     match natural(place) {
-        Some(at) => send_at(alloc, speaker, peers, port, place, at, content, said),
+        Some(at) => send_at(alloc, speaker, services, port, place, at, content, said),
         None => {
             said.notes.push(Note::Unbound { port, place })?;
             Ok(())

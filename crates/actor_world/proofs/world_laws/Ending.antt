@@ -1,5 +1,5 @@
--- What a Create and a Destroy do to deferred lists: those of what is made were empty, and those of what
--- is destroyed are lost.
+-- What making and ending actors do to deferred lists: those of what is made were empty, and those of
+-- what ends are lost.
 use Rattle.std.proofs.Common.{◌≡◌, ℕ, ◌+◌, ◌==◌, ◌<◌, ◌≤◌, nat_lt, Bool, true, false, not, ◌&&◌, ◌||◌, if◌then◌else◌, cond, List, [], ◌∷◌, ◌++◌, map, filter, flat_map, reverse, length, Option, Some, None, ℤ, pos, negsuc, refl, sym, ap, ◌∙◌, eq-eqb, eqb-true, arith, ◌⊎◌, inl, inr}
 use Rattle.std.specs.List.{range_with_len}
 use Rattle.std.proofs.lemmas.Bool.{cases_eq, ne_eqb, or_left}
@@ -12,17 +12,16 @@ use Rattle.room_kinds.specs.declared.system.SysKind.{SysKind}
 use Rattle.room_kinds.specs.declared.system.SysKind.TheVariants as kinds
 use Rattle.room_wiring.specs.declared.tables.Tables.{Tables}
 use Rattle.actor_duties.specs.Messages.{reply, coded, NotHere, Occupied}
-use Rattle.actor_duties.specs.Words.{updated, frame_at, frame_of, whose, is_optional, slots_of}
+use Rattle.actor_duties.specs.Words.{updated, frame_at, frame_of, whose, slots_of}
 use Rattle.actor_duties.specs.State.{Lives, Frame}
-use Rattle.actor_duties.specs.Lives.{is_live, answered, ended_slots, counts_as_live, create, made, made_slots, last_of, comes_up, is_within, lives_made, lives_ended}
-use Rattle.actor_duties.specs.Frame.{end_messages, frame_ended, FrameDone, plainly, with_number, of_natural, with_lives, destroy, is_request, frame_duty, frame_duty_of, frame_duty_from}
+use Rattle.actor_duties.specs.Lives.{is_live, answered, ended_slots, counts_as_live, create, made, part_make, made_slots, last_of, comes_up, goes_down, lives_made, lives_ended}
+use Rattle.actor_duties.specs.Frame.{frame_ended, end_set_ended, FrameDone, plainly, with_number, of_natural, with_lives, destroy, part_end, is_request, frame_duty, frame_duty_of, frame_duty_from}
 use Rattle.actor_world.specs.Behaviour.{Behaviour}
 use Rattle.actor_world.specs.Body.{Body, Doing}
 use Rattle.actor_world.specs.Turns.{doing, begun, all_begun, gone, all_gone, closing, with_frame}
-use Rattle.actor_world.proofs.Slots.{within_in_range}
+use Rattle.actor_world.proofs.Slots.{own_in_range}
 use Rattle.actor_world.proofs.Counts.{times, times-reverse, passing, passing_hit, passing_miss}
-use Rattle.actor_world.proofs.LifeSteps.{IsSound, up_parts}
-use Rattle.actor_world.proofs.TurnLives.{request_optional}
+use Rattle.actor_world.proofs.LifeSteps.{IsSound, up_parts, down_parts}
 use Rattle.actor_world.proofs.world_laws.Keeping.{updated_here, updated_there, updated_same, Same, same_itself, same_two, apply_all_none}
 
 -- whether one of these incarnations is in a slot
@@ -92,15 +91,28 @@ lives_or : (a b : Bool) → (a || b) ≡ false → b ≡ false
 lives_or true b h = absurd cc
 lives_or false b h = h
 
-fits_create : (t : Tables) (me : ℕ) (f : Frame) (m : Msg) (o : ℕ) (x : Endpoint) → Fits f.lives (with_lives f (create t me f.lives m o x))
-unfolding create made made_slots lives_made
-fits_create t me f m o x = go (not (counts_as_live t me f.lives (whose x))) (f.lives.lives o)
+fits_part : (t : Tables) (me : ℕ) (f : Frame) (o : ℕ) (sent : List Msg) (last : Option Msg)
+    → Fits f.lives (with_lives f (record (part_make t me f.lives o) { sent = sent; last = last }))
+unfolding part_make made_slots lives_made
+fits_part t me f o sent last = record {
+  made = new_passing f.lives (comes_up t me f.lives o) (λ s. if comes_up t me f.lives o s then f.lives.generation s + 1 else f.lives.generation s) (λ s w. (up_parts t me f.lives o s w).1) (slots_of t);
+  slots = [];
+  ended = refl;
+  lives = λ s h. inl (lives_or (comes_up t me f.lives o s) (f.lives.lives s) h);
+  live = λ x k. absurd (omega (arith, k));
+  once = λ x. omega arith;
+  same = λ s k. kept_generation s k (comes_up t me f.lives o s) refl;
+}
   where
     kept_generation : (s : ℕ) → f.lives.lives s ≡ true → (w : Bool) → comes_up t me f.lives o s ≡ w
         → (if comes_up t me f.lives o s then f.lives.generation s + 1 else f.lives.generation s) ≡ f.lives.generation s
     kept_generation s k false d = rw d refl
     kept_generation s k true d = let z : f.lives.lives s ≡ false = (up_parts t me f.lives o s d).1 in absurd cc
 
+fits_create : (t : Tables) (me : ℕ) (f : Frame) (m : Msg) (o : ℕ) (x : Endpoint) → Fits f.lives (with_lives f (create t me f.lives m o x))
+unfolding create made
+fits_create t me f m o x = go (not (counts_as_live t me f.lives (whose x))) (f.lives.lives o)
+  where
     go : (a b : Bool)
         → Fits f.lives (with_lives f (
         if a then answered f.lives (reply me m kinds.CreateRefused (frame_at o 0) x (coded NotHere))
@@ -108,15 +120,7 @@ fits_create t me f m o x = go (not (counts_as_live t me f.lives (whose x))) (f.l
         else made t me f.lives m o x))
     go true b = fits_calm f.lives f [] (Some (reply me m kinds.CreateRefused (frame_at o 0) x (coded NotHere))) refl
     go false true = fits_calm f.lives f [] (Some (reply me m kinds.CreateRefused (frame_at o 0) x (coded Occupied))) refl
-    go false false = record {
-      made = new_passing f.lives (comes_up t me f.lives o) (λ s. if comes_up t me f.lives o s then f.lives.generation s + 1 else f.lives.generation s) (λ s w. (up_parts t me f.lives o s w).1) (slots_of t);
-      slots = [];
-      ended = refl;
-      lives = λ s h. inl (lives_or (comes_up t me f.lives o s) (f.lives.lives s) h);
-      live = λ x k. absurd (omega (arith, k));
-      once = λ x. omega arith;
-      same = λ s k. kept_generation s k (comes_up t me f.lives o s) refl;
-    }
+    go false false = fits_part t me f o _ _
 
 positive : (n : ℕ) → nat_lt 0 (1 + n) ≡ true
 positive n = grind (arith, nat_tests)
@@ -134,79 +138,81 @@ in_slot_times l s (a ∷ ss) = go (cases_eq s a) (in_slot_times l s ss)
     go (inl e) ih = rw (eq-eqb s a e, eq-eqb a s (sym e), eq-eqb (l.generation a) (l.generation s) (ap l.generation (sym e))) (positive (times (last_of l s) (map (last_of l) ss)))
     go (inr n) ih = rw (ne_eqb s a n, ne_eqb a s (λ e. n (sym e))) (ap (nat_lt 0) (zero_more (times (last_of l s) (map (last_of l) ss))) ∙ ih)
 
-fits_destroy : (t : Tables) (me : ℕ) (f : Frame) (m : Msg) (o : ℕ) (x : Endpoint) → is_optional t o ≡ true → Fits f.lives (destroy t me f m o x)
-unfolding destroy frame_ended lives_ended ended_slots is_within
-fits_destroy t me f m o x optional = go (not (counts_as_live t me f.lives (whose x)) || not (f.lives.lives o))
+fits_end : (t : Tables) (me : ℕ) (f : Frame) (o : ℕ) (last : Option Msg) → Fits f.lives (end_set_ended t me f o last)
+unfolding end_set_ended frame_ended lives_ended ended_slots
+fits_end t me f o last = record {
+  made = tt;
+  slots = ended_slots t me f.lives o;
+  ended = refl;
+  lives = λ s h. pick s h (goes_down t me f.lives o s) refl;
+  live = λ x k. ended_live x k (is_live f.lives x) refl (goes_down t me f.lives o x.slot.0) refl;
+  once = λ x. ended_once x (is_live f.lives x) refl (goes_down t me f.lives o x.slot.0) refl;
+  same = λ s k. refl;
+}
   where
     falls : ℕ → Bool
-    falls s = is_within t o s && f.lives.lives s
+    falls = goes_down t me f.lives o
 
-    -- how often something is ended: once, if it lives within o
-    ended_times : (x : Incarnation) (b : Bool) → is_live f.lives x ≡ b → (w : Bool) → is_within t o x.slot.0 ≡ w
+    -- how often something is ended: once, if it goes down
+    ended_times : (x : Incarnation) (b : Bool) → is_live f.lives x ≡ b → (w : Bool) → falls x.slot.0 ≡ w
         → times x (map (last_of f.lives) (reverse (filter falls (range_with_len 0 (length t.slots))))) ≡ (if w && b then 1 else 0)
     ended_times x b e true d =
-        let there : x.slot.0 < length t.slots = within_in_range t o (length t.slots) x.slot.0 optional d in
+        let parts = down_parts t me f.lives o x.slot.0 d in
+        let there : x.slot.0 < length t.slots = own_in_range t me x.slot.0 parts.0 in
         let r = times-reverse x (last_of f.lives) (filter falls (range_with_len 0 (length t.slots))) in
         let k = passing_hit falls f.lives.generation x 0 (length t.slots) (omega arith) (omega arith) in
-        r ∙ k ∙ ap (λ c. if c then 1 else 0) (ap (λ c. (c && f.lives.lives x.slot.0) && (f.lives.generation x.slot.0 == x.generation.0)) d ∙ e)
+        let q = ap (λ c. c && (f.lives.generation x.slot.0 == x.generation.0)) (sym parts.1) ∙ e in
+        r ∙ k ∙ ap (λ c. if c then 1 else 0) (ap (λ c. c && (f.lives.generation x.slot.0 == x.generation.0)) d ∙ q)
     ended_times x b e false d =
         let r = times-reverse x (last_of f.lives) (filter falls (range_with_len 0 (length t.slots))) in
-        r ∙ passing_miss falls f.lives.generation x (ap (λ c. c && f.lives.lives x.slot.0) d) (range_with_len 0 (length t.slots))
+        r ∙ passing_miss falls f.lives.generation x d (range_with_len 0 (length t.slots))
 
     ended_live : (x : Incarnation) → 1 ≤ times x (map (last_of f.lives) (reverse (filter falls (range_with_len 0 (length t.slots)))))
-        → (b : Bool) → is_live f.lives x ≡ b → (w : Bool) → is_within t o x.slot.0 ≡ w → is_live f.lives x ≡ true
+        → (b : Bool) → is_live f.lives x ≡ b → (w : Bool) → falls x.slot.0 ≡ w → is_live f.lives x ≡ true
     ended_live x k true e w d = e
     ended_live x k false e true d = let n = ended_times x false e true d in absurd (omega (arith, n, k))
     ended_live x k false e false d = let n = ended_times x false e false d in absurd (omega (arith, n, k))
 
-    ended_once : (x : Incarnation) (b : Bool) → is_live f.lives x ≡ b → (w : Bool) → is_within t o x.slot.0 ≡ w
+    ended_once : (x : Incarnation) (b : Bool) → is_live f.lives x ≡ b → (w : Bool) → falls x.slot.0 ≡ w
         → times x (map (last_of f.lives) (reverse (filter falls (range_with_len 0 (length t.slots))))) ≤ 1
     ended_once x true e true d = let n = ended_times x true e true d in omega (arith, n)
     ended_once x true e false d = let n = ended_times x true e false d in omega (arith, n)
     ended_once x false e true d = let n = ended_times x false e true d in omega (arith, n)
     ended_once x false e false d = let n = ended_times x false e false d in omega (arith, n)
 
+    pick : (s : ℕ) → (not (falls s) && f.lives.lives s) ≡ false → (w : Bool) → falls s ≡ w
+        → (f.lives.lives s ≡ false) ⊎ (in_slot s (map (last_of f.lives) (ended_slots t me f.lives o)) ≡ true)
+    pick s h false d = inl (ap (λ w. not w && f.lives.lives s) (sym d) ∙ h)
+    pick s h true d =
+        let parts = down_parts t me f.lives o s d in
+        let there : s < length t.slots = own_in_range t me s parts.0 in
+        let r = times-reverse (last_of f.lives s) (last_of f.lives) (filter falls (range_with_len 0 (length t.slots))) in
+        let k = passing_hit falls f.lives.generation (last_of f.lives s) 0 (length t.slots) (omega arith) (omega arith) in
+        let q : (if (falls s && (f.lives.generation s == f.lives.generation s)) then 1 else 0) ≡ 1 =
+        rw (d, eq-eqb (f.lives.generation s) (f.lives.generation s) refl) refl in
+        let n : times (last_of f.lives s) (map (last_of f.lives) (ended_slots t me f.lives o)) ≡ 1 = r ∙ k ∙ q in
+        inr (sym (in_slot_times f.lives s (ended_slots t me f.lives o)) ∙ ap (nat_lt 0) n)
+
+fits_destroy : (t : Tables) (me : ℕ) (f : Frame) (m : Msg) (o : ℕ) (x : Endpoint) → Fits f.lives (destroy t me f m o x)
+unfolding destroy
+fits_destroy t me f m o x = go (not (counts_as_live t me f.lives (whose x)) || not (f.lives.lives o))
+  where
+    done : Option Msg
+    done = Some (reply me m kinds.DestroyDone (frame_of (last_of f.lives o)) x (pos 0 ∷ []))
+
     go : (a : Bool) → Fits f.lives (
         if a then record { frame = f; sent = []; made = []; ended = []; last = Some (reply me m kinds.DestroyDone (frame_at o 0) x (coded NotHere)) }
-        else record {
-          frame = frame_ended t o f;
-          sent = flat_map (end_messages t me f) (ended_slots t f.lives o);
-          made = [];
-          ended = map (last_of f.lives) (ended_slots t f.lives o);
-          last = Some (reply me m kinds.DestroyDone (frame_of (last_of f.lives o)) x (pos 0 ∷ []));
-        })
+        else end_set_ended t me f o done)
     go true = fits_calm f.lives f [] (Some (reply me m kinds.DestroyDone (frame_at o 0) x (coded NotHere))) refl
-    go false = record {
-      made = tt;
-      slots = ended_slots t f.lives o;
-      ended = refl;
-      lives = λ s h. pick s h (f.lives.lives s) refl (is_within t o s) refl;
-      live = λ x k. ended_live x k (is_live f.lives x) refl (is_within t o x.slot.0) refl;
-      once = λ x. ended_once x (is_live f.lives x) refl (is_within t o x.slot.0) refl;
-      same = λ s k. refl;
-    }
-      where
-        pick : (s : ℕ) → (not (is_within t o s) && f.lives.lives s) ≡ false → (b : Bool) → f.lives.lives s ≡ b → (w : Bool) → is_within t o s ≡ w
-            → (f.lives.lives s ≡ false) ⊎ (in_slot s (map (last_of f.lives) (ended_slots t f.lives o)) ≡ true)
-        pick s h false e w d = inl e
-        pick s h true e false d = absurd (clash (is_within t o s) (f.lives.lives s) d e h)
-          where
-            clash : (w b : Bool) → w ≡ false → b ≡ true → (not w && b) ≡ false → ⊥
-            clash false true d e h = absurd cc
-            clash true b d e h = absurd cc
-            clash false false d e h = absurd cc
-        pick s h true e true d =
-            let there : s < length t.slots = within_in_range t o (length t.slots) s optional d in
-            let r = times-reverse (last_of f.lives s) (last_of f.lives) (filter falls (range_with_len 0 (length t.slots))) in
-            let k = passing_hit falls f.lives.generation (last_of f.lives s) 0 (length t.slots) (omega arith) (omega arith) in
-            let q : (if (falls s && (f.lives.generation s == f.lives.generation s)) then 1 else 0) ≡ 1 =
-            rw (d, e, eq-eqb (f.lives.generation s) (f.lives.generation s) refl) refl in
-            let n : times (last_of f.lives s) (map (last_of f.lives) (ended_slots t f.lives o)) ≡ 1 = r ∙ k ∙ q in
-            inr (sym (in_slot_times f.lives s (ended_slots t f.lives o)) ∙ ap (nat_lt 0) n)
+    go false = fits_end t me f o done
+
+fits_part_end : (t : Tables) (me : ℕ) (f : Frame) (o : ℕ) → Fits f.lives (part_end t me f o)
+unfolding part_end
+fits_part_end t me f o = fits_end t me f o None
 
 fits_of : (t : Tables) (me : ℕ) (f : Frame) (m : Msg) → IsSound t me f.lives → (kind : SysKind) (a b : Endpoint) → Fits f.lives (frame_duty_of t me f m kind a b)
 fits_of t me f m sound kinds.Create x o = fits_plainly f (is_request t me x o) m.payload _ (λ h. fits_create t me f m o.slot.0 x)
-fits_of t me f m sound kinds.Destroy x o = fits_plainly f (is_request t me x o) m.payload _ (λ h. fits_destroy t me f m o.slot.0 x (request_optional t me x o h))
+fits_of t me f m sound kinds.Destroy x o = fits_plainly f (is_request t me x o) m.payload _ (λ h. fits_destroy t me f m o.slot.0 x)
 fits_of t me f m sound kinds.CreateDone a b = fits_plainly f _ m.payload _ (λ h. fits_calm f.lives _ _ None refl)
 fits_of t me f m sound kinds.CreateRefused a b = fits_number f _ m.payload _ (λ n. fits_calm f.lives _ _ None refl)
 fits_of t me f m sound kinds.DestroyDone a b = fits_number f _ m.payload _ (λ n. fits_natural f n _ (λ k. fits_calm f.lives _ _ None refl))
@@ -222,8 +228,8 @@ fits_of t me f m sound kinds.Withdraw a b = fits_calm f.lives f [] None refl
 fits_of t me f m sound kinds.Bound a b = fits_calm f.lives f [] None refl
 fits_of t me f m sound kinds.Ended a b = fits_calm f.lives f [] None refl
 fits_of t me f m sound kinds.NameReply a b = fits_calm f.lives f [] None refl
-fits_of t me f m sound kinds.PartMake a b = fits_calm f.lives f [] None refl
-fits_of t me f m sound kinds.PartEnd a b = fits_calm f.lives f [] None refl
+fits_of t me f m sound kinds.PartMake a b = fits_plainly f _ m.payload _ (λ h. fits_part t me f a.slot.0 _ _)
+fits_of t me f m sound kinds.PartEnd a b = fits_plainly f _ m.payload _ (λ h. fits_part_end t me f a.slot.0)
 
 fits_from : (t : Tables) (me : ℕ) (f : Frame) (m : Msg) → IsSound t me f.lives → (kind : SysKind) (o : Option Endpoint) → Fits f.lives (frame_duty_from t me f m kind o)
 fits_from t me f m sound kind None = fits_calm f.lives f [] None refl

@@ -1,5 +1,5 @@
 -- The loop that pairs subsystem classes with what they know.
-use Rattle.std.proofs.Common.{◌≡◌, ℕ, suc, ◌+◌, ◌<◌, ◌≤◌, List, [], ◌∷◌, ◌++◌, Option, Some, None, length, map, get_or, drop, drop-cons, add-one, append_assoc, append-nil, sym, ◌∙◌, ap, refl}
+use Rattle.std.proofs.Common.{◌≡◌, ℕ, ◌+◌, ◌<◌, ◌≤◌, List, [], ◌∷◌, ◌++◌, Some, None, length, map, get_or, drop, drop-cons, add-one, append_assoc, append-nil, sym, ◌∙◌, ap, refl}
 use Rattle.std.specs.List.{filter_map}
 use Rattle.std.proofs.lemmas.List.{drop_all, map-append}
 use Rattle.room_ast.specs.Trees.{ClassTree, SubsystemTree, class_view}
@@ -7,7 +7,7 @@ use Rattle.room_ast.specs.declared.model.Class.{Class}
 use Rattle.room_ast.specs.model_parts.Classes.{as_subsystem}
 use Rattle.check_tables.specs.class_tables.Containers.{subsystem_container, subsystem_containers}
 use Rattle.check_tables.specs.declared.class_tables.container.Container.{Container}
-use Rattle.check_mappings.specs.mapping_rules.Rules.{Wired, wired, wired_in}
+use Rattle.check_mappings.specs.mapping_rules.Rules.{wired, wired_in}
 use Rattle.check_mappings.specs.mapping_rules.Wireds.{wired_view}
 use Rattle.check_mappings.specs.declared.mapping_rules.wired.Wired.{Wired as CodeWired}
 

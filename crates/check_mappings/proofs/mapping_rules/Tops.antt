@@ -5,10 +5,9 @@ use Rattle.std.specs.Option.{option_to_list}
 use Rattle.std.proofs.lemmas.List.{take_more, map-append}
 use Rattle.std.proofs.lemmas.List.Elements.{filter_map-append}
 use Rattle.name_tables.specs.distinct_names.Distinct.{is_distinct}
-use Rattle.room_ast.specs.Trees.{ModelTree, ClassTree, SubsystemItemTree, subsystem_item_view}
+use Rattle.room_ast.specs.Trees.{ModelTree, SubsystemItemTree, subsystem_item_view}
 use Rattle.room_ast.specs.declared.system.SubsystemItem.{SubsystemItem}
 use Rattle.check_tables.specs.class_tables.Containers.{subsystem_containers, tables_of, tables_with}
-use Rattle.check_tables.specs.declared.class_tables.container.Container.{Container}
 use Rattle.check_tables.specs.declared.class_tables.tables.Tables.{Tables}
 use Rattle.check_mappings.specs.mapping_rules.Rules.{thread_name, Wired, wired_in, subsystem_known, mappings_are_known, subsystem_allowed, mappings_are_allowed, mapped_texts, mappings_are_distinct}
 use Rattle.check_mappings.specs.mapping_rules.Wireds.{wired_view}

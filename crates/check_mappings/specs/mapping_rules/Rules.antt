@@ -4,15 +4,15 @@ use Rattle.std.specs.List.{filter_map, flat_map, list_all}
 use Rattle.std.specs.Option.{option_map_or}
 use Rattle.name_tables.specs.name_numbers.Names.{is_among}
 use Rattle.name_tables.specs.distinct_names.Distinct.{is_distinct}
-use Rattle.room_ast.specs.MappingTree.{MappingTree, MappingOf, NestedTree, no_braces, in_braces, Mappings, no_mappings, mapping}
+use Rattle.room_ast.specs.MappingTree.{MappingTree, MappingOf, no_braces, in_braces, Mappings, no_mappings, mapping}
 use Rattle.room_ast.specs.Trees.{ModelTree, ClassTree, SubsystemTree, SubsystemItemTree, AReference, ABinding, ALayer, AThread, AMapping}
 use Rattle.room_ast.specs.declared.system.MappingPath.{MappingPath}
 use Rattle.room_ast.specs.declared.system.Segment.{Segment}
-use Rattle.room_ast.specs.model_parts.Classes.{as_subsystem, subsystems}
+use Rattle.room_ast.specs.model_parts.Classes.{as_subsystem}
 use Rattle.check_tables.specs.class_tables.Containers.{container_of_items, tables_of}
 use Rattle.check_tables.specs.declared.class_tables.container.Container.{Container}
-use Rattle.check_tables.specs.declared.class_tables.tables.Tables.{Tables}
-use Rattle.room_kinds.specs.Structure.{is_imported}
+use Rattle.room_kinds.specs.declared.structure.ReferenceKind.{ReferenceKind}
+use Rattle.room_kinds.specs.declared.structure.ReferenceKind.TheVariants as kinds
 use Rattle.check_mappings.specs.mapping_rules.Walks.{Place, top, path_end}
 
 -- The name of a thread that an item declares.
@@ -109,10 +109,16 @@ mapped_texts items = flat_map item_texts items
 unfoldable pub mappings_are_distinct : ModelTree → Bool
 mappings_are_distinct m = list_all (λ (s : Wired). is_distinct (mapped_texts s.items)) (wired_in (tables_of m).names.actors m.classes)
 
--- ---- no mapped path goes strictly below an optional reference, or ends at an imported one
+-- ---- no mapped path ends at an imported reference; one that goes strictly below an optional reference ends at a fixed one
+
+-- Whether a mapped path may end with a reference of this kind, below an optional reference or not.
+abbrev pub may_end_with : Bool → ReferenceKind → Bool
+may_end_with below_optional kinds.Fixed = true
+may_end_with below_optional kinds.Optional = not below_optional
+may_end_with below_optional kinds.Imported = false
 
 abbrev pub may_end_at : Place → Bool
-may_end_at q = not q.below_optional && not (option_map_or is_imported q.kind false)
+may_end_at q = option_map_or (may_end_with q.below_optional) q.kind true
 
 abbrev mutual
   -- Whether a mapping's path, where it exists, may be mapped, and so may those in its braces.
@@ -137,6 +143,6 @@ items_allowed classes p items = list_all (item_allowed classes p) items
 abbrev pub subsystem_allowed : List Container → Wired → Bool
 subsystem_allowed classes s = items_allowed classes (top s.container) s.items
 
--- No mapped path goes strictly below an optional reference, or ends at an imported one.
+-- No mapped path ends at an imported reference, and one that goes strictly below an optional reference ends at a fixed one.
 unfoldable pub mappings_are_allowed : ModelTree → Bool
 mappings_are_allowed m = list_all (subsystem_allowed (tables_of m).actors) (wired_in (tables_of m).names.actors m.classes)

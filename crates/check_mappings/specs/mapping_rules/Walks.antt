@@ -1,5 +1,5 @@
 -- Where a path of references leads.
-use Rattle.std.specs.Prelude.{ℕ, ◌||◌, nat_lt, Bool, true, false, List, [], ◌∷◌, Option, Some, None, option_map, option_and_then, slice_get, if◌then◌else◌}
+use Rattle.std.specs.Prelude.{ℕ, ◌||◌, nat_lt, Bool, true, false, List, [], ◌∷◌, Option, Some, None, option_and_then, slice_get, if◌then◌else◌}
 use Rattle.std.specs.Option.{option_map_or}
 use Rattle.room_kinds.specs.declared.structure.ReferenceKind.{ReferenceKind}
 use Rattle.room_kinds.specs.declared.structure.ReferenceKind.TheVariants as kinds

@@ -5,25 +5,35 @@ ghost use Rattle.room_ast.specs.MappingTree.{mapping_view, mappings_of};
 ghost use Rattle.room_ast.specs.Trees.{model_view, subsystem_item_view};
 ghost use Rattle.check_mappings.specs.mapping_rules.Places.{place_view};
 ghost use Rattle.check_tables.specs.class_tables.Containers.{tables_of};
-ghost use Rattle.check_mappings.specs.mapping_rules.Rules.{may_end_at, is_allowed, all_allowed, item_allowed, items_allowed, subsystem_allowed, mappings_are_allowed};
+ghost use Rattle.check_mappings.specs.mapping_rules.Rules.{may_end_with, may_end_at, is_allowed, all_allowed, item_allowed, items_allowed, subsystem_allowed, mappings_are_allowed};
 ghost use Rattle.check_mappings.specs.mapping_rules.Wireds.{wired_view};
 
 use crate::mapping_rules::walk::{Place, path_end, top};
 use crate::mapping_rules::wired::{Wired, wired_in};
 use check_tables::{Container, Tables};
 use room_ast::{Mapping, Model, SubsystemItem};
+use room_kinds::ReferenceKind;
 use std::alloc::{AllocError, Global};
 
-/// Whether a path that leads here may be mapped: not below an optional reference, and not at an
-/// imported one.
+/// Whether a mapped path may end with a reference of this kind, below an optional reference or not.
+fn may_end_with(below_optional: bool, kind: ReferenceKind) -> bool
+    ensures { result ≡ may_end_with below_optional kind }
+{
+    match kind {
+        ReferenceKind::Fixed => true,
+        ReferenceKind::Optional => !below_optional,
+        ReferenceKind::Imported => false,
+    }
+}
+
+/// Whether a path that leads here may be mapped.
 fn may_end_at(place: Place) -> bool
     ensures { result ≡ may_end_at (place_view place.entry) }
 {
-    let at_imported = match place.kind {
-        Some(kind) => kind.is_imported(),
-        None => false,
-    };
-    !place.below_optional && !at_imported
+    match place.kind {
+        Some(kind) => may_end_with(place.below_optional, kind),
+        None => true,
+    }
 }
 
 /// Whether a mapping's path, where it exists, may be mapped, and so may those in its braces.
@@ -96,7 +106,8 @@ fn all_subsystems_allowed<'t>(classes: &'t [Container<'t>], wired: &[Wired<'t>])
     true
 }
 
-/// Whether no mapped path goes strictly below an optional reference, or ends at an imported one.
+/// Whether no mapped path ends at an imported reference, and each that goes strictly below an
+/// optional reference ends at a fixed one.
 #[tactic(auto, unfolding(crate::specs::mapping_rules::Rules::mappings_are_allowed), using(crate::proofs::mapping_rules::Tops::allowed_top))]
 pub fn mappings_are_allowed(
     alloc: Global,

@@ -1,135 +1,140 @@
 //! Whether a path is mapped twice.
-ghost use Rattle.std.specs.Prelude.{◌≡◌, ◌∷◌, ◌++◌, [], decimal, IfOk, OnOk, map};
+//!
+//! A mapping's path goes on from the text of the mapping around it, so that deep nesting takes time in
+//! proportion to what is written.
+ghost use Rattle.std.specs.Prelude.{◌≡◌, ◌<◌, ◌∷◌, ◌++◌, [], decimal, length, IfOk, OnOk, map};
 ghost use Rattle.std.specs.List.{flat_map, list_all};
 ghost use Rattle.std.specs.Option.{option_map_or};
-ghost use Rattle.name_tables.specs.name_numbers.Names.{names_of};
 ghost use Rattle.name_tables.specs.distinct_names.Distinct.{is_distinct};
 ghost use Rattle.room_ast.specs.MappingTree.{mapping_view, mappings_of};
 ghost use Rattle.room_ast.specs.Trees.{model_view, subsystem_item_view};
 ghost use Rattle.check_tables.specs.class_tables.Containers.{tables_of};
-ghost use Rattle.check_mappings.specs.mapping_rules.Rules.{Wired as WiredTree, further, segment_text, path_text, texts_of, all_texts, item_texts, mapped_texts, mappings_are_distinct};
-ghost use Rattle.check_mappings.specs.mapping_rules.Wireds.{text_views, wired_view};
+ghost use Rattle.check_mappings.specs.mapping_rules.Rules.{Wired as WiredTree, further, path_text, texts_of, all_texts, item_texts, mapped_texts, mappings_are_distinct};
+ghost use Rattle.check_mappings.specs.mapping_rules.TextTrees.{text_in, Keeps, Numbers, Adds};
+ghost use Rattle.check_mappings.specs.mapping_rules.Wireds.{wired_view};
 
+use crate::mapping_rules::text_tree::TextTree;
 use crate::mapping_rules::wired::{Wired, wired_in};
 use check_tables::Tables;
 use itoa::Buffer;
-use name_tables::are_distinct;
 use room_ast::{Mapping, MappingPath, Model, Segment, SubsystemItem};
 use std::alloc::{AllocError, Global};
 
-fn push_number(text: &mut Vec<u8>, number: u64) -> Result<(), AllocError>
-    ensures { OnOk result (text.new.items ≡ text.old.items ++ decimal number) }
+/// The number of the text that is longer by a number in decimal digits than this one.
+fn with_number(texts: &mut TextTree, text: usize, number: u64) -> Result<usize, AllocError>
+    requires { text < length texts.old }
+    ensures { IfOk result (λ n.
+        Numbers texts.old texts.new n (text_in texts.old text ++ decimal number)) }
 {
     let mut digits = Buffer::new();
-    text.extend_from_slice(digits.format(number).as_bytes())?;
-    Ok(())
+    texts.longer_by(text, digits.format(number).as_bytes())
 }
 
-fn push_index(text: &mut Vec<u8>, index: Option<u64>) -> Result<(), AllocError>
-    ensures { OnOk result (text.new.items ≡ text.old.items ++ option_map_or (λ i. 58 ∷ decimal i) index []) }
+fn with_index(texts: &mut TextTree, text: usize, index: Option<u64>) -> Result<usize, AllocError>
+    requires { text < length texts.old }
+    ensures { IfOk result (λ n.
+        let more = option_map_or (λ i. 58 ∷ decimal i) index [] in
+        Numbers texts.old texts.new n (text_in texts.old text ++ more)) }
 {
-    if let Some(index) = index {
-        text.push(b':')?;
-        push_number(text, index)?;
+    match index {
+        Some(index) => {
+            let colon = texts.longer(text, b':')?;
+            with_number(texts, colon, index)
+        }
+        None => Ok(text),
     }
-    Ok(())
 }
 
-/// Adds a segment that goes on.
-fn push_segment(text: &mut Vec<u8>, segment: &Segment) -> Result<(), AllocError>
-    ensures { OnOk result (text.new.items ≡ text.old.items ++ further segment.now) }
+/// The number of the text that is longer by a segment that goes on.
+fn with_segment(texts: &mut TextTree, text: usize, segment: &Segment) -> Result<usize, AllocError>
+    requires { text < length texts.old }
+    ensures { IfOk result (λ n.
+        Numbers texts.old texts.new n (text_in texts.old text ++ further segment.now)) }
 {
-    text.push(b'/')?;
-    text.extend_from_slice(segment.name.as_bytes())?;
-    push_index(text, segment.index)
+    let slash = texts.longer(text, b'/')?;
+    let name = texts.longer_by(slash, segment.name.as_bytes())?;
+    with_index(texts, name, segment.index)
 }
 
-/// The text of a path behind what leads to it.
-fn path_behind(alloc: Global, before: &[u8], path: &MappingPath) -> Result<Vec<u8>, AllocError>
-    ensures { IfOk result (λ text. text.items ≡ before.now ++ path_text path.now) }
+/// The number of the text of a path behind what leads to it.
+fn with_path(texts: &mut TextTree, before: usize, path: &MappingPath) -> Result<usize, AllocError>
+    requires { before < length texts.old }
+    ensures { IfOk result (λ n.
+        Numbers texts.old texts.new n (text_in texts.old before ++ path_text path.now)) }
 {
-    let mut text = Vec::from_slice(alloc, before)?;
-    push_segment(&mut text, &path.first)?;
+    let mut reached = with_segment(texts, before, &path.first)?;
     for segment in path.others.as_slice() {
-        push_segment(&mut text, segment)?;
+        reached = with_segment(texts, reached, segment)?;
     }
-    Ok(text)
+    Ok(reached)
 }
 
 /// Adds the whole paths of the mappings in a mapping's braces, and then its own.
 #[cycle(texts)]
 fn add_texts(
-    alloc: Global,
-    texts: &mut Vec<Vec<u8>>,
-    before: &[u8],
+    texts: &mut TextTree,
+    mapped: &mut Vec<usize>,
+    before: usize,
     mapping: &Mapping,
 ) -> Result<(), AllocError>
-    ensures { OnOk result (text_views texts.new.items ≡ text_views texts.old.items ++ texts_of before.now (mapping_view mapping.now)) }
+    requires { before < length texts.old }
+    ensures { OnOk result (
+        let added = texts_of (text_in texts.old before) (mapping_view mapping.now) in
+        Adds texts.old texts.new mapped.old.items mapped.new.items added) }
 {
-    let path = path_behind(alloc, before, &mapping.path)?;
+    let path = with_path(texts, before, &mapping.path)?;
     if let Some(nested) = &mapping.nested {
-        add_all_texts(alloc, texts, path.as_slice(), nested)?;
+        add_all_texts(texts, mapped, path, nested)?;
     }
-    texts.push(path)?;
+    mapped.push(path)?;
     Ok(())
 }
 
 #[cycle(texts)]
 fn add_all_texts(
-    alloc: Global,
-    texts: &mut Vec<Vec<u8>>,
-    before: &[u8],
+    texts: &mut TextTree,
+    mapped: &mut Vec<usize>,
+    before: usize,
     mappings: &Vec<Mapping>,
 ) -> Result<(), AllocError>
-    ensures { OnOk result (text_views texts.new.items ≡ text_views texts.old.items ++ all_texts before.now (mappings_of (map mapping_view mappings.now.items))) }
+    requires { before < length texts.old }
+    ensures { OnOk result (
+        let trees = mappings_of (map mapping_view mappings.now.items) in
+        let added = all_texts (text_in texts.old before) trees in
+        Adds texts.old texts.new mapped.old.items mapped.new.items added) }
 {
     for mapping in mappings {
-        add_texts(alloc, texts, before, mapping)?;
+        add_texts(texts, mapped, before, mapping)?;
     }
     Ok(())
 }
 
 fn add_item_texts(
-    alloc: Global,
-    texts: &mut Vec<Vec<u8>>,
+    texts: &mut TextTree,
+    mapped: &mut Vec<usize>,
     item: &SubsystemItem,
 ) -> Result<(), AllocError>
-    ensures { OnOk result (text_views texts.new.items ≡ text_views texts.old.items ++ item_texts (subsystem_item_view item.now)) }
+    requires { Keeps ([] ∷ []) texts.old }
+    ensures { OnOk result (
+        let added = item_texts (subsystem_item_view item.now) in
+        Adds texts.old texts.new mapped.old.items mapped.new.items added) }
 {
     match item {
-        SubsystemItem::Mapping(mapping) => add_texts(alloc, texts, &[], mapping),
+        SubsystemItem::Mapping(mapping) => add_texts(texts, mapped, 0, mapping),
         _ => Ok(()),
     }
 }
 
-/// The whole paths that a subsystem maps.
-fn mapped_texts(alloc: Global, items: &[SubsystemItem]) -> Result<Vec<Vec<u8>>, AllocError>
-    ensures { IfOk result (λ texts. text_views texts.items ≡ mapped_texts (map subsystem_item_view items.now)) }
-{
-    let mut texts = Vec::new(alloc);
-    for item in items {
-        add_item_texts(alloc, &mut texts, item)?;
-    }
-    Ok(texts)
-}
-
-/// The bytes of texts.
-fn slices<'m>(alloc: Global, texts: &'m [Vec<u8>]) -> Result<Vec<&'m [u8]>, AllocError>
-    ensures { IfOk result (λ v. names_of v.items ≡ text_views texts.entry.now) }
-{
-    let mut slices = Vec::new(alloc);
-    for text in texts {
-        slices.push(text.as_slice())?;
-    }
-    Ok(slices)
-}
-
+/// Whether the whole paths that a subsystem maps are distinct.
 fn subsystem_distinct(alloc: Global, items: &[SubsystemItem]) -> Result<bool, AllocError>
     ensures { IfOk result (λ b. b ≡ is_distinct (mapped_texts (map subsystem_item_view items.now))) }
 {
-    let texts = mapped_texts(alloc, items)?;
-    let slices = slices(alloc, &texts)?;
-    are_distinct(alloc, &slices)
+    let mut texts = TextTree::new(alloc);
+    let mut mapped = Vec::new(alloc);
+    for item in items {
+        add_item_texts(&mut texts, &mut mapped, item)?;
+    }
+    texts.are_distinct(alloc, &mapped)
 }
 
 fn all_subsystems_distinct(alloc: Global, wired: &[Wired]) -> Result<bool, AllocError>

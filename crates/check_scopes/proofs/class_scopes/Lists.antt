@@ -1,18 +1,20 @@
 -- Lists that loops build, seen through a view.
-use Rattle.std.proofs.Common.{◌≡◌, ℕ, zero, suc, ◌-◌, ◌<◌, ◌≤◌, arith, Bool, true, false, List, [], ◌∷◌, ◌++◌, length, take, get_or, map, refl, sym, ap, ◌∙◌}
-use Rattle.std.specs.Prelude.{◌&&◌}
-use Rattle.std.specs.List.{slice_index_or, list_all}
+use Rattle.std.proofs.Common.{◌≡◌, ℕ, zero, suc, ◌-◌, ◌<◌, ◌≤◌, arith, List, [], ◌∷◌, ◌++◌, length, take, map, Option, Some, None, refl, sym, ap, ◌∙◌}
+use Rattle.std.specs.Prelude.{option_map}
+use Rattle.std.specs.List.{slice_index_or}
+use Rattle.std.specs.Option.{option_to_list}
 use Rattle.std.proofs.lemmas.List.{map-append, take-map}
 use Rattle.check_scopes.specs.class_scopes.Fields.{FieldView}
 use Rattle.check_scopes.specs.class_scopes.Walks.{PendingView, pending_at, opened}
 
-both_true : (a b : Bool) → (a && b) ≡ true → (a ≡ true) × (b ≡ true)
-both_true true b e = (refl, e)
-both_true false b e = absurd cc
-
 -- one more item at the end
 pub viewed_push : {X Y : Type 0} (v : X → Y) (xs new : List X) (x : X) → new ≡ xs ++ x ∷ [] → map v new ≡ map v xs ++ v x ∷ []
 viewed_push v xs new x e = ap (map v) e ∙ map-append v xs (x ∷ [])
+
+-- one more item at the end, if there is one
+pub viewed_push_if : {X Y : Type 0} (v : X → Y) (xs new : List X) (o : Option X) → new ≡ xs ++ option_to_list o → map v new ≡ map v xs ++ option_to_list (option_map v o)
+viewed_push_if v xs new (Some x) e = ap (map v) e ∙ map-append v xs (x ∷ [])
+viewed_push_if v xs new None e = ap (map v) e ∙ map-append v xs []
 
 -- what a list of lists gives at a number, seen through a view
 pub viewed_get : {X Y : Type 0} (v : X → Y) (xss : List (List X)) (i : ℕ) (xs : List X) → i < length xss → xs ≡ slice_index_or xss i xs → map v xs ≡ slice_index_or (map (map v) xss) i []
@@ -37,12 +39,6 @@ opened_some zero before before' fields rest new lt same e = absurd (omega arith)
 opened_some (suc depth) before before' fields rest new lt same e =
     let down : suc depth - 1 ≡ depth = omega arith in
     e ∙ ap (λ d. map (pending_at d before) fields ++ rest) down ∙ ap (λ b. map (pending_at depth b) fields ++ rest) same
-
--- a test that all items pass, seen through a view, is passed by each
-pub viewed_at : {X Y : Type 0} (p : Y → Bool) (v : X → Y) (xs : List X) (i : ℕ) (x : X) → i < length xs → x ≡ get_or xs i x → list_all p (map v xs) ≡ true → p (v x) ≡ true
-viewed_at p v [] i x lt is e = absurd (omega arith)
-viewed_at p v (y ∷ ys) zero x lt is e = ap (λ z. p (v z)) is ∙ (both_true (p (v y)) (list_all p (map v ys)) e).0
-viewed_at p v (y ∷ ys) (suc i) x lt is e = viewed_at p v ys i x (omega arith) is (both_true (p (v y)) (list_all p (map v ys)) e).1
 
 no_children : (depth before : ℕ) → opened depth before [] ≡ []
 no_children zero before = refl

@@ -1,16 +1,19 @@
 -- The scopes of classes by tables are those of the model.
 use Rattle.std.proofs.Common.{◌≡◌, ℕ, suc, ◌+◌, ◌-◌, ◌<◌, ◌≤◌, ◌^◌, Bor, take, drop, get_or, Bool, true, false, List, [], ◌∷◌, ◌++◌, length, map, Option, Some, None, Result, Ok, Err, IfOk, refl, sym, ap, ◌∙◌, subst, arith, append_assoc}
-use Rattle.std.specs.Prelude.{nat_le, ◌&&◌}
+use Rattle.std.specs.Prelude.{nat_le, nat_lt, ◌&&◌}
 use Rattle.std.specs.Global.{Vec}
 use Rattle.std.specs.List.{list_all, filter_map, zip}
 use Rattle.room_kinds.specs.declared.number_type.NumberType.{NumberType}
-use Rattle.room_ast.specs.model_parts.Types.{data_types}
+use Rattle.room_ast.specs.model_parts.Types.{data_types, incoming_of, outgoing_of}
+use Rattle.room_ast.specs.declared.protocol.ProtocolClass.{ProtocolClass}
 use Rattle.room_ast.specs.declared.model_parts.entries.TypeEntry.{TypeEntry}
 use Rattle.number_graphs.specs.class_containment.Containment.{contains_itself}
 use Rattle.check_tables.specs.containment_rules.Circles.{classes_of_types}
 use Rattle.check_scopes.specs.number_kinds.Kinds.{AreKinds, HasKinds}
 use Rattle.check_scopes.specs.declared.class_scopes.tables.ScopeTables.{ScopeTables}
-use Rattle.check_scopes.specs.class_scopes.Signals.{signals_by, signals_view}
+use Rattle.check_scopes.specs.declared.class_scopes.signals.SignalTable.{SignalTable}
+use Rattle.check_scopes.specs.class_scopes.Signals.{signals_at, frame_signals, map_table}
+use Rattle.check_scopes.specs.class_scopes.ByKinds.{signal_by, signals_by, table_by}
 use Rattle.std.specs.Option.{option_map_or}
 use Rattle.std.proofs.lemmas.Bool.Decides.{nat_tests}
 use Rattle.std.proofs.lemmas.List.{length-map, length-append, map-append, append-nil, take_all}
@@ -28,19 +31,18 @@ use Rattle.room_ast.specs.model_parts.Classes.{as_actor, as_data, as_protocol, a
 use Rattle.room_ast.specs.model_parts.Ports.{interface_of, structure_of, interface_entry, structure_entry, structure_name, external_name, ports_in as entries_in, ports_of, port_names}
 use Rattle.room_ast.specs.model_parts.References.{references_of}
 use Rattle.room_ast.specs.declared.model_parts.entries.PortEntry.{PortEntry}
-use Rattle.check_classes.specs.class_rules.Loops.{of_protocol}
 use Rattle.check_classes.specs.class_rules.Types.{attribute_fits, has_fitting_values}
 use Rattle.check_tables.specs.class_tables.Containers.{actor_container, actor_containers, class_names, tables_with, tables_of}
 use Rattle.check_tables.specs.declared.class_tables.container.Container.{Container}
 use Rattle.check_tables.specs.declared.class_tables.tables.Tables.{Tables}
 use Rattle.check_mappings.specs.count_rules.Counts.{classes_are_few, messages_are_few, ports_are_few, references_are_few, states_are_few, numbers_are_few, parts_are_few, has_few_parts}
-use Rattle.check_scopes.specs.class_scopes.Making.{TablesView, tables_view, numbers_by, scope_by, scopes_by, actor_views, numbers_few, entries_few}
-use Rattle.check_scopes.specs.class_scopes.Scopes.{Signals, port_with, signals_at, ports_in, reference_of, scope_of}
+use Rattle.check_scopes.specs.class_scopes.Making.{TablesView, tables_view, numbers_by, scope_by, scopes_by, actor_views, numbers_few, entries_few, signals_few, table_is_few}
+use Rattle.check_scopes.specs.class_scopes.Scopes.{port_with, ports_in, reference_of, scope_of}
 use Rattle.check_scopes.specs.class_scopes.Tables.{AreTables}
-use Rattle.check_scopes.specs.class_scopes.Views.{ScopeView, attribute_view, port_view, reference_view, scope_view}
+use Rattle.check_scopes.specs.class_scopes.Views.{SignalView, ScopeView, attribute_view, port_view, reference_view, scope_view, signal_view}
 use Rattle.check_scopes.specs.class_scopes.Fields.{FieldView, field_view, fields_kept, kept_attribute, numbers_of_fields}
 use Rattle.check_scopes.proofs.class_scopes.ClassLaws.{actors_fit, class_numbers_are, picked_all}
-use Rattle.check_scopes.proofs.class_scopes.SignalLaws.{signals_are}
+use Rattle.check_scopes.proofs.class_scopes.SignalLaws.{table_is}
 
 -- ---- how many parts a scope has
 
@@ -64,9 +66,9 @@ zip_short [] ys = omega arith
 zip_short (x ∷ xs) [] = omega arith
 zip_short (x ∷ xs) (y ∷ ys) = let rest = zip_short xs ys in omega (arith, rest)
 
-pub few_ports : (xs : List ScopePort) (protocols : List Signals) (names : List (List ℕ)) (entries : List PortEntry) → map port_view xs ≡ ports_in protocols names entries → nat_le (length entries) 60001 ≡ true → length xs < 2 ^ 16
-few_ports xs protocols names entries e few =
-    let a : length xs ≡ length (zip names entries) = sym (length-map xs port_view) ∙ ap length e ∙ length-map (zip names entries) (λ (x : List ℕ × PortEntry). port_with x.0 x.1 (signals_at protocols x.1)) in
+pub few_ports : (xs : List ScopePort) (table : SignalTable SignalView) (names : List (List ℕ)) (entries : List PortEntry) → map port_view xs ≡ ports_in table names entries → nat_le (length entries) 60001 ≡ true → length xs < 2 ^ 16
+few_ports xs table names entries e few =
+    let a : length xs ≡ length (zip names entries) = sym (length-map xs port_view) ∙ ap length e ∙ length-map (zip names entries) (λ (x : List ℕ × PortEntry). port_with x.0 x.1 (signals_at table x.1)) in
     let b = small_entries (length entries) few in
     let c = zip_short names entries in
     omega (arith, a, b, c)
@@ -139,8 +141,8 @@ numbers_are m a t are fitting fits =
 scope_is : (m : ModelTree) (a : ActorTree) (t : TablesView) → AreTables m t → has_fitting_values m ≡ true → list_all attribute_fits (attributes_of a) ≡ true → scope_by (data_names m) t a (actor_container (protocol_names m) (actor_names m) a) ≡ scope_of m a
 unfolding scope_of
 scope_is m a t are fitting fits =
-    ap (λ (ns : List ClassNumber). record { attributes = ns; ports = ports_in t.protocols (port_names a) (ports_of (protocol_names m) a); references = map reference_of (references_of a) }) (numbers_are m a t are fitting fits)
-    ∙ ap (λ (ps : List Signals). record { attributes = class_numbers m a; ports = ports_in ps (port_names a) (ports_of (protocol_names m) a); references = map reference_of (references_of a) }) (are.protocols ∙ signals_are m t.kinds are.kinds (protocols m))
+    ap (λ (ns : List ClassNumber). record { attributes = ns; ports = ports_in t.signals (port_names a) (ports_of (protocol_names m) a); references = map reference_of (references_of a) }) (numbers_are m a t are fitting fits)
+    ∙ ap (λ (ss : SignalTable SignalView). record { attributes = class_numbers m a; ports = ports_in ss (port_names a) (ports_of (protocol_names m) a); references = map reference_of (references_of a) }) (are.signals ∙ table_is m t.kinds are.kinds)
 
 -- ---- all classes
 
@@ -187,15 +189,34 @@ each_true p q give (x ∷ xs) e =
     let both = both_true (p x) (list_all p xs) e in
     ap (λ b. b && list_all q xs) (give x both.0) ∙ each_true p q give xs both.1
 
-one_protocol : (c : ClassTree) → parts_are_few c ≡ true → of_protocol messages_are_few c ≡ true
+each_mapped : {X Y : Type 0} (p : X → Bool) (q : Y → Bool) (f : X → Y) → ((x : X) → p x ≡ true → q (f x) ≡ true) → (xs : List X) → list_all p xs ≡ true → list_all q (map f xs) ≡ true
+each_mapped p q f give [] e = refl
+each_mapped p q f give (x ∷ xs) e =
+    let both = both_true (p x) (list_all p xs) e in
+    ap (λ b. b && list_all q (map f xs)) (give x both.0) ∙ each_mapped p q f give xs both.1
+
+one_protocol : (c : ClassTree) → parts_are_few c ≡ true → option_map_or messages_are_few (as_protocol c) true ≡ true
 one_protocol (ASystem s) e = refl
 one_protocol (ASubsystem s) e = refl
 one_protocol (AnActor a) e = refl
 one_protocol (AProtocol p) e = e
 one_protocol (AData d) e = refl
 
-pub protocols_few : (m : ModelTree) (cs : List ClassTree) → cs ≡ m.classes → has_few_parts m ≡ true → list_all (of_protocol messages_are_few) cs ≡ true
-protocols_few m cs same e = ap (list_all (of_protocol messages_are_few)) same ∙ each_true parts_are_few (of_protocol messages_are_few) one_protocol m.classes (parts_few m e)
+few_messages : (a b c d : ℕ) → a ≡ c → b ≡ d → nat_le (c + d) 60000 ≡ true → nat_lt (a + b) 65536 ≡ true
+few_messages a b c d e f few = grind (arith, nat_tests)
+
+protocol_few : (names : List (List ℕ)) (kinds : List (List NumberType)) (c : ProtocolClass) → messages_are_few c ≡ true → signals_few (signals_by names kinds c) ≡ true
+protocol_few names kinds c few =
+    few_messages (length (map (signal_by names kinds) (incoming_of c))) (length (map (signal_by names kinds) (outgoing_of c))) (length (incoming_of c)) (length (outgoing_of c)) (length-map (incoming_of c) (signal_by names kinds)) (length-map (outgoing_of c) (signal_by names kinds)) few
+
+few_by : (names : List (List ℕ)) (kinds : List (List NumberType)) (cs : List ProtocolClass) → list_all messages_are_few cs ≡ true → table_is_few (table_by names kinds cs) ≡ true
+unfolding frame_signals
+few_by names kinds cs few = each_mapped messages_are_few signals_few (signals_by names kinds) (protocol_few names kinds) cs few
+
+-- two bytes number the messages of a port of a model with few parts
+pub messages_few : (m : ModelTree) (t : TablesView) → AreTables m t → has_few_parts m ≡ true → table_is_few t.signals ≡ true
+messages_few m t are e =
+    ap table_is_few are.signals ∙ few_by (data_names m) t.kinds (protocols m) (picked_all parts_are_few messages_are_few as_protocol one_protocol m.classes (parts_few m e))
 
 one_actor : (c : ClassTree) → parts_are_few c ≡ true → option_map_or (λ (a : ActorTree). ports_are_few a && references_are_few a) (as_actor c) true ≡ true
 one_actor (ASystem s) e = refl
@@ -236,12 +257,6 @@ entries_of protocols names a few =
     ∙ ap (λ n. length (interface_of a) + n) (same_ports protocols (structure_of a))) in
     with_frame (length (entries_in protocols (interface_of a) (structure_of a))) (length (interface_of a) + length (filter_map structure_name (structure_of a))) e few
 
-each_mapped : {X Y : Type 0} (p : X → Bool) (q : Y → Bool) (f : X → Y) → ((x : X) → p x ≡ true → q (f x) ≡ true) → (xs : List X) → list_all p xs ≡ true → list_all q (map f xs) ≡ true
-each_mapped p q f give [] e = refl
-each_mapped p q f give (x ∷ xs) e =
-    let both = both_true (p x) (list_all p xs) e in
-    ap (λ b. b && list_all q (map f xs)) (give x both.0) ∙ each_mapped p q f give xs both.1
-
 pub ports_few : (m : ModelTree) (t : Tables) (containers : List Container) → t ≡ tables_of m → containers ≡ t.actors → has_few_parts m ≡ true → list_all entries_few containers ≡ true
 ports_few m t containers made from e =
     ap (list_all entries_few) (from ∙ actors_of_tables m t made)
@@ -275,7 +290,7 @@ pub no_kinds_of : (classes : List (List TypeEntry)) (o : Option (Vec (List Numbe
 no_kinds_of classes o has is = let P : Option (Vec (List NumberType)) → Type 0 = λ x. HasKinds classes x in subst P is has
 
 pub made_tables : {E : Type 0} (m : ModelTree) (names : List (List ℕ)) (kinds : List (List NumberType)) (classes : List ClassTree) (r : Result ScopeTables E) → AreKinds (data_types m) kinds → names ≡ data_names m → classes ≡ m.classes
-    → IfOk r (λ t. t.kinds.items ≡ kinds) → IfOk r (λ t. map (map field_view) t.fields.items ≡ map (fields_kept names kinds) (filter_map as_data classes)) → IfOk r (λ t. map signals_view t.signals.protocols.items ≡ map (signals_by names kinds) (filter_map as_protocol classes))
+    → IfOk r (λ t. t.kinds.items ≡ kinds) → IfOk r (λ t. map (map field_view) t.fields.items ≡ map (fields_kept names kinds) (filter_map as_data classes)) → IfOk r (λ t. map_table signal_view t.signals ≡ table_by names kinds (filter_map as_protocol classes))
     → IfOk r (λ t. AreTables m (tables_view t))
 made_tables m names kinds classes (Ok t) are named same a b c =
     let P : List (List NumberType) → Type 0 = λ ks. AreKinds (data_types m) ks in
@@ -283,8 +298,8 @@ made_tables m names kinds classes (Ok t) are named same a b c =
       kinds = subst P (sym a) are;
       fields = b ∙ ap (λ ns. map (fields_kept ns kinds) (filter_map as_data classes)) named ∙ ap (λ cs. map (fields_kept (data_names m) kinds) (filter_map as_data cs)) same
           ∙ ap (λ ks. map (fields_kept (data_names m) ks) (data_classes m)) (sym a);
-      protocols = c ∙ ap (λ ns. map (signals_by ns kinds) (filter_map as_protocol classes)) named ∙ ap (λ cs. map (signals_by (data_names m) kinds) (filter_map as_protocol cs)) same
-          ∙ ap (λ ks. map (signals_by (data_names m) ks) (protocols m)) (sym a);
+      signals = c ∙ ap (λ ns. table_by ns kinds (filter_map as_protocol classes)) named ∙ ap (λ cs. table_by (data_names m) kinds (filter_map as_protocol cs)) same
+          ∙ ap (λ ks. table_by (data_names m) ks (protocols m)) (sym a);
     }
 made_tables m names kinds classes (Err e) are named same a b c = tt
 

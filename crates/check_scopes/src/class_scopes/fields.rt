@@ -1,13 +1,12 @@
 //! The fields of data classes and the attributes of actor classes that stand for numbers.
 
-ghost use Rattle.std.specs.Prelude.{◌≡◌, ◌++◌, pos, IfOk, OnOk, map, option_map};
+ghost use Rattle.std.specs.Prelude.{◌≡◌, pos, IfOk, map, option_map};
 ghost use Rattle.std.specs.List.{filter_map};
-ghost use Rattle.std.specs.Option.{option_to_list};
 ghost use Rattle.room_ast.specs.Trees.{class_view};
 ghost use Rattle.room_ast.specs.model_parts.Classes.{as_data};
 ghost use Rattle.check_scopes.specs.class_scopes.Fields.{field_view, small, plain_small, value_small, initial_small, is_kept, kept, kept_field, kept_attribute, fields_kept};
 
-use check_tables::type_entry;
+use check_tables::{push_if, type_entry};
 use name_tables::NameIndex;
 use room_ast::{
     Attribute, Class, DataClass, DataItem, Name, PlainValue, StructureItem, TypeEntry, Value,
@@ -132,17 +131,6 @@ fn kept_attribute<'a>(
     }
 }
 
-/// Adds a field, if there is one.
-#[tactic(auto, using(crate::proofs::class_scopes::Lists::viewed_push))]
-fn add_field<'a>(fields: &mut Vec<Field<'a>>, field: Option<Field<'a>>) -> Result<(), AllocError>
-    ensures { OnOk result (map field_view fields.new.items ≡ map field_view fields.old.items ++ option_to_list (option_map field_view field.entry)) }
-{
-    if let Some(field) = field {
-        fields.push(field)?;
-    }
-    Ok(())
-}
-
 /// The attributes among items of a Structure that stand for numbers.
 pub(crate) fn kept_attributes<'a>(
     alloc: Global,
@@ -154,7 +142,7 @@ pub(crate) fn kept_attributes<'a>(
 {
     let mut fields = Vec::new(alloc);
     for item in items {
-        add_field(&mut fields, kept_attribute(item, names, kinds))?;
+        push_if(&mut fields, kept_attribute(item, names, kinds))?;
     }
     Ok(fields)
 }
@@ -169,7 +157,7 @@ fn kept_fields<'a>(
 {
     let mut fields = Vec::new(alloc);
     for item in items {
-        add_field(&mut fields, kept_field(item, names, kinds))?;
+        push_if(&mut fields, kept_field(item, names, kinds))?;
     }
     Ok(fields)
 }
@@ -203,20 +191,6 @@ fn fields_if_data<'a>(
     }
 }
 
-/// Adds the fields of a class, if there are some.
-#[tactic(auto, using(crate::proofs::class_scopes::Lists::viewed_push))]
-fn add_fields<'a>(
-    table: &mut Vec<Sequence<Field<'a>>>,
-    fields: Option<Sequence<Field<'a>>>,
-) -> Result<(), AllocError>
-    ensures { OnOk result (map (map field_view) table.new.items ≡ map (map field_view) table.old.items ++ option_to_list (option_map (map field_view) fields.entry)) }
-{
-    if let Some(fields) = fields {
-        table.push(fields)?;
-    }
-    Ok(())
-}
-
 /// The fields of each data class that stand for numbers, by its number.
 pub(crate) fn fields_of_classes<'a>(
     alloc: Global,
@@ -228,7 +202,7 @@ pub(crate) fn fields_of_classes<'a>(
 {
     let mut table = Vec::new(alloc);
     for class in classes {
-        add_fields(&mut table, fields_if_data(alloc, class, names, kinds)?)?;
+        push_if(&mut table, fields_if_data(alloc, class, names, kinds)?)?;
     }
     Ok(table)
 }

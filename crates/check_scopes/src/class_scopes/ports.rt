@@ -1,82 +1,34 @@
 //! The ports of a class, with the messages of their protocols.
 
-ghost use Rattle.std.specs.Prelude.{◌≡◌, ◌++◌, map, unwrap_or, slice_get, IfOk};
+ghost use Rattle.std.specs.Prelude.{◌≡◌, ◌+◌, ◌<◌, ◌^◌, true, length, map, IfOk};
 ghost use Rattle.name_tables.specs.name_numbers.Names.{names_of};
-ghost use Rattle.check_scopes.specs.class_scopes.Making.{HasFrame};
-ghost use Rattle.check_scopes.specs.class_scopes.Views.{port_view};
-ghost use Rattle.check_scopes.specs.class_scopes.Scopes.{is_frame, no_signals, signals_at, port_with, ports_in};
-ghost use Rattle.check_scopes.specs.class_scopes.Signals.{signals_view};
+ghost use Rattle.check_scopes.specs.class_scopes.Making.{table_is_few};
+ghost use Rattle.check_scopes.specs.class_scopes.Views.{port_view, signal_view};
+ghost use Rattle.check_scopes.specs.class_scopes.Scopes.{port_with, ports_in};
+ghost use Rattle.check_scopes.specs.class_scopes.Signals.{map_signals, map_table};
 
-use crate::class_scopes::signals::ProtocolSignals;
-use room_ast::{Name, PortEntry, ScopePort};
-use room_kinds::PortKind;
+use crate::class_scopes::signals::{SignalTable, Signals};
+use room_ast::{Name, PortEntry, ScopePort, ScopeSignal};
 use std::alloc::{AllocError, Global};
-
-/// The messages at `frame`, none, and those of each protocol class, by its number.
-#[derive(Drop)]
-pub struct SignalTable {
-    pub frame: ProtocolSignals,
-    pub none: ProtocolSignals,
-    pub protocols: Vec<ProtocolSignals>,
-}
-
-fn is_frame(kind: PortKind) -> bool
-    ensures { result ≡ is_frame kind }
-{
-    match kind {
-        PortKind::Frame => true,
-        PortKind::Relay => false,
-        PortKind::End => false,
-        PortKind::Internal => false,
-        PortKind::Sap => false,
-        PortKind::Spp => false,
-    }
-}
-
-/// The messages of a protocol class, if it is one.
-#[tactic(auto, using(crate::proofs::class_scopes::PortLaws::protocol_found, crate::proofs::class_scopes::PortLaws::protocol_past))]
-fn protocol_at<'s>(table: &'s SignalTable, number: usize) -> &'s ProtocolSignals
-    requires { HasFrame table.now }
-    ensures { signals_view result.now ≡ unwrap_or (slice_get (map signals_view table.entry.now.protocols.items) number) no_signals }
-{
-    match table.protocols.get(number) {
-        Some(signals) => signals,
-        None => &table.none,
-    }
-}
-
-/// The messages of a port.
-fn signals_at<'s>(table: &'s SignalTable, entry: PortEntry) -> &'s ProtocolSignals
-    requires { HasFrame table.now }
-    ensures { signals_view result.now ≡ signals_at (map signals_view table.entry.now.protocols.items) entry }
-{
-    if is_frame(entry.kind) {
-        return &table.frame;
-    }
-    match entry.protocol {
-        Some(number) => protocol_at(table, number),
-        None => &table.none,
-    }
-}
 
 /// A port of a name, with these messages, which it shares.
 fn port_with(
     alloc: Global,
     name: &[u8],
     entry: PortEntry,
-    signals: &ProtocolSignals,
+    signals: &Signals<ScopeSignal>,
 ) -> Result<ScopePort, AllocError>
-    ensures { IfOk result (λ p. port_view p ≡ port_with name.now entry (signals_view signals.now)) }
+    requires { length signals.now.incoming + length signals.now.outgoing < 2 ^ 16 }
+    ensures { IfOk result (λ p. port_view p ≡ port_with name.now entry (map_signals signal_view signals.now)) }
 {
     let name = Name::from_slice(alloc, name)?;
-    let incoming = signals.incoming.share()?;
-    let outgoing = signals.outgoing.share()?;
+    let signals = signals.share()?;
     Ok(ScopePort {
         name,
         kind: entry.kind,
         conjugated: entry.conjugated,
-        incoming,
-        outgoing,
+        incoming: signals.incoming,
+        outgoing: signals.outgoing,
     })
 }
 
@@ -86,10 +38,10 @@ pub(crate) fn ports_in(
     alloc: Global,
     names: &[&[u8]],
     entries: &[PortEntry],
-    table: &SignalTable,
+    table: &SignalTable<ScopeSignal>,
 ) -> Result<Vec<ScopePort>, AllocError>
-    requires { HasFrame table.now }
-    ensures { IfOk result (λ v. map port_view v.items ≡ ports_in (map signals_view table.now.protocols.items) (names_of names.now) entries.now) }
+    requires { table_is_few (map_table signal_view table.now) ≡ true }
+    ensures { IfOk result (λ v. map port_view v.items ≡ ports_in (map_table signal_view table.now) (names_of names.now) entries.now) }
 {
     let mut ports = Vec::new(alloc);
     let (mut names, mut entries) = (names, entries);
@@ -97,7 +49,7 @@ pub(crate) fn ports_in(
         let [entry, entries_rest @ ..] = entries else {
             return Ok(ports);
         };
-        ports.push(port_with(alloc, name, *entry, signals_at(table, *entry))?)?;
+        ports.push(port_with(alloc, name, *entry, table.at(entry))?)?;
         names = names_rest;
         entries = entries_rest;
     }

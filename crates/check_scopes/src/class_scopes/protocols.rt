@@ -1,20 +1,16 @@
 //! The messages of each protocol class, and of the frame service.
 
-ghost use Rattle.std.specs.Prelude.{◌≡◌, ◌+◌, ◌++◌, ◌≤◌, [], true, codes, length, map, option_map, replicate, IfOk, OnOk};
-ghost use Rattle.std.specs.List.{filter_map, list_all};
-ghost use Rattle.std.specs.Option.{option_to_list};
-ghost use Rattle.room_kinds.specs.declared.number_type.NumberType.TheVariants.{Plain};
+ghost use Rattle.std.specs.Prelude.{◌≡◌, map, option_map, IfOk};
+ghost use Rattle.std.specs.List.{filter_map};
 ghost use Rattle.room_ast.specs.Trees.{class_view};
 ghost use Rattle.room_ast.specs.model_parts.Classes.{as_protocol};
-ghost use Rattle.check_classes.specs.class_rules.Loops.{of_protocol};
-ghost use Rattle.check_mappings.specs.count_rules.Counts.{messages_are_few};
 ghost use Rattle.check_scopes.specs.class_scopes.Views.{signal_view};
-ghost use Rattle.check_scopes.specs.class_scopes.Scopes.{frame_signal, frame_signals, frame_only, no_signals};
-ghost use Rattle.check_scopes.specs.class_scopes.Signals.{parameter_kinds, signal_by, signals_by, signals_view};
+ghost use Rattle.check_scopes.specs.class_scopes.Signals.{frame_signal, frame_signals, frame_only, map_signals, map_table};
+ghost use Rattle.check_scopes.specs.class_scopes.ByKinds.{parameter_kinds, signal_by, signals_by, table_by};
 
-use crate::class_scopes::signals::ProtocolSignals;
+use crate::class_scopes::signals::{SignalTable, Signals};
 use crate::number_kinds::kinds_of_type;
-use check_tables::{carried_type, messages_of, type_entry};
+use check_tables::{carried_type, messages_of, push_if, type_entry};
 use name_tables::NameIndex;
 use room_ast::{Class, Message, Name, Parameter, ProtocolClass, ScopeSignal};
 use room_kinds::{NumberType, Sequence, SharedSequence};
@@ -24,7 +20,7 @@ use std::alloc::{AllocError, Global};
 
 /// The types of the numbers that a message carries, where these are the names of the data classes and
 /// the types of their numbers.
-pub fn parameter_kinds(
+fn parameter_kinds(
     alloc: Global,
     parameter: &Parameter,
     names: &NameIndex,
@@ -66,19 +62,17 @@ fn signals_of(
     SharedSequence::of(alloc, signals)
 }
 
-#[tactic(auto, using(crate::proofs::class_scopes::SignalLaws::few_signals))]
 fn protocol_signals(
     alloc: Global,
     class: &ProtocolClass,
     names: &NameIndex,
     kinds: &[Sequence<NumberType>],
-) -> Result<ProtocolSignals, AllocError>
-    requires { messages_are_few class.now ≡ true }
-    ensures { IfOk result (λ s. signals_view s ≡ signals_by names.now kinds.now class.now) }
+) -> Result<Signals<ScopeSignal>, AllocError>
+    ensures { IfOk result (λ s. map_signals signal_view s ≡ signals_by names.now kinds.now class.now) }
 {
     let incoming = signals_of(alloc, messages_of(&class.incoming), names, kinds)?;
     let outgoing = signals_of(alloc, messages_of(&class.outgoing), names, kinds)?;
-    Ok(ProtocolSignals { incoming, outgoing })
+    Ok(Signals { incoming, outgoing })
 }
 
 fn signals_if_protocol(
@@ -86,9 +80,8 @@ fn signals_if_protocol(
     class: &Class,
     names: &NameIndex,
     kinds: &[Sequence<NumberType>],
-) -> Result<Option<ProtocolSignals>, AllocError>
-    requires { of_protocol messages_are_few (class_view class.now) ≡ true }
-    ensures { IfOk result (λ s. option_map signals_view s ≡ option_map (signals_by names.now kinds.now) (as_protocol (class_view class.now))) }
+) -> Result<Option<Signals<ScopeSignal>>, AllocError>
+    ensures { IfOk result (λ s. option_map (map_signals signal_view) s ≡ option_map (signals_by names.now kinds.now) (as_protocol (class_view class.now))) }
 {
     match class {
         Class::Protocol(protocol) => {
@@ -99,33 +92,18 @@ fn signals_if_protocol(
     }
 }
 
-/// Adds the messages of a class, if there are some.
-#[tactic(auto, using(crate::proofs::class_scopes::Lists::viewed_push))]
-fn add_signals(
-    table: &mut Vec<ProtocolSignals>,
-    signals: Option<ProtocolSignals>,
-) -> Result<(), AllocError>
-    ensures { OnOk result (map signals_view table.new.items ≡ map signals_view table.old.items ++ option_to_list (option_map signals_view signals)) }
-{
-    if let Some(signals) = signals {
-        table.push(signals)?;
-    }
-    Ok(())
-}
-
 /// The messages of each protocol class, by its number.
-pub(crate) fn signals_of_classes(
+fn signals_of_classes(
     alloc: Global,
     classes: &[Class],
     names: &NameIndex,
     kinds: &[Sequence<NumberType>],
-) -> Result<Vec<ProtocolSignals>, AllocError>
-    requires { list_all (of_protocol messages_are_few) (map class_view classes.now) ≡ true }
-    ensures { IfOk result (λ v. map signals_view v.items ≡ map (signals_by names.now kinds.now) (filter_map as_protocol (map class_view classes.now))) }
+) -> Result<Vec<Signals<ScopeSignal>>, AllocError>
+    ensures { IfOk result (λ v. map (map_signals signal_view) v.items ≡ map (signals_by names.now kinds.now) (filter_map as_protocol (map class_view classes.now))) }
 {
     let mut table = Vec::new(alloc);
     for class in classes {
-        add_signals(&mut table, signals_if_protocol(alloc, class, names, kinds)?)?;
+        push_if(&mut table, signals_if_protocol(alloc, class, names, kinds)?)?;
     }
     Ok(table)
 }
@@ -141,10 +119,9 @@ fn frame_signal(alloc: Global, name: &str, numbers: usize) -> Result<ScopeSignal
     Ok(ScopeSignal { name, numbers })
 }
 
-#[tactic(auto, unfolding(crate::specs::class_scopes::Scopes::frame_signals))]
+#[tactic(auto, unfolding(crate::specs::class_scopes::Signals::frame_signals))]
 fn frame_messages(alloc: Global) -> Result<SharedSequence<ScopeSignal>, AllocError>
-    ensures view { IfOk result (λ s. map signal_view s ≡ frame_signals) }
-    ensures count { IfOk result (λ s. length s ≡ 9) }
+    ensures { IfOk result (λ s. map signal_view s ≡ frame_signals) }
 {
     let mut all = Vec::new(alloc);
     all.push(frame_signal(alloc, "created", 3)?)?;
@@ -160,28 +137,32 @@ fn frame_messages(alloc: Global) -> Result<SharedSequence<ScopeSignal>, AllocErr
 }
 
 /// The messages that come in at `frame`.
-pub(crate) fn frame_only(alloc: Global) -> Result<ProtocolSignals, AllocError>
-    ensures { IfOk result (λ s. signals_view s ≡ frame_only) }
+fn frame_only(alloc: Global) -> Result<Signals<ScopeSignal>, AllocError>
+    ensures { IfOk result (λ s. map_signals signal_view s ≡ frame_only) }
 {
     let incoming = frame_messages(alloc)?;
-    Ok(ProtocolSignals {
-        incoming,
-        outgoing: no_messages(alloc)?,
-    })
+    let outgoing = SharedSequence::of(alloc, Vec::new(alloc))?;
+    Ok(Signals { incoming, outgoing })
 }
 
-fn no_messages(alloc: Global) -> Result<SharedSequence<ScopeSignal>, AllocError>
-    ensures { IfOk result (λ s. s ≡ []) }
-{
-    SharedSequence::of(alloc, Vec::new(alloc))
-}
+// ---- the table
 
-/// No messages.
-pub(crate) fn no_signals(alloc: Global) -> Result<ProtocolSignals, AllocError>
-    ensures { IfOk result (λ s. signals_view s ≡ no_signals) }
+/// The messages that the ports of classes have, where these are the names of the data classes and the
+/// types of their numbers.
+pub fn signal_table(
+    alloc: Global,
+    classes: &[Class],
+    names: &NameIndex,
+    kinds: &[Sequence<NumberType>],
+) -> Result<SignalTable<ScopeSignal>, AllocError>
+    ensures { IfOk result (λ t. map_table signal_view t ≡ table_by names.now kinds.now (filter_map as_protocol (map class_view classes.now))) }
 {
-    Ok(ProtocolSignals {
-        incoming: no_messages(alloc)?,
-        outgoing: no_messages(alloc)?,
+    let frame = frame_only(alloc)?;
+    let none = Signals::none(alloc)?;
+    let protocols = signals_of_classes(alloc, classes, names, kinds)?;
+    Ok(SignalTable {
+        frame,
+        none,
+        protocols: Sequence::from(protocols),
     })
 }

@@ -1,13 +1,12 @@
 //! The references of a class.
 
-ghost use Rattle.std.specs.Prelude.{◌≡◌, ◌++◌, map, option_map, IfOk, OnOk};
+ghost use Rattle.std.specs.Prelude.{◌≡◌, map, option_map, IfOk};
 ghost use Rattle.std.specs.List.{filter_map};
-ghost use Rattle.std.specs.Option.{option_to_list};
 ghost use Rattle.room_ast.specs.model_parts.References.{as_reference, kind_of};
 ghost use Rattle.check_scopes.specs.class_scopes.Views.{reference_view};
 ghost use Rattle.check_scopes.specs.class_scopes.Scopes.{reference_of};
 
-use check_tables::as_reference;
+use check_tables::{as_reference, push_if};
 use room_ast::{ActorRef, ScopeReference, StructureItem};
 use room_kinds::ReferenceKind;
 use std::alloc::{AllocError, Global};
@@ -43,20 +42,6 @@ fn reference_if(alloc: Global, item: &StructureItem) -> Result<Option<ScopeRefer
     }
 }
 
-/// Adds a reference, if there is one.
-#[tactic(auto, using(crate::proofs::class_scopes::Lists::viewed_push))]
-fn add_reference(
-    references: &mut Vec<ScopeReference>,
-    reference: Option<ScopeReference>,
-) -> Result<(), AllocError>
-    ensures { OnOk result (map reference_view references.new.items ≡ map reference_view references.old.items ++ option_to_list (option_map reference_view reference)) }
-{
-    if let Some(reference) = reference {
-        references.push(reference)?;
-    }
-    Ok(())
-}
-
 /// The references among items of a Structure, by number.
 pub(crate) fn references_of(
     alloc: Global,
@@ -66,7 +51,7 @@ pub(crate) fn references_of(
 {
     let mut references = Vec::new(alloc);
     for item in items {
-        add_reference(&mut references, reference_if(alloc, item)?)?;
+        push_if(&mut references, reference_if(alloc, item)?)?;
     }
     Ok(references)
 }

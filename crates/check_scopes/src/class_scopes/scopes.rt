@@ -1,31 +1,30 @@
 //! The scopes of actor classes.
 
-ghost use Rattle.std.specs.Prelude.{◌≡◌, ◌++◌, true, false, map, option_map, IfOk, OnOk};
+ghost use Rattle.std.specs.Prelude.{◌≡◌, true, map, option_map, IfOk};
 ghost use Rattle.std.specs.List.{list_all, filter_map};
-ghost use Rattle.std.specs.Option.{option_to_list};
 ghost use Rattle.room_ast.specs.Trees.{model_view, class_view, actor_view};
 ghost use Rattle.room_ast.specs.model_parts.Classes.{as_actor, as_data, as_protocol, actors};
-ghost use Rattle.check_classes.specs.class_rules.Loops.{of_protocol};
 ghost use Rattle.check_classes.specs.class_rules.Types.{has_fitting_values};
 ghost use Rattle.check_tables.specs.class_tables.Containers.{tables_of};
 ghost use Rattle.check_tables.specs.containment_rules.Circles.{data_is_finite};
-ghost use Rattle.check_mappings.specs.count_rules.Counts.{messages_are_few, references_are_few, has_few_parts};
+ghost use Rattle.check_mappings.specs.count_rules.Counts.{references_are_few, has_few_parts};
 ghost use Rattle.check_scopes.specs.number_kinds.Kinds.{AreKinds};
 ghost use Rattle.check_scopes.specs.class_scopes.Fields.{field_view, fields_kept};
-ghost use Rattle.check_scopes.specs.class_scopes.Making.{HasFrame, tables_view, scope_by, scopes_by, actor_views, numbers_few, entries_few};
+ghost use Rattle.check_scopes.specs.class_scopes.Making.{tables_view, scope_by, scopes_by, actor_views, numbers_few, entries_few, table_is_few};
 ghost use Rattle.check_scopes.specs.class_scopes.Scopes.{scope_of};
-ghost use Rattle.check_scopes.specs.class_scopes.Signals.{signals_by, signals_view};
+ghost use Rattle.check_scopes.specs.class_scopes.Signals.{map_table};
+ghost use Rattle.check_scopes.specs.class_scopes.ByKinds.{table_by};
 ghost use Rattle.check_scopes.specs.class_scopes.Tables.{AreTables};
-ghost use Rattle.check_scopes.specs.class_scopes.Views.{scope_view};
+ghost use Rattle.check_scopes.specs.class_scopes.Views.{scope_view, signal_view};
 
 use crate::class_scopes::fields::fields_of_classes;
 use crate::class_scopes::numbers::attributes_of;
-use crate::class_scopes::ports::{SignalTable, ports_in};
-use crate::class_scopes::protocols::{frame_only, no_signals, signals_of_classes};
+use crate::class_scopes::ports::ports_in;
+use crate::class_scopes::protocols::signal_table;
 use crate::class_scopes::references::references_of;
 use crate::class_scopes::tables::ScopeTables;
 use crate::number_kinds::kinds_of;
-use check_tables::{Container, Tables, structure_items};
+use check_tables::{Container, Tables, push_if, structure_items};
 use name_tables::NameIndex;
 use room_ast::{ActorClass, Class, Model, Scope};
 use room_kinds::{NumberType, Sequence};
@@ -42,20 +41,6 @@ fn as_actor<'a>(class: &'a Class) -> Option<&'a ActorClass>
     }
 }
 
-/// Adds an actor class, if there is one.
-#[tactic(auto, using(crate::proofs::class_scopes::Lists::viewed_push))]
-fn add_actor<'a>(
-    actors: &mut Vec<&'a ActorClass>,
-    actor: Option<&'a ActorClass>,
-) -> Result<(), AllocError>
-    ensures { OnOk result (actor_views actors.new.items ≡ actor_views actors.old.items ++ option_to_list (option_map (λ a. actor_view a.now) actor.entry)) }
-{
-    if let Some(actor) = actor {
-        actors.push(actor)?;
-    }
-    Ok(())
-}
-
 /// The actor classes among classes, by number.
 pub fn actor_classes<'a>(
     alloc: Global,
@@ -65,32 +50,12 @@ pub fn actor_classes<'a>(
 {
     let mut actors = Vec::new(alloc);
     for class in classes {
-        add_actor(&mut actors, as_actor(class))?;
+        push_if(&mut actors, as_actor(class))?;
     }
     Ok(actors)
 }
 
 // ---- the tables
-
-fn signal_table(
-    alloc: Global,
-    classes: &[Class],
-    names: &NameIndex,
-    kinds: &[Sequence<NumberType>],
-) -> Result<SignalTable, AllocError>
-    requires { list_all (of_protocol messages_are_few) (map class_view classes.now) ≡ true }
-    ensures frame { IfOk result (λ t. HasFrame t) }
-    ensures protocols { IfOk result (λ t. map signals_view t.protocols.items ≡ map (signals_by names.now kinds.now) (filter_map as_protocol (map class_view classes.now))) }
-{
-    let frame = frame_only(alloc)?;
-    let none = no_signals(alloc)?;
-    let protocols = signals_of_classes(alloc, classes, names, kinds)?;
-    Ok(SignalTable {
-        frame,
-        none,
-        protocols,
-    })
-}
 
 /// The tables of classes, where these are the types of the numbers of the data classes.
 fn tables_with<'a>(
@@ -99,11 +64,9 @@ fn tables_with<'a>(
     names: &NameIndex,
     kinds: Vec<Sequence<NumberType>>,
 ) -> Result<ScopeTables<'a>, AllocError>
-    requires { list_all (of_protocol messages_are_few) (map class_view classes.now) ≡ true }
     ensures kinds { IfOk result (λ t. t.kinds.items ≡ kinds.items) }
     ensures fields { IfOk result (λ t. map (map field_view) t.fields.items ≡ map (fields_kept names.now kinds.items) (filter_map as_data (map class_view classes.entry.now))) }
-    ensures protocols { IfOk result (λ t. map signals_view t.signals.protocols.items ≡ map (signals_by names.now kinds.items) (filter_map as_protocol (map class_view classes.entry.now))) }
-    ensures frame { IfOk result (λ t. HasFrame t.signals) }
+    ensures signals { IfOk result (λ t. map_table signal_view t.signals ≡ table_by names.now kinds.items (filter_map as_protocol (map class_view classes.entry.now))) }
 {
     let fields = fields_of_classes(alloc, classes, names, kinds.as_slice())?;
     let signals = signal_table(alloc, classes, names, kinds.as_slice())?;
@@ -122,9 +85,7 @@ fn scope_tables<'a>(
 ) -> Result<ScopeTables<'a>, AllocError>
     requires tables { tables.now ≡ tables_of (model_view model.now) }
     requires finite { data_is_finite (model_view model.now) ≡ true }
-    requires few { has_few_parts (model_view model.now) ≡ true }
-    ensures tables { IfOk result (λ t. AreTables (model_view model.entry.now) (tables_view t)) }
-    ensures frame { IfOk result (λ t. HasFrame t.signals) }
+    ensures { IfOk result (λ t. AreTables (model_view model.entry.now) (tables_view t)) }
 {
     let Some(kinds) = kinds_of(alloc, tables.data_types.as_slice())? else {
         unreachable!()
@@ -148,7 +109,7 @@ fn scope_by<'a>(
     names: &NameIndex,
     tables: &ScopeTables<'a>,
 ) -> Result<Scope, AllocError>
-    requires frame { HasFrame tables.now.signals }
+    requires signals { table_is_few (tables_view tables.now).signals ≡ true }
     requires numbers { numbers_few names.now (tables_view tables.now) (actor_view class.now) ≡ true }
     requires entries { entries_few container.now ≡ true }
     requires references { references_are_few (actor_view class.now) ≡ true }
@@ -185,7 +146,7 @@ fn scopes_by<'a>(
     names: &NameIndex,
     tables: &ScopeTables<'a>,
 ) -> Result<Vec<Scope>, AllocError>
-    requires frame { HasFrame tables.now.signals }
+    requires signals { table_is_few (tables_view tables.now).signals ≡ true }
     requires numbers { list_all (numbers_few names.now (tables_view tables.now)) (actor_views classes.now) ≡ true }
     requires entries { list_all entries_few containers.now ≡ true }
     requires references { list_all references_are_few (actor_views classes.now) ≡ true }

@@ -1,37 +1,18 @@
 //! The threads of subsystem classes.
 
-ghost use Rattle.std.specs.Prelude.{◌≡◌, IfOk, map, option_map};
-ghost use Rattle.std.specs.List.{list_all, filter_map};
+ghost use Rattle.std.specs.Prelude.{◌≡◌, IfOk, map};
+ghost use Rattle.std.specs.List.{list_all};
 ghost use Rattle.name_tables.specs.name_numbers.Names.{names_of};
-ghost use Rattle.room_ast.specs.Trees.{class_view, model_view, subsystem_item_view};
-ghost use Rattle.check_structure.specs.structure_rules.Threads.{as_thread, are_few, has_few_threads, threads_are_few};
+ghost use Rattle.room_ast.specs.Trees.{class_view, model_view};
+ghost use Rattle.check_structure.specs.structure_rules.Threads.{are_few, has_few_threads, threads_are_few};
 
-use check_tables::add_name;
+use check_mappings::thread_names;
 use name_tables::are_distinct;
-use room_ast::{Class, Model, Name, SubsystemItem};
+use room_ast::{Class, Model};
 use std::alloc::{AllocError, Global};
 
 /// The most threads of a SubSystemClass.
 const MOST_THREADS: usize = 8;
-
-fn thread_name<'a>(item: &'a SubsystemItem) -> Option<&'a Name>
-    ensures { option_map (λ n. n.now) result ≡ option_map (λ t. t.name) (as_thread (subsystem_item_view item.now)) }
-{
-    match item {
-        SubsystemItem::Thread(thread) => Some(&thread.name),
-        _ => None,
-    }
-}
-
-fn thread_names<'a>(alloc: Global, items: &'a [SubsystemItem]) -> Result<Vec<&'a [u8]>, AllocError>
-    ensures { IfOk result (λ v. names_of v.items ≡ map (λ t. t.name) (filter_map as_thread (map subsystem_item_view items.now))) }
-{
-    let mut names = Vec::new(alloc);
-    for item in items {
-        add_name(&mut names, thread_name(item))?;
-    }
-    Ok(names)
-}
 
 pub(crate) fn are_few(alloc: Global, names: &[&[u8]]) -> Result<bool, AllocError>
     ensures { IfOk result (λ b. b ≡ are_few (names_of names.now)) }
@@ -46,7 +27,7 @@ fn has_few_threads(alloc: Global, class: &Class) -> Result<bool, AllocError>
     match class {
         Class::Subsystem(subsystem) => {
             let names = thread_names(alloc, subsystem.items.as_slice())?;
-            are_few(alloc, &names)
+            are_few(alloc, names.names())
         }
         _ => Ok(true),
     }

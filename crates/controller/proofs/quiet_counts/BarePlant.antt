@@ -1,11 +1,23 @@
 -- A plant without slots, for the tests.
-use Rattle.std.proofs.Common.{◌≡◌, List, [], length, Option, Some, ap, arith}
-use Rattle.std.proofs.lemmas.Option.{slice_get_within}
+use Rattle.std.proofs.Common.{◌≡◌, ◌≤◌, ℕ, List, [], length, Option, Some, option_and_then, sym, ap, subst, arith}
+use Rattle.std.specs.Option.{option_map_or}
+use Rattle.std.proofs.lemmas.Option.{slice_get_within, slice_get_past}
 use Rattle.chart_run.specs.declared.chart_tables.tables.Tables.{Tables as ChartTables}
 use Rattle.room_wiring.specs.declared.slot.Slot.{Slot}
+use Rattle.room_wiring.specs.declared.tables.Tables.{Tables}
+use Rattle.room_wiring.specs.declared.names.ClassNames.{ClassNames}
+use Rattle.room_wiring.specs.Slots.{class_at, class_of}
+use Rattle.room_wiring.specs.Places.{port_count}
 use Rattle.service_messages.proofs.slot_runs.RunLemmas.{contained_there}
 use Rattle.controller_actors.specs.Plants.{IsPlant}
 use Rattle.controller_actors.specs.declared.plant.Plant.{Plant}
+
+-- tables without slots have no ports
+bare_ports : (t : Tables) → length t.slots ≡ 0 → (s : ℕ) → port_count t s ≤ 65536
+unfolding port_count class_of
+bare_ports t none s =
+    subst (λ (o : Option Slot). option_map_or (λ (c : ClassNames). length c.ports) (option_and_then (λ (x : Slot). class_at t x.class) o) 0 ≤ 65536)
+    (sym (slice_get_past t.slots s (omega (arith, none)))) (omega arith)
 
 pub bare_plant : (p : Plant) → p.wiring.slots ≡ [] → p.tables.items ≡ [] → IsPlant p
 bare_plant p slots tables =
@@ -17,4 +29,5 @@ bare_plant p slots tables =
         behind = λ s c h. let within = contained_there p.wiring s c h in absurd (omega arith);
         between = λ s c u h after before. let within = contained_there p.wiring s c h in absurd (omega arith);
       };
+      ports = bare_ports p.wiring no_slots;
     }

@@ -1,6 +1,6 @@
 -- Commands keep messages at their priorities: what an actor keeps, and what comes back, are messages that
 -- were kept before, and the message in hand.
-use Rattle.std.proofs.Common.{ℕ, Bool, true, false, List, [], ◌∷◌, All, Option, Some, None, refl, sym, ap, ◌∙◌, subst}
+use Rattle.std.proofs.Common.{◌≡◌, ℕ, Bool, true, false, List, [], ◌∷◌, All, Option, Some, None, refl, sym, ap, ◌∙◌, subst}
 use Rattle.std.proofs.lemmas.List.Elements.{All-nil, All-cons, All-push, All-head, All-tail, All-append}
 use Rattle.room_kinds.specs.declared.message.Msg.{Msg}
 use Rattle.room_kinds.specs.declared.command.Command.{Command}
@@ -11,6 +11,7 @@ use Rattle.actor_duties.specs.Words.{updated}
 use Rattle.actor_duties.specs.State.{Frame, Links}
 use Rattle.actor_duties.specs.Commands.{Kept, defer, recall, recall_all}
 use Rattle.actor_world.specs.Body.{Body, Doing, apply, apply_all}
+use Rattle.actor_world.proofs.Notes.{apply_all_keeps}
 use Rattle.chart_behaviour.specs.ModelCharts.{Actor}
 use Rattle.controller_mail.specs.MailState.{HasPriority}
 use Rattle.frame_lives.proofs.Rows.{updated_here}
@@ -76,7 +77,11 @@ module _ (t : Tables) (me : ℕ) (x : Incarnation) (m : Option Msg) (hand : InHa
   all_back_keep [] d h b = b
   all_back_keep (c ∷ cs) d h b = all_back_keep cs (apply t me x m d c) (deferred_keep c d h) (back_keep c d h b)
 
-  module _ (f : Frame) (l : Links) (cs : List Command) (old new : CodeDoing) (applied : AppliesAll t me f l x m cs old new) where
+  module _ (f : Frame) (l : Links) (f' : Frame) (l' : Links) (cs : List Command) (old new : CodeDoing) (applied : AppliesAll t me f l f' l' x m cs old new) where
+    -- commands leave the lives as they were
+    pub lives_stay : f'.lives ≡ f.lives
+    lives_stay = ap (λ (d : Doing Actor). d.body.frame.lives) (sym (applied.on (some_body f l))) ∙ (apply_all_keeps t me x m cs (doing_on f l (some_body f l) x.slot.0 old)).lives
+
     -- what is kept after commands
     pub kept_ranks : All HasPriority old.deferred → All HasPriority new.deferred
     kept_ranks h =

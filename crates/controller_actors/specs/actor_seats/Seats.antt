@@ -1,7 +1,8 @@
 -- A slot on a body of the world's definitions, and how its actor begins and handles messages there.
-use Rattle.std.specs.Prelude.{◌≡◌, ℕ, Bool, false, List, All, Option, Some, None}
+use Rattle.std.specs.Prelude.{◌≡◌, ℕ, Bool, false, List, [], ◌∷◌, ◌++◌, All, Option, Some, None}
 use Rattle.room_kinds.specs.declared.message.Msg.{Msg}
 use Rattle.room_kinds.specs.declared.note.Note.{Note}
+use Rattle.room_kinds.specs.declared.note.Note.TheVariants as notes
 use Rattle.room_kinds.specs.declared.command.Command.{Command}
 use Rattle.room_kinds.specs.declared.numbers.Incarnation.{Incarnation}
 use Rattle.room_wiring.specs.declared.tables.Tables.{Tables as Wiring}
@@ -37,11 +38,12 @@ seat_body f l b slot s =
 abbrev pub treated_on : Treatment → Body Actor → Treated (Body Actor)
 treated_on done body = record { body = body; sent = done.sent; back = done.back; did = done.did; notes = done.notes }
 
--- the commands of an actor were applied, from what was said and came back before to what was then
-pub record Works (t : Wiring) (me : ℕ) (f : Frame) (l : Links) (x : Incarnation) (m : Option Msg) (cs : List Command) (old new : Seat) (first : Said) (before : List Msg) (last : Said) (after : List Msg) : Type 0 where
+-- the commands of an actor were applied, from what was said and came back before to what was then, and
+-- from one state of the services to another
+pub record Works (t : Wiring) (me : ℕ) (f : Frame) (l : Links) (f' : Frame) (l' : Links) (x : Incarnation) (m : Option Msg) (cs : List Command) (old new : Seat) (first : Said) (before : List Msg) (last : Said) (after : List Msg) : Type 0 where
   pub kept : Bool
   pub stand : new.stand ≡ old.stand
-  pub applied : AppliesAll t me f l x m cs (record { deferred = old.deferred; said = first; back = before; kept = false })
+  pub applied : AppliesAll t me f l f' l' x m cs (record { deferred = old.deferred; said = first; back = before; kept = false })
       (record { deferred = new.deferred; said = last; back = after; kept = kept })
 
 -- a turn in which an actor's machine did this with a message
@@ -49,9 +51,10 @@ abbrev pub turned : Wiring → ℕ → Body Actor → Incarnation → Msg → Ou
 turned t me b x m r = treated (moved t me b x m r) (said r.result x (state_number r.machine))
 
 -- the actor of a slot handled a message, whatever else the body has
-pub record SeatTurns (t : Wiring) (me : ℕ) (f : Frame) (l : Links) (x : Incarnation) (m : Msg) (o : Option Tables) (old new : Seat) (done : Treatment) : Type 0 where
+pub record SeatTurns (t : Wiring) (me : ℕ) (f : Frame) (l : Links) (f' : Frame) (l' : Links) (x : Incarnation) (m : Msg) (o : Option Tables) (old new : Seat) (done : Treatment) : Type 0 where
   pub stood : actor_in old.stand ≡ Some (actor_of old.stand)
-  pub turn : (b : Body Actor) → turned t me (seat_body f l b x.slot.0 old) x m (handles x m o (actor_of old.stand)) ≡ treated_on done (seat_body f l b x.slot.0 new)
+  pub turn : (b : Body Actor) → turned t me (seat_body f l b x.slot.0 old) x m (handles x m o (actor_of old.stand)) ≡ treated_on done (seat_body f' l' b x.slot.0 new)
+  pub lives : f'.lives ≡ f.lives
   pub fits : SeatFits x o new
   pub back : All HasPriority done.back
 
@@ -65,10 +68,33 @@ entered t me x new d =
     })
 
 -- the actor of a slot began, whatever else the body has, where so much was sent and came back before
-pub record SeatBegins (t : Wiring) (me : ℕ) (f : Frame) (l : Links) (x : Incarnation) (o : Option Tables) (old new : Seat) (sent before : List Msg) (e : Entrance) : Type 0 where
+pub record SeatBegins (t : Wiring) (me : ℕ) (f : Frame) (l : Links) (f' : Frame) (l' : Links) (x : Incarnation) (o : Option Tables) (old new : Seat) (sent before : List Msg) (e : Entrance) : Type 0 where
   pub kept : Bool
   pub doing : (b : Body Actor) (notes : List Note) (held : Bool)
       → entered t me x (begins x o) (record { body = seat_body f l b x.slot.0 old; sent = sent; back = before; notes = notes; kept = held })
-      ≡ record { body = seat_body f l b x.slot.0 new; sent = e.said.messages; back = e.back; notes = e.said.notes; kept = kept }
+      ≡ record { body = seat_body f' l' b x.slot.0 new; sent = e.said.messages; back = e.back; notes = e.said.notes; kept = kept }
   pub state : e.state ≡ state_number (begins x o).machine
+  pub lives : f'.lives ≡ f.lives
   pub fits : SeatFits x o new
+
+-- an actor comes up: nothing is kept in its slot, and its note `up` goes before those of its start
+abbrev pub risen : Wiring → ℕ → Incarnation → Begun Actor → WorldDoing Actor → WorldDoing Actor
+risen t me x new d =
+    apply_all t me x None new.commands (record d {
+      body = record d.body {
+        machines = updated d.body.machines x.slot.0 (Some new.machine);
+        deferred = updated d.body.deferred x.slot.0 [];
+      };
+      notes = d.notes ++ (notes.Up x (state_number new.machine) ∷ new.notes);
+      kept = false;
+    })
+
+-- the actor of a slot came up, whatever else the body has, with what was said and came back before
+pub record SeatComesUp (t : Wiring) (me : ℕ) (f : Frame) (l : Links) (f' : Frame) (l' : Links) (x : Incarnation) (o : Option Tables) (old new : Seat) (first : Said) (before : List Msg) (last : Said) (after : List Msg) : Type 0 where
+  pub kept : Bool
+  pub doing : (b : Body Actor) (held : Bool)
+      → risen t me x (begins x o) (record { body = seat_body f l b x.slot.0 old; sent = first.messages; back = before; notes = first.notes; kept = held })
+      ≡ record { body = seat_body f' l' b x.slot.0 new; sent = last.messages; back = after; notes = last.notes; kept = kept }
+  pub lives : f'.lives ≡ f.lives
+  pub fits : SeatFits x o new
+  pub back : All HasPriority before → All HasPriority after

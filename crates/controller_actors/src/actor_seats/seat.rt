@@ -1,19 +1,20 @@
 //! A slot with what stands in it and what that keeps.
-ghost use Rattle.std.specs.Prelude.{◌≡◌, [], All, IfOk, MatchOption};
+ghost use Rattle.std.specs.Prelude.{◌≡◌, ◌<◌, [], ◌∷◌, ◌++◌, length, All, IfOk, OnOk, MatchOption};
 ghost use Rattle.std.specs.Option.{option_copied};
+ghost use Rattle.room_kinds.specs.declared.note.Note.TheVariants.{Up};
 ghost use Rattle.controller_mail.specs.MailState.{HasPriority};
 ghost use Rattle.chart_run.specs.Machines.{result_view};
 ghost use Rattle.chart_behaviour.specs.ModelCharts.{handling_of};
 ghost use Rattle.actor_world.specs.Turns.{said};
 ghost use Rattle.controller_actors.specs.actor_seats.Stands.{AreSound, actor_in};
-ghost use Rattle.controller_actors.specs.actor_seats.Seats.{SeatFits, SeatTurns, SeatBegins, Works};
+ghost use Rattle.controller_actors.specs.actor_seats.Seats.{SeatComesUp, SeatFits, SeatTurns, SeatBegins, Works};
 
 use crate::actor_seats::stand::{Beginning, Reaction, Stand};
-use actor_commands::{DeferredMessages, Doing, Peers, Recalled, Said, Speaker, apply_all};
+use actor_commands::{DeferredMessages, Doing, Recalled, Said, Services, Speaker, apply_all};
 use chart_run::{Handling, Tables};
 use controller_mail::Treatment;
 use journal::Did;
-use room_kinds::{Command, Incarnation, Msg, Outbox};
+use room_kinds::{Command, Incarnation, Msg, Note, Notes, Outbox, Sequence};
 use std::alloc::{AllocError, Global};
 use std::mem;
 
@@ -44,6 +45,16 @@ fn did_of(came_to: Handling, who: Incarnation, state: u16) -> Did
     }
 }
 
+/// Notes, then that an actor came up in a state, then the notes of its initial transition.
+fn with_up(before: Notes, who: Incarnation, state: u16, told: Notes) -> Result<Notes, AllocError>
+    ensures { IfOk result (λ notes. notes ≡ before ++ Up who state ∷ told) }
+{
+    let mut notes = before.into_vec();
+    notes.push(Note::Up { who, state })?;
+    notes.append(&mut told.into_vec())?;
+    Ok(Sequence::from(notes))
+}
+
 impl Seat {
     /// Nobody stands there. It takes no memory.
     pub fn vacant(alloc: Global) -> Seat
@@ -56,17 +67,20 @@ impl Seat {
     }
 
     /// The commands of the actor are applied in order, with what was said and what came back before.
-    fn work<P: Peers>(
+    fn work<S: Services>(
         &mut self,
         alloc: Global,
         speaker: &Speaker<'_>,
-        peers: &P,
+        services: &mut S,
         message: Option<&Msg>,
         commands: &[Command],
         said: Said,
         back: Recalled,
     ) -> Result<(Said, Recalled), AllocError>
-        ensures { IfOk result (λ r. Works speaker.now.wiring.now speaker.now.me.0 (P.frame_of peers.now) (P.links_of peers.now) speaker.now.who (option_copied message.entry) commands.now self.old self.new said back r.0 r.1) }
+        requires serves { S.serves speaker.now.wiring.now speaker.now.me.0 services.old }
+        requires there { speaker.now.who.slot.0 < length speaker.now.wiring.now.slots }
+        ensures serves { OnOk result (S.serves speaker.now.wiring.now speaker.now.me.0 services.new) }
+        ensures works { IfOk result (λ r. Works speaker.now.wiring.now speaker.now.me.0 (S.frame_of services.old) (S.links_of services.old) (S.frame_of services.new) (S.links_of services.new) speaker.now.who (option_copied message.entry) commands.now self.old self.new said back r.0 r.1) }
     {
         let kept = mem::replace(&mut self.deferred, DeferredMessages::new(alloc));
         let mut doing = Doing {
@@ -75,7 +89,7 @@ impl Seat {
             back,
             kept: false,
         };
-        apply_all(alloc, speaker, peers, message, commands, &mut doing)?;
+        apply_all(alloc, speaker, services, message, commands, &mut doing)?;
         let Doing {
             deferred,
             said: told,
@@ -88,18 +102,21 @@ impl Seat {
 
     /// The actor handles a message, and its commands are applied; `None` where nobody stands there. After
     /// want of memory the seat is unspecified: the controller has failed.
-    pub fn handle<P: Peers>(
+    pub fn handle<S: Services>(
         &mut self,
         alloc: Global,
         speaker: &Speaker<'_>,
-        peers: &P,
+        services: &mut S,
         tables: Option<&Tables>,
         m: &Msg,
     ) -> Result<Option<Treatment>, AllocError>
         requires sound { AreSound (option_copied tables) }
         requires fits { SeatFits speaker.now.who (option_copied tables) self.old }
         requires prio { HasPriority m.now }
-        ensures { IfOk result (λ o. MatchOption o ((actor_in self.old.stand ≡ None) × (self.new ≡ self.old)) (λ done. SeatTurns speaker.now.wiring.now speaker.now.me.0 (P.frame_of peers.now) (P.links_of peers.now) speaker.now.who m.now (option_copied tables.entry) self.old self.new done)) }
+        requires serves { S.serves speaker.now.wiring.now speaker.now.me.0 services.old }
+        requires there { speaker.now.who.slot.0 < length speaker.now.wiring.now.slots }
+        ensures serves { OnOk result (S.serves speaker.now.wiring.now speaker.now.me.0 services.new) }
+        ensures turns { IfOk result (λ o. MatchOption o ((actor_in self.old.stand ≡ None) × (self.new ≡ self.old) × (services.new ≡ services.old)) (λ done. SeatTurns speaker.now.wiring.now speaker.now.me.0 (S.frame_of services.old) (S.links_of services.old) (S.frame_of services.new) (S.links_of services.new) speaker.now.who m.now (option_copied tables.entry) self.old self.new done)) }
     {
         let Some(reaction) = self.stand.react(alloc, tables, m)? else {
             return Ok(None);
@@ -118,7 +135,7 @@ impl Seat {
         let (said, back) = self.work(
             alloc,
             speaker,
-            peers,
+            services,
             Some(m),
             commands.as_slice(),
             first,
@@ -134,18 +151,21 @@ impl Seat {
 
     /// The actor of a slot begins, and its commands are applied, where so much was sent and came back
     /// before. After want of memory the seat is unspecified: the controller has failed.
-    pub fn begin<P: Peers>(
+    pub fn begin<S: Services>(
         &mut self,
         alloc: Global,
         speaker: &Speaker<'_>,
-        peers: &P,
+        services: &mut S,
         tables: Option<&Tables>,
         sent: Outbox,
         back: Recalled,
     ) -> Result<Entrance, AllocError>
         requires sound { AreSound (option_copied tables) }
         requires kept { All HasPriority self.old.deferred }
-        ensures { IfOk result (λ e. SeatBegins speaker.now.wiring.now speaker.now.me.0 (P.frame_of peers.now) (P.links_of peers.now) speaker.now.who (option_copied tables.entry) self.old self.new sent back e) }
+        requires serves { S.serves speaker.now.wiring.now speaker.now.me.0 services.old }
+        requires there { speaker.now.who.slot.0 < length speaker.now.wiring.now.slots }
+        ensures serves { OnOk result (S.serves speaker.now.wiring.now speaker.now.me.0 services.new) }
+        ensures begins { IfOk result (λ e. SeatBegins speaker.now.wiring.now speaker.now.me.0 (S.frame_of services.old) (S.links_of services.old) (S.frame_of services.new) (S.links_of services.new) speaker.now.who (option_copied tables.entry) self.old self.new sent back e) }
     {
         let beginning = Stand::begin(alloc, tables, speaker.who)?;
         let Beginning {
@@ -162,7 +182,7 @@ impl Seat {
         let (said, all_back) = self.work(
             alloc,
             speaker,
-            peers,
+            services,
             None,
             commands.as_slice(),
             first,
@@ -173,5 +193,50 @@ impl Seat {
             back: all_back,
             state,
         })
+    }
+
+    /// The actor of a slot comes up: it begins with nothing kept for later, its note `up` tells its
+    /// state, and its commands are applied; with what was said and what came back before. After want of
+    /// memory the seat is unspecified: the controller has failed.
+    pub fn come_up<S: Services>(
+        &mut self,
+        alloc: Global,
+        speaker: &Speaker<'_>,
+        services: &mut S,
+        tables: Option<&Tables>,
+        said: Said,
+        back: Recalled,
+    ) -> Result<(Said, Recalled), AllocError>
+        requires sound { AreSound (option_copied tables) }
+        requires serves { S.serves speaker.now.wiring.now speaker.now.me.0 services.old }
+        requires there { speaker.now.who.slot.0 < length speaker.now.wiring.now.slots }
+        ensures serves { OnOk result (S.serves speaker.now.wiring.now speaker.now.me.0 services.new) }
+        ensures up { IfOk result (λ r. SeatComesUp speaker.now.wiring.now speaker.now.me.0 (S.frame_of services.old) (S.links_of services.old) (S.frame_of services.new) (S.links_of services.new) speaker.now.who (option_copied tables.entry) self.old self.new said back r.0 r.1) }
+    {
+        let beginning = Stand::begin(alloc, tables, speaker.who)?;
+        let Beginning {
+            stand,
+            state,
+            notes,
+            commands,
+        } = beginning;
+        self.stand = stand;
+        self.deferred = DeferredMessages::new(alloc);
+        let Said {
+            messages,
+            notes: before,
+        } = said;
+        let notes = with_up(before, speaker.who, state, notes)?;
+        let first = Said { messages, notes };
+        let (said, all_back) = self.work(
+            alloc,
+            speaker,
+            services,
+            None,
+            commands.as_slice(),
+            first,
+            back,
+        )?;
+        Ok((said, all_back))
     }
 }

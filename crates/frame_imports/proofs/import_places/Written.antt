@@ -6,13 +6,13 @@ use Rattle.std.proofs.lemmas.Bool.{cases_eq}
 use Rattle.std.proofs.lemmas.List.{length-set, length-append, get_or_read, get_or-set_same, get_or-set_other}
 use Rattle.room_kinds.specs.declared.numbers.Incarnation.{Incarnation}
 use Rattle.room_wiring.specs.declared.tables.Tables.{Tables}
-use Rattle.actor_duties.specs.Words.{updated, is_imported}
+use Rattle.actor_duties.specs.Words.{updated}
 use Rattle.actor_duties.specs.State as rows
 use Rattle.frame_lives.proofs.Rows.{updated_here, updated_else, updated_same}
 use Rattle.frame_imports.specs.declared.import_places.place.ImportPlace.{ImportPlace}
 use Rattle.frame_imports.specs.declared.import_places.place.ImportPlace.TheVariants as variants
 use Rattle.frame_imports.specs.import_places.Places.{place_of}
-use Rattle.frame_imports.specs.import_places.Lending.{Kept, Lending, lending, with_places, with_plugs, nothing_lent}
+use Rattle.frame_imports.specs.import_places.Lending.{Kept, Lending, lending, with_places, with_plugs, nothing_lent, is_import_of}
 
 -- a list with another item at a place, as a function
 written : {A : Type 0} (d : A) (xs : List A) (s : ℕ) (a : A) → s < length xs → (λ n. get_or (set xs s a) n d) ≡ updated (λ n. get_or xs n d) s a
@@ -51,10 +51,10 @@ place_written places plugs s p l =
     (ap (λ (f : ℕ → ImportPlace). λ n. place_of (f n)) (written variants.Empty places s p l) ∙ mapped place_of (λ n. get_or places n variants.Empty) s p) refl
 
 -- an import place stays
-pub place_kept : (t : Tables) (s : ℕ) (l : Lending) → is_imported t s ≡ false
-    → l ≡ with_places l (updated l.places s (if is_imported t s then rows.Empty else l.places s))
-place_kept t s l other =
-    ap (with_places l) (sym (updated_same l.places s (if is_imported t s then rows.Empty else l.places s) (ap (λ b. cond b rows.Empty (l.places s)) other)))
+pub place_kept : (t : Tables) (c s : ℕ) (l : Lending) → is_import_of t c s ≡ false
+    → l ≡ with_places l (updated l.places s (if is_import_of t c s then rows.Empty else l.places s))
+place_kept t c s l other =
+    ap (with_places l) (sym (updated_same l.places s (if is_import_of t c s then rows.Empty else l.places s) (ap (λ b. cond b rows.Empty (l.places s)) other)))
 
 -- the plugs of a slot are written
 pub plugs_written : (places : List ImportPlace) (plugs : List (List Incarnation)) (s : ℕ) (p : List Incarnation) → s < length plugs

@@ -1,10 +1,10 @@
 -- What the tables of import places and plugs say.
-use Rattle.std.specs.Prelude.{ℕ, ◌&&◌, Bool, List, [], length, slice_index_or, if◌then◌else◌}
+use Rattle.std.specs.Prelude.{ℕ, ◌&&◌, Bool, false, List, [], length, slice_index_or, if◌then◌else◌}
+use Rattle.std.specs.Option.{option_map_or}
 use Rattle.room_kinds.specs.declared.numbers.Incarnation.{Incarnation}
 use Rattle.room_wiring.specs.declared.tables.Tables.{Tables}
-use Rattle.actor_duties.specs.Words.{updated, is_imported}
+use Rattle.actor_duties.specs.Words.{updated, is_imported, is_part_of, container_of}
 use Rattle.actor_duties.specs.State as rows
-use Rattle.actor_duties.specs.Lives.{is_within}
 use Rattle.frame_imports.specs.declared.import_places.place.ImportPlace.{ImportPlace}
 use Rattle.frame_imports.specs.declared.import_places.place.ImportPlace.TheVariants as variants
 use Rattle.frame_imports.specs.import_places.Places.{place_of}
@@ -40,11 +40,15 @@ with_plugs l f = record l { plugs = f }
 abbrev pub nothing_lent : ℕ → Lending
 nothing_lent slots = record { slots = slots; places = λ i. rows.Empty; plugs = λ s. [] }
 
--- a slot has no plugs any more, and holds nothing if it is an imported one
+-- whether a slot is an imported one of a container
+abbrev pub is_import_of : Tables → ℕ → ℕ → Bool
+is_import_of t s i = is_imported t i && is_part_of t i s
+
+-- a slot has no plugs any more, and its imported slots hold nothing
 abbrev pub forgotten : Tables → ℕ → Lending → Lending
 forgotten t s l = record {
   slots = l.slots;
-  places = updated l.places s (if is_imported t s then rows.Empty else l.places s);
+  places = λ i. if is_import_of t s i then rows.Empty else l.places i;
   plugs = updated l.plugs s [];
 }
 
@@ -52,10 +56,6 @@ forgotten t s l = record {
 abbrev pub forgotten_where : Tables → (ℕ → Bool) → Lending → Lending
 forgotten_where t test l = record {
   slots = l.slots;
-  places = λ i. if is_imported t i && test i then rows.Empty else l.places i;
+  places = λ i. if is_imported t i && option_map_or test (container_of t i) false then rows.Empty else l.places i;
   plugs = λ s. if test s then [] else l.plugs s;
 }
-
--- the same of all slots from one on down
-abbrev pub lending_ended : Tables → ℕ → Lending → Lending
-lending_ended t o l = forgotten_where t (is_within t o) l

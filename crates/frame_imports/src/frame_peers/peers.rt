@@ -1,5 +1,6 @@
 //! The peer of an end place.
-ghost use Rattle.std.specs.Prelude.{◌≡◌};
+ghost use Rattle.std.specs.Prelude.{◌≡◌, ◌<◌, ◌^◌, IfSome};
+ghost use Rattle.actor_duties.specs.Words.{endpoint};
 ghost use Rattle.actor_duties.specs.Peers.{fitting_plug, frame_peer};
 ghost use Rattle.frame_lives.specs.Known.{known_in};
 ghost use Rattle.frame_lives.specs.Shown.{shown};
@@ -17,7 +18,7 @@ fn fitting_plug(
     wiring: &Wiring,
     plugs: &[Incarnation],
     port: u16,
-    place: u32,
+    place: u64,
 ) -> Option<Incarnation>
     ensures { result ≡ fitting_plug wiring.now plugs.now port place }
 {
@@ -51,7 +52,7 @@ fn known_end(
     }
 }
 
-/// The peer of a place of a live actor, but for links by name, by the first case that fits: the joined
+/// The peer of a place of a port of a live actor, but for links by name, by the first case that fits: the joined
 /// end place, if anything is known in its slot; through an imported slot that holds an actor, the same
 /// place of that actor; and where the place is joined to nothing, the end place to which the same place
 /// of one of the actor's plugs is joined. It takes no memory.
@@ -61,11 +62,14 @@ pub fn peer<I: Lent>(
     lent: &I,
     wiring: &Wiring,
     me: ControllerId,
-    from: Endpoint,
+    who: Incarnation,
+    port: u16,
+    place: u64,
 ) -> Option<Endpoint>
-    ensures { result ≡ frame_peer wiring.now me.0 (frame_by (shown lives.now) (I.places lent.now) (I.plugs lent.now)) from }
+    ensures peer { result ≡ frame_peer wiring.now me.0 (frame_by (shown lives.now) (I.places lent.now) (I.plugs lent.now)) (endpoint who.slot.0 who.generation.0 port place) }
+    ensures near { IfSome result (λ e. place < 2 ^ 32) }
 {
-    match joined_at(wiring, from.slot, from.port, from.place) {
+    match joined_at(wiring, who.slot, port, place) {
         Partner::End { slot, port, place } => known_end(lives, wiring, me, slot, port, place),
         Partner::Socket { slot, port, place } => lent.held(slot).map(|home| Endpoint {
             slot: home.slot,
@@ -74,9 +78,9 @@ pub fn peer<I: Lent>(
             place,
         }),
         Partner::Nobody => {
-            let plugs = lent.plugs_of(from.slot);
-            let plug = fitting_plug(wiring, plugs, from.port, from.place)?;
-            match joined_at(wiring, plug.slot, from.port, from.place) {
+            let plugs = lent.plugs_of(who.slot);
+            let plug = fitting_plug(wiring, plugs, port, place)?;
+            match joined_at(wiring, plug.slot, port, place) {
                 Partner::End { slot, port, place } => {
                     known_end(lives, wiring, me, slot, port, place)
                 }

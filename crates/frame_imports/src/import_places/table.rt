@@ -1,17 +1,18 @@
 //! The table of import places and plugs.
-ghost use Rattle.std.specs.Prelude.{◌≡◌, ◌++◌, ◌∷◌, [], ◌<◌, ℕ, not, filter, length, if◌then◌else◌, IfOk, OnOk};
+ghost use Rattle.std.specs.Prelude.{◌≡◌, ◌++◌, ◌∷◌, [], ◌<◌, ℕ, not, filter, length, if◌then◌else◌, All, IfOk, OnOk};
 ghost use Rattle.actor_duties.specs.State.{Empty};
-ghost use Rattle.actor_duties.specs.Words.{updated, is_incarnation, is_imported};
+ghost use Rattle.actor_duties.specs.Words.{updated, is_incarnation};
 ghost use Rattle.service_messages.specs.slot_runs.Runs.{IsDepthFirst, AreRunEnds};
+ghost use Rattle.frame_lives.specs.Steps.{is_among};
 ghost use Rattle.frame_imports.specs.import_places.Places.{place_of};
-ghost use Rattle.frame_imports.specs.import_places.Lending.{lending, with_places, with_plugs, nothing_lent, forgotten, lending_ended};
+ghost use Rattle.frame_imports.specs.import_places.Lending.{lending, with_places, with_plugs, nothing_lent, is_import_of, forgotten, forgotten_where};
 
 use crate::frame_peers::Lent;
 use crate::import_places::place::ImportPlace;
 use crate::import_places::plugs::Plugs;
 use room_kinds::{Incarnation, SlotId};
 use room_wiring::Wiring;
-use service_messages::{SlotRuns, is_imported};
+use service_messages::{SlotRuns, is_imported, is_part_of};
 use std::alloc::{AllocError, Global};
 use std::marker::Model;
 
@@ -117,39 +118,58 @@ impl Imports {
         self.plugs[usize::from(slot.0)].clear();
     }
 
-    /// An imported slot holds nothing any more.
+    /// A slot holds nothing any more, if it is an imported one of a container.
     #[tactic(auto, using(crate::proofs::import_places::Written::place_kept))]
-    fn clear_place(&mut self, wiring: &Wiring, slot: SlotId)
+    fn clear_place(&mut self, wiring: &Wiring, container: SlotId, slot: SlotId)
         requires { slot.0 < (lending self.old).slots }
-        ensures { lending self.new ≡ with_places (lending self.old) (updated (lending self.old).places slot.0 (if is_imported wiring.now slot.0 then Empty else (lending self.old).places slot.0)) }
+        ensures { lending self.new ≡ with_places (lending self.old) (updated (lending self.old).places slot.0 (if is_import_of wiring.now container.0 slot.0 then Empty else (lending self.old).places slot.0)) }
     {
-        if is_imported(wiring, slot) {
+        if is_imported(wiring, slot) && is_part_of(wiring, slot, container) {
             self.set_place(slot, ImportPlace::Empty);
         }
     }
 
-    /// What stood in a slot has ended: nothing is lent to it or of it any more.
-    fn forget(&mut self, wiring: &Wiring, slot: SlotId)
-        requires { slot.0 < (lending self.old).slots }
-        ensures { lending self.new ≡ forgotten wiring.now slot.0 (lending self.old) }
+    /// No imported slot of a container holds anything any more. The time is in proportion to the number
+    /// of its parts.
+    fn clear_places(&mut self, wiring: &Wiring, runs: &SlotRuns, container: SlotId)
+        requires order { IsDepthFirst wiring.now }
+        requires runs { AreRunEnds wiring.now runs.now }
+        requires there { container.0 < length wiring.now.slots }
+        requires whole { (lending self.old).slots ≡ length wiring.now.slots }
+        ensures { lending self.new ≡ with_places (lending self.old) (λ i. if is_import_of wiring.now container.0 i then Empty else (lending self.old).places i) }
     {
-        self.clear_plugs(slot);
-        self.clear_place(wiring, slot);
+        let end = runs.end(wiring, container);
+        let mut part = u32::from(container.0) + 1;
+        while part < end {
+            let slot = SlotId(part as u16);
+            self.clear_place(wiring, container, slot);
+            part = runs.end(wiring, slot);
+        }
     }
 
-    /// All from a slot on down has ended: no import place there holds anything, and nothing there has a
-    /// plug. The time is in proportion to the run of the slot.
-    #[tactic(auto, using(crate::proofs::import_places::Ended::ended_first, crate::proofs::import_places::Ended::ended_one, crate::proofs::import_places::Ended::ended_last))]
-    pub fn end_all(&mut self, wiring: &Wiring, runs: &SlotRuns, slot: SlotId)
+    /// What stood in a slot has ended: nothing is lent to it or of it any more.
+    fn forget(&mut self, wiring: &Wiring, runs: &SlotRuns, slot: SlotId)
         requires order { IsDepthFirst wiring.now }
         requires runs { AreRunEnds wiring.now runs.now }
         requires there { slot.0 < length wiring.now.slots }
         requires whole { (lending self.old).slots ≡ length wiring.now.slots }
-        ensures { lending self.new ≡ lending_ended wiring.now slot.0 (lending self.old) }
+        ensures { lending self.new ≡ forgotten wiring.now slot.0 (lending self.old) }
     {
-        let end = runs.end(wiring, slot);
-        for number in u32::from(slot.0)..end {
-            self.forget(wiring, SlotId(number as u16));
+        self.clear_plugs(slot);
+        self.clear_places(wiring, runs, slot);
+    }
+
+    /// These actors have ended: nothing is lent to them or of them any more. The time is in proportion to
+    /// the number of their parts.
+    pub fn end_all(&mut self, wiring: &Wiring, runs: &SlotRuns, ended: &[Incarnation])
+        requires order { IsDepthFirst wiring.now }
+        requires runs { AreRunEnds wiring.now runs.now }
+        requires there { All (λ x. x.slot.0 < length wiring.now.slots) ended.now }
+        requires whole { (lending self.old).slots ≡ length wiring.now.slots }
+        ensures { lending self.new ≡ forgotten_where wiring.now (is_among ended.now) (lending self.old) }
+    {
+        for actor in ended {
+            self.forget(wiring, runs, actor.slot);
         }
     }
 }

@@ -1,26 +1,19 @@
 -- What the end of actors sends.
-use Rattle.std.specs.Prelude.{◌≡◌, ℕ, ◌&&◌, Bool, List, [], ◌∷◌, ◌++◌, pos, Option, if◌then◌else◌}
+use Rattle.std.specs.Prelude.{ℕ, List, [], ◌∷◌, ◌++◌, pos, Option, if◌then◌else◌}
 use Rattle.std.specs.List.{flat_map}
 use Rattle.std.specs.Option.{option_map_or}
 use Rattle.room_kinds.specs.declared.message.Msg.{Msg}
 use Rattle.room_kinds.specs.declared.numbers.Incarnation.{Incarnation}
 use Rattle.room_kinds.specs.declared.system.SysKind.TheVariants as kinds
 use Rattle.room_wiring.specs.declared.tables.Tables.{Tables}
-use Rattle.actor_duties.specs.Words.{incarnation, frame_of, is_imported, is_part_of}
+use Rattle.actor_duties.specs.Words.{incarnation, frame_of, is_optional}
 use Rattle.actor_duties.specs.Messages.{to_owner}
 use Rattle.actor_duties.specs.State.{ImportPlace}
 use Rattle.actor_duties.specs.Imports.{ended_plugs, given_back, imported_parts}
-use Rattle.actor_duties.specs.Lives.{announces}
-use Rattle.room_kinds.specs.declared.numbers.Endpoint.{Endpoint}
-use Rattle.actor_duties.specs.Frame.{FrameDone, destroy}
-use Rattle.frame_lives.specs.Known.{Known}
-use Rattle.frame_lives.specs.Shown.{with_lives}
-use Rattle.frame_imports.specs.frame_peers.Parts.{frame_by}
+use Rattle.actor_duties.specs.Lives.{announces, parts_told}
+use Rattle.actor_duties.specs.Frame.{FrameDone}
+use Rattle.frame_imports.specs.import_places.Lending.{is_import_of}
 use Rattle.frame_lives.specs.declared.done.DutyDone.{DutyDone}
-
--- whether a slot is an imported one of a container
-abbrev pub is_import_of : Tables → ℕ → ℕ → Bool
-is_import_of t s i = is_imported t i && is_part_of t i s
 
 -- a home that goes back from an import place
 abbrev pub back_from : Tables → ℕ → Incarnation → Option Incarnation → List Msg
@@ -44,13 +37,10 @@ abbrev pub end_sends : Tables → ℕ → (ℕ → ImportPlace) → (ℕ → Lis
 end_sends t me places plugs x =
     ended_plugs t me x (plugs x.slot.0) ++ (all_given_back t me places x ++ announces t me x (pos 0))
 
--- what a Destroy leaves to the controller
+-- what the end of an actor sends to the other parts of its slot, if that is optional
+abbrev pub part_sends : Tables → ℕ → Incarnation → List Msg
+part_sends t me x = if is_optional t x.slot.0 then parts_told t me kinds.PartEnd x else []
+
+-- what a duty leaves to the controller
 abbrev pub left_of : FrameDone → DutyDone
 left_of r = record { made = r.made; ended = r.ended; last = r.last }
-
--- what came of a Destroy, by its row: the lives after it, the messages at once, and what is left to the
--- controller
-pub record IsDestroyed (t : Tables) (me : ℕ) (places : ℕ → ImportPlace) (plugs : ℕ → List Incarnation) (m : Msg) (o : ℕ) (x : Endpoint) (old new : Known) (before out : List Msg) (d : DutyDone) : Type 0 where
-  pub known : new ≡ with_lives old (destroy t me (frame_by old places plugs) m o x).frame.lives
-  pub sent : out ≡ before ++ (destroy t me (frame_by old places plugs) m o x).sent
-  pub done : d ≡ left_of (destroy t me (frame_by old places plugs) m o x)

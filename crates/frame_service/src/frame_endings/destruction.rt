@@ -1,21 +1,24 @@
-//! Destroy.
-ghost use Rattle.std.specs.Prelude.{◌≡◌, ◌&&◌, ◌<◌, ◌∷◌, [], pos, length, IfOk};
+//! Destroy and PartEnd.
+ghost use Rattle.std.specs.Prelude.{◌≡◌, ◌&&◌, ◌<◌, ◌∷◌, [], true, pos, length, IfOk};
 ghost use Rattle.room_kinds.specs.declared.system.SysKind.{SysKind};
 ghost use Rattle.actor_duties.specs.Words.{whose};
 ghost use Rattle.actor_duties.specs.Messages.{reply};
 ghost use Rattle.actor_duties.specs.Lives.{counts_as_live};
-ghost use Rattle.service_messages.specs.slot_runs.Runs.{IsDepthFirst, AreRunEnds};
+ghost use Rattle.actor_duties.specs.Frame.{frame_duty_of};
 ghost use Rattle.frame_lives.specs.Shown.{shown};
-ghost use Rattle.frame_service.specs.frame_endings.Ends.{IsDestroyed};
+ghost use Rattle.frame_service.specs.State.{frame_in, IsFrameOf};
+ghost use Rattle.frame_service.specs.Forms.{has_form};
+ghost use Rattle.frame_service.specs.Done.{ended_left, IsDone, IsSetEnded};
 
-use crate::frame_endings::messages::end_actors;
-use frame_imports::Lent;
+use crate::frame_endings::messages::{end_actors, end_parts};
+use crate::state::FrameState;
 use frame_lives::{DutyDone, SlotLives};
 use room_kinds::{
-    ControllerId, Endpoint, Generation, Msg, Outbox, Payload, Sequence, SlotId, SysKind,
+    ControllerId, Endpoint, Generation, Incarnation, Msg, Outbox, Payload, Sequence, SlotId,
+    SysKind,
 };
 use room_wiring::Wiring;
-use service_messages::{Code, SlotRuns, frame_at, frame_of, reply, whose};
+use service_messages::{Code, frame_at, frame_of, reply, whose};
 use std::alloc::{AllocError, Global};
 
 /// Whether the container lives, and something in the slot.
@@ -46,45 +49,90 @@ fn answered(
     Ok(reply(me, m, SysKind::DestroyDone, gone, from, payload))
 }
 
-/// A Destroy from the container `from` for its optional slot `slot`: where the container doesn't live or
-/// nothing lives in the slot, the answer is DestroyDone with code 3; else all that lives from the slot on
-/// down ends, in descending slot order, and the answer is DestroyDone with 0. What is kept of imports
-/// isn't changed here: who calls this clears it, and withdraws what the ended have registered.
-#[tactic(auto, using(crate::proofs::frame_endings::Destroyed::ended_there))]
-pub fn destroy<I: Lent>(
-    lives: &mut SlotLives,
-    alloc: Global,
-    wiring: &Wiring,
-    runs: &SlotRuns,
-    me: ControllerId,
-    lent: &I,
-    m: &Msg,
-    slot: SlotId,
-    from: Endpoint,
-    out: &mut Outbox,
-) -> Result<DutyDone, AllocError>
-    requires order { IsDepthFirst wiring.now }
-    requires runs { AreRunEnds wiring.now runs.now }
-    requires there { slot.0 < length wiring.now.slots }
-    requires whole { (shown lives.old).slots ≡ length wiring.now.slots }
-    ensures { IfOk result (λ d. IsDestroyed wiring.now me.0 (I.places lent.now) (I.plugs lent.now) m.now slot.0 from (shown lives.old) (shown lives.new) out.old out.new d) }
+/// What an end leaves to the controller: who ended, and the message that closes it.
+fn left(alloc: Global, ended: Sequence<Incarnation>, last: Option<Msg>) -> DutyDone
+    ensures { result ≡ ended_left ended last }
 {
-    if !may_end(lives, wiring, me, slot, from) {
-        let nobody = frame_at(slot, Generation(0));
-        let refused = answered(alloc, me, m, nobody, from, Code::NotHere.number())?;
-        return Ok(DutyDone {
-            made: Sequence::new(alloc),
-            ended: Sequence::new(alloc),
-            last: Some(refused),
-        });
-    }
-    let ended = lives.ending(alloc, wiring, runs, slot)?;
-    end_actors(alloc, wiring, runs, me, lent, ended.as_slice(), out)?;
-    let last = answered(alloc, me, m, frame_of(lives.last_of(slot)), from, 0)?;
-    lives.end_all(wiring, runs, slot);
-    Ok(DutyDone {
+    DutyDone {
         made: Sequence::new(alloc),
         ended,
-        last: Some(last),
-    })
+        last,
+    }
+}
+
+impl FrameState {
+    /// The end set of a slot ends, in descending slot order: what each actor in it sends goes out; then the
+    /// other parts of what ended are told; then nothing is lent to the ended or of them any more.
+    fn end_set(
+        &mut self,
+        wiring: &Wiring,
+        slot: SlotId,
+        out: &mut Outbox,
+    ) -> Result<Sequence<Incarnation>, AllocError>
+        requires fits { IsFrameOf wiring.now self.old }
+        requires there { slot.0 < length wiring.now.slots }
+        ensures { IfOk result (λ xs. IsSetEnded wiring.now self.old self.new slot.0 out.old out.new xs) }
+    {
+        let ended = self
+            .lives
+            .ending(self.alloc, wiring, &self.runs, self.me, slot)?;
+        let actors = ended.as_slice();
+        end_actors(
+            self.alloc,
+            wiring,
+            &self.runs,
+            self.me,
+            &self.imports,
+            actors,
+            out,
+        )?;
+        end_parts(self.alloc, wiring, &self.runs, self.me, actors, out)?;
+        self.lives.end_all(actors);
+        self.imports.end_all(wiring, &self.runs, actors);
+        Ok(ended)
+    }
+
+    /// Destroy, from the container `from` for its optional slot `slot`: where the container doesn't live or
+    /// nothing lives in the slot, the answer is DestroyDone with code 3; else the slot's end set ends, and
+    /// the answer is DestroyDone with 0.
+    pub(crate) fn hear_destroy(
+        &mut self,
+        wiring: &Wiring,
+        m: &Msg,
+        from: Endpoint,
+        slot: Endpoint,
+        out: &mut Outbox,
+    ) -> Result<DutyDone, AllocError>
+        requires fits { IsFrameOf wiring.now self.old }
+        requires form { has_form wiring.now self.old.me.0 SysKind.Destroy m.now.payload from slot ≡ true }
+        ensures { IfOk result (λ d. IsDone wiring.now self.old self.new (frame_duty_of wiring.now self.old.me.0 (frame_in self.old) m.now SysKind.Destroy from slot) out.old out.new d) }
+    {
+        if !may_end(&self.lives, wiring, self.me, slot.slot, from) {
+            let nobody = frame_at(slot.slot, Generation(0));
+            let code = Code::NotHere.number();
+            let refused = answered(self.alloc, self.me, m, nobody, from, code)?;
+            return Ok(left(self.alloc, Sequence::new(self.alloc), Some(refused)));
+        }
+        let gone = frame_of(self.lives.last_of(slot.slot));
+        let last = answered(self.alloc, self.me, m, gone, from, 0)?;
+        let ended = self.end_set(wiring, slot.slot, out)?;
+        Ok(left(self.alloc, ended, Some(last)))
+    }
+
+    /// PartEnd: an optional slot of another controller has ended, and with it its end set here.
+    pub(crate) fn hear_part_end(
+        &mut self,
+        wiring: &Wiring,
+        m: &Msg,
+        actor: Endpoint,
+        again: Endpoint,
+        out: &mut Outbox,
+    ) -> Result<DutyDone, AllocError>
+        requires fits { IsFrameOf wiring.now self.old }
+        requires form { has_form wiring.now self.old.me.0 SysKind.PartEnd m.now.payload actor again ≡ true }
+        ensures { IfOk result (λ d. IsDone wiring.now self.old self.new (frame_duty_of wiring.now self.old.me.0 (frame_in self.old) m.now SysKind.PartEnd actor again) out.old out.new d) }
+    {
+        let ended = self.end_set(wiring, actor.slot, out)?;
+        Ok(left(self.alloc, ended, None))
+    }
 }

@@ -3,12 +3,14 @@ ghost use Rattle.std.specs.Prelude.{◌≡◌, ◌++◌, ◌<◌, length, OnOk, 
 ghost use Rattle.std.specs.List.{flat_map};
 ghost use Rattle.actor_duties.specs.Imports.{ended_plugs};
 ghost use Rattle.service_messages.specs.slot_runs.Runs.{IsDepthFirst, AreRunEnds};
-ghost use Rattle.frame_service.specs.frame_endings.Ends.{back_from, back_if_own, all_given_back, end_sends};
+ghost use Rattle.frame_service.specs.frame_endings.Ends.{back_from, back_if_own, all_given_back, end_sends, part_sends};
 
 use frame_imports::Lent;
 use room_kinds::{ControllerId, Incarnation, Outbox, Payload, SlotId, SysKind};
 use room_wiring::Wiring;
-use service_messages::{SlotRuns, announce, frame_of, is_imported, is_part_of, to_owner};
+use service_messages::{
+    SlotRuns, announce, frame_of, is_imported, is_optional, is_part_of, tell_parts, to_owner,
+};
 use std::alloc::{AllocError, Global};
 
 /// Each import place that holds an actor is told that the import has ended.
@@ -113,7 +115,7 @@ fn give_all_back<I: Lent>(
 /// What the end of an actor sends: to its plugs, oldest first; for its imported slots, in slot order; and
 /// to the controllers that are told of its slot, ascending.
 #[tactic(auto, using(crate::proofs::frame_endings::Back::three_parts))]
-pub fn end_actor<I: Lent>(
+fn end_actor<I: Lent>(
     alloc: Global,
     wiring: &Wiring,
     runs: &SlotRuns,
@@ -149,6 +151,47 @@ pub fn end_actors<I: Lent>(
 {
     for actor in actors {
         end_actor(alloc, wiring, runs, me, lent, *actor, out)?;
+    }
+    Ok(())
+}
+
+/// Tells the other controllers that have a part of an actor's slot, if that is optional, that the actor
+/// has ended.
+fn end_part(
+    alloc: Global,
+    wiring: &Wiring,
+    runs: &SlotRuns,
+    me: ControllerId,
+    actor: Incarnation,
+    out: &mut Outbox,
+) -> Result<(), AllocError>
+    requires order { IsDepthFirst wiring.now }
+    requires runs { AreRunEnds wiring.now runs.now }
+    requires there { actor.slot.0 < length wiring.now.slots }
+    ensures { OnOk result (out.new ≡ out.old ++ part_sends wiring.now me.0 actor) }
+{
+    if is_optional(wiring, actor.slot) {
+        return tell_parts(alloc, wiring, runs, me, SysKind::PartEnd, actor, out);
+    }
+    Ok(())
+}
+
+/// The same of each of these actors, one after another.
+pub fn end_parts(
+    alloc: Global,
+    wiring: &Wiring,
+    runs: &SlotRuns,
+    me: ControllerId,
+    actors: &[Incarnation],
+    out: &mut Outbox,
+) -> Result<(), AllocError>
+    requires order { IsDepthFirst wiring.now }
+    requires runs { AreRunEnds wiring.now runs.now }
+    requires there { All (λ x. x.slot.0 < length wiring.now.slots) actors.now }
+    ensures { OnOk result (out.new ≡ out.old ++ flat_map (part_sends wiring.now me.0) actors.now) }
+{
+    for actor in actors {
+        end_part(alloc, wiring, runs, me, *actor, out)?;
     }
     Ok(())
 }

@@ -2,9 +2,10 @@
 use Rattle.std.specs.Prelude.{ℕ, List, [], ◌∷◌, ◌&&◌, if◌then◌else◌, Option, Some, None, option_map, option_and_then, codes, ℤ}
 use Rattle.name_tables.specs.name_numbers.Names.{same}
 use Rattle.room_wiring.specs.WellNamed.{is_ident}
-use Rattle.inject_reader.specs.inject_lines.Texts.{cut_at, are_digits, is_path}
+use Rattle.text_reading.specs.Cuts.{cut_at}
+use Rattle.text_reading.specs.Numerals.{are_digits, number_in}
+use Rattle.inject_reader.specs.inject_lines.Texts.{is_path}
 use Rattle.inject_reader.specs.inject_lines.Fields.{fields}
-use Rattle.inject_reader.specs.inject_lines.Numerals.{number_in}
 
 -- the path of a slot, the name of a port and the digits of a place; no digits where no place is written
 pub record TargetForm : Type 0 where

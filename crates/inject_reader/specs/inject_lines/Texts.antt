@@ -1,17 +1,10 @@
 -- Names, digits and paths in a line.
-use Rattle.std.specs.Prelude.{ℕ, List, [], ◌∷◌, Bool, true, ◌&&◌, ◌==◌, nat_lt, if◌then◌else◌, Option, Some, None, length}
+use Rattle.std.specs.Prelude.{ℕ, List, Bool, true, ◌&&◌, ◌==◌}
 use Rattle.std.specs.List.{list_all, slice_split}
 use Rattle.std.specs.Option.{option_map_or}
-use Rattle.room_wiring.specs.WellNamed.{is_digit, is_ident}
-
--- what stands before the first byte c, and what stands behind it, if it comes
-abbrev pub cut_at : ℕ → List ℕ → List ℕ × Option (List ℕ)
-cut_at c [] = ([], None)
-cut_at c (b ∷ bs) = if b == c then ([], Some bs) else (b ∷ (cut_at c bs).0, (cut_at c bs).1)
-
--- one digit or more
-abbrev pub are_digits : List ℕ → Bool
-are_digits text = nat_lt 0 (length text) && list_all is_digit text
+use Rattle.room_wiring.specs.WellNamed.{is_ident}
+use Rattle.text_reading.specs.Cuts.{cut_at}
+use Rattle.text_reading.specs.Numerals.{are_digits}
 
 -- a name, or a name with an index: `name:12`
 unfoldable pub is_segment : List ℕ → Bool

@@ -2,14 +2,14 @@
 ghost use Rattle.std.specs.Prelude.{◌≡◌, option_map, IfOk};
 ghost use Rattle.std.specs.Option.{option_copied};
 ghost use Rattle.inject_reader.specs.inject_lines.Forms.{place_in, target_at, target_in, priority_in, priority_of, load_in, message_in, form_in, settle_in, loaded};
-ghost use Rattle.inject_reader.specs.inject_lines.Texts.{cut_at};
+ghost use Rattle.text_reading.specs.Cuts.{cut_at};
 ghost use Rattle.inject_reader.specs.inject_lines.Views.{target_view, load_view, form_view};
 
 use crate::inject_lines::fields::Fields;
-use crate::inject_lines::numerals::number;
-use crate::inject_lines::texts::{are_digits, cut, is, is_ident, is_path};
+use crate::inject_lines::texts::{is, is_ident, is_path};
 use room_kinds::Priority;
 use std::alloc::{AllocError, Global};
+use text_reading::{are_digits, cut, number};
 
 /// Where a message goes, as it is written: the path of a slot, the name of a port and the digits
 /// of a place, of which there are none where no place is written.

@@ -1,35 +1,17 @@
 //! Names, digits and paths.
-ghost use Rattle.std.specs.Prelude.{◌≡◌, ◌≤◌, ◌==◌, ◌||◌, not, length};
-ghost use Rattle.std.specs.List.{prefix_len, list_all};
-ghost use Rattle.std.specs.Option.{option_copied};
+ghost use Rattle.std.specs.Prelude.{◌≡◌, ◌||◌};
+ghost use Rattle.std.specs.List.{list_all};
 ghost use Rattle.name_tables.specs.name_numbers.Names.{same};
 ghost use Rattle.room_wiring.specs.WellNamed.{begins_ident, is_digit, is_ident};
-ghost use Rattle.inject_reader.specs.inject_lines.Texts.{cut_at, are_digits, is_segment, is_path};
+ghost use Rattle.inject_reader.specs.inject_lines.Texts.{is_segment, is_path};
+
+use text_reading::{are_digits, cut};
 
 /// Whether this is the word.
 pub fn is(word: &[u8], text: &str) -> bool
     ensures { result ≡ same word.now text.now }
 {
     word == text.as_bytes()
-}
-
-fn length_before(bytes: &[u8], at: u8) -> usize
-    ensures len { result ≡ prefix_len (λ b. not (b == at)) bytes.now }
-    ensures within { result ≤ length bytes.now }
-{
-    bytes.iter().take_while(|b| **b != at).count()
-}
-
-/// What stands before the first `at`, and what stands behind it, if it comes.
-pub fn cut(bytes: &[u8], at: u8) -> (&[u8], Option<&[u8]>)
-    ensures before { result.0.now ≡ (cut_at at bytes.now).0 }
-    ensures behind { option_copied result.1 ≡ (cut_at at bytes.now).1 }
-{
-    let (before, rest) = bytes.split_at(length_before(bytes, at));
-    match rest {
-        [_, behind @ ..] => (before, Some(behind)),
-        [] => (before, None),
-    }
 }
 
 fn begins_ident(byte: u8) -> bool
@@ -59,19 +41,6 @@ pub fn is_ident(text: &[u8]) -> bool
         [first, rest @ ..] => begins_ident(*first) && goes_on_as_ident(rest),
         [] => false,
     }
-}
-
-fn all_digits(text: &[u8]) -> bool
-    ensures { result ≡ list_all is_digit text.now }
-{
-    text.iter().all(|b| is_digit(*b))
-}
-
-/// Whether the text is one digit or more.
-pub fn are_digits(text: &[u8]) -> bool
-    ensures { result ≡ are_digits text.now }
-{
-    !text.is_empty() && all_digits(text)
 }
 
 #[tactic(auto, unfolding(crate::specs::inject_lines::Texts::is_segment))]

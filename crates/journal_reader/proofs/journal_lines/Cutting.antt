@@ -1,13 +1,13 @@
 -- Texts, cut at a byte.
-use Rattle.std.proofs.Common.{inl, inr, take, drop, ◌≡◌, ℕ, suc, ◌+◌, ◌<◌, ◌≤◌, Bool, true, false, List, [], ◌∷◌, ◌++◌, length, not, refl, sym, ap, ◌∙◌, arith, append_assoc, subst}
-use Rattle.std.specs.Prelude.{◌==◌, ◌&&◌, ◌⊎◌, fold}
-use Rattle.std.specs.List.{slice_split, position_or_len}
-use Rattle.std.proofs.lemmas.Bool.{not-true, and_parts, and_from}
+use Rattle.std.proofs.Common.{inl, inr, ◌≡◌, ℕ, Bool, true, false, cond, Option, Some, None, List, [], ◌∷◌, ◌++◌, not, refl, sym, ap, ◌∙◌, arith, subst}
+use Rattle.std.specs.Prelude.{◌==◌, ◌&&◌, ◌⊎◌, fold, unwrap_or}
+use Rattle.std.specs.List.{slice_split}
+use Rattle.std.proofs.lemmas.Bool.{not-true, and_parts}
 use Rattle.std.proofs.lemmas.Bool.Decides.{nat_tests}
-use Rattle.std.proofs.lemmas.List.{take_at, drop_at, take_all, drop_all, length_push}
+use Rattle.text_reading.specs.Cuts.{cut_at}
 use Rattle.room_wiring.specs.declared.tables.Tables.{Tables}
 use Rattle.journal_reader.specs.declared.journal_lines.draft.Draft.{Draft}
-use Rattle.journal_reader.specs.journal_lines.Numerals.{upto, past, begins_digit}
+use Rattle.journal_reader.specs.journal_lines.Numerals.{upto, past}
 use Rattle.journal_reader.specs.journal_lines.Reading.{worded, taking, reading}
 
 -- no byte is c
@@ -18,35 +18,35 @@ lacks c (b ∷ bs) = not (b == c) && lacks c bs
 pub same_byte : (c : ℕ) → (c == c) ≡ true
 same_byte c = grind (arith, nat_tests)
 
-position_at : (c : ℕ) (w r : List ℕ) → lacks c w ≡ true → position_or_len (λ b. b == c) (w ++ c ∷ r) ≡ length w
-position_at c [] r h = rw (same_byte c) refl
-position_at c (b ∷ bs) r h =
-    let parts = and_parts (not (b == c)) (lacks c bs) h in
-    let other : (b == c) ≡ false = not-true (b == c) parts.0 in
-    let rest = position_at c bs r parts.1 in
-    rw (other, rest) (omega arith)
+cut_here : (c : ℕ) (r : List ℕ) → cut_at c (c ∷ r) ≡ ([], Some r)
+cut_here c r = ap (λ (t : Bool). cond {A = List ℕ × Option (List ℕ)} t ([], Some r) (c ∷ (cut_at c r).0, (cut_at c r).1)) (same_byte c)
 
-position_none : (c : ℕ) (w : List ℕ) → lacks c w ≡ true → position_or_len (λ b. b == c) w ≡ length w
-position_none c [] h = refl
-position_none c (b ∷ bs) h =
+cut_later : (c b : ℕ) (bs : List ℕ) → (b == c) ≡ false → cut_at c (b ∷ bs) ≡ (b ∷ (cut_at c bs).0, (cut_at c bs).1)
+cut_later c b bs other = ap (λ (t : Bool). cond {A = List ℕ × Option (List ℕ)} t ([], Some bs) (b ∷ (cut_at c bs).0, (cut_at c bs).1)) other
+
+cut_front : (c : ℕ) (w r : List ℕ) → lacks c w ≡ true → cut_at c (w ++ c ∷ r) ≡ (w, Some r)
+cut_front c [] r h = cut_here c r
+cut_front c (b ∷ bs) r h =
     let parts = and_parts (not (b == c)) (lacks c bs) h in
-    let other : (b == c) ≡ false = not-true (b == c) parts.0 in
-    let rest = position_none c bs parts.1 in
-    rw (other, rest) (omega arith)
+    cut_later c b (bs ++ c ∷ r) (not-true (b == c) parts.0) ∙ ap (λ (p : List ℕ × Option (List ℕ)). (b ∷ p.0, p.1)) (cut_front c bs r parts.1)
+
+cut_none : (c : ℕ) (w : List ℕ) → lacks c w ≡ true → cut_at c w ≡ (w, None)
+cut_none c [] h = refl
+cut_none c (b ∷ bs) h =
+    let parts = and_parts (not (b == c)) (lacks c bs) h in
+    cut_later c b bs (not-true (b == c) parts.0) ∙ ap (λ (p : List ℕ × Option (List ℕ)). (b ∷ p.0, p.1)) (cut_none c bs parts.1)
 
 pub upto_at : (c : ℕ) (w r : List ℕ) → lacks c w ≡ true → upto c (w ++ c ∷ r) ≡ w
-upto_at c w r h = ap (λ (n : ℕ). take n (w ++ c ∷ r)) (position_at c w r h) ∙ take_at w (c ∷ r) (length w) refl
+upto_at c w r h = ap (λ (p : List ℕ × Option (List ℕ)). p.0) (cut_front c w r h)
 
 pub past_at : (c : ℕ) (w r : List ℕ) → lacks c w ≡ true → past c (w ++ c ∷ r) ≡ r
-past_at c w r h =
-    ap (λ (n : ℕ). drop (n + 1) (w ++ c ∷ r)) (position_at c w r h)
-    ∙ ap (drop (length w + 1)) (sym (append_assoc w (c ∷ []) r)) ∙ drop_at (w ++ c ∷ []) r (length w + 1) (length_push w c)
+past_at c w r h = ap (λ (p : List ℕ × Option (List ℕ)). unwrap_or p.1 []) (cut_front c w r h)
 
 pub upto_all : (c : ℕ) (w : List ℕ) → lacks c w ≡ true → upto c w ≡ w
-upto_all c w h = ap (λ (n : ℕ). take n w) (position_none c w h) ∙ take_all (length w) w (omega arith)
+upto_all c w h = ap (λ (p : List ℕ × Option (List ℕ)). p.0) (cut_none c w h)
 
 pub past_all : (c : ℕ) (w : List ℕ) → lacks c w ≡ true → past c w ≡ []
-past_all c w h = ap (λ (n : ℕ). drop (n + 1) w) (position_none c w h) ∙ drop_all (length w + 1) w (omega arith)
+past_all c w h = ap (λ (p : List ℕ × Option (List ℕ)). unwrap_or p.1 []) (cut_none c w h)
 
 pub split_at : (c : ℕ) (w r : List ℕ) → lacks c w ≡ true → slice_split (λ b. b == c) (w ++ c ∷ r) ≡ w ∷ slice_split (λ b. b == c) r
 split_at c [] r h = rw (same_byte c) refl

@@ -1,9 +1,8 @@
 -- Steps of the loops over digits, numbers and lines.
-use Rattle.std.proofs.Common.{◌≡◌, ℕ, zero, suc, ◌+◌, ◌-◌, ◌<◌, ◌≤◌, Bool, true, false, cond, List, [], ◌∷◌, ◌++◌, length, take, drop, refl, sym, ap, ◌∙◌, arith, append_assoc, ℤ}
-use Rattle.std.specs.Prelude.{◌==◌}
-use Rattle.std.specs.List.{position_or_len, prefix_len}
-use Rattle.std.proofs.lemmas.List.{take_all, drop-drop, length_push, append-nil}
-use Rattle.std.proofs.Math.ListN.{length-drop}
+use Rattle.std.proofs.Common.{◌≡◌, ℕ, zero, suc, ◌+◌, ◌-◌, ◌<◌, ◌≤◌, Bool, true, false, cond, List, [], ◌∷◌, ◌++◌, length, refl, sym, ap, ◌∙◌, arith, append_assoc, ℤ, Option, Some}
+use Rattle.std.specs.Prelude.{◌==◌, unwrap_or}
+use Rattle.text_reading.specs.Cuts.{cut_at}
+use Rattle.std.proofs.lemmas.List.{length_push, append-nil}
 use Rattle.std.proofs.lemmas.Bool.{ne_eqb}
 use Rattle.room_wiring.specs.declared.tables.Tables.{Tables}
 use Rattle.journal_reader.specs.declared.journal_lines.draft.Draft.{Draft}
@@ -13,8 +12,17 @@ use Rattle.journal_reader.specs.journal_lines.Reading.{taking, reading}
 use Rattle.journal_reader.proofs.journal_lines.Cutting.{next_line, end_read}
 
 -- what stands behind a byte is shorter
+past_in : (c b : ℕ) (bs : List ℕ) (t : Bool) → length (past c bs) ≤ length bs → (let cut : List ℕ × Option (List ℕ) = cond t ([], Some bs) (b ∷ (cut_at c bs).0, (cut_at c bs).1) in length (unwrap_or cut.1 []) ≤ length bs)
+past_in c b bs true h = omega arith
+past_in c b bs false h = h
+
+past_no_longer : (c : ℕ) (s : List ℕ) → length (past c s) ≤ length s
+past_no_longer c [] = omega arith
+past_no_longer c (b ∷ bs) = let inside : length (past c (b ∷ bs)) ≤ length bs = past_in c b bs (b == c) (past_no_longer c bs) in omega arith
+
 pub past_shorter : (c : ℕ) (s : List ℕ) → 0 < length s → length (past c s) < length s
-past_shorter c s h = omega (arith, length-drop (position_or_len (λ b. b == c) s + 1) s)
+past_shorter c [] h = absurd (omega arith)
+past_shorter c (b ∷ bs) h = let inside : length (past c (b ∷ bs)) ≤ length bs = past_in c b bs (b == c) (past_no_longer c bs) in omega arith
 
 -- numbers that were read from the front of a text, at most 64, and what is left of it
 pub record IsReading (done : List ℤ) (rest bytes : List ℕ) : Type 0 where
@@ -77,19 +85,3 @@ empty_is (b ∷ bs) e = absurd (omega arith)
 
 pub lines_end : (t : Tables) (d whole : Draft) (s : List ℕ) → reading t d s ≡ whole → length s ≡ 0 → d ≡ whole
 lines_end t d whole s h e = sym (end_read t d) ∙ ap (λ (x : List ℕ). reading t d x) (sym (empty_is s e)) ∙ h
-
--- ---- bytes
-
-pub prefix_len-le : (p : ℕ → Bool) (s : List ℕ) → prefix_len p s ≤ length s
-prefix_len-le p [] = omega arith
-prefix_len-le p (b ∷ bs) = let rest : prefix_len p bs ≤ length bs = prefix_len-le p bs in by_test (p b) (prefix_len p bs) (length bs) rest
-  where
-    by_test : (t : Bool) (n m : ℕ) → n ≤ m → cond t (1 + n) 0 ≤ suc m
-    by_test true n m h = omega arith
-    by_test false n m h = omega arith
-
--- behind the first byte of a rest
-pub behind_first : (n : ℕ) (s rest : List ℕ) → rest ≡ drop n s → take (length rest - 1) (drop 1 rest) ≡ drop (n + 1) s
-behind_first n s rest e =
-    let whole : take (length rest - 1) (drop 1 rest) ≡ drop 1 rest = take_all (length rest - 1) (drop 1 rest) (omega (arith, length-drop 1 rest)) in
-    whole ∙ ap (drop 1) e ∙ drop-drop 1 n s

@@ -17,7 +17,8 @@ use Rattle.journal_reader.specs.journal_lines.Numerals.{upto, past, begins, word
 use Rattle.journal_reader.specs.journal_lines.Fields.{party_in, incarnation_in, after_incarnation, after_path, after_generation, after_port, endpoint_in, after_endpoint, source_in, after_source, signal_in}
 use Rattle.journal_reader.proofs.journal_lines.Cutting.{lacks, upto_at, past_at, upto_all}
 use Rattle.journal_reader.specs.journal_texts.InRange.{InRangeIncarnation, InRangeEndpoint, InRangeSource}
-use Rattle.journal_reader.proofs.journal_texts.NumbersBack.{lacks_kind, begins_other, number_lacks, byte_back, word_back, digits_of_number}
+use Rattle.journal_reader.proofs.journal_texts.NumbersBack.{lacks_kind, begins_other, number_lacks, byte_back, word_back}
+use Rattle.text_reading.proofs.Decimals.{digits_of_number}
 use Rattle.journal_reader.proofs.journal_texts.NamesText.{word_byte, path_byte}
 use Rattle.journal_reader.proofs.journal_texts.NamesBack.{path_known, port_known, signal_known, kind_known}
 

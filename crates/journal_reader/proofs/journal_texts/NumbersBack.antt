@@ -1,15 +1,14 @@
 -- Numbers, read back from their digits.
-use Rattle.std.proofs.Common.{◌≡◌, ℕ, suc, ◌+◌, ◌-◌, ◌*◌, ◌<◌, ◌≤◌, ◌^◌, Bool, true, false, cond, List, [], ◌∷◌, ◌++◌, length, not, refl, sym, ap, ◌∙◌, arith, subst, rules, ℤ, pos, negsuc}
-use Rattle.std.specs.Prelude.{◌==◌, nat_lt, decimal}
+use Rattle.std.proofs.Common.{◌≡◌, ℕ, suc, ◌<◌, Bool, true, false, cond, List, [], ◌∷◌, ◌++◌, length, not, refl, ap, ◌∙◌, arith, min, Option, ℤ, pos, negsuc}
+use Rattle.std.specs.Prelude.{◌==◌, decimal, unwrap_or}
 use Rattle.std.specs.Fmt.{signed_decimal}
 use Rattle.std.specs.List.{list_all}
-use Rattle.std.specs.Str.{all_ascii_digits}
 use Rattle.std.specs.Char.{is_ascii_digit}
-use Rattle.std.proofs.lemmas.Bool.{and_parts, and_from, lt-ltb, le-ltb, ne_eqb}
+use Rattle.std.proofs.lemmas.Bool.{and_parts, and_from, lt-ltb}
 use Rattle.std.proofs.lemmas.Bool.Decides.{nat_tests}
-use Rattle.std.proofs.lemmas.Str.Parse.{IsNumeralModel, numerals_by_fold}
-use Rattle.std.proofs.lemmas.Fmt.{digits_decimal, digits_value-decimal, decimal_nonempty}
-use Rattle.journal_reader.specs.journal_lines.Numerals.{begins, begins_digit, below, number_from, number_in, byte_in, word_in, negative, signed_in}
+use Rattle.text_reading.proofs.Decimals as numerals
+use Rattle.text_reading.proofs.Decimals.{digits_of_number, some_digit, value_back}
+use Rattle.journal_reader.specs.journal_lines.Numerals.{begins, begins_digit, below, number_in, byte_in, word_in, signed_in}
 use Rattle.journal_reader.proofs.journal_lines.Cutting.{lacks}
 use Rattle.journal_reader.specs.journal_texts.InRange.{IsSigned64}
 
@@ -40,47 +39,15 @@ begins_other p c (b ∷ bs) r h n k = let parts = and_parts (p b) (list_all p bs
 
 -- ---- digits
 
-digits_all : (w : List ℕ) → all_ascii_digits w ≡ true → list_all is_ascii_digit w ≡ true
-digits_all [] h = refl
-digits_all (b ∷ bs) h = let parts = and_parts (is_ascii_digit b) (all_ascii_digits bs) h in and_from (is_ascii_digit b) (list_all is_ascii_digit bs) parts.0 (digits_all bs parts.1)
-
--- the value of digits behind others, however large
-abbrev value_from : ℕ → List ℕ → ℕ
-value_from n [] = n
-value_from n (c ∷ cs) = value_from (10 * n + (c - 48)) cs
-
-own : IsNumeralModel (λ ds. all_ascii_digits ds ≡ true) (value_from 0)
-own = numerals_by_fold _ (search rules) value_from (search rules)
-
-value_ge : (n : ℕ) (ds : List ℕ) → n ≤ value_from n ds
-value_ge n [] = omega arith
-value_ge n (d ∷ ds) = let more : 10 * n + (d - 48) ≤ value_from (10 * n + (d - 48)) ds = value_ge (10 * n + (d - 48)) ds in omega arith
-
 below_is : (limit n : ℕ) → n < limit → below limit n ≡ n
 below_is limit n h = ap (λ (b : Bool). cond b n 0) (lt-ltb n limit h)
 
 abbrev max : ℕ
 max = 18446744073709551616
 
-exact : (n : ℕ) (ds : List ℕ) → value_from n ds < max → number_from n ds ≡ value_from n ds
-exact n [] h = refl
-exact n (d ∷ ds) h =
-    let next = 10 * n + (d - 48) in
-    let small : next ≤ value_from next ds = value_ge next ds in
-    let fits : next < max = omega arith in
-    ap (λ (v : ℕ). number_from v ds) (below_is max next fits) ∙ exact next ds h
-
-big : (n : ℕ) → n < max → n < 2 ^ 64
-big n h = h
-
-pub digits_of_number : (n : ℕ) → n < max → list_all is_ascii_digit (decimal n) ≡ true
-digits_of_number n h = digits_all (decimal n) (digits_decimal own n (big n h))
-
 pub number_back : (n : ℕ) → n < max → number_in (decimal n) ≡ n
 unfolding number_in
-number_back n h =
-    let is : value_from 0 (decimal n) ≡ n = digits_value-decimal own n (big n h) in
-    exact 0 (decimal n) (subst (λ (v : ℕ). v < max) (sym is) h) ∙ is
+number_back n h = let small : min n 18446744073709551615 ≡ n = omega arith in ap (λ (v : ℕ). min v 18446744073709551615) (value_back n h) ∙ small
 
 pub byte_back : (n : ℕ) → n < 256 → byte_in (decimal n) ≡ n
 unfolding byte_in
@@ -98,30 +65,14 @@ first_digit [] r h all = absurd (omega arith)
 first_digit (b ∷ bs) r h all = let parts = and_parts (is_ascii_digit b) (list_all is_ascii_digit bs) all in parts.0
 
 pub number_begins : (n : ℕ) (r : List ℕ) → n < max → begins_digit (decimal n ++ r) ≡ true
-number_begins n r h = first_digit (decimal n) r (decimal_nonempty n (big n h)) (digits_of_number n h)
+number_begins n r h = first_digit (decimal n) r (some_digit n h) (digits_of_number n h)
 
 -- ---- numbers with a sign
 
-no_minus : (w : List ℕ) → list_all is_ascii_digit w ≡ true → begins 45 w ≡ false
-no_minus [] h = refl
-no_minus (b ∷ bs) h = let parts = and_parts (is_ascii_digit b) (list_all is_ascii_digit bs) h in differs is_ascii_digit b 45 _ parts.0 refl refl
-
-negative_is : (n : ℕ) → n < 9223372036854775808 → negative (suc n) ≡ negsuc n
-negative_is n h =
-    let within : nat_lt 9223372036854775808 (suc n) ≡ false = le-ltb 9223372036854775808 (suc n) (omega arith) in
-    let some : (suc n == 0) ≡ false = ne_eqb (suc n) 0 (λ e. omega arith) in
-    let less : suc n - 1 ≡ n = omega arith in
-    rw (within, some, less) refl
-
 pub signed_back : (z : ℤ) → IsSigned64 z → signed_in (signed_decimal z) ≡ z
 unfolding signed_in
-signed_back (pos n) h =
-    let fits : n < max = omega arith in
-    let plain : begins 45 (decimal n) ≡ false = no_minus (decimal n) (digits_of_number n fits) in
-    rw (plain, number_back n fits) (ap pos (below_is 9223372036854775808 n h))
-signed_back (negsuc n) h =
-    let fits : suc n < max = omega arith in
-    ap negative (number_back (suc n) fits) ∙ negative_is n h
+signed_back (pos n) h = ap (λ (o : Option ℤ). unwrap_or o (pos 0)) (numerals.number_back (pos n) h)
+signed_back (negsuc n) h = ap (λ (o : Option ℤ). unwrap_or o (pos 0)) (numerals.number_back (negsuc n) h)
 
 pub signed_lacks : (c : ℕ) (z : ℤ) → IsSigned64 z → (45 == c) ≡ false → is_ascii_digit c ≡ false → lacks c (signed_decimal z) ≡ true
 signed_lacks c (pos n) h minus none = number_lacks c n (omega arith) none

@@ -1,11 +1,9 @@
 -- A text as journals, line by line. What isn't written as journals are is read as some journals.
-use Rattle.std.specs.Prelude.{ℕ, Bool, List, ◌==◌, if◌then◌else◌, Option, Some, None, length, codes, fold}
+use Rattle.std.specs.Prelude.{ℕ, Bool, List, ◌==◌, if◌then◌else◌, Some, length, codes, fold}
 use Rattle.std.specs.List.{slice_split}
 use Rattle.name_tables.specs.name_numbers.Names.{same}
-use Rattle.room_kinds.specs.declared.numbers.ControllerId.{ControllerId}
 use Rattle.room_wiring.specs.declared.tables.Tables.{Tables}
 use Rattle.journal.specs.declared.entry.Entry.TheVariants as entries
-use Rattle.journal.specs.declared.entry.Left.{Left}
 use Rattle.journal.specs.declared.entry.Journals.{Journals}
 use Rattle.journal.specs.Lines.{speaker_of}
 use Rattle.journal_reader.specs.declared.journal_lines.draft.Draft.{Draft}

@@ -12,16 +12,15 @@ use std::alloc::{AllocError, Global};
 
 /// The numbers that are left on a line, at most 64.
 #[tactic(auto, unfolding(crate::specs::journal_lines::Messages::numbers_in))]
-fn numbers(alloc: Global, bytes: &[u8]) -> Result<Vec<i64>, AllocError>
-    ensures numbers { IfOk result (λ v. v.items ≡ numbers_in bytes.now) }
-    ensures few { IfOk result (λ v. length v.items ≤ 64) }
+fn payload(alloc: Global, bytes: &[u8]) -> Result<Payload, AllocError>
+    ensures { IfOk result (λ p. p ≡ numbers_in bytes.now) }
 {
     let mut rest = Rest::new(bytes);
-    let mut numbers = Vec::new(alloc);
-    while !rest.is_empty() && numbers.len() < Payload::MAX_LEN {
-        numbers.push(signed(rest.take_until(b' ')))?;
+    let mut payload = Payload::empty(alloc);
+    while !rest.is_empty() && payload.numbers().len() < Payload::MAX_LEN {
+        payload.push(signed(rest.take_until(b' ')))?;
     }
-    Ok(numbers)
+    Ok(payload)
 }
 
 /// Who sent a message to whom, and when.
@@ -46,7 +45,7 @@ pub fn message(
     let source = source(names, &mut rest);
     let target = endpoint(names, &mut rest);
     let signal = signal(names, prio, target, rest.take_until(b' '));
-    let numbers = numbers(alloc, rest.bytes())?;
+    let payload = payload(alloc, rest.bytes())?;
     Ok(Msg {
         from: sent.from,
         to: sent.to,
@@ -55,7 +54,7 @@ pub fn message(
         source,
         target,
         signal,
-        payload: Payload::from_vec(numbers),
+        payload,
     })
 }
 

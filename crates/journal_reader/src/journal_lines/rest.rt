@@ -1,8 +1,7 @@
 //! What is left of a text or a line to read.
-ghost use Rattle.std.specs.Prelude.{◌≡◌, ◌==◌, length, not, pos};
-ghost use Rattle.std.specs.List.{prefix_len};
+ghost use Rattle.std.specs.Prelude.{◌≡◌, ◌==◌, length};
 ghost use Rattle.name_tables.specs.name_numbers.Names.{same};
-ghost use Rattle.journal_reader.specs.journal_lines.Numerals.{upto, past, begins, begins_digit, below, next_value, number_in, byte_in, word_in, negative, signed_in};
+ghost use Rattle.journal_reader.specs.journal_lines.Numerals.{upto, past, begins, begins_digit, number_in, byte_in, word_in, signed_in};
 
 use std::marker::Model;
 
@@ -68,22 +67,15 @@ impl<'a> Rest<'a> {
     }
 }
 
-/// What stands before the first `at`, and what stands behind it.
+/// What stands before the first `at`, and what stands behind it: nothing where it doesn't come.
 fn cut(bytes: &[u8], at: u8) -> (&[u8], &[u8])
     ensures before { result.0.now ≡ upto at bytes.now }
     ensures behind { result.1.now ≡ past at bytes.now }
 {
-    let (taken, rest) = bytes.split_at(length_before(bytes, at));
-    match rest {
-        [_, behind @ ..] => (taken, behind),
-        [] => (taken, rest),
+    match text_reading::cut(bytes, at) {
+        (taken, Some(behind)) => (taken, behind),
+        (taken, None) => (taken, b""),
     }
-}
-
-fn length_before(bytes: &[u8], at: u8) -> usize
-    ensures { result ≡ prefix_len (λ b. not (b == at)) bytes.now }
-{
-    bytes.iter().take_while(|b| **b != at).count()
 }
 
 /// Whether this is the word.
@@ -103,27 +95,12 @@ pub fn begins_digit(line: &[u8]) -> bool
     }
 }
 
-fn next_value(value: u64, digit: u8) -> u64
-    ensures { result ≡ next_value value digit }
-{
-    let sum = 10 * u128::from(value) + u128::from(digit.saturating_sub(48));
-    if sum < 18446744073709551616 {
-        sum as u64
-    } else {
-        0
-    }
-}
-
-/// The value of decimal digits.
+/// The value of decimal digits; the greatest number of 64 bits for every greater one.
 #[tactic(auto, unfolding(crate::specs::journal_lines::Numerals::number_in))]
 pub fn number(digits: &[u8]) -> u64
     ensures { result ≡ number_in digits.now }
 {
-    let mut value = 0;
-    for digit in digits {
-        value = next_value(value, *digit);
-    }
-    value
+    text_reading::value(digits)
 }
 
 #[tactic(auto, unfolding(crate::specs::journal_lines::Numerals::byte_in))]
@@ -142,33 +119,10 @@ pub fn word(digits: &[u8]) -> u32
     if value < 4294967296 { value as u32 } else { 0 }
 }
 
-fn negative(size: u64) -> i64
-    ensures { result ≡ negative size }
-{
-    if size > 9223372036854775808 || size == 0 {
-        0
-    } else {
-        -1 - ((size - 1) as i64)
-    }
-}
-
-fn positive(size: u64) -> i64
-    ensures { result ≡ pos (below 9223372036854775808 size) }
-{
-    if size < 9223372036854775808 {
-        size as i64
-    } else {
-        0
-    }
-}
-
-/// A number with or without a `-` before it.
+/// A number with or without a `-` before it; 0 for what is none.
 #[tactic(auto, unfolding(crate::specs::journal_lines::Numerals::signed_in))]
 pub fn signed(text: &[u8]) -> i64
     ensures { result ≡ signed_in text.now }
 {
-    match text {
-        [b'-', digits @ ..] => negative(number(digits)),
-        _ => positive(number(text)),
-    }
+    text_reading::number(text).unwrap_or(0)
 }

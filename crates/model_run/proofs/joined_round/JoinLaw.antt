@@ -16,7 +16,7 @@ use Rattle.controller.specs.Calls.{FetchesLeft, Turns, took_one, took_none}
 use Rattle.controller.specs.declared.controller.Controller.{Controller}
 use Rattle.controller.proofs.Going.{goes_none}
 use Rattle.model_run.specs.run_worker.Works.{Works}
-use Rattle.model_run.specs.joined_round.Joined.{Changes, LastTurn, IsReady, Seat, seat, WorkedAt, FetchedAt, TurnedAt, Joined, RoundDone}
+use Rattle.model_run.specs.joined_round.Joined.{AllStand, Changes, LastTurn, IsReady, Seat, seat, WorkedAt, FetchedAt, TurnedAt, HaveWorked, AreJoined, Joined, RoundDone}
 
 module _ (plant : Plant) where
   -- no turn
@@ -49,7 +49,18 @@ module _ (plant : Plant) where
       each = λ c b. joined c (omega (arith, here));
     }
 
-same_there : {X : Type 0} (o : Option X) (x y : X) → o ≡ Some x → o ≡ Some y → x ≡ y
+-- the workers and then the joined step are a round
+pub round_of : (plant : Plant) (olds mids news : List Controller) (logs logs' : List EndLog) → AllStand plant olds → HaveWorked plant olds logs mids logs' → AreJoined plant mids news logs'
+    → (after : List EndLog) × (answer : List (List Msg)) × RoundDone plant olds news logs after answer
+round_of plant olds mids news logs logs' stand w j = (
+  logs',
+  j.answer,
+  round_done plant olds mids j.fetched news logs logs' j.answer (length olds) stand.count w.steps
+      (subst (λ (z : ℕ). StepsBelow (FetchedAt plant j.answer) z (slice_get mids) (slice_get j.fetched)) w.count j.fetches)
+      (subst (λ (z : ℕ). StepsBelow (TurnedAt plant) z (slice_get j.fetched) (slice_get news)) w.count j.turns) (j.count ∙ w.count) w.parties j.left,
+)
+
+pub same_there : {X : Type 0} (o : Option X) (x y : X) → o ≡ Some x → o ≡ Some y → x ≡ y
 same_there o x y e f = let both : Some x ≡ Some y = sym e ∙ f in cc
 
 -- one controller more has worked with its end
@@ -97,7 +108,7 @@ list_at f lists first i v same at h =
     let there : slice_get first i ≡ Some v = sym same ∙ slice_get_read lists (length lists) i v refl h at in
     sym (get_or-map f first i v [] (slice_get_within first i v there) ∙ ap f (get_or_from_slice_get first i v v there))
 
-some_at : {X : Type 0} (xs : List X) (c : ℕ) → c < length xs → (x : X) × (slice_get xs c ≡ Some x)
+pub some_at : {X : Type 0} (xs : List X) (c : ℕ) → c < length xs → (x : X) × (slice_get xs c ≡ Some x)
 some_at [] c h = absurd (omega arith)
 some_at (x ∷ xs) zero h = (x, refl)
 some_at (x ∷ xs) (suc c) h = some_at xs c (omega arith)
@@ -122,6 +133,11 @@ fetched_ready plant mids fetched answer s count before c k at =
     let f = s.below c inside o.0 o.1 in
     let ready : IsReady plant f.0 = record { of = f.2.1; works = f.2.0.goes.works; posted = f.2.0.outbox ∙ (before c o.0 o.1).1 } in
     subst (λ (z : Controller). IsReady plant z) (same_there (slice_get fetched c) f.0 k f.1 at) ready
+
+-- what follows from what holds after a call that ends well
+pub ok_so : {T E P : Type 0} (r : Result T E) (Q : Type 0) → (P → Q) → OnOk r P → OnOk r Q
+ok_so (Ok x) Q f h = f h
+ok_so (Err e) Q f h = tt
 
 -- what holds after a call that ends well
 pub ok_then : {T E P R : Type 0} (r : Result T E) (Q : Type 0) → (P → R → Q) → OnOk r P → OnOk r R → OnOk r Q

@@ -4,6 +4,7 @@ use Rattle.std.specs.Option.{option_map_or}
 use Rattle.std.specs.List.{list_any, list_all}
 use Rattle.std.proofs.lemmas.Bool.{cases_lt}
 use Rattle.std.proofs.lemmas.List.{drop_all, length-map}
+use Rattle.room_kinds.specs.declared.message.Msg.{Msg}
 use Rattle.journal.specs.declared.entry.Entry.{Entry}
 use Rattle.inject_reader.specs.declared.inject_lines.accepted.Line.{Line}
 use Rattle.mail_core.specs.EndLog.{EndLog}
@@ -22,12 +23,12 @@ use Rattle.controller.proofs.Standing.{some_at, state_is}
 use Rattle.controller.specs.declared.controller.Controller.{Controller}
 use Rattle.model_run.specs.run_rounds.LineParts.{PostsPart}
 use Rattle.model_run.proofs.run_rounds.LinesLaw.{cut_start, posts_one_part, last_after, goes_on, goes_on_quiet, goes_later}
-use Rattle.model_run.specs.joined_round.Joined.{AllStand}
+use Rattle.model_run.specs.joined_round.Joined.{AllStand, RoundDone}
 use Rattle.model_run.specs.run_so_far.SoFar.{world_of, RunSoFar, EndsPosted, EnvironmentPosts}
 use Rattle.model_run.proofs.run_so_far.GoesOn.{so_far}
 use Rattle.model_run.specs.part_posts.Items.{items_of}
 use Rattle.model_run.specs.run_ends.Ends.{waits, IsAtEnd}
-use Rattle.model_run.specs.run_loop.Plays.{MayPost, BeforePart, InPart, Skips, rests, QuietRound, PostRound}
+use Rattle.model_run.specs.run_loop.Plays.{MayPost, BeforePart, InPart, Skips, rests, PartPosted}
 use Rattle.model_run.specs.run_loop.Plays.MayPost.{same_part, later_part}
 use Rattle.model_run.proofs.run_loop.ListFacts.{both_left, both_right, either_then, all_true, all_false, found, empty_list, none_pending}
 
@@ -78,11 +79,12 @@ module _ (plant : Plant) (lines : List Line) (fuel : ℕ) where
   nothing_goes w = record { goes = refl; quiet = λ b. inl refl; one_part = λ line a b. absurd (omega arith) }
 
   -- a round without posts
-  pub quiet_on : (at : ℕ) (ks news : List Controller) (env : EnvironmentState) → InPart plant lines fuel at ks env → QuietRound plant ks news → InPart plant lines fuel at news env
-  quiet_on at ks news env s r = record {
+  pub quiet_on : (at : ℕ) (ks : List Controller) (env : EnvironmentState) (logs : List EndLog) → InPart plant lines fuel at ks env → AreFresh (length plant.wiring.controllers + 1) logs
+      → (news : List Controller) (logs' : List EndLog) (answer : List (List Msg)) → RoundDone plant ks news logs logs' answer → InPart plant lines fuel at news env
+  quiet_on at ks env logs s fresh_ends news logs' answer done = record {
     so_far = subst (λ (z : List Entry). RunSoFar plant run_lines fuel news (environment_of env) z) (append-nil env.journal)
-        (so_far plant run_lines fuel ks news (environment_of env) (environment_of env) env.journal [] r.logs r.logs' r.answer s.so_far
-        (nothing_posted (length plant.wiring.controllers) r.logs r.fresh_ends) (nothing_goes (world_of plant ks (environment_of env))) r.done);
+        (so_far plant run_lines fuel ks news (environment_of env) (environment_of env) env.journal [] logs logs' answer s.so_far
+        (nothing_posted (length plant.wiring.controllers) logs fresh_ends) (nothing_goes (world_of plant ks (environment_of env))) done);
     part = s.part;
     cut = s.cut;
     within = s.within;
@@ -90,15 +92,15 @@ module _ (plant : Plant) (lines : List Line) (fuel : ℕ) where
     last = s.last;
   }
 
-  module _ (from to : ℕ) (ks news : List Controller) (old new : EnvironmentState) (b : BeforePart plant lines fuel from ks old) (r : PostRound plant lines from to old new ks news) where
+  module _ (from to : ℕ) (ks : List Controller) (old new : EnvironmentState) (logs : List EndLog) (b : BeforePart plant lines fuel from ks old) (posted : PartPosted plant lines from to old new logs) (some : to ≡ from → from ≡ 0) where
     abbrev w : World (Body Actor)
     w = world_of plant ks b.v
 
     abbrev es : List Entry
-    es = r.posted.part.up_to.entries
+    es = posted.part.up_to.entries
 
     posts : PostsPart run (environment_of old) (environment_of new) es b.part
-    posts = (r.posted.part.up_to.posts b.part b.cut).0
+    posts = (posted.part.up_to.posts b.part b.cut).0
 
     -- the posts are those of the world
     record Went : Type 0 where
@@ -125,11 +127,11 @@ module _ (plant : Plant) (lines : List Line) (fuel : ℕ) where
 
     some_posted : 0 < from → 0 < length es
     some_posted later = elim (cases_lt 0 (length es)) [
-      | inl some ↦ some
+      | inl more ↦ more
       | inr none ↦
-          let count : from + length es ≡ to = r.posted.part.up_to.count in
+          let count : from + length es ≡ to = posted.part.up_to.count in
           let here : to ≡ from = omega arith in
-          absurd (omega (arith, r.some here))
+          absurd (omega (arith, some here))
     ]
 
     went_later : environment_of old ≡ record b.v { clock = latest_of run w } → last_part run_lines b.v.posted < b.part → 0 < from → IsQuiet run w → Went
@@ -150,16 +152,16 @@ module _ (plant : Plant) (lines : List Line) (fuel : ℕ) where
     went (later_part caught last later quiet) = went_later caught last later quiet
 
     -- the first round of a part
-    pub post_on : InPart plant lines fuel to news new
-    post_on =
+    pub post_on : (news : List Controller) (logs' : List EndLog) (answer : List (List Msg)) → RoundDone plant ks news logs logs' answer → InPart plant lines fuel to news new
+    post_on news logs' answer done =
         let g = went b.may in
         record {
-          so_far = subst (λ (z : List Entry). RunSoFar plant run_lines fuel news (environment_of new) z) (sym r.posted.part.up_to.journal)
-              (so_far plant run_lines fuel ks news b.v (environment_of new) old.journal es r.logs r.logs' r.answer b.so_far r.posted.ends g.goes r.done);
+          so_far = subst (λ (z : List Entry). RunSoFar plant run_lines fuel news (environment_of new) z) (sym posted.part.up_to.journal)
+              (so_far plant run_lines fuel ks news b.v (environment_of new) old.journal es logs logs' answer b.so_far posted.ends g.goes done);
           part = b.part;
-          cut = (r.posted.part.up_to.posts b.part b.cut).1;
-          within = r.posted.part.within;
-          ends = r.posted.part.ends;
+          cut = (posted.part.up_to.posts b.part b.cut).1;
+          within = posted.part.within;
+          ends = posted.part.ends;
           last = g.last;
         }
 

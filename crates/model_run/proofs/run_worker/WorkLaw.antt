@@ -1,5 +1,5 @@
 -- What posts, a poll and a turn are together.
-use Rattle.std.proofs.Common.{◌≡◌, ℕ, ◌+◌, ◌<◌, ◌≤◌, ◌⊎◌, Bool, true, false, List, [], ◌∷◌, ◌++◌, length, Option, Some, None, All, refl, sym, ap, ◌∙◌, subst, arith, append-nil}
+use Rattle.std.proofs.Common.{◌≡◌, ℕ, ◌+◌, ◌<◌, ◌≤◌, ◌⊎◌, Bool, true, false, List, [], ◌∷◌, ◌++◌, length, Option, Some, None, Result, Ok, Err, IfOk, OnOk, All, refl, sym, ap, ◌∙◌, subst, arith, append-nil}
 use Rattle.std.proofs.lemmas.List.Elements.{All-head, All-tail}
 use Rattle.room_kinds.specs.declared.numbers.ControllerId.{ControllerId}
 use Rattle.room_kinds.specs.declared.message.Msg.{Msg}
@@ -20,6 +20,11 @@ use Rattle.controller.specs.Calls.{is_post, AreFetches, no_fetches, one_more, Po
 use Rattle.controller.specs.declared.controller.Controller.{Controller}
 use Rattle.model_run.specs.run_worker.Works.{Did, Works}
 use Rattle.controller.proofs.Going.{goes_then, end_goes_then, end_goes_still}
+
+-- what follows from each answer of a call that ends well
+pub each_ok : {T E P : Type 0} {Q : T → Type 0} (r : Result T E) → ((x : T) → Q x → P) → IfOk r Q → OnOk r P
+each_ok (Ok x) f h = f x h
+each_ok (Err e) f h = tt
 
 -- each of these entries posts
 abbrev pub OnlyPosts : List Entry → Type 0
@@ -128,7 +133,7 @@ module _ (plant : Plant) where
     polls_prompt before = no_turns_prompt old.me.0 before p.entries (fetched_no_turns p.gave p.entries (fetched_of p.gave p.entries p.fetches))
 
     -- a poll
-    polls_did : Did plant old mid log log'
+    pub polls_did : Did plant old mid log log'
     polls_did = record {
       entries = p.entries;
       goes = p.goes;

@@ -1,10 +1,11 @@
--- What all controllers do in a round, one after another.
+-- What all controllers do in a round.
 use Rattle.std.specs.Prelude.{◌≡◌, ℕ, ◌+◌, ◌<◌, ◌≤◌, true, false, List, [], ◌∷◌, length, slice_get, slice_index_or, Option, Some}
 use Rattle.room_kinds.specs.declared.message.Msg.{Msg}
 use Rattle.journal.specs.declared.entry.Entry.{Entry}
 use Rattle.mail_core.specs.EndLog.{EndLog}
 use Rattle.mail_core.specs.Lanes.{log_at}
 use Rattle.mail_core.specs.SetUp.{IsLeft}
+use Rattle.model_run.specs.run_rounds.OneByOne.{StepsBelow}
 use Rattle.model_run.specs.run_rounds.Rounds.{OnlyTurns}
 use Rattle.controller_actors.specs.declared.plant.Plant.{Plant}
 use Rattle.controller.specs.Controllers.{IsOf, Goes}
@@ -45,12 +46,31 @@ seat ks logs c = (slice_get ks c, log_at logs c)
 abbrev pub WorkedAt : Plant → ℕ → Seat → Seat → Type 0
 WorkedAt plant c x x' = Changes (λ k k'. Works plant k k' x.1 x'.1 × IsOf plant k') x.0 x'.0
 
+-- each controller worked with its end, and no other end did anything
+pub record HaveWorked (plant : Plant) (olds : List Controller) (logs : List EndLog) (mids : List Controller) (logs' : List EndLog) : Type 0 where
+  pub steps : StepsBelow (WorkedAt plant) (length olds) (seat olds logs) (seat mids logs')
+  pub count : length mids ≡ length olds
+  pub parties : length logs' ≡ length logs
+
 -- what was left for a controller was fetched
 abbrev pub FetchedAt : Plant → List (List Msg) → ℕ → Option Controller → Option Controller → Type 0
 FetchedAt plant left c o o' = Changes (λ k k'. FetchesLeft plant k k' (slice_index_or left c []) × IsOf plant k') o o'
 
 abbrev pub TurnedAt : Plant → ℕ → Option Controller → Option Controller → Type 0
 TurnedAt plant c o o' = Changes (λ k k'. LastTurn plant k k' × IsOf plant k') o o'
+
+-- controllers of the plant that have nothing left to post
+abbrev pub HavePosted : Plant → List Controller → Type 0
+HavePosted plant ks = (c : ℕ) (k : Controller) → slice_get ks c ≡ Some k → IsOf plant k × (k.mail.outbox ≡ [])
+
+-- what was left at the ends was fetched, by each controller in order, and then each took a turn or none
+pub record AreJoined (plant : Plant) (olds news : List Controller) (logs : List EndLog) : Type 0 where
+  pub fetched : List Controller
+  pub answer : List (List Msg)
+  pub left : IsLeft logs answer
+  pub fetches : StepsBelow (FetchedAt plant answer) (length olds) (slice_get olds) (slice_get fetched)
+  pub turns : StepsBelow (TurnedAt plant) (length olds) (slice_get fetched) (slice_get news)
+  pub count : length news ≡ length olds
 
 -- a controller in a round: it worked, fetched what was left for it, and took a turn or none
 pub record Joined (plant : Plant) (old new : Controller) (log log' : EndLog) (left : List Msg) : Type 0 where

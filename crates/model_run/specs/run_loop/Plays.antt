@@ -1,10 +1,8 @@
 -- How a run goes, part by part: the environment posts the lines of a part in its first round, and rounds go on
 -- until the run has stopped.
 use Rattle.std.specs.Prelude.{◌≡◌, ℕ, ◌+◌, ◌<◌, ◌≤◌, ◌==◌, ◌&&◌, ◌||◌, nat_le, not, Bool, List, length, drop}
-use Rattle.room_kinds.specs.declared.message.Msg.{Msg}
 use Rattle.inject_reader.specs.declared.inject_lines.accepted.Line.{Line}
 use Rattle.mail_core.specs.EndLog.{EndLog, fresh}
-use Rattle.mail_core.specs.SetUp.{AreFresh}
 use Rattle.actor_merge.specs.Parties.{Environment}
 use Rattle.actor_merge.specs.World.{IsQuiet, latest_of}
 use Rattle.actor_world.specs.Journals.{Item, lines_of, last_part}
@@ -13,7 +11,6 @@ use Rattle.controller_actors.specs.declared.plant.Plant.{Plant}
 use Rattle.controller.specs.Controllers.{run_plant}
 use Rattle.controller.specs.declared.controller.Controller.{Controller}
 use Rattle.model_run.specs.run_rounds.LineParts.{CutAt, EndsPart}
-use Rattle.model_run.specs.joined_round.Joined.{RoundDone}
 use Rattle.model_run.specs.run_so_far.SoFar.{world_of, RunSoFar, EndsPosted}
 use Rattle.model_run.specs.part_posts.Items.{items_of}
 use Rattle.model_run.specs.part_posts.Posting.{PostsThePart}
@@ -61,20 +58,3 @@ pub record PartPosted (plant : Plant) (lines : List Line) (from to : ℕ) (old n
   pub log : EndLog
   pub part : PostsThePart plant lines from to old new (fresh (length plant.wiring.controllers + 1) (length plant.wiring.controllers)) log
   pub ends : EndsPosted (length plant.wiring.controllers) logs part.up_to.entries
-
--- a round before which nothing was posted
-pub record QuietRound (plant : Plant) (olds news : List Controller) : Type 0 where
-  pub logs : List EndLog
-  pub logs' : List EndLog
-  pub answer : List (List Msg)
-  pub fresh_ends : AreFresh (length plant.wiring.controllers + 1) logs
-  pub done : RoundDone plant olds news logs logs' answer
-
--- a round before which the lines of a part were posted; if there are none, it is the first part
-pub record PostRound (plant : Plant) (lines : List Line) (from to : ℕ) (old new : EnvironmentState) (olds news : List Controller) : Type 0 where
-  pub logs : List EndLog
-  pub logs' : List EndLog
-  pub answer : List (List Msg)
-  pub posted : PartPosted plant lines from to old new logs
-  pub some : to ≡ from → from ≡ 0
-  pub done : RoundDone plant olds news logs logs' answer

@@ -1,19 +1,18 @@
-//! Rounds, each with a mail of its own.
-ghost use Rattle.std.specs.Prelude.{◌≡◌, ◌+◌, ◌≤◌, map, length, IfOk, OnOk};
+//! The beginning of a round, with a mail of its own.
+ghost use Rattle.std.specs.Prelude.{◌≡◌, ◌+◌, ◌≤◌, map, length, IfOk};
 ghost use Rattle.mail_core.specs.SetUp.{AreFresh};
-ghost use Rattle.controller_actors.specs.Plants.{IsPlant};
-ghost use Rattle.model_run.specs.joined_round.Joined.{AllStand};
-ghost use Rattle.model_run.specs.run_loop.Plays.{PartPosted, QuietRound, PostRound};
+ghost use Rattle.model_run.specs.run_loop.Plays.{BeforePart, PartPosted};
+ghost use Rattle.model_run.specs.run_loop.Runs.{IsInRound};
 
-use crate::joined_round::join_round;
 use crate::part_posts::post_part;
-use controller::{Controller, Environment, Plant};
+use crate::run_loop::state::Run;
+use controller::{Environment, Plant};
 use inject_reader::inject_lines::Line;
 use mail_core::Mail;
 use std::alloc::{AllocError, Global};
 
 /// A mail for the controllers of a plant and the environment.
-fn open<M: Mail>(alloc: Global, plant: &Plant) -> Result<(M::Office, Vec<M>), AllocError>
+pub(crate) fn open<M: Mail>(alloc: Global, plant: &Plant) -> Result<(M::Office, Vec<M>), AllocError>
     ensures fresh { IfOk result (λ made. AreFresh (length plant.now.wiring.controllers + 1) (map M.log made.1.items)) }
     ensures tied { IfOk result (λ made. M.tied made.0 made.1.items) }
 {
@@ -45,53 +44,36 @@ fn post_at_last<M: Mail>(
     post_part(alloc, plant, environment, office, last, lines, from)
 }
 
-/// A round in which the environment posts nothing.
-pub(crate) fn quiet_round<M: Mail + Drop>(
+/// Begins the first round of a part: the environment posts the lines from here on, to the end of their part.
+pub(crate) fn begin_part<M: Mail + Drop>(
     alloc: Global,
-    controllers: &mut Vec<Controller>,
     plant: &Plant,
-) -> Result<(), AllocError>
-where
-    M::Office: Drop,
-    requires plant { IsPlant plant.now }
-    requires stand { AllStand plant.now controllers.old.items }
-    ensures { OnOk result (QuietRound plant.now controllers.old.items controllers.new.items) }
-{
-    let (office, ends) = open::<M>(alloc, plant)?;
-    join_round(alloc, controllers, plant, office, ends)
-}
-
-/// A round before which the environment posts the lines from this one on, to the end of their part. It
-/// answers where the part ends.
-pub(crate) fn post_round<M: Mail + Drop>(
-    alloc: Global,
-    controllers: &mut Vec<Controller>,
-    environment: &mut Environment,
-    plant: &Plant,
+    run: &mut Run,
     lines: &[Line],
-    from: usize,
-) -> Result<usize, AllocError>
+    fuel: u64,
+) -> Result<(M::Office, Vec<M>), AllocError>
 where
     M::Office: Drop,
-    requires plant { IsPlant plant.now }
-    requires stand { AllStand plant.now controllers.old.items }
-    requires within { from ≤ length lines.now }
-    ensures { IfOk result (λ to. PostRound plant.now lines.now from to environment.old environment.new controllers.old.items controllers.new.items) }
+    requires before { BeforePart plant.now lines.now fuel run.old.at run.old.controllers.items run.old.environment }
+    ensures begun { IfOk result (λ made. IsInRound plant.now lines.now fuel run.new (map M.log made.1.items)) }
+    ensures count { IfOk result (λ made. length made.1.items ≡ length plant.now.wiring.controllers + 1) }
+    ensures tied { IfOk result (λ made. M.tied made.0 made.1.items) }
 {
     let (mut office, mut ends) = open::<M>(alloc, plant)?;
     let to = post_at_last(
         alloc,
         plant,
-        environment,
+        &mut run.environment,
         &mut office,
         &mut ends,
         lines,
-        from,
+        run.at,
     )?;
     // The first part alone may have no lines: a later one begins with a message.
-    if to == from && from != 0 {
+    if to == run.at && run.at != 0 {
         return Err(AllocError);
     }
-    join_round(alloc, controllers, plant, office, ends)?;
-    Ok(to)
+    run.at = to;
+    run.in_part = true;
+    Ok((office, ends))
 }

@@ -1,12 +1,12 @@
 -- How far a loop has come that puts one part after another.
-use Rattle.std.proofs.Common.{◌≡◌, ℕ, ◌+◌, ◌<◌, ◌≤◌, List, [], ◌∷◌, ◌++◌, length, get_or, drop, refl, sym, ◌∙◌, ap, append_assoc, append-nil}
+use Rattle.std.proofs.Common.{◌≡◌, ℕ, ◌+◌, ◌<◌, ◌≤◌, List, [], ◌∷◌, ◌++◌, length, get_or, take, drop, refl, sym, ◌∙◌, ap, append_assoc, append-nil}
 use Rattle.std.specs.List.{flat_map, concat}
 use Rattle.room_outside.specs.declared.line_text.part.Part.{Part}
 use Rattle.room_outside.specs.line_text.Parts.{part_text, part_texts}
-use Rattle.std.proofs.lemmas.List.{at_drop_more, at_drop_all}
+use Rattle.std.proofs.lemmas.List.{at_drop_more, at_drop_all, take-append-drop}
 use Rattle.room_outside.specs.Written.{Written}
 use Rattle.room_outside.specs.line_text.Output.{Output, Put, Breaks}
-use Rattle.room_outside.proofs.line_text.OutputLemmas.{put_none, put_two, breaks_first, breaks_second}
+use Rattle.room_outside.proofs.line_text.OutputLemmas.{put_none, put_held, put_two, breaks_first, breaks_second}
 
 -- of the whole, all but the rest was put
 pub record Going (start now : Output) (whole rest : List ℕ) : Type 0 where
@@ -22,6 +22,16 @@ going_on a b c whole x rest g p = record {
   done = g.done ++ x;
   put = put_two a b c g.done x g.put p;
   split = g.split ∙ sym (append_assoc g.done x rest);
+}
+
+-- room was made in the buffer, and a front of what is left went in
+pub going_fills : (a b : Output) (w : Written) (held whole rest : List ℕ) (n : ℕ)
+    → Going a b whole rest → Put b (record { written = w; held = held }) []
+    → Going a (record { written = w; held = held ++ take n rest }) whole (drop n rest)
+going_fills a b w held whole rest n g p = record {
+  done = g.done ++ take n rest;
+  put = put_two _ _ _ g.done (take n rest) g.put (put_two _ _ _ [] (take n rest) p (put_held w held (take n rest)));
+  split = g.split ∙ (ap (λ l. g.done ++ l) (sym (take-append-drop n rest)) ∙ sym (append_assoc g.done (take n rest) (drop n rest)));
 }
 
 pub going_end : (a b : Output) (whole : List ℕ) → Going a b whole [] → Put a b whole
@@ -51,11 +61,6 @@ pub going_all : {A : Type 0} (f : A → List ℕ) (a b : Output) (whole : List �
 going_all f a b whole xs i h g =
     let over = at_drop_all (flat_map f) xs i h in
     going_end a b whole (record { done = g.done; put = g.put; split = g.split ∙ ap (λ l. g.done ++ l) over })
-
--- the bytes of a list, one by one
-pub single_bytes : (bytes : List ℕ) → flat_map (λ b. b ∷ []) bytes ≡ bytes
-single_bytes [] = refl
-single_bytes (b ∷ bytes) = ap (λ l. b ∷ l) (single_bytes bytes)
 
 -- parts joined in order
 pub joined_parts : (parts : List Part) → concat (part_texts parts) ≡ flat_map part_text parts

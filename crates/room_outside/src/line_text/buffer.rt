@@ -1,5 +1,5 @@
 //! The buffer through which lines go to a sink.
-ghost use Rattle.std.specs.Prelude.{◌≡◌, ◌==◌, ◌<◌, ◌≤◌, [], ◌∷◌, ◌++◌, length, decimal, OnOk};
+ghost use Rattle.std.specs.Prelude.{◌≡◌, ◌==◌, ◌+◌, ◌-◌, ◌<◌, ◌≤◌, [], ◌∷◌, ◌++◌, length, take, drop, decimal, OnOk};
 ghost use Rattle.std.specs.Fmt.{signed_decimal};
 ghost use Rattle.room_outside.specs.line_text.Lines.{numbers_text};
 ghost use Rattle.std.specs.List.{concat};
@@ -49,6 +49,7 @@ impl LineBuffer {
     }
 
     /// Writes what the buffer holds.
+    #[inline(never)]
     pub fn flush<K: Sink>(&mut self, sink: &mut K) -> Result<(), WriteFault>
         ensures puts { Puts result
             (record { written = K.written sink.old; held = self.old })
@@ -67,6 +68,7 @@ impl LineBuffer {
         self.len == PIECE
     }
 
+    #[inline(always)]
     fn push(&mut self, byte: u8)
         requires { length self.old < 4096 }
         ensures { self.new ≡ self.old ++ byte ∷ [] }
@@ -75,7 +77,35 @@ impl LineBuffer {
         self.len += 1;
     }
 
+    /// Takes bytes for which there is room.
+    #[inline(always)]
+    fn append(&mut self, bytes: &[u8])
+        requires { length self.old + length bytes.now ≤ 4096 }
+        ensures { self.new ≡ self.old ++ bytes.now }
+    {
+        // Many parts of a line are one byte, for which a copy of slices isn't worth its call.
+        if let [byte] = bytes {
+            self.push(*byte);
+            return;
+        }
+        let end = self.len + bytes.len();
+        self.bytes[self.len..end].copy_from_slice(bytes);
+        self.len = end;
+    }
+
+    /// Takes as many of the bytes as there is room for, and gives those that are left.
+    fn fill<'a>(&mut self, bytes: &'a [u8]) -> &'a [u8]
+        ensures held { self.new ≡ self.old ++ take (4096 - length self.old) bytes.now }
+        ensures left { result.now ≡ drop (4096 - length self.old) bytes.now }
+    {
+        let count = bytes.len().min(PIECE - self.len);
+        let (front, rest) = bytes.split_at(count);
+        self.append(front);
+        rest
+    }
+
     /// Writes a full buffer.
+    #[inline(always)]
     fn make_room<K: Sink>(&mut self, sink: &mut K) -> Result<(), WriteFault>
         ensures puts { Puts result
             (record { written = K.written sink.old; held = self.old })
@@ -88,6 +118,7 @@ impl LineBuffer {
         Ok(())
     }
 
+    #[inline(always)]
     fn put_byte<K: Sink>(&mut self, sink: &mut K, byte: u8) -> Result<(), WriteFault>
         ensures { Puts result
             (record { written = K.written sink.old; held = self.old })
@@ -100,20 +131,53 @@ impl LineBuffer {
     }
 
     /// Adds bytes to the line. Whole pieces are written as the line goes on.
+    #[inline(always)]
     pub fn put<K: Sink>(&mut self, sink: &mut K, bytes: &[u8]) -> Result<(), WriteFault>
         ensures { Puts result
             (record { written = K.written sink.old; held = self.old })
             (record { written = K.written sink.new; held = self.new })
             bytes.now }
     {
-        for byte in bytes {
-            self.put_byte(sink, *byte)?;
+        if bytes.len() <= PIECE - self.len {
+            self.append(bytes);
+            return Ok(());
+        }
+        self.put_pieces(sink, bytes)
+    }
+
+    /// Adds bytes, and writes each piece that they fill.
+    #[inline(never)]
+    fn put_pieces<K: Sink>(&mut self, sink: &mut K, bytes: &[u8]) -> Result<(), WriteFault>
+        ensures { Puts result
+            (record { written = K.written sink.old; held = self.old })
+            (record { written = K.written sink.new; held = self.new })
+            bytes.now }
+    {
+        let mut rest = bytes;
+        while !rest.is_empty() {
+            self.make_room(sink)?;
+            rest = self.fill(rest);
         }
         Ok(())
     }
 
     /// Adds a number.
+    #[inline(always)]
+    #[tactic(auto, using(crate::proofs::line_text::Digits::one_digit))]
     pub fn put_number<K: Sink>(&mut self, sink: &mut K, number: u64) -> Result<(), WriteFault>
+        ensures { Puts result
+            (record { written = K.written sink.old; held = self.old })
+            (record { written = K.written sink.new; held = self.new })
+            (decimal number) }
+    {
+        if number < 10 {
+            return self.put_byte(sink, b'0' + number as u8);
+        }
+        self.put_digits(sink, number)
+    }
+
+    #[inline(never)]
+    fn put_digits<K: Sink>(&mut self, sink: &mut K, number: u64) -> Result<(), WriteFault>
         ensures { Puts result
             (record { written = K.written sink.old; held = self.old })
             (record { written = K.written sink.new; held = self.new })
@@ -131,6 +195,9 @@ impl LineBuffer {
             (signed_decimal number.now) }
     {
         let value = *number;
+        if value >= 0 {
+            return self.put_number(sink, value as u64);
+        }
         let mut digits = Buffer::new();
         self.put(sink, digits.format(value).as_bytes())
     }

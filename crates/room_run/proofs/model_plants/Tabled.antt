@@ -7,7 +7,8 @@ use Rattle.chart_model.specs.Chart.{Chart}
 use Rattle.chart_run.specs.chart_tables.Tables.{IsSound}
 use Rattle.chart_run.specs.declared.chart_tables.tables.Tables.{Tables}
 use Rattle.chart_reader.specs.model_charts.Charts.{AreValid}
-use Rattle.room_run.specs.model_plants.Shown.{IsValidIfAny, ShowsChart, ShowCharts}
+use Rattle.named_runs.specs.Charts.{ShowsChart, ShowCharts}
+use Rattle.room_run.specs.model_plants.Shown.{IsValidIfAny}
 
 abbrev view : Option CodeChart → Option Chart
 view = option_map chart_view

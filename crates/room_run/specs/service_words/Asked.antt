@@ -1,11 +1,11 @@
--- Whether programs ask for the frame service or the layer service.
+-- Whether programs ask for the layer service: whether they register or withdraw a name.
 use Rattle.std.specs.Prelude.{Bool, true, false, ◌||◌, List, Option, Some, None}
 use Rattle.std.specs.List.{list_any}
 use Rattle.action_program.specs.Numbered.{StmtTree, empty, assign, choose, repeat, send, defer, recall, recall_all, frame, import_at, register, withdraw, Stmts, no_stmt, a_stmt, Branches, no_branch, a_branch}
 use Rattle.chart_model.specs.Chart.{Transition, State, Graph, Chart}
 
 abbrev mutual
-  -- Whether a statement is `incarnate`, `destroy`, `deport`, `import`, `register` or `withdraw`, or one of them stands in it.
+  -- Whether a statement is `register` or `withdraw`, or one of them stands in it.
   pub statement_asks : StmtTree → Bool
   statement_asks empty = false
   statement_asks (assign k kind e) = false
@@ -15,8 +15,8 @@ abbrev mutual
   statement_asks defer = false
   statement_asks recall = false
   statement_asks recall_all = false
-  statement_asks (frame verb reference index) = true
-  statement_asks (import_at reference index id) = true
+  statement_asks (frame verb reference index) = false
+  statement_asks (import_at reference index id) = false
   statement_asks (register port name) = true
   statement_asks (withdraw port) = true
 
@@ -39,7 +39,7 @@ transition_asks t = program_asks t.action
 abbrev pub graph_asks : Graph → Bool
 graph_asks g = list_any state_asks g.states || list_any transition_asks g.transitions
 
--- Whether a program of a chart asks for a service: an action of a state on entry or on exit, or of a transition. Guards and conditions can't.
+-- Whether a program of a chart does: an action of a state on entry or on exit, or of a transition. Guards and conditions can't.
 abbrev pub chart_asks : Chart → Bool
 chart_asks c = list_any graph_asks c.graphs
 
@@ -49,5 +49,5 @@ class_asks None = false
 class_asks (Some c) = chart_asks c
 
 -- Whether one of the classes' charts does.
-abbrev pub asks_services : List (Option Chart) → Bool
-asks_services charts = list_any class_asks charts
+abbrev pub asks_for_names : List (Option Chart) → Bool
+asks_for_names charts = list_any class_asks charts

@@ -2,7 +2,8 @@
 ghost use Rattle.std.specs.Prelude.{◌≡◌, IfOk, map, option_map};
 ghost use Rattle.chart_reading.specs.chart_graphs.Views.{chart_view};
 ghost use Rattle.chart_reader.specs.model_charts.Charts.{AreValid};
-ghost use Rattle.room_run.specs.model_plants.Shown.{IsValidIfAny, ShowsChart, ShowCharts};
+ghost use Rattle.named_runs.specs.Charts.{ShowsChart, ShowCharts};
+ghost use Rattle.room_run.specs.model_plants.Shown.{IsValidIfAny};
 
 use chart_compile::compile;
 use chart_reading::Chart;

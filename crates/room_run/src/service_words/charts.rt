@@ -2,7 +2,7 @@
 ghost use Rattle.std.specs.Prelude.{◌≡◌, map, option_map};
 ghost use Rattle.std.specs.List.{list_any};
 ghost use Rattle.chart_reading.specs.chart_graphs.Views.{transition_view, state_view, graph_view, chart_view};
-ghost use Rattle.room_run.specs.service_words.Asked.{transition_asks, state_asks, graph_asks, class_asks, asks_services};
+ghost use Rattle.room_run.specs.service_words.Asked.{transition_asks, state_asks, graph_asks, class_asks, asks_for_names};
 
 use crate::service_words::programs::program_asks;
 use chart_reading::{Chart, Graph, State, Transition};
@@ -62,12 +62,11 @@ fn any_class(charts: &[Option<Chart>]) -> bool
     charts.iter().any(|chart| class_asks(chart))
 }
 
-/// Whether a program of one of these charts has a statement `incarnate`, `destroy`, `import`, `deport`,
-/// `register` or `withdraw`, whether it is ever run or not. It takes no memory, and time in proportion
-/// to the programs' size.
+/// Whether a program of one of these charts has a statement `register` or `withdraw`, whether it is ever
+/// run or not. It takes no memory, and time in proportion to the programs' size.
 #[tactic(auto, using(crate::proofs::service_words::Views::any_class))]
-pub fn asks_services(charts: &[Option<Chart>]) -> bool
-    ensures { result ≡ asks_services (map (option_map chart_view) charts.now) }
+pub fn asks_for_names(charts: &[Option<Chart>]) -> bool
+    ensures { result ≡ asks_for_names (map (option_map chart_view) charts.now) }
 {
     any_class(charts)
 }

@@ -12,11 +12,10 @@ fn statement_asks(statement: &BoundStmt) -> bool
     match statement {
         BoundStmt::If(choice) => choice_asks(choice),
         BoundStmt::Repeat { body, .. } => statements_ask(body),
+        BoundStmt::Register { .. } | BoundStmt::Withdraw { .. } => true,
         BoundStmt::Frame { .. }
         | BoundStmt::Import { .. }
-        | BoundStmt::Register { .. }
-        | BoundStmt::Withdraw { .. } => true,
-        BoundStmt::Empty
+        | BoundStmt::Empty
         | BoundStmt::Assign { .. }
         | BoundStmt::Send(_)
         | BoundStmt::Defer
@@ -56,7 +55,7 @@ fn statements_ask(statements: &Vec<BoundStmt>) -> bool
     false
 }
 
-/// Whether a program asks for a service.
+/// Whether a program registers or withdraws a name.
 pub(crate) fn program_asks(program: &Bound) -> bool
     ensures { result ≡ program_asks (program_view program.now) }
 {

@@ -8,7 +8,6 @@ use Rattle.room_wiring.specs.declared.tables.Tables.{Tables}
 use Rattle.room_wiring.specs.declared.slot.Slot.{Slot}
 use Rattle.room_wiring.specs.Slots.{slot_at}
 use Rattle.actor_duties.specs.Words.{container_of, container_number, is_part_of}
-use Rattle.actor_duties.specs.Lives.{is_within_steps, is_within}
 use Rattle.service_messages.specs.slot_runs.Runs.{is_inside, IsDepthFirst, IsRunEnd}
 
 -- a test of what an option holds
@@ -79,70 +78,6 @@ run_behind t first s e v c run is l from to =
             | inr after ↦ absurd (omega arith)
           ]
     ]
-
--- lies within o: it is o, or in a slot that lies within o
-pub data WithinBy (t : Tables) (o up s : ℕ) : Type 0 where
-  itself : s ≡ o → WithinBy t o up s
-  inside : (c k : ℕ) → up ≡ suc k → container_of t s ≡ Some c → is_within_steps t o k c ≡ true → WithinBy t o up s
-
-pub within_by : (t : Tables) (o up s : ℕ) → is_within_steps t o up s ≡ true → WithinBy t o up s
-within_by t o zero s h = itself (eqb-true s o h)
-within_by t o (suc k) s h = ⊎_elim
-    (λ e. itself (eqb-true s o e))
-    (λ e. let c = held_true (λ c. is_within_steps t o k c) (container_of t s) e in inside c.0 k refl c.1 c.2)
-    (or_cases (s == o) (option_map_or (λ c. is_within_steps t o k c) (container_of t s) false) h)
-
-within_itself : (t : Tables) (o up : ℕ) → is_within_steps t o up o ≡ true
-within_itself t o zero = eq-eqb o o refl
-within_itself t o (suc k) = or_left (o == o) (option_map_or (λ c. is_within_steps t o k c) (container_of t o) false) (eq-eqb o o refl)
-
-within_up : (t : Tables) (o k s c : ℕ) → container_of t s ≡ Some c → is_within_steps t o k c ≡ true → is_within_steps t o (suc k) s ≡ true
-within_up t o k s c e h = or_right (s == o) (option_map_or (λ c. is_within_steps t o k c) (container_of t s) false)
-    (held_from (λ c. is_within_steps t o k c) (container_of t s) c false e h)
-
-within_bounds : (t : Tables) → IsDepthFirst t → (o e : ℕ) → IsRunEnd t o e → (k s : ℕ) → is_within_steps t o k s ≡ true → (o ≤ s) × (s < e)
-within_bounds t first o e run zero s h = let same : s ≡ o = eqb-true s o h in let behind = run.behind in (omega arith, omega arith)
-within_bounds t first o e run (suc k) s h = go (λ c. within_bounds t first o e run k c) (within_by t o (suc k) s h)
-  where
-    go : ((c : ℕ) → is_within_steps t o k c ≡ true → (o ≤ c) × (c < e)) → WithinBy t o (suc k) s → (o ≤ s) × (s < e)
-    go ih (itself same) = let behind = run.behind in (omega arith, omega arith)
-    go ih (inside c j up is m) =
-        let same : j ≡ k = omega arith in
-        let b = ih c (subst (λ z. is_within_steps t o z c ≡ true) same m) in
-        let from = b.0 in
-        let to = b.1 in
-        let less : c < s = first.behind s c is in
-        (omega arith, elim (cases_lt s e) [ inl l ↦ l | inr out ↦ absurd (run_behind t first o e s c run is out from to) ])
-
--- what lies within a slot stands in its run
-pub within_in_run : (t : Tables) → IsDepthFirst t → (o e s : ℕ) → IsRunEnd t o e → is_within t o s ≡ true → (o ≤ s) × (s < e)
-unfolding is_within
-within_in_run t first o e s run h = within_bounds t first o e run (length t.slots) s h
-
-within_steps : (t : Tables) → IsDepthFirst t → (o e : ℕ) → IsRunEnd t o e → (k s : ℕ) → o ≤ s → s < e → s ≤ k + o → is_within_steps t o k s ≡ true
-within_steps t first o e run zero s l m n = eq-eqb s o (omega arith)
-within_steps t first o e run (suc k) s l m n =
-    elim (cases_order s o) [
-      | inl same ↦ subst (λ z. is_within_steps t o (suc k) z ≡ true) (sym same) (within_itself t o (suc k))
-      | inr other ↦
-          elim other [
-            | inl before ↦ absurd (omega arith)
-            | inr after ↦
-                let i = inside_by t o s (run.inside s after m) in
-                let from = i.from in
-                let less : i.container < s = first.behind s i.container i.is in
-                within_up t o k s i.container i.is (within_steps t first o e run k i.container from (omega arith) (omega arith))
-          ]
-    ]
-
--- what stands in the run of a slot lies within it
-pub run_within : (t : Tables) → IsDepthFirst t → (o e s : ℕ) → IsRunEnd t o e → o ≤ s → s < e → is_within t o s ≡ true
-unfolding is_within
-run_within t first o e s run l m = let there = run.there in within_steps t first o e run (length t.slots) s l m (omega arith)
-
--- what stands outside the run of a slot doesn't lie within it
-pub outside_within : (t : Tables) → IsDepthFirst t → (o e s : ℕ) → IsRunEnd t o e → ((o ≤ s) × (s < e) → ⊥) → is_within t o s ≡ false
-outside_within t first o e s run out = false_from (is_within t o s) (λ h. out (within_in_run t first o e s run h))
 
 part_by : (t : Tables) (s c : ℕ) → is_part_of t s c ≡ true → container_of t s ≡ Some c
 part_by t s c h = let p = held_true (λ p. p == c) (container_of t s) h in p.1 ∙ subst (λ z. Some p.0 ≡ Some z) (eqb-true p.0 c p.2) refl

@@ -2,10 +2,12 @@
 ghost use Rattle.std.specs.Prelude.{◌≡◌, ◌++◌, ◌∷◌, [], ◌<◌, pos, length, IfOk, OnOk};
 ghost use Rattle.actor_duties.specs.Words.{reference_of, index_of};
 ghost use Rattle.actor_duties.specs.Messages.{reply, to_owner, told_of, refused_at_once, code_number};
-ghost use Rattle.actor_duties.specs.Lives.{announce_to, announces};
-ghost use Rattle.service_messages.specs.Shown.{signal_of, code_of};
+ghost use Rattle.actor_duties.specs.Lives.{announce_to, announces, part_told_to, parts_told};
+ghost use Rattle.service_messages.specs.Shown.{signal_of, code_of, is_other_part};
+ghost use Rattle.service_messages.specs.slot_runs.Runs.{IsDepthFirst, AreRunEnds};
 
 use crate::frame_messages::endpoints::frame_of;
+use crate::slot_runs::SlotRuns;
 use crate::{Code, FrameSignal, frame_message, owner_of, system};
 use room_kinds::{ControllerId, Endpoint, Incarnation, Msg, Outbox, Payload, SlotId, SysKind};
 use room_wiring::Wiring;
@@ -140,6 +142,65 @@ pub fn announce(
         let controller = ControllerId(number);
         if wiring.tells(actor.slot, controller) {
             announce_to(alloc, me, actor, up, controller, out)?;
+        }
+    }
+    Ok(())
+}
+
+/// Whether a controller is another one, with a part of a slot.
+fn is_other_part(
+    wiring: &Wiring,
+    runs: &SlotRuns,
+    me: ControllerId,
+    slot: SlotId,
+    controller: ControllerId,
+) -> bool
+    requires order { IsDepthFirst wiring.now }
+    requires runs { AreRunEnds wiring.now runs.now }
+    requires there { slot.0 < length wiring.now.slots }
+    ensures { result ≡ is_other_part wiring.now me.0 slot.0 controller.0 }
+{
+    controller != me && runs.has_part(wiring, controller, slot)
+}
+
+/// Tells one controller of the part that it has of an actor's slot.
+fn tell_part(
+    alloc: Global,
+    me: ControllerId,
+    kind: SysKind,
+    actor: Incarnation,
+    controller: ControllerId,
+    out: &mut Outbox,
+) -> Result<(), AllocError>
+    ensures { OnOk result (out.new ≡ out.old ++ part_told_to me.0 kind actor controller.0 ∷ []) }
+{
+    let frame = frame_of(actor);
+    let payload = Payload::empty(alloc);
+    out.push(system(me, controller, kind, frame, frame, payload))?;
+    Ok(())
+}
+
+/// Tells each other controller that has a part of an actor's slot, ascending: `kind` is PartMake where
+/// the actor came up, and PartEnd where it went down.
+#[tactic(auto, using(crate::proofs::frame_messages::Parts::all_told))]
+pub fn tell_parts(
+    alloc: Global,
+    wiring: &Wiring,
+    runs: &SlotRuns,
+    me: ControllerId,
+    kind: SysKind,
+    actor: Incarnation,
+    out: &mut Outbox,
+) -> Result<(), AllocError>
+    requires order { IsDepthFirst wiring.now }
+    requires runs { AreRunEnds wiring.now runs.now }
+    requires there { actor.slot.0 < length wiring.now.slots }
+    ensures { OnOk result (out.new ≡ out.old ++ parts_told wiring.now me.0 kind actor) }
+{
+    for number in 0..wiring.controller_count() {
+        let controller = ControllerId(number);
+        if is_other_part(wiring, runs, me, actor.slot, controller) {
+            tell_part(alloc, me, kind, actor, controller, out)?;
         }
     }
     Ok(())

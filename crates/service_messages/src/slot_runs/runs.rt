@@ -1,10 +1,11 @@
 //! Where the runs of slots end.
 ghost use Rattle.std.specs.Prelude.{◌≡◌, ◌<◌, ◌≤◌, ℕ, true, length, slice_index, IfOk};
-ghost use Rattle.actor_duties.specs.Lives.{is_made_with};
+ghost use Rattle.actor_duties.specs.Lives.{is_made_with, has_part};
 ghost use Rattle.service_messages.specs.slot_runs.Runs.{is_inside, IsDepthFirst, IsRunEnd, AreRunEnds, IsNextMade};
 
+use crate::look_up::is_own;
 use crate::slot_runs::look_up::{is_fixed, is_inside};
-use room_kinds::SlotId;
+use room_kinds::{ControllerId, SlotId};
 use room_wiring::Wiring;
 use std::alloc::{AllocError, Global};
 use std::marker::Model;
@@ -67,6 +68,27 @@ impl SlotRuns {
             next = self.end(wiring, SlotId(next as u16));
         }
         next
+    }
+
+    /// Whether a controller has a part of a slot: whether it owns the slot or one that is made with it. The
+    /// time is in proportion to what is made with the slot. It takes no memory.
+    #[tactic(auto, using(crate::proofs::slot_runs::OwnParts::part_found))]
+    pub fn has_part(&self, wiring: &Wiring, controller: ControllerId, top: SlotId) -> bool
+        requires order { IsDepthFirst wiring.now }
+        requires runs { AreRunEnds wiring.now self.now }
+        requires there { top.0 < length wiring.now.slots }
+        ensures { result ≡ has_part wiring.now controller.0 top.0 }
+    {
+        let end = self.end(wiring, top);
+        let mut next = u32::from(top.0);
+        while next < end {
+            let slot = SlotId(next as u16);
+            if is_own(wiring, controller, slot) {
+                return true;
+            }
+            next = self.next_made(wiring, top, slot);
+        }
+        false
     }
 }
 

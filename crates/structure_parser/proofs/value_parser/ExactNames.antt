@@ -1,13 +1,11 @@
 -- Names joined by dots and imports are read as their tokens are written, and nothing else is.
-use Rattle.std.proofs.Common.{◌≡◌, ℕ, ◌<◌, Bool, true, false, List, [], ◌∷◌, ◌++◌, length, Option, Some, None, refl, arith}
+use Rattle.std.proofs.Common.{◌≡◌, ℕ, Bool, true, false, List, ◌∷◌, ◌++◌, Option, Some, None, refl, arith}
 use Rattle.room_lexer.specs.declared.token.Mark.TheVariants as marks
 use Rattle.room_lexer.specs.declared.word.Word.TheVariants as words
-use Rattle.room_ast.specs.Values.{TokenValue, AWord, AName, AMark}
+use Rattle.room_ast.specs.Values.{TokenValue, AMark}
 use Rattle.room_ast.specs.Tokens.{maybe, dot_name, dotted, all_if, word_if, import_source, import_tokens}
-use Rattle.room_ast.specs.declared.model.Dotted.{Dotted}
-use Rattle.room_ast.specs.declared.model.Import.{Import}
 use Rattle.room_ast.specs.declared.model.ImportSource.{ImportSource}
-use Rattle.token_reading.specs.Single.{comes, comes_word, comes_string, rest_of}
+use Rattle.token_reading.specs.Single.{comes, comes_word, comes_string}
 use Rattle.token_reading.proofs.Readers.{Anything}
 use Rattle.token_reading.proofs.Exact.{Exact, mark_exact, word_exact, name_exact, string_exact, Exact-then, Exact-⊕, Exact-behind, Exact-as, Exact-many, Exact-maybe, Exact-flag, Exact-where}
 use Rattle.structure_parser.specs.value_parser.Names.{dot_name_at, dotted_at, goes_on_in_path, path_at, all_at, source_at, source_comes, import_at}

@@ -1,17 +1,16 @@
 -- Protocol classes and data classes are read as their tokens are written, and nothing else is.
-use Rattle.std.proofs.Common.{◌≡◌, ℕ, ◌<◌, Bool, true, false, List, [], ◌∷◌, ◌++◌, length, Option, Some, None, refl, ◌∙◌, arith}
+use Rattle.std.proofs.Common.{◌≡◌, ℕ, ◌<◌, true, false, List, [], ◌∷◌, ◌++◌, length, Option, Some, None, refl, ◌∙◌, arith}
 use Rattle.room_lexer.specs.declared.token.Mark.TheVariants as marks
 use Rattle.room_lexer.specs.declared.word.Word.{Word}
 use Rattle.room_lexer.specs.declared.word.Word.TheVariants as words
 use Rattle.room_ast.specs.Values.{TokenValue, AWord, AName, AMark}
-use Rattle.room_ast.specs.Tokens.{maybe, braces, parameter, message, incoming, outgoing, usercode, section, attribute, word_if, protocol_class, data_item, data_class}
+use Rattle.room_ast.specs.Tokens.{maybe, braces, parameter, message, incoming, outgoing, section, attribute, word_if, protocol_class, data_item, data_class}
 use Rattle.room_ast.specs.declared.protocol.Attribute.{Attribute}
 use Rattle.room_ast.specs.declared.protocol.DataItem.{DataItem}
 use Rattle.room_ast.specs.declared.protocol.DataItem.TheVariants as fields
 use Rattle.room_ast.specs.declared.protocol.Message.{Message}
 use Rattle.room_ast.specs.declared.protocol.Parameter.{Parameter}
 use Rattle.room_ast.specs.declared.protocol.Parameter.TheVariants as parameters
-use Rattle.room_ast.specs.declared.protocol.Usercode.{Usercode}
 use Rattle.room_ast.specs.declared.protocol.UsercodeSection.{UsercodeSection}
 use Rattle.room_ast.specs.declared.protocol.UsercodeSection.TheVariants as sections
 use Rattle.token_reading.specs.Reader.{reads_as}

@@ -1,10 +1,10 @@
 -- Values, attributes and usercode are read as their tokens are written, and nothing else is.
-use Rattle.std.proofs.Common.{◌≡◌, ℕ, ◌<◌, Bool, true, false, List, [], ◌∷◌, ◌++◌, length, Option, Some, None, refl, sym, ap, ◌∙◌, arith}
+use Rattle.std.proofs.Common.{◌≡◌, ℕ, true, false, List, [], ◌∷◌, ◌++◌, Option, Some, None, refl, ap, arith}
 use Rattle.std.specs.Prelude.{option_map, option_and_then}
 use Rattle.room_lexer.specs.declared.token.Mark.TheVariants as marks
 use Rattle.room_lexer.specs.declared.word.Word.{Word}
 use Rattle.room_lexer.specs.declared.word.Word.TheVariants as words
-use Rattle.room_ast.specs.Values.{TokenValue, AWord, AName, ANumber, AString, ABlock, AMark}
+use Rattle.room_ast.specs.Values.{TokenValue, AWord, ANumber, AString, AMark}
 use Rattle.room_ast.specs.Tokens.{value_tokens, equals_value, attribute, section, empty_string, usercode, string}
 use Rattle.room_ast.specs.declared.protocol.EmptyString.{EmptyString}
 use Rattle.room_ast.specs.declared.protocol.PlainValue.TheVariants as plain
@@ -12,10 +12,11 @@ use Rattle.room_ast.specs.declared.protocol.UsercodeSection.{UsercodeSection}
 use Rattle.room_ast.specs.declared.protocol.UsercodeSection.TheVariants as sections
 use Rattle.room_ast.specs.declared.protocol.Value.{Value}
 use Rattle.room_ast.specs.declared.protocol.Value.TheVariants as values
-use Rattle.token_reading.specs.Single.{comes, before_close, word_here, rest_of, string_at}
+use Rattle.token_reading.specs.Reader.{rest_of}
+use Rattle.token_reading.specs.Single.{comes, before_close, word_here, string_at}
 use Rattle.token_reading.proofs.Readers.{taken, Anything}
 use Rattle.token_reading.proofs.Singles.{word_here_is}
-use Rattle.token_reading.proofs.Exact.{Exact, mark_exact, word_exact, name_exact, number_exact, string_exact, Exact-then, Exact-⊕, Exact-behind, Exact-as, Exact-maybe, Exact-braces, Exact-where, case_takes, case_again}
+use Rattle.token_reading.proofs.Exact.{Exact, mark_exact, word_exact, name_exact, number_exact, string_exact, Exact-then, Exact-behind, Exact-as, Exact-maybe, Exact-braces, Exact-where, case_again}
 use Rattle.token_reading.proofs.Readers.{behind_takes}
 use Rattle.token_reading.proofs.Singles.{number_sound}
 use Rattle.structure_parser.specs.value_parser.Values.{value_at, equals_value_at, attribute_at, section_of, section_at, usercode_comes, empty_if, empty_string_at, usercode_at}

@@ -3,18 +3,17 @@ use Rattle.std.specs.Prelude.{ℕ, List, [], ◌∷◌, Option, Some, None, is_s
 use Rattle.room_lexer.specs.declared.token.Mark.TheVariants as marks
 use Rattle.room_lexer.specs.declared.word.Word.{Word}
 use Rattle.room_lexer.specs.declared.word.Word.TheVariants as words
-use Rattle.room_ast.specs.Values.{TokenValue, AWord, AName, ANumber, AString, ABlock, AMark}
+use Rattle.room_ast.specs.Values.{TokenValue, AWord, ANumber, AString, AMark}
 use Rattle.room_ast.specs.declared.protocol.Attribute.{Attribute}
 use Rattle.room_ast.specs.declared.protocol.EmptyString.{EmptyString}
-use Rattle.room_ast.specs.declared.protocol.PlainValue.{PlainValue}
 use Rattle.room_ast.specs.declared.protocol.PlainValue.TheVariants as plain
 use Rattle.room_ast.specs.declared.protocol.Usercode.{Usercode}
 use Rattle.room_ast.specs.declared.protocol.UsercodeSection.{UsercodeSection}
 use Rattle.room_ast.specs.declared.protocol.UsercodeSection.TheVariants as sections
 use Rattle.room_ast.specs.declared.protocol.Value.{Value}
 use Rattle.room_ast.specs.declared.protocol.Value.TheVariants as values
-use Rattle.token_reading.specs.Reader.{Reader, ◌⊕◌, ◌▹◌, reads_as, optional}
-use Rattle.token_reading.specs.Single.{comes, mark, word, name_at, number_at, string_at, word_here, rest_of, braces_at}
+use Rattle.token_reading.specs.Reader.{Reader, ◌⊕◌, ◌▹◌, reads_as, optional, rest_of}
+use Rattle.token_reading.specs.Single.{comes, mark, word, name_at, number_at, string_at, word_here, braces_at}
 
 -- the value of a STRING that spells one
 abbrev pub value_of_string : TokenValue → Option Value

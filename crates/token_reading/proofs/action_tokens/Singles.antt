@@ -1,13 +1,14 @@
 -- Single tokens: what is taken is what was there, and it is read again.
-use Rattle.std.proofs.Common.{◌≡◌, ℕ, Bool, true, false, cond, List, [], ◌∷◌, Option, Some, None, refl, ap, sym}
+use Rattle.std.proofs.Common.{◌≡◌, ℕ, true, List, [], ◌∷◌, Some, refl, ap, sym}
 use Rattle.std.proofs.lemmas.Bool.{eq-eqb}
 use Rattle.room_lexer.specs.declared.token.Mark.{Mark}
 use Rattle.token_reading.specs.Single.{mark_number}
-use Rattle.token_reading.proofs.Readers.{Sound, Reads, taken, Anything}
+use Rattle.token_reading.proofs.Readers.{Sound, Reads, taken, Anything, take_if_sound, take_if_reads}
 use Rattle.token_reading.proofs.Singles.{same_mark_is}
 use Rattle.token_reading.specs.action_tokens.Words.{word_number}
 use Rattle.token_reading.specs.action_tokens.Values.{Value, AWord, AName, ANumber, AMark}
-use Rattle.token_reading.specs.action_tokens.Single.{comes, comes_word, rest_of, mark, word, name_at, number_at}
+use Rattle.token_reading.specs.action_tokens.Single.{comes, comes_word, mark, word, name_at, number_at}
+use Rattle.token_reading.specs.Reader.{rest_of}
 use Rattle.token_reading.specs.declared.action_tokens.word.ActionWord.{ActionWord}
 use Rattle.token_reading.proofs.action_tokens.WordNumbers.{same_word_is}
 
@@ -29,17 +30,11 @@ comes_word_is v (AName n ∷ ts) e = absurd cc
 comes_word_is v (ANumber n ∷ ts) e = absurd cc
 comes_word_is v (AMark n ∷ ts) e = absurd cc
 
-if_takes : (t : Value) (ts : List Value) (b : Bool) → (b ≡ true → ts ≡ t ∷ rest_of ts) → (z : Unit {0} × List Value) → cond {A = Option (Unit {0} × List Value)} b (Some (tt, rest_of ts)) None ≡ Some z → ts ≡ t ∷ z.1
-if_takes t ts false h z e = absurd cc
-if_takes t ts true h z e = taken (λ _. t ∷ []) ts (tt, rest_of ts) z (h refl) e
-
 pub mark_sound : (m : Mark) → Sound (mark m) (λ _. AMark m ∷ [])
-unfolding mark
-mark_sound m = record { takes = λ ts z e. if_takes (AMark m) ts (comes m ts) (comes_is m ts) z e }
+mark_sound m = take_if_sound (AMark m) (comes m) (comes_is m)
 
 pub word_sound : (w : ActionWord) → Sound (word w) (λ _. AWord w ∷ [])
-unfolding word
-word_sound w = record { takes = λ ts z e. if_takes (AWord w) ts (comes_word w ts) (comes_word_is w ts) z e }
+word_sound w = take_if_sound (AWord w) (comes_word w) (comes_word_is w)
 
 name_takes : (ts : List Value) (z : List ℕ × List Value) → name_at ts ≡ Some z → ts ≡ AName z.0 ∷ z.1
 unfolding name_at
@@ -74,12 +69,10 @@ unfolding comes_word
 comes_word_here w rest = eq-eqb (word_number w) (word_number w) refl
 
 pub mark_reads : (m : Mark) → Reads (mark m) (AMark m ∷ []) tt Anything
-unfolding mark
-mark_reads m = record { again = λ rest any. rw (comes_here m rest) refl }
+mark_reads m = take_if_reads (AMark m) (comes m) (comes_here m)
 
 pub word_reads : (w : ActionWord) → Reads (word w) (AWord w ∷ []) tt Anything
-unfolding word
-word_reads w = record { again = λ rest any. rw (comes_word_here w rest) refl }
+word_reads w = take_if_reads (AWord w) (comes_word w) (comes_word_here w)
 
 pub name_reads : (name : List ℕ) → Reads name_at (AName name ∷ []) name Anything
 unfolding name_at

@@ -1,17 +1,10 @@
 -- Words are told apart by their numbers.
-use Rattle.std.proofs.Common.{◌≡◌, ℕ, zero, suc, true, List, [], ◌∷◌, Option, Some, None, refl, sym, ap, ◌∙◌}
+use Rattle.std.proofs.Common.{◌≡◌, true, Some, refl, sym, ap, ◌∙◌}
 use Rattle.std.proofs.lemmas.Bool.{eqb-true}
+use Rattle.token_reading.proofs.Singles.{nth, some_is}
 use Rattle.token_reading.specs.action_tokens.Words.{all_words, word_number, same_word}
 use Rattle.token_reading.specs.declared.action_tokens.word.ActionWord.{ActionWord}
 use Rattle.token_reading.specs.declared.action_tokens.word.ActionWord.TheVariants as words
-
-nth : {A : Type 0} → List A → ℕ → Option A
-nth [] n = None
-nth (x ∷ xs) zero = Some x
-nth (x ∷ xs) (suc n) = nth xs n
-
-some_is : {A : Type 0} (x y : A) → Some x ≡ Some y → x ≡ y
-some_is x y e = cc
 
 word_found : (w : ActionWord) → nth all_words (word_number w) ≡ Some w
 unfolding nth

@@ -1,5 +1,5 @@
 -- The values of the action language's tokens, of which a program has a list.
-use Rattle.std.specs.Prelude.{ℕ, ◌-◌, List, [], ◌∷◌, take, drop, Option, Some, None, option_map, option_and_then, Result, Ok, Err}
+use Rattle.std.specs.Prelude.{ℕ, List, [], ◌∷◌, Option, Some, None, option_map, option_and_then, Result, Ok, Err}
 use Rattle.room_lexer.specs.Cutting as lexer
 use Rattle.room_lexer.specs.declared.token.Mark.{Mark}
 use Rattle.room_lexer.specs.declared.token.Token.{Token}
@@ -7,6 +7,7 @@ use Rattle.room_lexer.specs.declared.token.TokenKind.{TokenKind}
 use Rattle.room_lexer.specs.declared.token.TokenKind.TheVariants as tokens
 use Rattle.room_lexer.specs.declared.fault.LexFault.{LexFault}
 use Rattle.room_lexer.specs.declared.word.Word.{Word}
+use Rattle.token_reading.specs.Cursor.{between}
 use Rattle.token_reading.specs.Single.{text_of}
 use Rattle.token_reading.specs.action_tokens.Words.{word_of}
 use Rattle.token_reading.specs.declared.action_tokens.word.ActionWord.{ActionWord}
@@ -68,4 +69,4 @@ token_value_of (kinds.Number n) text = ANumber n
 token_value_of (kinds.Mark m) text = AMark m
 
 abbrev pub token_value : List ℕ → ActionToken → Value
-token_value bytes t = token_value_of t.kind (take (t.end - t.start) (drop t.start bytes))
+token_value bytes t = token_value_of t.kind (between bytes (t.start, t.end))

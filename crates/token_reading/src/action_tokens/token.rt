@@ -2,9 +2,12 @@
 ghost use Rattle.std.specs.Prelude.{◌≡◌, map, option_map};
 ghost use Rattle.token_reading.specs.Reader.{Gives};
 ghost use Rattle.token_reading.specs.Single.{text_of};
-ghost use Rattle.token_reading.specs.action_tokens.Values.{value_of, values_of, action_values, token_value};
+ghost use Rattle.token_reading.specs.action_tokens.Single.{span_of, comes as comes_at, comes_word as comes_word_at, name_at as name_of, number_at as number_of, no_mark as mark_at_end, no_word as word_at_end, no_name as name_at_end, no_number as number_at_end};
+ghost use Rattle.token_reading.specs.action_tokens.Values.{Value, value_of, values_of, action_values, token_value};
 
-use crate::action_tokens::word::{ActionWord, word_of};
+use crate::action_tokens::word::{ActionWord, same_word, word_of};
+use crate::lexeme::Lexeme;
+use crate::model_token::same_mark;
 use crate::{ReadFault, text};
 use room_lexer::{LexFault, Mark, Token, TokenKind, lex};
 use std::alloc::Global;
@@ -35,6 +38,71 @@ fn with_kind(token: Token, kind: Kind) -> ActionToken
         start: token.start,
         end: token.end,
     }
+}
+
+/// What is left to read of an action.
+pub type Rest<'a> = crate::Rest<'a, ActionToken>;
+
+impl Lexeme for ActionToken {
+    type Word = ActionWord;
+
+    ghost Value = { Value };
+
+    ghost value = { token_value };
+
+    ghost span = { span_of };
+
+    ghost comes = { comes_at };
+
+    ghost comes_word = { comes_word_at };
+
+    ghost name_at = { name_of };
+
+    ghost number_at = { number_of };
+
+    fn span(self) -> (usize, usize) {
+        (self.start, self.end)
+    }
+
+    #[tactic(auto, unfolding(crate::specs::action_tokens::Single::comes))]
+    fn is_mark(self, mark: Mark) -> bool {
+        match self.kind {
+            Kind::Mark(other) => same_mark(mark, other),
+            _ => false,
+        }
+    }
+
+    #[tactic(auto, unfolding(crate::specs::action_tokens::Single::comes_word))]
+    fn is_word(self, word: ActionWord) -> bool {
+        match self.kind {
+            Kind::Word(other) => same_word(word, other),
+            _ => false,
+        }
+    }
+
+    #[tactic(auto, unfolding(crate::specs::action_tokens::Single::name_at))]
+    fn is_name(self) -> bool {
+        match self.kind {
+            Kind::Name => true,
+            _ => false,
+        }
+    }
+
+    #[tactic(auto, unfolding(crate::specs::action_tokens::Single::number_at))]
+    fn number(self) -> Option<u64> {
+        match self.kind {
+            Kind::Number(n) => Some(n),
+            _ => None,
+        }
+    }
+
+    ghost no_mark = { mark_at_end };
+
+    ghost no_word = { word_at_end };
+
+    ghost no_name = { name_at_end };
+
+    ghost no_number = { number_at_end };
 }
 
 /// The token of the action language that a token of the model language is, if it is one.

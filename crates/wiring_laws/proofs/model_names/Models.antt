@@ -10,11 +10,11 @@ use Rattle.room_wiring.specs.declared.names.PortNames.{PortNames}
 use Rattle.check_classes.specs.class_rules.Names.{actor_has_names, has_part_names, has_message_names}
 use Rattle.check_tables.specs.class_tables.Containers.{actor_container}
 use Rattle.check_mappings.specs.mapping_rules.Rules.{thread_names}
-use Rattle.room_ast.specs.model_parts.Classes.{actors, protocols, actor_names, protocol_names}
+use Rattle.room_ast.specs.model_parts.Classes.{actors, actor_names, protocol_names}
 use Rattle.room_ast.specs.model_parts.Ports.{interface_of, structure_of, port_names}
 use Rattle.wiring_plan.specs.wiring_classes.Labels.{label_of}
 use Rattle.wiring_plan.specs.wiring_classes.Parts.{named, port_names_of}
-use Rattle.wiring_plan.specs.wiring_classes.Classes.{model_signals, ports_in, class_names, classes_of}
+use Rattle.wiring_plan.specs.wiring_classes.Classes.{labelled_signals, ports_in, class_names, classes_of}
 use Rattle.wiring_slots.specs.slot_names.Names.{controllers_of, wired_of, wired_names}
 use Rattle.wiring_laws.specs.model_names.Identifiers.{NamesParts}
 use Rattle.wiring_laws.specs.model_names.Ports.{HasWellNamedPorts}
@@ -24,15 +24,15 @@ use Rattle.wiring_laws.proofs.model_names.Ports.{ports_named, named_distinct, po
 
 module _ (m : ModelTree) (distinct : has_message_names m ≡ true) (idents : NamesParts m) where
   one_class : (a : ActorTree) → actor_has_names a ≡ true → All IsIdent (port_names a) → HasWellNamedPorts (class_names m a)
-  unfolding class_names ports_in model_signals has_message_names
+  unfolding class_names ports_in has_message_names
   one_class a parts names =
       let c = actor_container (protocol_names m) (actor_names m) a in
-      let good = port_signals m (protocols m) idents.messages distinct in
+      let good = port_signals m idents.messages distinct in
       record {
-        ports = ports_named (protocol_names m) (model_signals m) good c.port_names c.ports names;
+        ports = ports_named (protocol_names m) (labelled_signals m) good c.port_names c.ports names;
         differ =
-            differ_of (λ (x : PortNames). x.name) (named (port_names_of (protocol_names m) (model_signals m)) c.port_names c.ports)
-            (named_distinct (protocol_names m) (model_signals m) good c.port_names c.ports names (port_names_distinct (interface_of a) (structure_of a) parts));
+            differ_of (λ (x : PortNames). x.name) (named (port_names_of (protocol_names m) (labelled_signals m)) c.port_names c.ports)
+            (named_distinct (protocol_names m) (labelled_signals m) good c.port_names c.ports names (port_names_distinct (interface_of a) (structure_of a) parts));
       }
 
   all_classes : (xs : List ActorTree) → list_all actor_has_names xs ≡ true → All (λ (a : ActorTree). All IsIdent (port_names a)) xs → All HasWellNamedPorts (map (class_names m) xs)

@@ -19,30 +19,31 @@ use Rattle.check_classes.specs.class_rules.Names.{declared_name, part_names, are
 use Rattle.room_ast.specs.model_parts.Ports.{interface_name, structure_name, frame_name, names_in}
 use Rattle.room_ast.specs.declared.model_parts.entries.PortEntry.{PortEntry}
 use Rattle.wiring_plan.specs.wiring_classes.Labels.{label_of}
-use Rattle.wiring_plan.specs.wiring_classes.Parts.{named, port_names_of, signals_at}
-use Rattle.wiring_plan.specs.declared.wiring_classes.protocols.Signals.{Signals}
+use Rattle.check_scopes.specs.declared.class_scopes.signals.SignalTable.{SignalTable}
+use Rattle.check_scopes.specs.class_scopes.Signals.{signals_at}
+use Rattle.wiring_plan.specs.wiring_classes.Parts.{named, port_names_of}
 use Rattle.wiring_laws.proofs.model_paths.Names.{label_is}
 use Rattle.wiring_laws.proofs.model_names.Lists.{differ_of, idents_of}
 use Rattle.wiring_laws.proofs.model_names.Signals.{AreNamed}
 
 -- ---- ports put together
 
-module _ (names : List (List ℕ)) (protocols : List Signals) (good : (p : PortEntry) → AreNamed (signals_at protocols p)) where
-  one_port : (n : List ℕ) (p : PortEntry) → IsIdent n → IsWellNamedPort (port_names_of names protocols n p)
+module _ (names : List (List ℕ)) (table : SignalTable SignalNames) (good : (p : PortEntry) → AreNamed (signals_at table p)) where
+  one_port : (n : List ℕ) (p : PortEntry) → IsIdent n → IsWellNamedPort (port_names_of names table n p)
   one_port n p ident = record {
     name = subst IsIdent (sym (label_is n ident)) ident;
-    signals = idents_of (λ (x : SignalNames). x.name) ((signals_at protocols p).incoming ++ (signals_at protocols p).outgoing) (good p).idents;
-    signals_differ = differ_of (λ (x : SignalNames). x.name) ((signals_at protocols p).incoming ++ (signals_at protocols p).outgoing) (good p).distinct;
+    signals = idents_of (λ (x : SignalNames). x.name) ((signals_at table p).incoming ++ (signals_at table p).outgoing) (good p).idents;
+    signals_differ = differ_of (λ (x : SignalNames). x.name) ((signals_at table p).incoming ++ (signals_at table p).outgoing) (good p).distinct;
   }
 
-  pub ports_named : (ns : List (List ℕ)) (ps : List PortEntry) → All IsIdent ns → All IsWellNamedPort (named (port_names_of names protocols) ns ps)
+  pub ports_named : (ns : List (List ℕ)) (ps : List PortEntry) → All IsIdent ns → All IsWellNamedPort (named (port_names_of names table) ns ps)
   ports_named [] ps h = All-nil IsWellNamedPort
   ports_named (n ∷ ns) [] h = All-nil IsWellNamedPort
   ports_named (n ∷ ns) (p ∷ ps) h =
-      All-cons IsWellNamedPort (port_names_of names protocols n p) (named (port_names_of names protocols) ns ps) (one_port n p (All-head IsIdent n ns h)) (ports_named ns ps (All-tail IsIdent n ns h))
+      All-cons IsWellNamedPort (port_names_of names table n p) (named (port_names_of names table) ns ps) (one_port n p (All-head IsIdent n ns h)) (ports_named ns ps (All-tail IsIdent n ns h))
 
   names_of_ports : List (List ℕ) → List PortEntry → List (List ℕ)
-  names_of_ports ns ps = map (λ (x : PortNames). x.name) (named (port_names_of names protocols) ns ps)
+  names_of_ports ns ps = map (λ (x : PortNames). x.name) (named (port_names_of names table) ns ps)
 
   ports_all : (P : List ℕ → Type 0) (ns : List (List ℕ)) (ps : List PortEntry) → All IsIdent ns → AllByRecursion P ns → AllByRecursion P (names_of_ports ns ps)
   unfolding names_of_ports
@@ -59,7 +60,7 @@ module _ (names : List (List ℕ)) (protocols : List Signals) (good : (p : PortE
       let is = label_is n (All-head IsIdent n ns h) in
       (ports_all (λ y. same (label_of n) y ≡ false) ns ps rest (subst (λ x. AllByRecursion (λ y. same x y ≡ false) ns) (sym is) k.0), ports_distinct ns ps rest k.1)
 
-  pub named_distinct : (ns : List (List ℕ)) (ps : List PortEntry) → All IsIdent ns → AreDistinct ns → AreDistinct (map (λ (x : PortNames). x.name) (named (port_names_of names protocols) ns ps))
+  pub named_distinct : (ns : List (List ℕ)) (ps : List PortEntry) → All IsIdent ns → AreDistinct ns → AreDistinct (map (λ (x : PortNames). x.name) (named (port_names_of names table) ns ps))
   unfolding names_of_ports
   named_distinct ns ps h k = ports_distinct ns ps h k
 

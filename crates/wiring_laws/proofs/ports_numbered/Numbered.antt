@@ -19,7 +19,7 @@ use Rattle.structure_check.specs.Rules.{first_broken}
 use Rattle.structure_check.specs.List.{all_rules}
 use Rattle.structure_check.proofs.KeptRules.{all_few}
 use Rattle.wiring_plan.specs.wiring_classes.Parts.{named, port_names_of}
-use Rattle.wiring_plan.specs.wiring_classes.Classes.{model_signals, ports_in, class_names, classes_of}
+use Rattle.wiring_plan.specs.wiring_classes.Classes.{labelled_signals, ports_in, class_names, classes_of}
 use Rattle.frame_imports.specs.Numbered.{ArePortsNumbered}
 
 -- how many ports a class has; none where there is no class
@@ -40,7 +40,7 @@ module _ (m : ModelTree) where
   unfolding class_names ports_in
   class_numbered a few =
       let c = actor_container (protocol_names m) (actor_names m) a in
-      few_numbered (length (named (port_names_of (protocol_names m) (model_signals m)) c.port_names c.ports)) (length c.ports) (named_short (port_names_of (protocol_names m) (model_signals m)) c.port_names c.ports) few
+      few_numbered (length (named (port_names_of (protocol_names m) (labelled_signals m)) c.port_names c.ports)) (length c.ports) (named_short (port_names_of (protocol_names m) (labelled_signals m)) c.port_names c.ports) few
 
   each_numbered : (xs : List ActorTree) (n : ℕ) → list_all entries_few (map (actor_container (protocol_names m) (actor_names m)) xs) ≡ true → ports_of (slice_get (map (class_names m) xs) n) ≤ 65536
   each_numbered [] n few = omega arith

@@ -23,7 +23,7 @@ use Rattle.room_kinds.specs.Structure.{is_imported}
 use Rattle.wiring_slots.specs.slot_tree.Slots.{index_text, segment_text, path_text, pending_at, slots_of_reference, slots_of_references, above_in, labels_of_class, references_of_class, inside, subtree, top, top_slots, slots_of}
 use Rattle.wiring_laws.specs.slot_paths.Labels.{AreCalled, CallsApart}
 use Rattle.wiring_laws.proofs.slot_paths.Each.{Each, each_append, each_range}
-use Rattle.wiring_laws.proofs.slot_paths.Texts.{own}
+use Rattle.text_reading.proofs.Decimals.{own}
 
 -- ---- segments
 

@@ -1,5 +1,5 @@
 -- The names of a class have as many ports as its structure.
-use Rattle.std.proofs.Common.{◌≡◌, ◌∙◌, ℕ, zero, suc, ◌+◌, List, [], ◌∷◌, ◌++◌, length, map, Option, Some, None, length-append, refl, sym, ap, arith}
+use Rattle.std.proofs.Common.{◌≡◌, ◌∙◌, ℕ, zero, suc, List, [], ◌∷◌, length, map, length-append, refl, sym, ap, arith}
 use Rattle.std.specs.Prelude.{slice_get}
 use Rattle.std.specs.List.{filter_map}
 use Rattle.std.specs.Option.{option_map_or}
@@ -16,7 +16,7 @@ use Rattle.wiring_plan.specs.structure_plan.Parts.{port_plan}
 use Rattle.wiring_plan.specs.structure_plan.Plans.{actor_plan, plan_of}
 use Rattle.wiring_plan.specs.declared.structure_plan.plan.ClassPlan.{ClassPlan}
 use Rattle.wiring_plan.specs.wiring_classes.Parts.{named, port_names_of}
-use Rattle.wiring_plan.specs.wiring_classes.Classes.{model_signals, ports_in, class_names, classes_of}
+use Rattle.wiring_plan.specs.wiring_classes.Classes.{labelled_signals, ports_in, class_names, classes_of}
 
 named_count : {X Y : Type 0} (make : List ℕ → X → Y) (ns : List (List ℕ)) (xs : List X) → length ns ≡ length xs → length (named make ns xs) ≡ length xs
 named_count make [] [] e = refl
@@ -52,7 +52,7 @@ unfolding class_names ports_in
 class_count m a =
     let names = names_in (interface_of a) (structure_of a) in
     let entries = entries_in (protocol_names m) (interface_of a) (structure_of a) in
-    named_count (port_names_of (protocol_names m) (model_signals m)) names entries (port_count (protocol_names m) (interface_of a) (structure_of a)) ∙ sym (length-map entries port_plan)
+    named_count (port_names_of (protocol_names m) (labelled_signals m)) names entries (port_count (protocol_names m) (interface_of a) (structure_of a)) ∙ sym (length-map entries port_plan)
 
 both_at : {X Y Z : Type 0} (f : X → Y) (g : X → Z) (count : Y → ℕ) (count' : Z → ℕ) → ((x : X) → count (f x) ≡ count' (g x)) → (xs : List X) (n : ℕ) → option_map_or count (slice_get (map f xs) n) 0 ≡ option_map_or count' (slice_get (map g xs) n) 0
 both_at f g count count' e [] n = refl

@@ -5,13 +5,12 @@ use Rattle.room_ast.specs.declared.model.Class.{Class}
 use Rattle.room_ast.specs.model_parts.Classes.{as_actor}
 use Rattle.check_tables.specs.declared.class_tables.container.Container.{Container}
 use Rattle.wiring_plan.specs.structure_plan.Steps.{made_first, made}
-use Rattle.wiring_plan.specs.declared.structure_plan.plan.ClassPlan.{ClassPlan}
 
-module _ (make : Container → ActorTree → ClassPlan) (cs : List Class) (i : ℕ) (k : Class) (l : i < length cs) (is : k ≡ get_or cs i k) where
+module _ {P : Type 0} (make : Container → ActorTree → P) (cs : List Class) (i : ℕ) (k : Class) (l : i < length cs) (is : k ≡ get_or cs i k) where
   now : map class_view (drop i cs) ≡ class_view k ∷ map class_view (drop (i + 1) cs)
   now = rw (add-one, drop-cons cs i k, ← is) refl
 
-  pub actor_turn : (a : ActorTree) → as_actor (class_view k) ≡ Some a → (left : List Container) (own : Container) → 1 ≤ length left → own ≡ get_or left 0 own → (plan : ClassPlan) → plan ≡ make own a → (plans whole : List ClassPlan)
+  pub actor_turn : (a : ActorTree) → as_actor (class_view k) ≡ Some a → (left : List Container) (own : Container) → 1 ≤ length left → own ≡ get_or left 0 own → (plan : P) → plan ≡ make own a → (plans whole : List P)
       → plans ++ made as_actor make (map class_view (drop i cs)) left ≡ whole → (plans ++ plan ∷ []) ++ made as_actor make (map class_view (drop (i + 1) cs)) (drop 1 left) ≡ whole
   actor_turn a some [] own lt first plan plan_is plans whole inv = absurd (omega arith)
   actor_turn a some (x ∷ xs) own lt first plan plan_is plans whole inv =
@@ -19,5 +18,5 @@ module _ (make : Container → ActorTree → ClassPlan) (cs : List Class) (i : �
       let step : made as_actor make (map class_view (drop i cs)) (x ∷ xs) ≡ make x a ∷ made as_actor make rest xs =
       ap (λ (ks : List ClassTree). made as_actor make ks (x ∷ xs)) now ∙ ap (λ (o : Option ActorTree). made_first make (made as_actor make rest) o (x ∷ xs)) some
       in
-      append_assoc plans (plan ∷ []) (made as_actor make rest xs) ∙ ap (λ (p : ClassPlan). plans ++ p ∷ made as_actor make rest xs) (plan_is ∙ ap (λ (c : Container). make c a) first)
-      ∙ ap (λ (ps : List ClassPlan). plans ++ ps) (sym step) ∙ inv
+      append_assoc plans (plan ∷ []) (made as_actor make rest xs) ∙ ap (λ (p : P). plans ++ p ∷ made as_actor make rest xs) (plan_is ∙ ap (λ (c : Container). make c a) first)
+      ∙ ap (λ (ps : List P). plans ++ ps) (sym step) ∙ inv

@@ -1,23 +1,17 @@
 -- The names by the tables are those of the model.
-use Rattle.std.proofs.Common.{◌≡◌, ◌∙◌, ◌⊎◌, inl, inr, ℕ, zero, suc, ◌<◌, ◌≤◌, true, false, not, List, [], ◌∷◌, length, map, Option, Some, None, refl, sym, ap, subst, arith}
+use Rattle.std.proofs.Common.{◌≡◌, ◌∙◌, true, false, not, List, [], ◌∷◌, length, map, Option, Some, None, refl, sym, ap, subst}
 use Rattle.std.specs.Global.{Vec}
-use Rattle.std.specs.List.{flat_map}
-use Rattle.std.specs.Option.{option_map_or}
-use Rattle.std.proofs.lemmas.Bool.{cases_lt}
-use Rattle.std.proofs.lemmas.List.{get_or_past, length-map}
+use Rattle.std.proofs.lemmas.List.{length-map}
 use Rattle.room_kinds.specs.declared.number_type.NumberType.{NumberType}
 use Rattle.room_ast.specs.Trees.{ModelTree, ActorTree}
 use Rattle.room_ast.specs.declared.protocol.Attribute.{Attribute}
-use Rattle.room_ast.specs.declared.protocol.Message.{Message}
-use Rattle.room_ast.specs.declared.protocol.ProtocolClass.{ProtocolClass}
 use Rattle.room_wiring.specs.declared.names.SignalNames.{SignalNames}
 use Rattle.room_wiring.specs.declared.names.AttrNames.{AttrNames}
 use Rattle.room_wiring.specs.declared.names.ClassNames.{ClassNames}
 use Rattle.room_ast.specs.declared.model_parts.entries.TypeEntry.{TypeEntry}
-use Rattle.room_ast.specs.declared.model_parts.entries.TypeEntry.TheVariants as types
 use Rattle.room_ast.specs.model_parts.Attributes.{attributes_of}
 use Rattle.room_ast.specs.model_parts.Classes.{actors, protocols, data_classes, as_actor, actor_names, protocol_names, data_names}
-use Rattle.room_ast.specs.model_parts.Types.{type_entry, numbers_within, numbers_of, message_numbers, carried_type, incoming_of, outgoing_of, data_types, data_types_in, field_types}
+use Rattle.room_ast.specs.model_parts.Types.{type_entry, numbers_within, numbers_of, data_types, data_types_in, field_types}
 use Rattle.number_graphs.specs.class_containment.Containment.{contains_itself}
 use Rattle.check_tables.specs.containment_rules.Circles.{classes_of_types, data_is_finite}
 use Rattle.check_tables.specs.class_tables.Containers.{tables_of, tables_with, class_names as table_names, actor_containers, actor_container}
@@ -27,79 +21,53 @@ use Rattle.wiring_plan.proofs.structure_plan.Walks.{made_all}
 use Rattle.wiring_plan.specs.structure_plan.Parts.{count32}
 use Rattle.wiring_plan.specs.wiring_classes.Labels.{label_of}
 use Rattle.wiring_plan.specs.wiring_classes.States.{state_labels}
-use Rattle.check_scopes.specs.class_scopes.Signals.{parameter_kinds}
-use Rattle.wiring_plan.specs.wiring_classes.ByKinds.{signal_by, signals_by, attribute_by}
-use Rattle.wiring_plan.specs.wiring_classes.Classes.{signal_of, protocol_signals, model_signals, attribute_names, attributes_in, ports_in, references_in, class_names, classes_of}
-use Rattle.wiring_plan.specs.wiring_classes.Parts.{named, port_names_of, reference_names_of}
+use Rattle.check_scopes.specs.declared.class_scopes.signals.SignalTable.{SignalTable}
+use Rattle.check_scopes.specs.class_scopes.ByKinds.{table_by}
+use Rattle.check_scopes.specs.class_scopes.Signals.{map_table}
+use Rattle.check_scopes.specs.class_scopes.Views.{SignalView}
+use Rattle.check_scopes.proofs.class_scopes.SignalLaws.{table_is}
+use Rattle.check_scopes.proofs.number_kinds.KindLaws.{kinds_give}
+use Rattle.wiring_plan.specs.wiring_classes.ByKinds.{attribute_by}
+use Rattle.wiring_plan.specs.wiring_classes.Classes.{labelled_signals, attribute_names, attributes_in, ports_in, references_in, class_names, classes_of}
+use Rattle.wiring_plan.specs.wiring_classes.Parts.{labelled, named, port_names_of, reference_names_of}
 use Rattle.wiring_plan.specs.wiring_classes.Walked.{class_by, named_in}
-use Rattle.wiring_plan.specs.declared.wiring_classes.protocols.Signals.{Signals}
 
 -- functions that agree at each item make the same list
 map_same : {X Y : Type 0} (f g : X → Y) → ((x : X) → f x ≡ g x) → (xs : List X) → map f xs ≡ map g xs
 map_same f g e [] = refl
 map_same {X} {Y} f g e (x ∷ xs) = ap (λ (y : Y). y ∷ map f xs) (e x) ∙ ap (λ (ys : List Y). g x ∷ ys) (map_same f g e xs)
 
-no_number : (d : ℕ) (classes : List (List TypeEntry)) (n : ℕ) → length classes ≤ n → numbers_within d classes (types.Class n) ≡ []
-no_number zero classes n past = refl
-no_number (suc d) classes n past = ap (flat_map (numbers_within d classes)) (get_or_past classes n [] past)
-
-kinds_are : (classes : List (List TypeEntry)) (table : List (List NumberType)) → AreKinds classes table → (t : TypeEntry) → kinds_by table t ≡ numbers_within (length classes) classes t
-kinds_are classes table h (types.Number t) = refl
-kinds_are classes table h types.Unknown = refl
-kinds_are classes table h (types.Class n) = go (cases_lt n (length classes))
-  where
-    go : (n < length classes) ⊎ (length classes ≤ n) → kinds_by table (types.Class n) ≡ numbers_within (length classes) classes (types.Class n)
-    go (inl lt) = h.right n lt
-    go (inr past) = get_or_past table n [] (omega (arith, h.count)) ∙ sym (no_number (length classes) classes n past)
-
 module _ (m : ModelTree) (table : List (List NumberType)) (are : AreKinds (data_types m) table) where
   numbers_are : (t : TypeEntry) → kinds_by table t ≡ numbers_of m t
   unfolding data_types_in
-  numbers_are t = kinds_are (data_types m) table are t ∙ ap (λ k. numbers_within k (data_types m) t) (length-map (data_classes m) (field_types (data_names m)))
+  numbers_are t = kinds_give (data_types m) table are t ∙ ap (λ k. numbers_within k (data_types m) t) (length-map (data_classes m) (field_types (data_names m)))
 
-  parameter_are : (x : Message) → parameter_kinds (data_names m) table x.parameter ≡ message_numbers m x
-  parameter_are x = go (carried_type x.parameter)
-    where
-      go : (o : Option (List ℕ)) → option_map_or (λ name. kinds_by table (type_entry (data_names m) name)) o [] ≡ option_map_or (λ name. numbers_of m (type_entry (data_names m) name)) o []
-      go None = refl
-      go (Some name) = numbers_are (type_entry (data_names m) name)
-
-  signal_are : (x : Message) → signal_by (data_names m) table x ≡ signal_of m x
-  signal_are x = ap (λ (ns : List NumberType). let s : SignalNames = record { name = label_of x.name; numbers = ns } in s) (parameter_are x)
-
-  signals_are : (c : ProtocolClass) → signals_by (data_names m) table c ≡ protocol_signals m c
-  signals_are c =
-      let incoming = map_same (signal_by (data_names m) table) (signal_of m) signal_are (incoming_of c) in
-      let outgoing = map_same (signal_by (data_names m) table) (signal_of m) signal_are (outgoing_of c) in
-      ap (λ (ss : List SignalNames). let s : Signals = record { incoming = ss; outgoing = map (signal_by (data_names m) table) (outgoing_of c) } in s) incoming
-      ∙ ap (λ (ss : List SignalNames). let s : Signals = record { incoming = map (signal_of m) (incoming_of c); outgoing = ss } in s) outgoing
-
-  protocols_are : map (signals_by (data_names m) table) (protocols m) ≡ model_signals m
-  unfolding model_signals
-  protocols_are = map_same (signals_by (data_names m) table) (protocol_signals m) signals_are (protocols m)
+  signals_are : map_table labelled (table_by (data_names m) table (protocols m)) ≡ labelled_signals m
+  unfolding labelled_signals
+  signals_are = ap (λ (t : SignalTable SignalView). map_table labelled t) (table_is m table are)
 
   attribute_are : (a : Attribute) → attribute_by (data_names m) table a ≡ attribute_names m a
   attribute_are a = ap (λ (ns : List NumberType). let n : AttrNames = record { name = label_of a.name; numbers = count32 (length ns) } in n) (numbers_are (type_entry (data_names m) a.type_name))
 
-  class_are : (a : ActorTree) → class_by (tables_of m).names (map (signals_by (data_names m) table) (protocols m)) table (actor_container (protocol_names m) (actor_names m) a) a ≡ class_names m a
+  class_are : (a : ActorTree) → class_by (tables_of m).names (map_table labelled (table_by (data_names m) table (protocols m))) table (actor_container (protocol_names m) (actor_names m) a) a ≡ class_names m a
   unfolding class_names ports_in references_in attributes_in tables_with table_names
   class_are a =
       let c = actor_container (protocol_names m) (actor_names m) a in
-      let make : List Signals → List AttrNames → ClassNames = λ ss attributes. record {
+      let make : SignalTable SignalNames → List AttrNames → ClassNames = λ ss attributes. record {
         name = label_of a.name;
         ports = named (port_names_of (protocol_names m) ss) c.port_names c.ports;
         references = named reference_names_of c.reference_names c.references;
         states = state_labels a;
         attributes = attributes;
       } in
-      ap (λ (ss : List Signals). make ss (map (attribute_by (data_names m) table) (attributes_of a))) protocols_are
-      ∙ ap (λ (attributes : List AttrNames). make (model_signals m) attributes) (map_same (attribute_by (data_names m) table) (attribute_names m) attribute_are (attributes_of a))
+      ap (λ (ss : SignalTable SignalNames). make ss (map (attribute_by (data_names m) table) (attributes_of a))) signals_are
+      ∙ ap (λ (attributes : List AttrNames). make (labelled_signals m) attributes) (map_same (attribute_by (data_names m) table) (attribute_names m) attribute_are (attributes_of a))
 
   names_are : named_in (tables_of m) table m.classes ≡ classes_of m
   unfolding classes_of tables_with table_names actor_containers
   names_are =
-      made_all as_actor (class_by (tables_of m).names (map (signals_by (data_names m) table) (protocols m)) table) (actor_container (protocol_names m) (actor_names m)) m.classes
-      ∙ map_same (λ (a : ActorTree). class_by (tables_of m).names (map (signals_by (data_names m) table) (protocols m)) table (actor_container (protocol_names m) (actor_names m) a) a) (class_names m) class_are (actors m)
+      made_all as_actor (class_by (tables_of m).names (map_table labelled (table_by (data_names m) table (protocols m))) table) (actor_container (protocol_names m) (actor_names m)) m.classes
+      ∙ map_same (λ (a : ActorTree). class_by (tables_of m).names (map_table labelled (table_by (data_names m) table (protocols m))) table (actor_container (protocol_names m) (actor_names m) a) a) (class_names m) class_are (actors m)
 
 types_of : (m : ModelTree) (t : Tables) → t ≡ tables_of m → t.data_types ≡ data_types m
 unfolding table_names tables_with

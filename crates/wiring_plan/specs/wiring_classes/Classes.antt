@@ -2,34 +2,26 @@
 use Rattle.std.specs.Prelude.{ℕ, List, map, length}
 use Rattle.room_ast.specs.Trees.{ModelTree, ActorTree}
 use Rattle.room_ast.specs.declared.protocol.Attribute.{Attribute}
-use Rattle.room_ast.specs.declared.protocol.Message.{Message}
-use Rattle.room_ast.specs.declared.protocol.ProtocolClass.{ProtocolClass}
 use Rattle.room_wiring.specs.declared.names.SignalNames.{SignalNames}
 use Rattle.room_wiring.specs.declared.names.AttrNames.{AttrNames}
 use Rattle.room_wiring.specs.declared.names.PortNames.{PortNames}
 use Rattle.room_wiring.specs.declared.names.RefNames.{RefNames}
 use Rattle.room_wiring.specs.declared.names.ClassNames.{ClassNames}
 use Rattle.room_ast.specs.model_parts.Attributes.{attributes_of}
-use Rattle.room_ast.specs.model_parts.Classes.{actors, protocols, actor_names, protocol_names, data_names}
-use Rattle.room_ast.specs.model_parts.Types.{incoming_of, outgoing_of, message_numbers, numbers_of, type_entry}
+use Rattle.room_ast.specs.model_parts.Classes.{actors, actor_names, protocol_names, data_names}
+use Rattle.room_ast.specs.model_parts.Types.{numbers_of, type_entry}
 use Rattle.check_tables.specs.class_tables.Containers.{actor_container}
 use Rattle.check_tables.specs.declared.class_tables.container.Container.{Container}
+use Rattle.check_scopes.specs.declared.class_scopes.signals.SignalTable.{SignalTable}
+use Rattle.check_scopes.specs.class_scopes.Signals.{model_signals, map_table}
 use Rattle.wiring_plan.specs.structure_plan.Parts.{count32}
 use Rattle.wiring_plan.specs.wiring_classes.Labels.{label_of}
 use Rattle.wiring_plan.specs.wiring_classes.States.{state_labels}
-use Rattle.wiring_plan.specs.wiring_classes.Parts.{named, port_names_of, reference_names_of}
-use Rattle.wiring_plan.specs.declared.wiring_classes.protocols.Signals.{Signals}
+use Rattle.wiring_plan.specs.wiring_classes.Parts.{labelled, named, port_names_of, reference_names_of}
 
--- A message of a protocol class: a parameter of a data class stands for the numbers of its fields in order.
-abbrev pub signal_of : ModelTree → Message → SignalNames
-signal_of m x = record { name = label_of x.name; numbers = message_numbers m x }
-
-abbrev pub protocol_signals : ModelTree → ProtocolClass → Signals
-protocol_signals m c = record { incoming = map (signal_of m) (incoming_of c); outgoing = map (signal_of m) (outgoing_of c) }
-
--- The messages of each protocol class of a model, by its number.
-unfoldable pub model_signals : ModelTree → List Signals
-model_signals m = map (protocol_signals m) (protocols m)
+-- The messages that the ports of a model have, their names as labels.
+unfoldable pub labelled_signals : ModelTree → SignalTable SignalNames
+labelled_signals m = map_table labelled (model_signals m)
 
 -- An attribute, with how many numbers it stands for.
 abbrev pub attribute_names : ModelTree → Attribute → AttrNames
@@ -40,8 +32,8 @@ unfoldable pub attributes_in : ModelTree → ActorTree → List AttrNames
 attributes_in m a = map (attribute_names m) (attributes_of a)
 
 -- The ports of a class by number, `frame` first.
-unfoldable pub ports_in : List (List ℕ) → List Signals → Container → List PortNames
-ports_in names protocols c = named (port_names_of names protocols) c.port_names c.ports
+unfoldable pub ports_in : List (List ℕ) → SignalTable SignalNames → Container → List PortNames
+ports_in names table c = named (port_names_of names table) c.port_names c.ports
 
 -- The references of a class by number.
 unfoldable pub references_in : Container → List RefNames
@@ -51,7 +43,7 @@ references_in c = named reference_names_of c.reference_names c.references
 unfoldable pub class_names : ModelTree → ActorTree → ClassNames
 class_names m a = record {
   name = label_of a.name;
-  ports = ports_in (protocol_names m) (model_signals m) (actor_container (protocol_names m) (actor_names m) a);
+  ports = ports_in (protocol_names m) (labelled_signals m) (actor_container (protocol_names m) (actor_names m) a);
   references = references_in (actor_container (protocol_names m) (actor_names m) a);
   states = state_labels a;
   attributes = attributes_in m a;

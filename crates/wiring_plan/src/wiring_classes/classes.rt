@@ -1,42 +1,40 @@
 //! The names of all actor classes.
 ghost use Rattle.std.specs.Prelude.{◌≡◌, IfOk, map, true};
-ghost use Rattle.std.specs.List.{filter_map};
 ghost use Rattle.room_ast.specs.Trees.{actor_view, class_view, model_view};
 ghost use Rattle.check_tables.specs.containment_rules.Circles.{data_is_finite};
 ghost use Rattle.check_tables.specs.class_tables.Containers.{tables_of};
 ghost use Rattle.check_scopes.specs.number_kinds.Kinds.{AreKinds};
 ghost use Rattle.wiring_plan.specs.wiring_classes.Walked.{class_by, classes_by, named_in};
 ghost use Rattle.wiring_plan.specs.wiring_classes.Classes.{classes_of};
-ghost use Rattle.wiring_plan.specs.declared.wiring_classes.protocols.Signals.{Signals};
 
 use crate::wiring_classes::attributes::attributes_of;
 use crate::wiring_classes::labels::label_of;
 use crate::wiring_classes::ports::{ports_of, references_of};
-use crate::wiring_classes::protocols::{Signals, signals_of_classes};
+use crate::wiring_classes::signals::labelled_table;
 use crate::wiring_classes::states::state_labels;
-use check_scopes::kinds_of;
+use check_scopes::{SignalTable, kinds_of, signal_table};
 use check_tables::{ClassNames as TableNames, Container, Tables, structure_items};
 use room_ast::{ActorClass, Class, Model};
 use room_kinds::{NumberType, Sequence};
-use room_wiring::ClassNames;
+use room_wiring::{ClassNames, SignalNames};
 use std::alloc::{AllocError, Global};
 
 /// The names of an actor class, where `container` is what it knows of its parts.
 fn class_names(
     alloc: Global,
     names: &TableNames,
-    protocols: &[Signals],
+    signals: &SignalTable<SignalNames>,
     kinds: &[Sequence<NumberType>],
     container: &Container,
     class: &ActorClass,
 ) -> Result<ClassNames, AllocError>
-    ensures { IfOk result (λ c. c ≡ class_by names.now protocols.now kinds.now container.now (actor_view class.now)) }
+    ensures { IfOk result (λ c. c ≡ class_by names.now signals.now kinds.now container.now (actor_view class.now)) }
 {
     let name = label_of(alloc, class.name.as_bytes())?;
     let ports = ports_of(
         alloc,
         names.protocols.names(),
-        protocols,
+        signals,
         container.port_names.names(),
         container.ports.as_slice(),
     )?;
@@ -60,12 +58,12 @@ fn class_names(
 fn all_names(
     alloc: Global,
     names: &TableNames,
-    protocols: &[Signals],
+    signals: &SignalTable<SignalNames>,
     kinds: &[Sequence<NumberType>],
     classes: &[Class],
     actors: &[Container],
 ) -> Result<Vec<ClassNames>, AllocError>
-    ensures { IfOk result (λ v. v.items ≡ classes_by names.now protocols.now kinds.now (map class_view classes.now) actors.now) }
+    ensures { IfOk result (λ v. v.items ≡ classes_by names.now signals.now kinds.now (map class_view classes.now) actors.now) }
 {
     let mut all = Vec::new(alloc);
     let mut left = actors;
@@ -74,7 +72,7 @@ fn all_names(
             let [container, others @ ..] = left else {
                 return Ok(all);
             };
-            all.push(class_names(alloc, names, protocols, kinds, container, actor)?)?;
+            all.push(class_names(alloc, names, signals, kinds, container, actor)?)?;
             left = others;
         }
     }
@@ -90,11 +88,12 @@ fn named_in(
 ) -> Result<Vec<ClassNames>, AllocError>
     ensures { IfOk result (λ v. v.items ≡ named_in tables.now kinds.now (map class_view classes.now)) }
 {
-    let protocols = signals_of_classes(alloc, classes, &tables.names.data_classes, kinds)?;
+    let signals = signal_table(alloc, classes, &tables.names.data_classes, kinds)?;
+    let labelled = labelled_table(alloc, &signals)?;
     all_names(
         alloc,
         &tables.names,
-        protocols.as_slice(),
+        &labelled,
         kinds,
         classes,
         tables.actors.as_slice(),
@@ -102,8 +101,8 @@ fn named_in(
 }
 
 /// The names of the actor classes of a model, by number, where these are its tables. No data class
-/// contains itself. The time and the room are in proportion to the model, the numbers of its messages
-/// and attributes, and the messages of each port.
+/// contains itself. The time and the room are in proportion to the model and the numbers of its
+/// messages and attributes: the ports of a protocol class share its messages.
 #[tactic(auto, using(crate::proofs::wiring_classes::KindLaws::some_names, crate::proofs::wiring_classes::KindLaws::no_names))]
 pub fn classes_of(
     alloc: Global,

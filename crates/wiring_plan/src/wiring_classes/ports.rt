@@ -3,47 +3,14 @@ ghost use Rattle.std.specs.Prelude.{◌≡◌, IfOk, option_map, option_and_then
 ghost use Rattle.name_tables.specs.name_numbers.Names.{names_of};
 ghost use Rattle.wiring_plan.specs.structure_plan.Parts.{short};
 ghost use Rattle.wiring_plan.specs.wiring_classes.Labels.{label_of};
-ghost use Rattle.wiring_plan.specs.wiring_classes.Parts.{is_frame, signals_at, port_with, port_names_of, reference_with, reference_names_of, named};
+ghost use Rattle.wiring_plan.specs.wiring_classes.Parts.{port_names_of, reference_names_of, named};
 
 use crate::structure_plan::{reference_plan, short_if_any};
 use crate::wiring_classes::labels::label_of;
-use crate::wiring_classes::protocols::{Signals, frame_only, no_signals, share_signals};
+use check_scopes::SignalTable;
 use room_ast::{PortEntry, ReferenceEntry};
-use room_kinds::PortKind;
-use room_wiring::{Label, PortNames, RefNames};
+use room_wiring::{Label, PortNames, RefNames, SignalNames};
 use std::alloc::{AllocError, Global};
-
-fn is_frame(kind: PortKind) -> bool
-    ensures { result ≡ is_frame kind }
-{
-    match kind {
-        PortKind::Frame => true,
-        PortKind::Relay | PortKind::End | PortKind::Internal | PortKind::Sap | PortKind::Spp =>
-            false,
-    }
-}
-
-fn signals_of<'a>(protocols: &'a [Signals], protocol: Option<usize>) -> Option<&'a Signals>
-    ensures { option_map (λ s. s.now) result ≡ option_and_then (slice_get protocols.entry.now) protocol }
-{
-    match protocol {
-        Some(number) => protocols.get(number),
-        None => None,
-    }
-}
-
-/// The messages of a port, which it shares with the other ports of its protocol class.
-fn signals_at(alloc: Global, protocols: &[Signals], port: &PortEntry) -> Result<Signals, AllocError>
-    ensures { IfOk result (λ s. s ≡ signals_at protocols.now port.now) }
-{
-    if is_frame(port.kind) {
-        return frame_only(alloc);
-    }
-    match signals_of(protocols, port.protocol) {
-        Some(signals) => share_signals(signals),
-        None => no_signals(alloc),
-    }
-}
 
 fn name_at<'a>(names: &'a [&'a [u8]], number: Option<usize>) -> Option<&'a [u8]>
     ensures { option_map (λ n. n.now) result ≡ option_and_then (slice_get (names_of names.entry.now)) number }
@@ -69,13 +36,13 @@ fn label_if_any(alloc: Global, name: Option<&[u8]>) -> Result<Option<Label>, All
 fn port_names(
     alloc: Global,
     names: &[&[u8]],
-    protocols: &[Signals],
+    signals: &SignalTable<SignalNames>,
     name: &[u8],
     port: &PortEntry,
 ) -> Result<PortNames, AllocError>
-    ensures { IfOk result (λ p. p ≡ port_names_of (names_of names.now) protocols.now name.now port.now) }
+    ensures { IfOk result (λ p. p ≡ port_names_of (names_of names.now) signals.now name.now port.now) }
 {
-    let signals = signals_at(alloc, protocols, port)?;
+    let signals = signals.at(port).share()?;
     let protocol_name = label_if_any(alloc, name_at(names, port.protocol))?;
     let label = label_of(alloc, name)?;
     Ok(PortNames {
@@ -89,15 +56,16 @@ fn port_names(
     })
 }
 
-/// The ports of these names, where `protocol_names` are the names of the protocol classes.
+/// The ports of these names, where `protocol_names` are the names of the protocol classes and
+/// `signals` the messages that ports have, which they share.
 pub(crate) fn ports_of(
     alloc: Global,
     protocol_names: &[&[u8]],
-    protocols: &[Signals],
+    signals: &SignalTable<SignalNames>,
     names: &[&[u8]],
     ports: &[PortEntry],
 ) -> Result<Vec<PortNames>, AllocError>
-    ensures { IfOk result (λ v. v.items ≡ named (port_names_of (names_of protocol_names.now) protocols.now) (names_of names.now) ports.now) }
+    ensures { IfOk result (λ v. v.items ≡ named (port_names_of (names_of protocol_names.now) signals.now) (names_of names.now) ports.now) }
 {
     let mut all = Vec::new(alloc);
     let mut left = ports;
@@ -105,7 +73,7 @@ pub(crate) fn ports_of(
         let [port, others @ ..] = left else {
             return Ok(all);
         };
-        all.push(port_names(alloc, protocol_names, protocols, *name, port)?)?;
+        all.push(port_names(alloc, protocol_names, signals, *name, port)?)?;
         left = others;
     }
     Ok(all)

@@ -6,7 +6,7 @@ use Rattle.room_ast.specs.Trees.{ModelTree}
 use Rattle.room_wiring.specs.declared.slot.Slot.{Slot}
 use Rattle.wiring_plan.specs.structure_plan.Plans.{plan_of}
 use Rattle.wiring_plan.specs.declared.structure_plan.plan.StructurePlan.{StructurePlan}
-use Rattle.wiring_slots.specs.slot_tree.Placing.{at_most}
+use Rattle.wiring_slots.specs.slot_tree.Placing.{at_most, TellsFew}
 use Rattle.wiring_slots.specs.slot_tree.Places.{has_too_many_places}
 use Rattle.wiring_slots.specs.slot_tree.Slots.{slots_of}
 use Rattle.wiring_slots.specs.declared.slot_tree.names.MappingPlan.{MappingPlan}
@@ -56,3 +56,11 @@ pub same_wired : (m : ModelTree) (plan : StructurePlan) (names : WiredNames) (cl
 same_wired m plan names classes slots plan_is names_is classes_is slots_is =
     ap (λ (p : StructurePlan). made p names classes slots) plan_is ∙ ap (λ (n : WiredNames). made (plan_of m) n classes slots) names_is
     ∙ ap (λ (ks : List ClassNames). made (plan_of m) (wired_names m) ks slots) classes_is ∙ ap (λ (ss : List Slot). made (plan_of m) (wired_names m) (classes_of m) ss) slots_is
+
+-- what is told of the structure's slots is told of the model's
+pub too_many_counted : (m : ModelTree) (plan : StructurePlan) (b : Bool) → plan ≡ plan_of m → TellsFew plan b → b ≡ false → 4096 < length (slots_in m)
+unfolding slots_in
+too_many_counted m plan b plan_is told e =
+    let few : nat_le (length (slots_of (plan_of m) (wired_names m).slots (wired_names m).mappings)) 4096 ≡ false =
+    ap (λ (p : StructurePlan). nat_le (length (slots_of p (wired_names m).slots (wired_names m).mappings)) 4096) (sym plan_is) ∙ sym (told (wired_names m).slots (wired_names m).mappings) ∙ e in
+    grind (arith, nat_tests)

@@ -1,12 +1,11 @@
 -- The names by a walk over the classes are those of the model.
-use Rattle.std.proofs.Common.{◌≡◌, ◌∙◌, ℕ, List, Option, Some, None, refl, sym, ap, subst}
+use Rattle.std.proofs.Common.{◌≡◌, ◌∙◌, ℕ, List, Option, Some, None, refl, ap}
 use Rattle.std.specs.Prelude.{option_map, option_and_then, unwrap_or}
 use Rattle.std.specs.Option.{option_map_or}
 use Rattle.room_ast.specs.Trees.{ModelTree, SubsystemTree}
 use Rattle.room_ast.specs.model_parts.Classes.{as_subsystem, systems, subsystems, wired_name, actor_names}
 use Rattle.check_tables.specs.class_tables.Containers.{tables_of, tables_with, class_names, subsystem_containers, subsystem_container}
 use Rattle.check_tables.specs.declared.class_tables.tables.Tables.{Tables}
-use Rattle.wiring_plan.specs.structure_plan.Plans.{wired_subsystem}
 use Rattle.wiring_plan.specs.structure_plan.Steps.{first_named}
 use Rattle.wiring_plan.proofs.structure_plan.Walks.{found_all}
 use Rattle.wiring_slots.specs.slot_names.Found.{wired_with, named_in, wired_in}

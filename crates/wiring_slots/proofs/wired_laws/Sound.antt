@@ -26,9 +26,8 @@ use Rattle.wiring_plan.specs.declared.structure_plan.plan.ClassPlan.{ClassPlan}
 use Rattle.wiring_plan.specs.declared.structure_plan.plan.ReferencePlan.{ReferencePlan}
 use Rattle.wiring_slots.specs.slot_tree.Known.{NamesClasses, NamesKnown, IsKnownSlot}
 use Rattle.wiring_slots.specs.declared.slot_tree.names.MappingPlan.{MappingPlan}
-use Rattle.room_ast.specs.declared.system.LogicalThread.{LogicalThread}
 use Rattle.check_mappings.specs.mapping_rules.Rules.{thread_names}
-use Rattle.check_structure.specs.structure_rules.Threads.{as_thread, thread_names as rule_names, are_few, has_few_threads, threads_are_few}
+use Rattle.check_structure.specs.structure_rules.Threads.{are_few, has_few_threads, threads_are_few}
 use Rattle.wiring_plan.specs.wiring_classes.Labels.{label_of}
 use Rattle.wiring_plan.specs.wiring_classes.Classes.{class_names, classes_of}
 use Rattle.wiring_slots.proofs.slot_tree.KnownSlots.{slots_known}
@@ -181,23 +180,12 @@ module _ (all : List Container) (threads : List (List ℕ)) (k : ℕ) (some : 0 
 
 -- ---- controllers
 
-same_threads : (is : List SubsystemItemTree) → map (λ (t : LogicalThread). t.name) (filter_map as_thread is) ≡ thread_names is
-same_threads [] = refl
-same_threads (AReference r ∷ is) = same_threads is
-same_threads (ABinding b ∷ is) = same_threads is
-same_threads (ALayer l ∷ is) = same_threads is
-same_threads (AThread t ∷ is) = ap (λ (ns : List (List ℕ)). t.name ∷ ns) (same_threads is)
-same_threads (AMapping m ∷ is) = same_threads is
-
 -- so many threads
 abbrev Eight : Option SubsystemTree → Type 0
 Eight o = length (option_map_or (λ (s : SubsystemTree). thread_names s.items) o []) ≤ 8
 
-one_eight : (s : SubsystemTree) → are_few (rule_names s) ≡ true → Eight (Some s)
-one_eight s h =
-    let few : length (rule_names s) ≤ 8 = eight (length (rule_names s)) (left_of (nat_le (length (rule_names s)) 8) _ h) in
-    let same = ap length (same_threads s.items) in
-    omega (arith, few, same)
+one_eight : (s : SubsystemTree) → are_few (thread_names s.items) ≡ true → Eight (Some s)
+one_eight s h = eight (length (thread_names s.items)) (left_of (nat_le (length (thread_names s.items)) 8) _ h)
   where
     eight : (n : ℕ) → nat_le n 8 ≡ true → n ≤ 8
     eight n e = grind (arith, nat_tests)
@@ -210,7 +198,7 @@ named_eight : (name : List ℕ) (ks : List ClassTree) → list_all has_few_threa
 named_eight name [] h = omega arith
 named_eight name (ASystem s ∷ ks) h = named_eight name ks h
 named_eight name (ASubsystem s ∷ ks) h =
-    first_eight s (first_named name (filter_map as_subsystem ks)) (same name s.name) (one_eight s (left_of (are_few (rule_names s)) (list_all has_few_threads ks) h)) (named_eight name ks (right_of (are_few (rule_names s)) (list_all has_few_threads ks) h))
+    first_eight s (first_named name (filter_map as_subsystem ks)) (same name s.name) (one_eight s (left_of (are_few (thread_names s.items)) (list_all has_few_threads ks) h)) (named_eight name ks (right_of (are_few (thread_names s.items)) (list_all has_few_threads ks) h))
 named_eight name (AnActor a ∷ ks) h = named_eight name ks h
 named_eight name (AProtocol p ∷ ks) h = named_eight name ks h
 named_eight name (AData d ∷ ks) h = named_eight name ks h

@@ -1,8 +1,8 @@
 -- The controllers of a model, the names of its slots and its mappings.
-use Rattle.std.specs.Prelude.{ℕ, ◌==◌, List, [], ◌∷◌, map, length, codes, Option, Some, None, option_map, if◌then◌else◌}
+use Rattle.std.specs.Prelude.{ℕ, ◌==◌, List, [], ◌∷◌, map, length, codes, Some, if◌then◌else◌}
 use Rattle.std.specs.List.{flat_map}
 use Rattle.std.specs.Option.{option_map_or}
-use Rattle.room_ast.specs.Trees.{ModelTree, SubsystemTree, SubsystemItemTree}
+use Rattle.room_ast.specs.Trees.{ModelTree, SubsystemTree}
 use Rattle.room_ast.specs.model_parts.Classes.{actor_names}
 use Rattle.room_ast.specs.model_parts.References.{is_replicated}
 use Rattle.room_ast.specs.declared.model_parts.entries.ReferenceEntry.{ReferenceEntry}
@@ -14,7 +14,6 @@ use Rattle.wiring_plan.specs.wiring_classes.Labels.{label_of}
 use Rattle.wiring_plan.specs.wiring_classes.Parts.{named}
 use Rattle.wiring_slots.specs.declared.slot_tree.names.MappingPlan.{MappingPlan}
 use Rattle.wiring_slots.specs.declared.slot_tree.names.ReferenceLabel.{ReferenceLabel}
-use Rattle.wiring_slots.specs.declared.slot_tree.names.SlotNames.{SlotNames}
 use Rattle.wiring_slots.specs.slot_names.Ways.{item_mappings}
 use Rattle.wiring_slots.specs.slot_names.Wireds.{WiredTree}
 use Rattle.wiring_slots.specs.declared.slot_names.names.WiredNames.{WiredNames}

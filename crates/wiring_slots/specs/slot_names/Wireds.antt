@@ -1,5 +1,5 @@
 -- What the code keeps of a path and of a subsystem class.
-use Rattle.std.specs.Prelude.{ℕ, List, map, option_map}
+use Rattle.std.specs.Prelude.{List, map, option_map}
 use Rattle.room_ast.specs.Trees.{SubsystemItemTree, subsystem_item_view}
 use Rattle.check_tables.specs.declared.class_tables.container.Container.{Container}
 use Rattle.wiring_slots.specs.slot_names.Ways.{WayTree}

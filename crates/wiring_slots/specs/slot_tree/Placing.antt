@@ -8,7 +8,7 @@ use Rattle.wiring_plan.specs.declared.structure_plan.plan.StructurePlan.{Structu
 use Rattle.wiring_slots.specs.declared.slot_tree.children.Pending.{Pending}
 use Rattle.wiring_slots.specs.declared.slot_tree.names.MappingPlan.{MappingPlan}
 use Rattle.wiring_slots.specs.declared.slot_tree.names.SlotNames.{SlotNames}
-use Rattle.wiring_slots.specs.slot_tree.Slots.{inside, subtree}
+use Rattle.wiring_slots.specs.slot_tree.Slots.{inside, subtree, slots_of}
 use Rattle.wiring_slots.specs.slot_tree.Orders.{in_order}
 
 -- The most slots.
@@ -18,6 +18,10 @@ most_slots = 4096
 -- A list, if it has at most so many items.
 abbrev pub at_most : {X : Type 0} → ℕ → List X → Option (List X)
 at_most n xs = if nat_le (length xs) n then Some xs else None
+
+-- Whether a structure has at most that many slots, whatever they are called and whoever owns them.
+abbrev pub TellsFew : StructurePlan → Bool → Type 0
+TellsFew plan b = (names : SlotNames) (mappings : List MappingPlan) → b ≡ nat_le (length (slots_of plan names mappings)) most_slots
 
 -- The references of each class have numbers of 16 bits, as they have in a model within the limits.
 pub record IsNumbered (plan : StructurePlan) : Type 0 where

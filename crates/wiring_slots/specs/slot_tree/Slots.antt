@@ -1,5 +1,5 @@
 -- The slots of a structure, depth first, in order of declaration and index.
-use Rattle.std.specs.Prelude.{ℕ, zero, suc, ◌+◌, Bool, true, false, List, [], ◌∷◌, ◌++◌, length, map, decimal, Some, None, slice_get, if◌then◌else◌}
+use Rattle.std.specs.Prelude.{ℕ, zero, suc, ◌+◌, Bool, List, [], ◌∷◌, ◌++◌, length, map, decimal, Some, None, slice_get, if◌then◌else◌}
 use Rattle.std.specs.List.{enumerate_from, flat_map, range_with_len, slice_index_or}
 use Rattle.std.specs.Option.{option_map_or}
 use Rattle.room_kinds.specs.declared.numbers.ControllerId.{ControllerId}

@@ -9,7 +9,7 @@ ghost use Rattle.wiring_slots.specs.model_slots.Answers.{AnswersSlots};
 
 use crate::model_slots::fault::SlotFault;
 use crate::slot_names::wired_names;
-use crate::slot_tree::{has_too_many_places, slots_of};
+use crate::slot_tree::{has_few_slots, has_too_many_places, slots_of};
 use check_tables::Tables;
 use room_ast::Model;
 use room_kinds::Sequence;
@@ -28,8 +28,8 @@ pub struct WiredSlots {
 }
 
 /// The slots of a model that keeps the rules, with its structure and its names, where these are its
-/// tables. A structure that stands for too many slots or places is refused before more slots than the
-/// limit are made.
+/// tables. A structure that stands for too many slots is refused before names and mappings are made,
+/// and before more slots than the limit are.
 pub fn wired_slots<'m>(
     alloc: Global,
     model: &'m Model,
@@ -41,6 +41,9 @@ pub fn wired_slots<'m>(
     ensures { AnswersSlots (model_view model.now) result }
 {
     let plan = plan_of(alloc, model, tables)?;
+    if !has_few_slots(alloc, &plan)? {
+        return Err(SlotFault::TooManySlots);
+    }
     let names = wired_names(alloc, model, tables)?;
     let mappings = names.mappings.as_slice();
     let Some(slots) = slots_of(alloc, &plan, &names.slots, mappings)? else {

@@ -23,33 +23,31 @@ pub(crate) struct Way<'t> {
 
 /// One step further, by the reference with this number in a class.
 fn stepped<'t>(
-    alloc: Global,
     actors: &'t [Container<'t>],
-    way: &Way<'t>,
+    way: Way<'t>,
     index: Option<u64>,
     class: &Container,
     reference: u16,
 ) -> Result<Way<'t>, AllocError>
-    ensures { IfOk result (λ w. way_view w ≡ stepped actors.entry.now (way_view way.now) index class.now reference) }
+    ensures { IfOk result (λ w. way_view w ≡ stepped actors.entry.now (way_view way.entry) index class.now reference) }
 {
-    let mut steps = Vec::from_slice(alloc, way.steps.as_slice())?;
+    let mut steps = way.steps;
     steps.push(StepPlan { reference, index })?;
     let place = class_behind(actors, class, reference);
     Ok(Way { steps, place })
 }
 
 fn step_in<'t>(
-    alloc: Global,
     actors: &'t [Container<'t>],
-    way: &Way<'t>,
+    way: Way<'t>,
     segment: &Segment,
     class: &Container,
 ) -> Result<Option<Way<'t>>, AllocError>
-    ensures { IfOk result (λ w. option_map way_view w ≡ step_in actors.entry.now (way_view way.now) segment.now class.now) }
+    ensures { IfOk result (λ w. option_map way_view w ≡ step_in actors.entry.now (way_view way.entry) segment.now class.now) }
 {
     match number_of(&class.reference_names, segment.name.as_bytes()) {
         Some(reference) => {
-            let next = stepped(alloc, actors, way, segment.index, class, reference)?;
+            let next = stepped(actors, way, segment.index, class, reference)?;
             Ok(Some(next))
         }
         None => Ok(None),
@@ -59,15 +57,14 @@ fn step_in<'t>(
 /// One segment further, if there is such a reference.
 #[tactic(auto, unfolding(crate::specs::slot_names::Ways::further))]
 fn further<'t>(
-    alloc: Global,
     actors: &'t [Container<'t>],
-    way: &Way<'t>,
+    way: Way<'t>,
     segment: &Segment,
 ) -> Result<Option<Way<'t>>, AllocError>
-    ensures { IfOk result (λ w. option_map way_view w ≡ further actors.entry.now (way_view way.now) segment.now) }
+    ensures { IfOk result (λ w. option_map way_view w ≡ further actors.entry.now (way_view way.entry) segment.now) }
 {
     match way.place {
-        Some(class) => step_in(alloc, actors, way, segment, class),
+        Some(class) => step_in(actors, way, segment, class),
         None => Ok(None),
     }
 }
@@ -75,7 +72,6 @@ fn further<'t>(
 /// So many segments further.
 #[tactic(auto, using(crate::proofs::slot_names::Steps::walk_start, crate::proofs::slot_names::Steps::walk_more, crate::proofs::slot_names::Steps::walk_stops, crate::proofs::slot_names::Steps::walk_ends))]
 fn walked<'t>(
-    alloc: Global,
     actors: &'t [Container<'t>],
     way: Way<'t>,
     segments: &[Segment],
@@ -84,7 +80,7 @@ fn walked<'t>(
 {
     let mut reached = way;
     for segment in segments {
-        let Some(next) = further(alloc, actors, &reached, segment)? else {
+        let Some(next) = further(actors, reached, segment)? else {
             return Ok(None);
         };
         reached = next;
@@ -94,17 +90,27 @@ fn walked<'t>(
 
 /// Where a path leads, if it exists.
 fn path_end<'t>(
-    alloc: Global,
     actors: &'t [Container<'t>],
-    way: &Way<'t>,
+    way: Way<'t>,
     path: &MappingPath,
 ) -> Result<Option<Way<'t>>, AllocError>
-    ensures { IfOk result (λ w. option_map way_view w ≡ path_end actors.entry.now (way_view way.now) path.now) }
+    ensures { IfOk result (λ w. option_map way_view w ≡ path_end actors.entry.now (way_view way.entry) path.now) }
 {
-    let Some(first) = further(alloc, actors, way, &path.first)? else {
+    let Some(first) = further(actors, way, &path.first)? else {
         return Ok(None);
     };
-    walked(alloc, actors, first, path.others.as_slice())
+    walked(actors, first, path.others.as_slice())
+}
+
+/// A way of its own that has led as far as this one.
+fn same_way<'t>(alloc: Global, way: &Way<'t>) -> Result<Way<'t>, AllocError>
+    ensures { IfOk result (λ w. way_view w ≡ way_view way.now) }
+{
+    let steps = Vec::from_slice(alloc, way.steps.as_slice())?;
+    Ok(Way {
+        steps,
+        place: way.place,
+    })
 }
 
 fn byte_or_zero(number: usize) -> u8
@@ -147,7 +153,8 @@ fn add_mapping<'t>(
 ) -> Result<(), AllocError>
     ensures { OnOk result (plans.new.items ≡ plans.old.items ++ mappings_of actors.entry.now threads.now (way_view way.now) (mapping_view mapping.now)) }
 {
-    let Some(end) = path_end(alloc, actors, way, &mapping.path)? else {
+    let start = same_way(alloc, way)?;
+    let Some(end) = path_end(actors, start, &mapping.path)? else {
         return Ok(());
     };
     let controller = controller_of(threads, mapping.thread.as_bytes());

@@ -5,5 +5,6 @@ use Rattle.actor_commands.proofs.commands.apply_all.Given as goal
 
 abbrev pub invariant-loop-command : goal.invariant-loop-command
 invariant-loop-command g l =
-    AppliesAll l.speaker.wiring.now l.speaker.me.0 (g.P.Peers.frame_of l.peers) (g.P.Peers.links_of l.peers) l.speaker.who (option_copied l.message) (take l.command-index l.commands)
-    l.fn.doing l.doing
+    g.S.Services.serves l.speaker.wiring.now l.speaker.me.0 l.services
+    × AppliesAll l.speaker.wiring.now l.speaker.me.0 (g.S.Services.frame_of l.fn.services) (g.S.Services.links_of l.fn.services) (g.S.Services.frame_of l.services) (g.S.Services.links_of l.services)
+    l.speaker.who (option_copied l.message) (take l.command-index l.commands) l.fn.doing l.doing

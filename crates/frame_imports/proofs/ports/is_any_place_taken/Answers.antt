@@ -1,7 +1,7 @@
 use Rattle.std.proofs.Common.{◌<◌, sym, ◌∙◌, arith}
 use Rattle.room_wiring.specs.Places.{place_count}
 use Rattle.actor_duties.specs.Imports.{is_taken_at}
-use Rattle.frame_imports.proofs.Searched.{found_in}
+use Rattle.service_messages.proofs.slot_runs.Searched.{found_in}
 use Rattle.frame_imports.proofs.ports.is_any_place_taken.Goals as goal
 
 pub returns-then-is_taken_at : goal.returns-then-is_taken_at

@@ -3,7 +3,7 @@ use Rattle.std.specs.List.{list_any}
 use Rattle.room_wiring.specs.Places.{port_count}
 use Rattle.actor_duties.specs.Words.{places_of}
 use Rattle.actor_duties.specs.Imports.{is_taken_at, is_port_taken}
-use Rattle.frame_imports.proofs.Searched.{found_in}
+use Rattle.service_messages.proofs.slot_runs.Searched.{found_in}
 use Rattle.frame_imports.proofs.ports.is_port_taken.Goals as goal
 
 pub returns-then-is_any_place_taken : goal.returns-then-is_any_place_taken

@@ -1,7 +1,7 @@
 use Rattle.std.proofs.Common.{◌≡◌, map, option_map, true, subst}
 use Rattle.chart_reading.specs.chart_graphs.Views.{chart_view}
-use Rattle.room_run.specs.service_words.Asked.{asks_services}
-use Rattle.room_run.specs.model_plants.Shown.{ShowCharts}
+use Rattle.room_run.specs.service_words.Asked.{asks_for_names}
+use Rattle.named_runs.specs.Charts.{ShowCharts}
 use Rattle.room_run.specs.Models.{unsound, none_for_running}
 use Rattle.room_run.proofs.JudgeLemmas.{services_asked, plant_runs}
 use Rattle.room_run.proofs.judge.read_plant.Goals as goal
@@ -9,9 +9,9 @@ use Rattle.room_run.proofs.judge.read_plant.Goals as goal
 pub returns-in-Err-clause-err : goal.returns-in-Err-clause-err
 returns-in-Err-clause-err c = unsound c.in-Err.why c.in-Err.ensures.err
 
-pub returns-then-asks_services-clause-err : goal.returns-then-asks_services-clause-err
-returns-then-asks_services-clause-err c =
-    let asks : asks_services (map (option_map chart_view) c.in-Ok.sound.charts.items) ≡ true = cc in
+pub returns-then-asks_for_names-clause-err : goal.returns-then-asks_for_names-clause-err
+returns-then-asks_for_names-clause-err c =
+    let asks : asks_for_names (map (option_map chart_view) c.in-Ok.sound.charts.items) ≡ true = cc in
     services_asked c.args.text.now c.in-Ok.sound.wiring (map (option_map chart_view) c.in-Ok.sound.charts.items) c.in-Ok.ensures.ok asks
 
 pub returns-in-Ok-plant_of-clause-plant : goal.returns-in-Ok-plant_of-clause-plant

@@ -1,4 +1,4 @@
-use Rattle.std.proofs.Common.{arith, ◌≤◌, ◌<◌, length}
+use Rattle.std.proofs.Common.{arith}
 use Rattle.token_reading.proofs.Escapes.{unescaped-step, unescaped-end}
 use Rattle.token_reading.proofs.contents.unescaped.Goals as goal
 

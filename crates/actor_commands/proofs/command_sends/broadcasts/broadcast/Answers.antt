@@ -9,7 +9,7 @@ pub returns-then-not-is_spp : goal.returns-then-not-is_spp
 returns-then-not-is_spp g c =
     let s = c.args.speaker.now in
     let none : is_spp s.wiring.now s.who.slot.0 c.args.port ≡ false = grind (arith, common_steps, c.if-not-is_spp.true, c.is_spp.ensures) in
-    broadcast_alone s.wiring.now s.me.0 (g.P.Peers.frame_of c.args.peers.now) (g.P.Peers.links_of c.args.peers.now) s.who c.args.port (content_of c.args.content.now)
+    broadcast_alone s.wiring.now s.me.0 (g.S.Services.frame_of c.args.services.now) (g.S.Services.links_of c.args.services.now) s.who c.args.port (content_of c.args.content.now)
     c.args.said.now c.send_to_places.new.said none c.in_ok-send_to_places.ensures
 
 pub returns : goal.returns
@@ -17,6 +17,6 @@ returns g c =
     let s = c.args.speaker.now in
     let some : is_spp s.wiring.now s.who.slot.0 c.args.port ≡ true = grind (arith, common_steps, c.if-not-is_spp.false, c.is_spp.ensures) in
     OnOk-from c.send_to_links.result
-    (broadcast_linked s.wiring.now s.me.0 (g.P.Peers.frame_of c.args.peers.now) (g.P.Peers.links_of c.args.peers.now) s.who c.args.port (content_of c.args.content.now)
+    (broadcast_linked s.wiring.now s.me.0 (g.S.Services.frame_of c.args.services.now) (g.S.Services.links_of c.args.services.now) s.who c.args.port (content_of c.args.content.now)
     c.places-first.result c.args.said.now c.send_to_places.new.said c.send_to_links.new.said some c.places-first.ensures c.in_ok-send_to_places.ensures)
     c.send_to_links.ensures

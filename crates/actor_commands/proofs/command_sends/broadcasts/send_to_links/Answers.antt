@@ -10,8 +10,8 @@ pub loop-index-preserved : goal.loop-index-preserved
 loop-index-preserved g c =
     let s = c.args.speaker.now in
     let t = s.wiring.now in
-    let f = g.P.Peers.frame_of c.args.peers.now in
-    let l = g.P.Peers.links_of c.args.peers.now in
+    let f = g.S.Services.frame_of c.args.services.now in
+    let l = g.S.Services.links_of c.args.services.now in
     let p = c.args.port in
     let content = content_of c.args.content.now in
     let first = c.args.first in

@@ -9,8 +9,8 @@ pub loop-place-preserved : goal.loop-place-preserved
 loop-place-preserved g c =
     let s = c.args.speaker.now in
     let t = s.wiring.now in
-    let f = g.P.Peers.frame_of c.args.peers.now in
-    let l = g.P.Peers.links_of c.args.peers.now in
+    let f = g.S.Services.frame_of c.args.services.now in
+    let l = g.S.Services.links_of c.args.services.now in
     let p = c.args.port in
     let content = content_of c.args.content.now in
     let at = c.loop-place.place in

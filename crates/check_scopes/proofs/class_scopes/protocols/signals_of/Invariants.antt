@@ -1,5 +1,5 @@
 use Rattle.std.proofs.Common.{◌≡◌, take, map}
-use Rattle.check_scopes.specs.class_scopes.Signals.{signal_by}
+use Rattle.check_scopes.specs.class_scopes.ByKinds.{signal_by}
 use Rattle.check_scopes.specs.class_scopes.Views.{signal_view}
 use Rattle.check_scopes.proofs.class_scopes.protocols.signals_of.Given as goal
 

@@ -1,32 +1,34 @@
-use Rattle.std.proofs.Common.{◌<◌, Option, length, set, refl, ap, subst, arith}
+use Rattle.std.proofs.Common.{◌<◌, Option, length, set, refl, ap, subst, sym, arith}
 use Rattle.std.specs.Option.{option_copied}
 use Rattle.room_kinds.specs.declared.numbers.Incarnation.{Incarnation}
 use Rattle.actor_duties.specs.Lives.{last_of}
 use Rattle.actor_world.specs.Start.{first_links}
 use Rattle.chart_run.specs.declared.chart_tables.tables.Tables.{Tables}
-use Rattle.frame_lives.specs.Shown.{shown}
-use Rattle.controller_actors.specs.static_peers.Static.{static_frame}
+use Rattle.frame_service.specs.State.{frame_in}
+use Rattle.controller_actors.specs.Stands.{lives_of}
 use Rattle.controller_actors.specs.actor_seats.Seats.{SeatBegins}
 use Rattle.controller_actors.proofs.Beginnings.{actors_begin}
 use Rattle.controller_actors.proofs.SeatReads.{seat_read, read_sound}
 use Rattle.controller_actors.proofs.actors.Actors.begin.Goals as goal
 
 pub begin-requires-clause-sound : goal.begin-requires-clause-sound
-begin-requires-clause-sound c = read_sound c.args.plant.now c.requires.plant c.args.slot.0 (option_copied c.tables_of-tables.result) c.tables_of-tables.ensures
+begin-requires-clause-sound c = read_sound c.args.plant.now c.requires.plant c.args.who.slot.0 (option_copied c.tables_of-tables.result) c.tables_of-tables.ensures
 
 pub returns : goal.returns
 returns c =
     let p = c.args.plant.now in
     let old = c.args.self.now in
-    let s = c.args.slot.0 in
-    let f = static_frame (shown old.lives) in
+    let s = c.args.who.slot.0 in
+    let f = frame_in old.services.frame in
+    let g = frame_in c.begin.new.services.frame in
     let before = c.index_mut-seat.result.now in
     let after = c.begin.new.self in
     let e = c.in_ok-entrance.entrance in
-    let within : c.from.result < length old.seats.items = omega (arith, c.from.ensures, c.requires.there) in
-    actors_begin p c.args.me.0 old _ s before after c.args.sent c.args.back e c.requires.there
-    (seat_read old.seats.items s c.from.result before c.from.ensures within c.index_mut-seat.ensures.value) refl
-    (ap (λ i. set old.seats.items i after) c.from.ensures)
-    (subst (λ (o : Option Tables). SeatBegins p.wiring c.args.me.0 f first_links (last_of (shown old.lives).lives s) o before after c.args.sent c.args.back e) c.tables_of-tables.ensures
-    (subst (λ (x : Incarnation). SeatBegins p.wiring c.args.me.0 f first_links x (option_copied c.tables_of-tables.result) before after c.args.sent c.args.back e) c.last_of.ensures c.in_ok-entrance.ensures))
-    c.requires.well
+    let there : s < length old.seats.items = omega (arith, c.requires.last.there, c.requires.seated.count) in
+    let within : c.from.result < length old.seats.items = omega (arith, c.from.ensures, there) in
+    actors_begin p c.args.me.0 old _ s before after c.args.sent c.args.back e there
+    (seat_read old.seats.items s c.from.result before c.from.ensures within c.index_mut-seat.ensures.value)
+    (ap (λ i. set old.seats.items i after) c.from.ensures) c.in_ok-entrance.ensures.serves
+    (subst (λ (o : Option Tables). SeatBegins p.wiring c.args.me.0 f first_links g first_links (last_of (lives_of old) s) o before after c.args.sent c.args.back e) c.tables_of-tables.ensures
+    (subst (λ (x : Incarnation). SeatBegins p.wiring c.args.me.0 f first_links g first_links x (option_copied c.tables_of-tables.result) before after c.args.sent c.args.back e) (sym c.requires.last.last) c.in_ok-entrance.ensures.begins))
+    c.requires.last.live c.requires.seated

@@ -1,30 +1,22 @@
-use Rattle.std.proofs.Common.{◌≡◌, ◌<◌, ◌≤◌, Option, None, length, set, refl, ap, subst, arith}
+use Rattle.std.proofs.Common.{◌≡◌, ◌<◌, true, Option, None, length, set, sym, ap, ◌∙◌, subst, arith}
 use Rattle.std.specs.Option.{option_copied}
-use Rattle.std.proofs.lemmas.List.{get_or_past}
+use Rattle.room_kinds.specs.declared.numbers.SlotId.{SlotId}
 use Rattle.room_kinds.specs.declared.numbers.Incarnation.{Incarnation}
 use Rattle.actor_duties.specs.Lives.{last_of}
 use Rattle.actor_world.specs.Start.{first_links}
 use Rattle.chart_run.specs.declared.chart_tables.tables.Tables.{Tables}
-use Rattle.frame_lives.specs.Shown.{shown}
-use Rattle.controller_actors.specs.static_peers.Static.{static_frame}
-use Rattle.controller_actors.specs.declared.actor_seats.seat.Seat.{Seat}
+use Rattle.chart_behaviour.specs.ModelCharts.{tables_at}
+use Rattle.frame_service.specs.State.{frame_in}
+use Rattle.controller_actors.specs.declared.services.ActorServices.{ActorServices}
+use Rattle.controller_actors.specs.Stands.{lives_of}
 use Rattle.controller_actors.specs.actor_seats.Stands.{actor_in}
 use Rattle.controller_actors.specs.actor_seats.Seats.{SeatTurns}
-use Rattle.controller_actors.specs.Stands.{vacant}
-use Rattle.controller_actors.proofs.Turning.{dispatches_nobody, dispatches_actor}
-use Rattle.controller_actors.proofs.SeatReads.{seat_read, read_sound, dispatches_none}
+use Rattle.controller_actors.proofs.Turning.{dispatches_actor}
+use Rattle.controller_actors.proofs.SeatReads.{seat_read, read_sound, read_fits, dispatches_none}
 use Rattle.controller_actors.proofs.actors.Actors.handle.Goals as goal
 
-pub returns-then-at-len : goal.returns-then-at-len
-returns-then-at-len c =
-    let seats = c.args.self.now.seats.items in
-    let s = c.args.m.now.target.slot.0 in
-    let past : length seats ≤ s = omega (arith, c.if-at-len.true, c.len.ensures, c.from-at.ensures) in
-    dispatches_nobody c.args.plant.now c.args.me.0 c.args.m.now c.args.self.now c.nobody_there.result
-    (ap (λ (y : Seat). actor_in y.stand) (get_or_past seats s vacant past)) c.nobody_there.ensures c.requires.well
-
 pub handle-requires-clause-sound : goal.handle-requires-clause-sound
-handle-requires-clause-sound c = read_sound c.args.plant.now c.requires.plant c.args.m.now.target.slot.0 (option_copied c.tables_of-tables.result) c.tables_of-tables.ensures
+handle-requires-clause-sound c = read_sound c.args.plant.now c.requires.plant c.args.who.slot.0 (option_copied c.tables_of-tables.result) c.tables_of-tables.ensures
 
 pub returns-in-Some : goal.returns-in-Some
 returns-in-Some c =
@@ -32,19 +24,25 @@ returns-in-Some c =
     let old = c.args.self.now in
     let m = c.args.m.now in
     let s = m.target.slot.0 in
-    let f = static_frame (shown old.lives) in
+    let same : c.args.who.slot.0 ≡ s = ap (λ (n : SlotId). n.0) c.requires.target in
+    let f = frame_in old.services.frame in
+    let g = frame_in c.handle.new.services.frame in
     let before = c.index_mut-seat.result.now in
     let after = c.handle.new.self in
     let done = c.in-Some.done in
-    let within : c.from-at.result < length old.seats.items = omega (arith, c.if-at-len.false, c.len.ensures) in
-    let there : s < length old.seats.items = omega (arith, within, c.from-at.ensures) in
-    let h : SeatTurns p.wiring c.args.me.0 f first_links c.last_of.result m (option_copied c.tables_of-tables.result) before after done = rw c.in-Some.is at c.in_ok-handled.ensures in
+    let there : s < length old.seats.items = omega (arith, c.requires.last.there, c.requires.well.seated.count, same) in
+    let at : c.from.result ≡ s = c.from.ensures ∙ same in
+    let within : c.from.result < length old.seats.items = omega (arith, there, at) in
+    let who : c.args.who ≡ last_of (lives_of old) s = sym (subst (λ n. last_of (lives_of old) n ≡ c.args.who) same c.requires.last.last) in
+    let live : (lives_of old).lives s ≡ true = subst (λ n. (lives_of old).lives n ≡ true) same c.requires.last.live in
+    let tables : option_copied c.tables_of-tables.result ≡ tables_at p.wiring p.tables.items s = c.tables_of-tables.ensures ∙ ap (tables_at p.wiring p.tables.items) same in
+    let h : SeatTurns p.wiring c.args.me.0 f first_links g first_links c.args.who m (option_copied c.tables_of-tables.result) before after done = rw c.in-Some.is at c.in_ok-handled.ensures.turns in
     dispatches_actor p c.args.me.0 m old _ before after done there
-    (seat_read old.seats.items s c.from-at.result before c.from-at.ensures within c.index_mut-seat.ensures.value) refl
-    (ap (λ i. set old.seats.items i after) c.from-at.ensures)
-    (subst (λ (o : Option Tables). SeatTurns p.wiring c.args.me.0 f first_links (last_of (shown old.lives).lives s) m o before after done) c.tables_of-tables.ensures
-    (subst (λ (x : Incarnation). SeatTurns p.wiring c.args.me.0 f first_links x m (option_copied c.tables_of-tables.result) before after done) c.last_of.ensures h))
-    c.requires.well
+    (seat_read old.seats.items s c.from.result before at within c.index_mut-seat.ensures.value)
+    (ap (λ i. set old.seats.items i after) at) c.in_ok-handled.ensures.serves
+    (subst (λ (o : Option Tables). SeatTurns p.wiring c.args.me.0 f first_links g first_links (last_of (lives_of old) s) m o before after done) tables
+    (subst (λ (x : Incarnation). SeatTurns p.wiring c.args.me.0 f first_links g first_links x m (option_copied c.tables_of-tables.result) before after done) who h))
+    live c.requires.well
 
 pub returns-in-None : goal.returns-in-None
 returns-in-None c =
@@ -52,12 +50,15 @@ returns-in-None c =
     let old = c.args.self.now in
     let m = c.args.m.now in
     let s = m.target.slot.0 in
+    let same : c.args.who.slot.0 ≡ s = ap (λ (n : SlotId). n.0) c.requires.target in
     let before = c.index_mut-seat.result.now in
     let after = c.handle.new.self in
-    let within : c.from-at.result < length old.seats.items = omega (arith, c.if-at-len.false, c.len.ensures) in
-    let there : s < length old.seats.items = omega (arith, within, c.from-at.ensures) in
-    let h : (actor_in before.stand ≡ None) × (after ≡ before) = rw c.in-None.is at c.in_ok-handled.ensures in
-    dispatches_none p c.args.me.0 m old _ before after c.nobody_there-in-None.result there
-    (seat_read old.seats.items s c.from-at.result before c.from-at.ensures within c.index_mut-seat.ensures.value) refl
-    (ap (λ i. set old.seats.items i after) c.from-at.ensures)
-    h c.nobody_there-in-None.ensures c.requires.well
+    let there : s < length old.seats.items = omega (arith, c.requires.last.there, c.requires.well.seated.count, same) in
+    let at : c.from.result ≡ s = c.from.ensures ∙ same in
+    let within : c.from.result < length old.seats.items = omega (arith, there, at) in
+    let live : (lives_of old).lives s ≡ true = subst (λ n. (lives_of old).lives n ≡ true) same c.requires.last.live in
+    let h : (actor_in before.stand ≡ None) × (after ≡ before) × (c.handle.new.services ≡ old.services) = rw c.in-None.is at c.in_ok-handled.ensures.turns in
+    dispatches_none p c.args.me.0 m old _ before after c.nobody_there.result there
+    (seat_read old.seats.items s c.from.result before at within c.index_mut-seat.ensures.value) h.2
+    (ap (λ i. set old.seats.items i after) at) h.0 h.1
+    c.nobody_there.ensures live c.requires.well

@@ -1,22 +1,30 @@
-use Rattle.std.proofs.Common.{◌≡◌, true, false, List, ◌++◌, sym, ap, ◌∙◌, subst, arith}
-use Rattle.std.proofs.lemmas.Grind.{common_steps}
+use Rattle.std.proofs.Common.{◌≡◌, true, false, List, ◌++◌, sym, ap, ◌∙◌, subst}
 use Rattle.std.proofs.lemmas.List.{append-nil}
 use Rattle.room_kinds.specs.declared.numbers.Incarnation.{Incarnation}
-use Rattle.frame_lives.specs.Shown.{shown}
+use Rattle.controller_actors.specs.Stands.{lives_of}
 use Rattle.controller_actors.specs.Steps.{Starts, first_below}
 use Rattle.controller_actors.proofs.Beginnings.{first_nobody, first_there}
+use Rattle.controller_actors.proofs.Occupants.{found, lost, found_last}
 use Rattle.controller_actors.proofs.start.Starting.consider.Goals as goal
 
-pub returns-then-not-lives : goal.returns-then-not-lives
-returns-then-not-lives c =
+pub returns-in_default : goal.returns-in_default
+returns-in_default c =
     let p = c.args.plant.now in
     let me = c.args.me.0 in
     let s = c.args.slot.0 in
     let old = c.args.self.now in
     let xs = first_below p.wiring me s in
-    let dead : (shown old.actors.lives).lives.lives s ≡ false = grind (arith, common_steps, c.if-not-lives.true, c.lives.ensures) in
+    let dead : (lives_of old.actors).lives s ≡ false = lost (lives_of old.actors) s (sym c.live.ensures ∙ c.in_default.is) in
     subst (λ (ys : List Incarnation). Starts p me ys old)
-    (sym (append-nil xs) ∙ ap (λ (ys : List Incarnation). xs ++ ys) (sym (first_nobody p me old.actors.lives c.requires.started.well.lives s dead))) c.requires.started
+    (sym (append-nil xs) ∙ ap (λ (ys : List Incarnation). xs ++ ys) (sym (first_nobody p me (lives_of old.actors) c.requires.started.lives s dead))) c.requires.started
+
+pub start_in-requires : goal.start_in-requires
+start_in-requires c =
+    record {
+      plant = c.requires.plant;
+      seated = c.requires.started.well.seated;
+      last = found_last c.args.plant.now.wiring (lives_of c.args.self.now.actors) c.args.slot c.in-Some.generation c.requires.there (sym c.live.ensures ∙ c.in-Some.is);
+    }
 
 pub returns : goal.returns
 returns c =
@@ -25,6 +33,6 @@ returns c =
     let s = c.args.slot.0 in
     let old = c.args.self.now in
     let xs = first_below p.wiring me s in
-    let alive : (shown old.actors.lives).lives.lives s ≡ true = grind (arith, common_steps, c.if-not-lives.false, c.lives.ensures) in
+    let alive : (lives_of old.actors).lives s ≡ true = (found (lives_of old.actors) s c.in-Some.generation (sym c.live.ensures ∙ c.in-Some.is)).0 in
     subst (λ (ys : List Incarnation). Starts p me (xs ++ ys) c.start_in.new.self)
-    (sym (first_there p me old.actors.lives c.requires.started.well.lives s alive)) (c.in_ok-start_in.ensures.on xs c.requires.started)
+    (sym (first_there p me (lives_of old.actors) c.requires.started.lives s alive)) (c.in_ok-start_in.ensures.on xs c.requires.started)

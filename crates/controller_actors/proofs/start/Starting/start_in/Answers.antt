@@ -1,4 +1,4 @@
-use Rattle.std.proofs.Common.{List, [], ◌∷◌, ◌++◌, refl, ap, ◌∙◌, subst}
+use Rattle.std.proofs.Common.{List, [], ◌∷◌, ◌++◌, refl, sym, ap, ◌∙◌, subst}
 use Rattle.room_kinds.specs.declared.message.Msg.{Msg}
 use Rattle.room_kinds.specs.declared.numbers.Incarnation.{Incarnation}
 use Rattle.journal.specs.declared.entry.Entry.TheVariants as entry
@@ -10,11 +10,11 @@ pub returns : goal.returns
 returns c =
     let p = c.args.plant.now in
     let me = c.args.me.0 in
-    let s = c.args.slot.0 in
+    let s = c.args.who.slot.0 in
     let old = c.args.self.now in
     let e = c.in_ok-entrance.entrance in
     starts_in p me s old _ e
     (subst (λ (ms : List Msg). ActorsBegin p me s old.actors c.begin.new.self ms old.back e) c.replace-sent.ensures.value
     (subst (λ (ms : List Msg). ActorsBegin p me s old.actors c.begin.new.self c.replace-sent.result ms e) c.replace-back.ensures.value c.in_ok-entrance.ensures))
     refl refl
-    (c.in_ok-push.ensures.ok ∙ ap (λ (x : Incarnation). old.entries ++ entry.Start x e.state e.said.notes ∷ []) c.last_of-who.ensures)
+    (c.in_ok-push.ensures.ok ∙ ap (λ (x : Incarnation). old.entries ++ entry.Start x e.state e.said.notes ∷ []) (sym c.requires.last.last))

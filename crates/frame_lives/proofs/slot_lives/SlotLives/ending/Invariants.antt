@@ -1,10 +1,10 @@
-use Rattle.std.proofs.Common.{◌≡◌, ◌≤◌}
-use Rattle.frame_lives.specs.Shown.{shown, with_lives}
-use Rattle.frame_lives.proofs.EndSteps.{ending_below}
+use Rattle.std.proofs.Common.{◌-◌}
+use Rattle.frame_lives.specs.Shown.{shown}
+use Rattle.frame_lives.proofs.EndSteps.{Ending}
 use Rattle.frame_lives.proofs.slot_lives.SlotLives.ending.Given as goal
 
-abbrev pub invariant-loop-number : goal.invariant-loop-number
-invariant-loop-number l = record {
-  from : l.fn.slot.0 ≤ l.number;
-  so_far : l.ending.items ≡ ending_below l.fn.wiring (shown l.self).lives l.fn.slot.0 l.number;
-}
+abbrev pub invariant-loop-next : goal.invariant-loop-next
+invariant-loop-next l = Ending l.wiring l.me.0 (shown l.self).lives l.fn.slot.0 l.end l.ending l.next
+
+abbrev pub decreases-loop-next : goal.decreases-loop-next
+decreases-loop-next l = l.end - l.next

@@ -15,6 +15,6 @@ returns c =
     let kind = c.args.kind in
     let source = c.args.source in
     let other : has_form t me kind m.payload source m.target ≡ false =
-    subst (λ (ns : List ℤ). has_form t me kind ns source m.target ≡ false) c.numbers.ensures.same (sym c.has_form.ensures ∙ c.if-has_form.false) in
+    subst (λ (ns : List ℤ). has_form t me kind ns source m.target ≡ false) c.numbers-numbers.ensures.same (sym c.has_form.ensures ∙ c.if-has_form.false) in
     nothing_done t s (frame_duty_of t me (frame_in s) m kind source m.target) c.args.out.now c.nothing.result c.requires.fits
     (unformed t me (frame_in s) m kind source m.target other) c.nothing.ensures

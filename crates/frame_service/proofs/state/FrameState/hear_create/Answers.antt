@@ -15,7 +15,6 @@ create-requires c = record {
   runs = c.requires.fits.runs;
   there = asked_there c.args.wiring.now c.args.self.now.me.0 c.args.m.now.payload kinds.Create c.args.from c.args.slot c.requires.form;
   whole = c.requires.fits.lives;
-  room = c.requires.room;
 }
 
 pub returns : goal.returns

@@ -10,8 +10,8 @@ use Rattle.frame_service.proofs.FormLemmas.{back_there, plain_fit}
 use Rattle.frame_service.proofs.DutyLemmas.{places_done}
 use Rattle.frame_service.proofs.state.FrameState.hear_deport_done.Goals as goal
 
-pub deport_done-requires : goal.deport_done-requires
-deport_done-requires c =
+pub hear-requires : goal.hear-requires
+hear-requires c =
     let t = c.args.wiring.now in
     let s = c.args.self.now in
     let me = s.me.0 in
@@ -21,7 +21,7 @@ deport_done-requires c =
     subst (λ (n : ℕ). place.slot.0 < n) (sym c.requires.fits.imports) (back_there t me 0 m.payload home place c.requires.form)
 
 pub returns : goal.returns
-unfolding frame_in
+unfolding frame_in deport_done
 returns c =
     let t = c.args.wiring.now in
     let s = c.args.self.now in
@@ -29,7 +29,7 @@ returns c =
     let m = c.args.m.now in
     let place = c.args.place in
     let home = c.args.home in
-    places_done t s c.deport_done.new.imports (deport_done t me (shown s.lives).lives (lending s.imports).places home place) (frame_duty_of t me (frame_in s) m kinds.DeportDone home place) c.args.out.now c.deport_done.new.out c.nothing.result c.requires.fits
-    c.in_ok-deport_done.ensures.now c.in_ok-deport_done.ensures.sent
+    places_done t s c.hear.new.imports (deport_done t me (shown s.lives).lives (lending s.imports).places home place) (frame_duty_of t me (frame_in s) m kinds.DeportDone home place) c.args.out.now c.hear.new.out c.nothing.result c.requires.fits
+    c.in_ok-hear.ensures.now c.in_ok-hear.ensures.sent
     (plain_fit (frame_in s) (is_back t me home place) m.payload (duties.with_places (frame_in s) (deport_done t me (shown s.lives).lives (lending s.imports).places home place)) c.requires.form)
     c.nothing.ensures

@@ -12,8 +12,8 @@ use Rattle.frame_service.proofs.FormLemmas.{back_there, number_fit}
 use Rattle.frame_service.proofs.DutyLemmas.{places_done}
 use Rattle.frame_service.proofs.state.FrameState.hear_import_refused.Goals as goal
 
-pub import_refused-requires : goal.import_refused-requires
-import_refused-requires c =
+pub hear-requires : goal.hear-requires
+hear-requires c =
     let t = c.args.wiring.now in
     let s = c.args.self.now in
     let me = s.me.0 in
@@ -23,7 +23,7 @@ import_refused-requires c =
     subst (λ (n : ℕ). place.slot.0 < n) (sym c.requires.fits.imports) (back_there t me 1 m.payload home place c.requires.form)
 
 pub returns : goal.returns
-unfolding frame_in
+unfolding frame_in import_refused
 returns c =
     let t = c.args.wiring.now in
     let s = c.args.self.now in
@@ -34,8 +34,8 @@ returns c =
     let fits : SFits w64 c.first_number-code.result = search rules in
     let same = to_z-of_z w64 c.first_number-code.result fits in
     let code_is = same ∙ c.first_number-code.ensures in
-    places_done t s c.import_refused.new.imports (import_refused t me (shown s.lives).lives (lending s.imports).places home place (first_number m.payload)) (frame_duty_of t me (frame_in s) m kinds.ImportRefused home place) c.args.out.now c.import_refused.new.out c.nothing.result c.requires.fits
-    (c.in_ok-import_refused.ensures.now ∙ ap (λ (z : ℤ). with_places (lending s.imports) (import_refused t me (shown s.lives).lives (lending s.imports).places home place z).now) code_is)
-    (c.in_ok-import_refused.ensures.sent ∙ ap (λ (z : ℤ). c.args.out.now ++ (import_refused t me (shown s.lives).lives (lending s.imports).places home place z).sent) code_is)
+    places_done t s c.hear.new.imports (import_refused t me (shown s.lives).lives (lending s.imports).places home place (first_number m.payload)) (frame_duty_of t me (frame_in s) m kinds.ImportRefused home place) c.args.out.now c.hear.new.out c.nothing.result c.requires.fits
+    (c.in_ok-hear.ensures.now ∙ ap (λ (z : ℤ). with_places (lending s.imports) (import_refused t me (shown s.lives).lives (lending s.imports).places home place z).now) code_is)
+    (c.in_ok-hear.ensures.sent ∙ ap (λ (z : ℤ). c.args.out.now ++ (import_refused t me (shown s.lives).lives (lending s.imports).places home place z).sent) code_is)
     (number_fit (frame_in s) (is_back t me home place) m.payload (λ code. duties.with_places (frame_in s) (import_refused t me (shown s.lives).lives (lending s.imports).places home place code)) c.requires.form)
     c.nothing.ensures

@@ -1,4 +1,4 @@
-use Rattle.std.proofs.Common.{sym, ◌∙◌, ap, ℕ}
+use Rattle.std.proofs.Common.{sym, ◌∙◌, ap}
 use Rattle.room_kinds.specs.declared.numbers.SlotId.{SlotId}
 use Rattle.inject_reader.proofs.PortLemmas.{slot_right}
 use Rattle.inject_reader.proofs.directory.Directory.slot_named.Goals as goal

@@ -1,4 +1,4 @@
-use Rattle.std.proofs.Common.{◌≡◌, ℕ, drop, ap, ◌∙◌}
+use Rattle.std.proofs.Common.{ℕ, drop, ap, ◌∙◌}
 use Rattle.std.specs.List.{prefix_len}
 use Rattle.inject_reader.specs.inject_lines.Fields.{is_blank, fields}
 use Rattle.inject_reader.proofs.inject_lines.FieldCuts.{skip_blanks, none_comes}

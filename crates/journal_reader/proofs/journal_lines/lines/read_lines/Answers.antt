@@ -1,9 +1,14 @@
-use Rattle.std.proofs.Common.{◌≡◌, length, arith}
+use Rattle.std.proofs.Common.{◌≡◌, ◌<◌, length, ap, arith}
 use Rattle.std.proofs.lemmas.Bool.Decides.{nat_tests}
 use Rattle.journal_reader.specs.journal_lines.Drafts.{nothing_read}
 use Rattle.journal_reader.specs.journal_lines.Reading.{reading}
-use Rattle.journal_reader.proofs.journal_lines.NumberSteps.{lines_go_on, lines_end}
+use Rattle.journal_reader.proofs.journal_lines.NumberSteps.{past_shorter, lines_go_on, lines_end}
 use Rattle.journal_reader.proofs.journal_lines.lines.read_lines.Goals as goal
+
+pub loop-rest-smaller : goal.loop-rest-smaller
+loop-rest-smaller c =
+    let some : 0 < length c.loop-rest.rest = grind (arith, nat_tests) in
+    omega (arith, ap length c.take_until-line.ensures.rest, past_shorter 10 c.loop-rest.rest some)
 
 pub loop-rest-preserved : goal.loop-rest-preserved
 loop-rest-preserved c =

@@ -5,4 +5,4 @@ use Rattle.wiring_plan.proofs.wiring_classes.classes.all_names.Given as goal
 
 abbrev pub invariant-loop-class : goal.invariant-loop-class
 invariant-loop-class l =
-    l.all.items ++ classes_by l.names l.protocols l.kinds (map class_view (drop l.class-index l.classes)) l.left ≡ classes_by l.names l.protocols l.kinds (map class_view l.classes) l.fn.actors
+    l.all.items ++ classes_by l.names l.signals l.kinds (map class_view (drop l.class-index l.classes)) l.left ≡ classes_by l.names l.signals l.kinds (map class_view l.classes) l.fn.actors

@@ -5,4 +5,4 @@ use Rattle.wiring_plan.proofs.wiring_classes.ports.ports_of.Given as goal
 
 abbrev pub invariant-loop-name : goal.invariant-loop-name
 invariant-loop-name l =
-    l.all.items ++ named (port_names_of (names_of l.protocol_names) l.protocols) (names_of (drop l.name-index l.names)) l.left ≡ named (port_names_of (names_of l.protocol_names) l.protocols) (names_of l.names) l.ports
+    l.all.items ++ named (port_names_of (names_of l.protocol_names) l.signals) (names_of (drop l.name-index l.names)) l.left ≡ named (port_names_of (names_of l.protocol_names) l.signals) (names_of l.names) l.ports

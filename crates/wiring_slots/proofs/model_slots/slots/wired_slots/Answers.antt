@@ -2,11 +2,17 @@ use Rattle.std.proofs.Common.{◌∙◌, sym, subst}
 use Rattle.room_ast.specs.Trees.{model_view}
 use Rattle.wiring_plan.specs.declared.structure_plan.plan.StructurePlan.{StructurePlan}
 use Rattle.wiring_slots.specs.slot_tree.Placing.{IsNumbered}
-use Rattle.wiring_slots.proofs.model_slots.Limits.{too_many, all_found, places_of_all, same_wired}
+use Rattle.wiring_slots.proofs.model_slots.Limits.{too_many, too_many_counted, all_found, places_of_all, same_wired}
 use Rattle.wiring_slots.proofs.model_slots.slots.wired_slots.Goals as goal
 
 pub slots_of-requires : goal.slots_of-requires
 slots_of-requires c = subst (λ (p : StructurePlan). IsNumbered p) (sym c.in_ok-plan.ensures) c.requires.numbered
+
+pub has_few_slots-requires : goal.has_few_slots-requires
+has_few_slots-requires c = subst (λ (p : StructurePlan). IsNumbered p) (sym c.in_ok-plan.ensures) c.requires.numbered
+
+pub returns-then-not-branch : goal.returns-then-not-branch
+returns-then-not-branch c = too_many_counted (model_view c.args.model.now) c.in_ok-plan.plan c.in_ok-has_few_slots.field-0 c.in_ok-plan.ensures c.in_ok-has_few_slots.ensures c.if-not-branch.true
 
 pub returns-in_default : goal.returns-in_default
 returns-in_default c =

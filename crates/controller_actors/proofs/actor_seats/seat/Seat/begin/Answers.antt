@@ -7,15 +7,17 @@ use Rattle.controller_actors.specs.actor_seats.Seats.{Works}
 use Rattle.controller_actors.proofs.actor_seats.Working.{starts}
 use Rattle.controller_actors.proofs.actor_seats.seat.Seat.begin.Goals as goal
 
-pub returns : goal.returns
-returns g c =
+pub returns-clause-begins : goal.returns-clause-begins
+returns-clause-begins g c =
     let s = c.args.speaker.now in
     let t = s.wiring.now in
-    let f = g.P.Peers.frame_of c.args.peers.now in
-    let l = g.P.Peers.links_of c.args.peers.now in
+    let f = g.S.Services.frame_of c.args.services.now in
+    let l = g.S.Services.links_of c.args.services.now in
+    let f2 = g.S.Services.frame_of c.work.new.services in
+    let l2 = g.S.Services.links_of c.work.new.services in
     let r = c.in_ok-beginning.beginning in
     let mid : Seat = record { stand = r.stand; deferred = c.args.self.now.deferred } in
     let e : Entrance = record { said = c.in_ok-said.said; back = c.in_ok-said.all_back; state = r.state } in
-    starts t s.me.0 f l s.who (option_copied c.args.tables) c.args.self.now mid c.work.new.self r c.args.sent c.args.back e c.in_ok-beginning.ensures refl refl
-    (subst (λ (cs : List Command). Works t s.me.0 f l s.who None cs mid c.work.new.self (record { messages = c.args.sent; notes = r.notes }) c.args.back e.said e.back) c.as_slice.ensures c.in_ok-said.ensures)
+    starts t s.me.0 f l f2 l2 s.who (option_copied c.args.tables) c.args.self.now mid c.work.new.self r c.args.sent c.args.back e c.in_ok-beginning.ensures refl refl
+    (subst (λ (cs : List Command). Works t s.me.0 f l f2 l2 s.who None cs mid c.work.new.self (record { messages = c.args.sent; notes = r.notes }) c.args.back e.said e.back) c.as_slice.ensures c.in_ok-said.ensures.works)
     refl c.requires.kept

@@ -15,28 +15,30 @@ use Rattle.controller_actors.proofs.actor_seats.Working.{turns}
 use Rattle.controller_actors.proofs.actor_seats.seat.Seat.handle.Goals as goal
 
 -- the same with equal commands, nothing said before, and nothing that came back before
-same_work : (t : Wiring) (me : ℕ) (f : Frame) (l : Links) (x : Incarnation) (m : Option Msg) (cs cs' : List Command) (mid new : Seat) (said back after after' : List Msg) (notes : List Note) (last : Said)
-    → cs ≡ cs' → said ≡ [] → back ≡ [] → after' ≡ after → Works t me f l x m cs mid new (record { messages = said; notes = notes }) back last after
-    → Works t me f l x m cs' mid new (record { messages = []; notes = notes }) [] last after'
-same_work t me f l x m cs cs' mid new said back after after' notes last p q r e w =
-    subst (λ (ms : List Msg). Works t me f l x m cs' mid new (record { messages = []; notes = notes }) [] last ms) (sym e)
-    (subst (λ (ms : List Msg). Works t me f l x m cs' mid new (record { messages = []; notes = notes }) ms last after) r
-    (subst (λ (ms : List Msg). Works t me f l x m cs' mid new (record { messages = ms; notes = notes }) back last after) q
-    (subst (λ (ks : List Command). Works t me f l x m ks mid new (record { messages = said; notes = notes }) back last after) p w)))
+same_work : (t : Wiring) (me : ℕ) (f : Frame) (l : Links) (f' : Frame) (l' : Links) (x : Incarnation) (m : Option Msg) (cs cs' : List Command) (mid new : Seat) (said back after after' : List Msg) (notes : List Note) (last : Said)
+    → cs ≡ cs' → said ≡ [] → back ≡ [] → after' ≡ after → Works t me f l f' l' x m cs mid new (record { messages = said; notes = notes }) back last after
+    → Works t me f l f' l' x m cs' mid new (record { messages = []; notes = notes }) [] last after'
+same_work t me f l f' l' x m cs cs' mid new said back after after' notes last p q r e w =
+    subst (λ (ms : List Msg). Works t me f l f' l' x m cs' mid new (record { messages = []; notes = notes }) [] last ms) (sym e)
+    (subst (λ (ms : List Msg). Works t me f l f' l' x m cs' mid new (record { messages = []; notes = notes }) ms last after) r
+    (subst (λ (ms : List Msg). Works t me f l f' l' x m cs' mid new (record { messages = ms; notes = notes }) back last after) q
+    (subst (λ (ks : List Command). Works t me f l f' l' x m ks mid new (record { messages = said; notes = notes }) back last after) p w)))
 
-pub returns : goal.returns
-returns g c =
+pub returns-clause-turns : goal.returns-clause-turns
+returns-clause-turns g c =
     let s = c.args.speaker.now in
     let t = s.wiring.now in
-    let f = g.P.Peers.frame_of c.args.peers.now in
-    let l = g.P.Peers.links_of c.args.peers.now in
+    let f = g.S.Services.frame_of c.args.services.now in
+    let l = g.S.Services.links_of c.args.services.now in
+    let f2 = g.S.Services.frame_of c.work.new.services in
+    let l2 = g.S.Services.links_of c.work.new.services in
     let o = option_copied c.args.tables in
     let r = c.in-Some.reaction in
     let mid : Seat = record { stand = c.react.new.self; deferred = c.args.self.now.deferred } in
     let last = c.in_ok-said.said in
     let done : Treatment = record { sent = last.messages; back = c.into_sequence.result; did = c.did_of.result; notes = last.notes } in
     let h : Reacts c.args.m.now o c.args.self.now.stand c.react.new.self r = rw c.in-Some.is at c.in_ok-reaction.ensures in
-    turns t s.me.0 f l s.who c.args.m.now o c.args.self.now mid c.work.new.self r done h refl
-    (same_work t s.me.0 f l s.who (Some c.args.m.now) c.as_slice.result.now r.commands mid c.work.new.self c.new.result c.new-none.result c.in_ok-said.back c.into_sequence.result r.notes last
-    c.as_slice.ensures c.new.ensures c.new-none.ensures c.into_sequence.ensures c.in_ok-said.ensures)
+    turns t s.me.0 f l f2 l2 s.who c.args.m.now o c.args.self.now mid c.work.new.self r done h refl
+    (same_work t s.me.0 f l f2 l2 s.who (Some c.args.m.now) c.as_slice.result.now r.commands mid c.work.new.self c.new.result c.new-none.result c.in_ok-said.back c.into_sequence.result r.notes last
+    c.as_slice.ensures c.new.ensures c.new-none.ensures c.into_sequence.ensures c.in_ok-said.ensures.works)
     c.did_of.ensures c.requires.fits c.requires.prio

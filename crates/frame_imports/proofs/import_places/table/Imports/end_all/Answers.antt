@@ -1,11 +1,14 @@
-use Rattle.std.proofs.Common.{◌≡◌, ◌<◌, ◌∙◌, arith}
-use Rattle.frame_imports.specs.import_places.Lending.{lending}
-use Rattle.frame_imports.proofs.import_places.Ended.{ended_last}
+use Rattle.std.proofs.Common.{sym, ap, ◌∙◌}
+use Rattle.room_kinds.specs.declared.numbers.Incarnation.{Incarnation}
+use Rattle.frame_lives.specs.Steps.{is_among}
+use Rattle.frame_imports.specs.import_places.Lending.{Lending, lending, forgotten_where}
+use Rattle.frame_imports.proofs.import_places.Ended.{where_next, where_none}
 use Rattle.frame_imports.proofs.import_places.table.Imports.end_all.Goals as goal
 
-pub returns : goal.returns
-returns c =
-    let behind : c.args.slot.0 < c.end-end.result = c.end-end.ensures.run.behind in
-    let whole : c.loop-number.number ≡ c.end-end.result = omega arith in
-    c.loop-number.invariant.so_far
-    ∙ ended_last c.args.wiring.now c.requires.order c.args.slot.0 c.end-end.result c.loop-number.number c.end-end.ensures.run whole (lending c.args.self.now)
+pub loop-actor-preserved : goal.loop-actor-preserved
+loop-actor-preserved c = record {
+  slots = ap (λ (k : Lending). k.slots) c.forget.ensures ∙ c.loop-actor.invariant.slots;
+  so_far =
+      where_next c.args.wiring.now (lending c.args.self.now) (lending c.loop-actor.self) (lending c.forget.new.self) c.args.ended.now c.loop-actor.actor-index _
+      c.loop-actor-test.true c.forget.ensures c.loop-actor.invariant.so_far;
+}

@@ -1,0 +1,172 @@
+-- Actors that come up and go down, as steps of what is done in a turn.
+use Rattle.std.proofs.Common.{◌≡◌, ℕ, ◌<◌, Bool, false, List, [], ◌∷◌, ◌++◌, map, filter, length, set, All, Option, None, refl, sym, ap, ◌∙◌, subst}
+use Rattle.std.proofs.lemmas.List.{append-nil}
+use Rattle.std.proofs.lemmas.List.Elements.{All-nil}
+use Rattle.room_kinds.specs.declared.message.Msg.{Msg}
+use Rattle.room_kinds.specs.declared.note.Note.{Note}
+use Rattle.room_kinds.specs.declared.note.Note.TheVariants as notes
+use Rattle.room_kinds.specs.declared.numbers.Incarnation.{Incarnation}
+use Rattle.room_wiring.specs.declared.tables.Tables.{Tables as Wiring}
+use Rattle.room_kinds.specs.declared.system.SysKind.TheVariants as kinds
+use Rattle.actor_duties.specs.Words.{updated, ports_of}
+use Rattle.actor_duties.specs.Messages.{system}
+use Rattle.frame_lives.proofs.Rows.{updated_same}
+use Rattle.actor_duties.specs.Lives.{last_of}
+use Rattle.actor_duties.specs.State.{Registration, Unnamed, Link, Links, Done}
+use Rattle.actor_duties.specs.Links.{end_of, point_of}
+use Rattle.actor_world.specs.Body.{Body, Doing, naming}
+use Rattle.actor_world.specs.Start.{first_links}
+use Rattle.actor_world.specs.Turns.{begun, all_begun, gone, all_gone}
+use Rattle.chart_behaviour.specs.ModelCharts.{Actor, begins, tables_at}
+use Rattle.controller_mail.specs.MailState.{HasPriority}
+use Rattle.frame_service.specs.State.{frame_in}
+use Rattle.controller_actors.specs.declared.actor_seats.seat.Seat.{Seat}
+use Rattle.controller_actors.specs.declared.changes.SoFar.{SoFar}
+use Rattle.controller_actors.specs.actor_seats.Seats.{SeatComesUp, SeatFits, seat_body, risen}
+use Rattle.controller_actors.specs.declared.plant.Plant.{Plant}
+use Rattle.controller_actors.specs.declared.actors.Actors.{Actors}
+use Rattle.controller_actors.specs.declared.services.ActorServices.{ActorServices}
+use Rattle.controller_actors.specs.Served.{Serves}
+use Rattle.controller_actors.specs.Plants.{model_of}
+use Rattle.controller_actors.specs.Stands.{IsSeated, body_of, lives_of, seat_at, vacant}
+use Rattle.controller_actors.specs.Steps.{IsLast, Moves, doing_of}
+use Rattle.controller_actors.proofs.Bodies.{body_same, body_set, seated_set}
+
+-- equal parts make equal states
+same_doing : {b c : Body Actor} {sent sent' back back' : List Msg} {told told' : List Note} → b ≡ c → sent ≡ sent' → back ≡ back' → told ≡ told' → (kept : Bool)
+    → ◌≡◌ {A = Doing Actor}
+    (record { body = b; sent = sent; back = back; notes = told; kept = kept })
+    (record { body = c; sent = sent'; back = back'; notes = told'; kept = kept })
+same_doing p q r e kept = cc
+
+-- nothing passes
+none_pass : {A : Type 0} (xs : List A) → filter (λ x. false) xs ≡ []
+none_pass [] = refl
+none_pass (x ∷ xs) = none_pass xs
+
+same_links : {registrations registrations' : ℕ → ℕ → Registration} {linked linked' : ℕ → ℕ → List Link} {sent sent' : List Msg} → registrations ≡ registrations' → linked ≡ linked' → sent ≡ sent'
+    → ◌≡◌ {A = Done Links}
+    (record { now = record { registrations = registrations; linked = linked }; sent = sent })
+    (record { now = record { registrations = registrations'; linked = linked' }; sent = sent' })
+same_links p q r = cc
+
+-- where nothing is registered and nobody linked, an end leaves it so and sends nothing
+ended_links : (t : Wiring) (me : ℕ) (x : Incarnation) → end_of t me first_links x ≡ record { now = first_links; sent = [] }
+unfolding end_of
+ended_links t me x =
+    same_links
+    (updated_same (λ s. (λ p. Unnamed)) x.slot.0 (λ p. Unnamed) refl)
+    (updated_same (λ s. (λ p. [])) x.slot.0 (λ p. []) refl)
+    (ap (map (λ p. system me 0 kinds.Withdraw (point_of x p) (point_of x p) [])) (none_pass (ports_of t x.slot.0)))
+
+module _ (p : Plant) (me : ℕ) where
+  -- ---- steps one after another
+
+  -- nothing is done
+  pub stays : (a : Actors) (s : SoFar) → IsSeated p me a → Moves (λ d. d) p me a s a s
+  stays a s seated = record { on = λ held. (held, refl); seated = seated; lives = refl; back = λ all. all }
+
+  -- one step after another
+  pub then_moves : (first second : Doing Actor → Doing Actor) (a b c : Actors) (x y z : SoFar)
+      → Moves first p me a x b y → Moves second p me b y c z → Moves (λ d. second (first d)) p me a x c z
+  then_moves first second a b c x y z h k = record {
+    on = λ held. ((k.on (h.on held).0).0, ap second (h.on held).1 ∙ (k.on (h.on held).0).1);
+    seated = k.seated;
+    lives = k.lives ∙ h.lives;
+    back = λ all. k.back (h.back all);
+  }
+
+  -- the same step, under another name
+  pub same_moves : (first second : Doing Actor → Doing Actor) (a b : Actors) (x y : SoFar) → ((d : Doing Actor) → second d ≡ first d)
+      → Moves first p me a x b y → Moves second p me a x b y
+  same_moves first second a b x y e h = record {
+    on = λ held. ((h.on held).0, e (doing_of p me a x held) ∙ (h.on held).1);
+    seated = h.seated;
+    lives = h.lives;
+    back = h.back;
+  }
+
+  -- ---- an actor comes up
+
+  begun_is : (x : Incarnation) (d : Doing Actor) → begun (model_of p) p.wiring me x d ≡ risen p.wiring me x (begins x (tables_at p.wiring p.tables.items x.slot.0)) d
+  begun_is x d = refl
+
+  pub comes_up : (old new : Actors) (x : Incarnation) (before after : Seat) (first last : SoFar) → x.slot.0 < length old.seats.items
+      → before ≡ seat_at old.seats.items x.slot.0 → new.seats.items ≡ set old.seats.items x.slot.0 after → Serves p.wiring me new.services
+      → SeatComesUp p.wiring me (frame_in old.services.frame) first_links (frame_in new.services.frame) first_links x (tables_at p.wiring p.tables.items x.slot.0) before after first.said first.back last.said last.back
+      → IsSeated p me old → IsLast p.wiring (lives_of old) x → Moves (begun (model_of p) p.wiring me x) p me old first new last
+  comes_up old new x before after first last l is seats serves h seated here =
+      let s = x.slot.0 in
+      let o = tables_at p.wiring p.tables.items s in
+      let f = frame_in old.services.frame in
+      let b = body_of p me old in
+      record {
+        on = λ held. (
+          h.kept,
+          begun_is x (doing_of p me old first held)
+              ∙ ap (λ (c : Body Actor). risen p.wiring me x (begins x o) (record { body = c; sent = first.said.messages; back = first.back; notes = first.said.notes; kept = held }))
+              (body_same p me old s ∙ ap (seat_body f first_links b s) (sym is))
+              ∙ h.doing b held
+              ∙ ap (λ (c : Body Actor). record { body = c; sent = last.said.messages; back = last.back; notes = last.said.notes; kept = h.kept })
+              (sym (body_set p me old new s after l seats)),
+        );
+        seated = seated_set p me old new s after l h.lives seats serves seated (subst (λ y. SeatFits y o after) (sym here.last) h.fits);
+        lives = h.lives;
+        back = h.back;
+      }
+
+  -- one more
+  last_begun : (xs : List Incarnation) (x : Incarnation) (d : Doing Actor)
+      → all_begun (model_of p) p.wiring me (xs ++ x ∷ []) d ≡ begun (model_of p) p.wiring me x (all_begun (model_of p) p.wiring me xs d)
+  last_begun [] x d = refl
+  last_begun (y ∷ ys) x d = last_begun ys x (begun (model_of p) p.wiring me y d)
+
+  pub more_begun : (xs : List Incarnation) (x : Incarnation) (a b c : Actors) (u v w : SoFar)
+      → Moves (all_begun (model_of p) p.wiring me xs) p me a u b v → Moves (begun (model_of p) p.wiring me x) p me b v c w
+      → Moves (all_begun (model_of p) p.wiring me (xs ++ x ∷ [])) p me a u c w
+  more_begun xs x a b c u v w h k =
+      same_moves _ (all_begun (model_of p) p.wiring me (xs ++ x ∷ [])) a c u w (last_begun xs x)
+      (then_moves (all_begun (model_of p) p.wiring me xs) (begun (model_of p) p.wiring me x) a b c u v w h k)
+
+  -- ---- an actor is gone
+
+  pub goes_down : (old new : Actors) (x : Incarnation) (first last : SoFar) → x.slot.0 < length old.seats.items
+      → new.services ≡ old.services → new.seats.items ≡ set old.seats.items x.slot.0 vacant
+      → last.said.messages ≡ first.said.messages → last.back ≡ first.back
+      → last.said.notes ≡ first.said.notes ++ notes.Down x (length (seat_at old.seats.items x.slot.0).deferred) ∷ []
+      → IsSeated p me old → Moves (gone p.wiring me x) p me old first new last
+  unfolding body_of
+  goes_down old new x first last l services seats sent back told seated =
+      let s = x.slot.0 in
+      let b = body_of p me old in
+      let lives : lives_of new ≡ lives_of old = ap (λ (v : ActorServices). (frame_in v.frame).lives) services in
+      let body : seat_body (frame_in old.services.frame) first_links b s vacant ≡ body_of p me new =
+      ap (λ (v : ActorServices). seat_body (frame_in v.frame) first_links b s vacant) (sym services) ∙ sym (body_set p me old new s vacant l seats) in
+      record {
+        on = λ held. (
+          held,
+          ap (naming (record {
+            body = record b { machines = updated b.machines s None; deferred = updated b.deferred s [] };
+            sent = first.said.messages;
+            back = first.back;
+            notes = first.said.notes ++ notes.Down x (length (b.deferred s)) ∷ [];
+            kept = held;
+          })) (ended_links p.wiring me x)
+              ∙ same_doing body (append-nil first.said.messages ∙ sym sent) (sym back) (sym told) held,
+        );
+        seated = seated_set p me old new s vacant l lives seats (subst (Serves p.wiring me) (sym services) seated.serves) seated
+            (record { of = tt; tables = tt; kept = All-nil HasPriority });
+        lives = lives;
+        back = λ all. subst (λ (ms : List Msg). All HasPriority ms) (sym back) all;
+      }
+
+  last_gone : (t : Wiring) (xs : List Incarnation) (x : Incarnation) (d : Doing Actor) → all_gone t me (xs ++ x ∷ []) d ≡ gone t me x (all_gone t me xs d)
+  last_gone t [] x d = refl
+  last_gone t (y ∷ ys) x d = last_gone t ys x (gone t me y d)
+
+  pub more_gone : (xs : List Incarnation) (x : Incarnation) (a b c : Actors) (u v w : SoFar)
+      → Moves (all_gone p.wiring me xs) p me a u b v → Moves (gone p.wiring me x) p me b v c w
+      → Moves (all_gone p.wiring me (xs ++ x ∷ [])) p me a u c w
+  more_gone xs x a b c u v w h k =
+      same_moves _ (all_gone p.wiring me (xs ++ x ∷ [])) a c u w (last_gone p.wiring xs x)
+      (then_moves (all_gone p.wiring me xs) (gone p.wiring me x) a b c u v w h k)

@@ -1,0 +1,57 @@
+-- What a turn makes of a message of priority 0.
+use Rattle.std.specs.Prelude.{◌≡◌, ℕ, Bool, true, false, List, All, Option}
+use Rattle.room_kinds.specs.declared.message.Msg.{Msg}
+use Rattle.room_kinds.specs.declared.numbers.Incarnation.{Incarnation}
+use Rattle.room_kinds.specs.declared.system.SysKind.{SysKind}
+use Rattle.room_kinds.specs.declared.system.SysKind.TheVariants as kinds
+use Rattle.journal.specs.declared.entry.Did.TheVariants as did
+use Rattle.actor_world.specs.Body.{Doing}
+use Rattle.actor_world.specs.Turns.{all_begun, all_gone, closing, doing, duty, treated}
+use Rattle.chart_behaviour.specs.ModelCharts.{Actor}
+use Rattle.frame_lives.specs.declared.done.DutyDone.{DutyDone}
+use Rattle.controller_mail.specs.MailState.{HasPriority, with_body}
+use Rattle.controller_mail.specs.declared.controller_mail.Treatment.{Treatment}
+use Rattle.controller_actors.specs.declared.plant.Plant.{Plant}
+use Rattle.controller_actors.specs.declared.actors.Actors.{Actors}
+use Rattle.controller_actors.specs.Plants.{model_of}
+use Rattle.controller_actors.specs.Stands.{IsWell, body_of, done_of}
+
+-- whether a kind is the layer service's
+abbrev pub is_named : SysKind → Bool
+is_named kinds.Register = true
+is_named kinds.Withdraw = true
+is_named kinds.Bound = true
+is_named kinds.Ended = true
+is_named kinds.NameReply = true
+is_named kinds.Create = false
+is_named kinds.CreateDone = false
+is_named kinds.CreateRefused = false
+is_named kinds.Destroy = false
+is_named kinds.DestroyDone = false
+is_named kinds.Import = false
+is_named kinds.ImportDone = false
+is_named kinds.ImportRefused = false
+is_named kinds.ImportEnded = false
+is_named kinds.Deport = false
+is_named kinds.DeportDone = false
+is_named kinds.Announce = false
+is_named kinds.PartMake = false
+is_named kinds.PartEnd = false
+
+-- a duty of this kind was done
+pub record HasDuty (plant : Plant) (me : ℕ) (m : Msg) (kind : SysKind) (old new : Actors) (done : Treatment) : Type 0 where
+  pub turn : treated (duty (model_of plant) plant.wiring me (body_of plant me old) m kind) did.Duty ≡ with_body (done_of done) (body_of plant me new)
+  pub well : IsWell plant me new
+  pub back : All HasPriority done.back
+
+-- what is left after a duty of the frame service, once these messages were sent: those that were made
+-- come up, those that ended go down, and the last message is sent
+abbrev pub finishing : Plant → ℕ → DutyDone → Doing Actor → Doing Actor
+finishing plant me left d =
+    closing (all_gone plant.wiring me left.ended (all_begun (model_of plant) plant.wiring me left.made d)) left.last
+
+-- that was done
+pub record Finishes (plant : Plant) (me : ℕ) (left : DutyDone) (sent : List Msg) (old new : Actors) (done : Treatment) : Type 0 where
+  pub turn : treated (finishing plant me left (record (doing (body_of plant me old)) { sent = sent })) did.Duty ≡ with_body (done_of done) (body_of plant me new)
+  pub well : IsWell plant me new
+  pub back : All HasPriority done.back

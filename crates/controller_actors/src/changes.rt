@@ -1,0 +1,103 @@
+//! Actors that come up and go down in a turn.
+ghost use Rattle.std.specs.Prelude.{◌≡◌, ◌<◌, ◌∷◌, ℕ, List, [], length, All, IfOk, OnOk};
+ghost use Rattle.room_kinds.specs.declared.numbers.Incarnation.{Incarnation as Actor};
+ghost use Rattle.actor_world.specs.Turns.{begun, all_begun, gone, all_gone};
+ghost use Rattle.controller_actors.specs.declared.plant.Plant.{Plant as SomePlant};
+ghost use Rattle.controller_actors.specs.Plants.{IsPlant, model_of};
+ghost use Rattle.controller_actors.specs.Stands.{AreEmpty, IsSeated, lives_of};
+ghost use Rattle.controller_actors.specs.Steps.{IsLast, Moves};
+
+use crate::actor_seats::Seat;
+use crate::actors::Actors;
+use crate::plant::Plant;
+use actor_commands::{Recalled, Said, Speaker};
+use room_kinds::{ControllerId, Incarnation, Note};
+use std::alloc::AllocError;
+
+/// What a turn has done so far: the messages and notes, and the deferred messages that came back.
+#[derive(Drop)]
+pub(crate) struct SoFar {
+    pub said: Said,
+    pub back: Recalled,
+}
+
+impl Actors {
+    /// An actor that was made comes up: its note, its initial transition, and its commands.
+    pub(crate) fn come_up(
+        &mut self,
+        plant: &Plant,
+        me: ControllerId,
+        who: Incarnation,
+        so_far: SoFar,
+    ) -> Result<SoFar, AllocError>
+        requires plant { IsPlant plant.now }
+        requires seated { IsSeated plant.now me.0 self.old }
+        requires last { IsLast plant.now.wiring (lives_of self.old) who }
+        ensures moves { IfOk result (λ s. Moves (begun (model_of plant.now) plant.now.wiring me.0 who) plant.now me.0 self.old so_far self.new s) }
+        ensures empty { OnOk result ((gone : List Actor) → AreEmpty gone self.old → AreEmpty gone self.new) }
+    {
+        let alloc = self.alloc;
+        let speaker = Speaker {
+            wiring: &plant.wiring,
+            me,
+            who,
+        };
+        let tables = plant.tables_of(who.slot);
+        let SoFar { said, back } = so_far;
+        let seat = &mut self.seats[usize::from(who.slot.0)];
+        let (said, back) = seat.come_up(alloc, &speaker, &mut self.services, tables, said, back)?;
+        Ok(SoFar { said, back })
+    }
+
+    /// Actors that were made come up, one after another.
+    pub(crate) fn all_come_up(
+        &mut self,
+        plant: &Plant,
+        me: ControllerId,
+        made: &[Incarnation],
+        so_far: SoFar,
+    ) -> Result<SoFar, AllocError>
+        requires plant { IsPlant plant.now }
+        requires seated { IsSeated plant.now me.0 self.old }
+        requires last { All (IsLast plant.now.wiring (lives_of self.old)) made.now }
+        ensures moves { IfOk result (λ s. Moves (all_begun (model_of plant.now) plant.now.wiring me.0 made.now) plant.now me.0 self.old so_far self.new s) }
+        ensures empty { OnOk result ((gone : List Actor) → AreEmpty gone self.old → AreEmpty gone self.new) }
+    {
+        let mut so_far = so_far;
+        for who in made {
+            so_far = self.come_up(plant, me, *who, so_far)?;
+        }
+        Ok(so_far)
+    }
+
+    /// An actor that has ended is gone: its note tells how many messages it had kept, and nobody stands
+    /// in its slot.
+    pub(crate) fn go_down(&mut self, who: Incarnation, so_far: &mut SoFar) -> Result<(), AllocError>
+        requires there { who.slot.0 < length self.old.seats.items }
+        ensures moves { OnOk result ((plant : SomePlant) (me : ℕ) → IsSeated plant me self.old → Moves (gone plant.wiring me who) plant me self.old so_far.old self.new so_far.new) }
+        ensures empty { OnOk result ((rest : List Actor) → AreEmpty (who ∷ rest) self.old → AreEmpty rest self.new) }
+        ensures count { OnOk result (length self.new.seats.items ≡ length self.old.seats.items) }
+    {
+        let seat = &mut self.seats[usize::from(who.slot.0)];
+        let lost = seat.deferred.len() as u64;
+        so_far.said.notes.push(Note::Down { who, lost })?;
+        *seat = Seat::vacant(self.alloc);
+        Ok(())
+    }
+
+    /// Actors that have ended are gone, one after another.
+    pub(crate) fn all_go_down(
+        &mut self,
+        ended: &[Incarnation],
+        so_far: &mut SoFar,
+    ) -> Result<(), AllocError>
+        requires there { All (λ (x : Actor). x.slot.0 < length self.old.seats.items) ended.now }
+        ensures moves { OnOk result ((plant : SomePlant) (me : ℕ) → IsSeated plant me self.old → Moves (all_gone plant.wiring me ended.now) plant me self.old so_far.old self.new so_far.new) }
+        ensures empty { OnOk result (AreEmpty ended.now self.old → AreEmpty [] self.new) }
+    {
+        for who in ended {
+            self.go_down(*who, so_far)?;
+        }
+        Ok(())
+    }
+}

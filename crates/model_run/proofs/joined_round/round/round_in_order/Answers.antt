@@ -1,0 +1,23 @@
+use Rattle.std.proofs.Common.{◌≡◌, ◌+◌, map, length, arith}
+use Rattle.std.proofs.lemmas.List.{length-map}
+use Rattle.model_run.proofs.joined_round.JoinLaw.{ok_so, round_of, worked_of}
+use Rattle.model_run.proofs.joined_round.round.round_in_order.Goals as goal
+
+pub join_all-requires-clause-posted : goal.join_all-requires-clause-posted
+join_all-requires-clause-posted g c =
+    let w = c.in_ok-work_in_order.ensures.worked in
+    worked_of c.args.plant.now c.args.controllers.now.items c.work_in_order.new.controllers.items (map g.M.Mail.log c.args.ends.items) (map g.M.Mail.log c.work_in_order.new.ends.items) w.steps w.count
+
+pub join_all-requires-clause-count : goal.join_all-requires-clause-count
+join_all-requires-clause-count g c =
+    let w = c.in_ok-work_in_order.ensures.worked in
+    let olds : length (map g.M.Mail.log c.args.ends.items) ≡ length c.args.ends.items = length-map c.args.ends.items g.M.Mail.log in
+    let news : length (map g.M.Mail.log c.work_in_order.new.ends.items) ≡ length c.work_in_order.new.ends.items = length-map c.work_in_order.new.ends.items g.M.Mail.log in
+    omega (arith, w.parties, w.count, c.requires.count, c.requires.stand.count)
+
+pub returns : goal.returns
+returns g c =
+    ok_so c.join_all.result _
+    (round_of c.args.plant.now c.args.controllers.now.items c.work_in_order.new.controllers.items c.join_all.new.controllers.items (map g.M.Mail.log c.args.ends.items) (map g.M.Mail.log c.work_in_order.new.ends.items)
+    c.requires.stand c.in_ok-work_in_order.ensures.worked)
+    c.join_all.ensures

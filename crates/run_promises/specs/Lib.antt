@@ -1,0 +1,6 @@
+pub mod Lines
+pub mod Lives
+pub mod Mail
+pub mod Promises
+pub mod Stamps
+pub mod Turns

@@ -1,0 +1,16 @@
+//! What a run promises: the sentences that a reader of its journals may rely on, each stated on the
+//! journals alone, and the law that every run keeps them.
+//!
+//! No code: the law.
+#![tactic(auto)]
+
+ghost use Rattle.run_promises.specs.Promises.{RunsKeepPromises};
+
+/// The journals of every run keep their promises. Messages between two ports at a priority arrive in
+/// order and once; stamps rise; each actor lives once, on the controller of its slot, and no message is
+/// dispatched to it before or after; each turn takes the most urgent message that waits, and of its
+/// priority the oldest; the environment posts the lines in order; and where a run is done, all that was
+/// posted was fetched and had a turn, and nothing is left.
+pub fn runs_keep_their_promises()
+    ensures { RunsKeepPromises }
+{}

@@ -1,0 +1,3 @@
+pub mod CutSteps
+pub mod Values
+pub mod Decimals

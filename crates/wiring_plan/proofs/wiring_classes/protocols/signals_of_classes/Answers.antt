@@ -1,9 +1,0 @@
-use Rattle.room_ast.specs.Trees.{class_view}
-use Rattle.room_ast.specs.model_parts.Classes.{as_protocol}
-use Rattle.check_tables.proofs.class_tables.Lists.{viewed_next}
-use Rattle.wiring_plan.specs.wiring_classes.ByKinds.{signals_by}
-use Rattle.wiring_plan.proofs.wiring_classes.protocols.signals_of_classes.Goals as goal
-
-pub loop-class-preserved : goal.loop-class-preserved
-loop-class-preserved c =
-    viewed_next (signals_by c.args.names.now c.args.kinds.now) as_protocol class_view c.args.classes.now c.loop-class.class-index c.class-item.result _ _ _ c.loop-class-test.true c.class-item.is c.in_ok-signals_if_protocol.ensures c.loop-class.invariant c.in_ok-push_if.ensures
