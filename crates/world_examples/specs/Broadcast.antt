@@ -1,5 +1,5 @@
 -- A send on all places of a port, one of which leads to a slot where nobody stands.
-use Rattle.std.specs.Prelude.{ℕ, pos, if◌then◌else◌, false, List, [], ◌∷◌, Some, None}
+use Rattle.std.specs.Prelude.{ℕ, pos, if◌then◌else◌, List, [], ◌∷◌, Some, None}
 use Rattle.room_kinds.specs.declared.message.Msg.{Msg}
 use Rattle.room_kinds.specs.declared.note.Note.TheVariants as notes
 use Rattle.room_kinds.specs.declared.numbers.Incarnation.{Incarnation}
@@ -15,7 +15,7 @@ use Rattle.actor_merge.specs.Parties.{Line}
 use Rattle.actor_merge.specs.World.{Placed}
 use Rattle.actor_duties.specs.Words.{incarnation, endpoint}
 use Rattle.actor_world.specs.Behaviour.{Behaviour}
-use Rattle.world_examples.specs.Writing.{slot, class, port, span, msg, line, posted, fetched, turned, Step, is_at, handled, behaviour_of, IsComputed}
+use Rattle.world_examples.specs.Writing.{slot, class, port, span, told_nobody, msg, line, posted, fetched, turned, Step, is_at, handled, behaviour_of, IsComputed}
 
 -- the wiring of the model
 abbrev pub tables : Tables
@@ -56,12 +56,7 @@ tables = record {
       ∷ Nobody
       ∷ End (record { 0 = 0 }) 2 2
       ∷ [];
-  told =
-      (false ∷ [])
-      ∷ (false ∷ [])
-      ∷ (false ∷ [])
-      ∷ (false ∷ [])
-      ∷ [];
+  told = told_nobody 4 1;
 }
 
 -- what the actors do: at a `make` the top actor sends `t` (signal 3) on all places of port 2
@@ -78,11 +73,11 @@ m1_1 = msg 1 0 3 1 None (endpoint 0 0 1 0) 0 (pos 0 ∷ [])
 
 -- what party 0 posts at time 4
 abbrev m0_4 : Msg
-m0_4 = msg 0 0 3 4 (Some (endpoint 0 1 2 0)) (endpoint 1 1 1 0) 3 ([])
+m0_4 = msg 0 0 3 4 (Some (endpoint 0 1 2 0)) (endpoint 1 1 1 0) 3 []
 
 -- what party 0 posts at time 5
 abbrev m0_5 : Msg
-m0_5 = msg 0 0 3 5 (Some (endpoint 0 1 2 1)) (endpoint 2 1 1 0) 3 ([])
+m0_5 = msg 0 0 3 5 (Some (endpoint 0 1 2 1)) (endpoint 2 1 1 0) 3 []
 
 -- the lines of the environment, each with its part
 abbrev pub lines : List Line
@@ -90,7 +85,7 @@ lines = line 1 m1_1 ∷ []
 
 -- how the journal of controller 0 begins
 abbrev pub starts0 : List Entry
-starts0 = entry.Start (incarnation 0 1) 0 ([]) ∷ entry.Start (incarnation 1 1) 0 ([]) ∷ entry.Start (incarnation 2 1) 0 ([]) ∷ []
+starts0 = entry.Start (incarnation 0 1) 0 [] ∷ entry.Start (incarnation 1 1) 0 [] ∷ entry.Start (incarnation 2 1) 0 [] ∷ []
 
 -- all other entries, by stamp and party
 abbrev pub merge : List Placed
@@ -102,8 +97,8 @@ merge =
     ∷ posted m0_5
     ∷ fetched 6 m0_4
     ∷ fetched 7 m0_5
-    ∷ turned 8 m0_4 (did.Handled (incarnation 1 1) 0) ([])
-    ∷ turned 9 m0_5 (did.Handled (incarnation 2 1) 0) ([])
+    ∷ turned 8 m0_4 (did.Handled (incarnation 1 1) 0) []
+    ∷ turned 9 m0_5 (did.Handled (incarnation 2 1) 0) []
     ∷ []
 
 -- the definitions give these journals

@@ -1,45 +1,16 @@
 -- Messages are kept for later, and come back in front, in their order.
-use Rattle.std.specs.Prelude.{ℕ, pos, ◌==◌, ◌&&◌, if◌then◌else◌, false, List, [], ◌∷◌, Some, None}
+use Rattle.std.specs.Prelude.{ℕ, pos, ◌==◌, ◌&&◌, if◌then◌else◌, List, [], ◌∷◌, None}
 use Rattle.room_kinds.specs.declared.message.Msg.{Msg}
 use Rattle.room_kinds.specs.declared.note.Note.TheVariants as notes
 use Rattle.room_kinds.specs.declared.numbers.Incarnation.{Incarnation}
 use Rattle.room_kinds.specs.declared.command.Command.TheVariants as commands
 use Rattle.journal.specs.declared.entry.Did.TheVariants as did
-use Rattle.journal.specs.declared.entry.Entry.{Entry}
-use Rattle.journal.specs.declared.entry.Entry.TheVariants as entry
-use Rattle.room_wiring.specs.declared.tables.Tables.{Tables}
-use Rattle.room_kinds.specs.declared.structure.ReferenceKind.TheVariants.{Fixed}
-use Rattle.room_wiring.specs.declared.slot.Partner.TheVariants.{Nobody}
-use Rattle.room_kinds.specs.declared.structure.PortKind.TheVariants as ports
 use Rattle.actor_merge.specs.Parties.{Line}
 use Rattle.actor_merge.specs.World.{Placed}
 use Rattle.actor_duties.specs.Words.{incarnation, endpoint}
 use Rattle.actor_world.specs.Behaviour.{Behaviour, Deferred}
-use Rattle.world_examples.specs.Writing.{slot, class, port, span, msg, line, posted, fetched, turned, Step, handled, behaviour_of, IsComputed}
-
--- the wiring of the model
-abbrev pub tables : Tables
-tables = record {
-  slots =
-      slot 0 Fixed None 0 0 0
-      ∷ [];
-  controllers = [] ∷ [];
-  classes =
-      class (port ports.Frame None ∷ port ports.Internal (Some 0) ∷ [])
-      ∷ [];
-  first_ports = 0 ∷ [];
-  ports =
-      span 0 1
-      ∷ span 1 1
-      ∷ [];
-  partners =
-      Nobody
-      ∷ Nobody
-      ∷ [];
-  told =
-      (false ∷ [])
-      ∷ [];
-}
+use Rattle.world_examples.specs.Writing.{starts_alone, msg, line, posted, fetched, turned, Step, handled, behaviour_of, IsComputed}
+pub use Rattle.world_examples.specs.models.OnePort.{tables}
 
 -- what the actors do: in state 0 an `a` (signal 2) is deferred, and a kick (0) recalls all and leads to state 1
 abbrev step : Incarnation → ℕ → Msg → Step
@@ -62,7 +33,7 @@ m1_2 = msg 1 0 3 2 None (endpoint 0 0 1 0) 2 (pos 2 ∷ [])
 
 -- what party 1 posts at time 3
 abbrev m1_3 : Msg
-m1_3 = msg 1 0 3 3 None (endpoint 0 0 1 0) 0 ([])
+m1_3 = msg 1 0 3 3 None (endpoint 0 0 1 0) 0 []
 
 -- what party 1 posts at time 4
 abbrev m1_4 : Msg
@@ -71,10 +42,6 @@ m1_4 = msg 1 0 3 4 None (endpoint 0 0 1 0) 2 (pos 3 ∷ [])
 -- the lines of the environment, each with its part
 abbrev pub lines : List Line
 lines = line 1 m1_1 ∷ line 1 m1_2 ∷ line 1 m1_3 ∷ line 1 m1_4 ∷ []
-
--- how the journal of controller 0 begins
-abbrev pub starts0 : List Entry
-starts0 = entry.Start (incarnation 0 1) 0 ([]) ∷ []
 
 -- all other entries, by stamp and party
 abbrev pub merge : List Placed
@@ -87,14 +54,14 @@ merge =
     ∷ fetched 4 m1_3
     ∷ posted m1_4
     ∷ fetched 5 m1_4
-    ∷ turned 6 m1_1 (did.Deferred (incarnation 0 1) 0) ([])
-    ∷ turned 7 m1_2 (did.Deferred (incarnation 0 1) 0) ([])
+    ∷ turned 6 m1_1 (did.Deferred (incarnation 0 1) 0) []
+    ∷ turned 7 m1_2 (did.Deferred (incarnation 0 1) 0) []
     ∷ turned 8 m1_3 (did.Handled (incarnation 0 1) 1) (notes.Recall 2 ∷ [])
-    ∷ turned 9 m1_1 (did.Handled (incarnation 0 1) 1) ([])
-    ∷ turned 10 m1_2 (did.Handled (incarnation 0 1) 1) ([])
-    ∷ turned 11 m1_4 (did.Handled (incarnation 0 1) 1) ([])
+    ∷ turned 9 m1_1 (did.Handled (incarnation 0 1) 1) []
+    ∷ turned 10 m1_2 (did.Handled (incarnation 0 1) 1) []
+    ∷ turned 11 m1_4 (did.Handled (incarnation 0 1) 1) []
     ∷ []
 
 -- the definitions give these journals
 abbrev pub DeferIsComputed : Type 0
-DeferIsComputed = IsComputed model tables lines (starts0 ∷ []) merge
+DeferIsComputed = IsComputed model tables lines (starts_alone ∷ []) merge

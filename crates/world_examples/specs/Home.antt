@@ -1,69 +1,24 @@
 -- An imported actor is destroyed, and its importer is told.
-use Rattle.std.specs.Prelude.{ℕ, pos, ◌==◌, ◌&&◌, if◌then◌else◌, false, List, [], ◌∷◌, Some, None}
+use Rattle.std.specs.Prelude.{ℕ, pos, ◌==◌, ◌&&◌, if◌then◌else◌, List, [], ◌∷◌, ◌++◌, Some, None}
 use Rattle.room_kinds.specs.declared.message.Msg.{Msg}
 use Rattle.room_kinds.specs.declared.note.Note.TheVariants as notes
 use Rattle.room_kinds.specs.declared.numbers.Incarnation.{Incarnation}
 use Rattle.room_kinds.specs.declared.command.Command.TheVariants as commands
 use Rattle.room_kinds.specs.declared.command.FrameCommand.TheVariants as frame
 use Rattle.journal.specs.declared.entry.Did.TheVariants as did
-use Rattle.journal.specs.declared.entry.Entry.{Entry}
-use Rattle.journal.specs.declared.entry.Entry.TheVariants as entry
 use Rattle.room_wiring.specs.declared.tables.Tables.{Tables}
-use Rattle.room_kinds.specs.declared.structure.ReferenceKind.TheVariants.{Fixed, Optional, Imported}
-use Rattle.room_wiring.specs.declared.slot.Partner.TheVariants.{Nobody, End, Socket}
-use Rattle.room_kinds.specs.declared.structure.PortKind.TheVariants as ports
+use Rattle.room_kinds.specs.declared.structure.ReferenceKind.TheVariants.{Optional}
 use Rattle.actor_merge.specs.Parties.{Line}
 use Rattle.actor_merge.specs.World.{Placed}
 use Rattle.actor_duties.specs.Words.{incarnation, endpoint}
 use Rattle.actor_world.specs.Behaviour.{Behaviour}
-use Rattle.world_examples.specs.Writing.{slot, class, port, span, msg, line, posted, fetched, turned, Step, first_of, is_at, handled, behaviour_of, IsComputed}
+use Rattle.world_examples.specs.Writing.{starts_alone, msg, line, posted, fetched, turned, Step, first_of, is_at, handled, behaviour_of, IsComputed}
+use Rattle.world_examples.specs.models.ImportPlaces.{tables as place_tables}
+use Rattle.world_examples.specs.models.MadeAtFirst.{m1_1, made}
 
 -- the wiring of the model
 abbrev pub tables : Tables
-tables = record {
-  slots =
-      slot 1 Fixed None 0 0 0
-      ∷ slot 0 Optional (Some (record { 0 = 0 })) 0 0 0
-      ∷ slot 0 Imported (Some (record { 0 = 0 })) 0 1 0
-      ∷ slot 0 Imported (Some (record { 0 = 0 })) 0 1 1
-      ∷ [];
-  controllers = [] ∷ [];
-  classes =
-      class (port ports.Frame None ∷ port ports.End (Some 0) ∷ [])
-      ∷ class (port ports.Frame None ∷ port ports.Internal (Some 0) ∷ port ports.Internal (Some 0) ∷ port ports.Internal (Some 0) ∷ [])
-      ∷ [];
-  first_ports = 0 ∷ 4 ∷ 6 ∷ 8 ∷ [];
-  ports =
-      span 0 1
-      ∷ span 1 1
-      ∷ span 2 1
-      ∷ span 3 1
-      ∷ span 4 1
-      ∷ span 5 1
-      ∷ span 6 1
-      ∷ span 7 1
-      ∷ span 8 1
-      ∷ span 9 1
-      ∷ [];
-  partners =
-      Nobody
-      ∷ Nobody
-      ∷ Socket (record { 0 = 2 }) 1 0
-      ∷ Socket (record { 0 = 3 }) 1 0
-      ∷ Nobody
-      ∷ Nobody
-      ∷ Nobody
-      ∷ End (record { 0 = 0 }) 2 0
-      ∷ Nobody
-      ∷ End (record { 0 = 0 }) 3 0
-      ∷ [];
-  told =
-      (false ∷ [])
-      ∷ (false ∷ [])
-      ∷ (false ∷ [])
-      ∷ (false ∷ [])
-      ∷ [];
-}
+tables = place_tables Optional
 
 -- what the actors do: at a `make` (signal 0) the top actor makes its optional part, at a `swap` (1) it imports it and destroys it
 abbrev step : Incarnation → ℕ → Msg → Step
@@ -77,41 +32,25 @@ step x s m =
 abbrev pub model : Behaviour ℕ
 model = behaviour_of (λ x. 0) (λ x. []) step
 
--- what party 1 posts at time 1
-abbrev m1_1 : Msg
-m1_1 = msg 1 0 3 1 None (endpoint 0 0 1 0) 0 (pos 0 ∷ [])
-
--- what party 0 posts at time 4
-abbrev m0_4 : Msg
-m0_4 = msg 0 0 0 4 (Some (endpoint 0 1 0 0)) (endpoint 1 0 0 0) 0 ([])
-
--- what party 0 posts at time 7
-abbrev m0_7 : Msg
-m0_7 = msg 0 0 0 7 (Some (endpoint 1 1 0 0)) (endpoint 0 1 0 0) 1 ([])
-
--- what party 0 posts at time 10
-abbrev m0_10 : Msg
-m0_10 = msg 0 0 3 10 (Some (endpoint 1 1 0 0)) (endpoint 0 1 0 0) 0 (pos 0 ∷ pos 0 ∷ pos 1048577 ∷ [])
-
 -- what party 1 posts at time 13
 abbrev m1_13 : Msg
 m1_13 = msg 1 0 3 13 None (endpoint 0 0 1 0) 1 (pos 1048577 ∷ [])
 
 -- what party 0 posts at time 16
 abbrev m0_16 : Msg
-m0_16 = msg 0 0 0 16 (Some (endpoint 2 1 0 0)) (endpoint 1 1 0 0) 5 ([])
+m0_16 = msg 0 0 0 16 (Some (endpoint 2 1 0 0)) (endpoint 1 1 0 0) 5 []
 
 -- what party 0 posts at time 17
 abbrev m0_17 : Msg
-m0_17 = msg 0 0 0 17 (Some (endpoint 0 1 0 0)) (endpoint 1 0 0 0) 3 ([])
+m0_17 = msg 0 0 0 17 (Some (endpoint 0 1 0 0)) (endpoint 1 0 0 0) 3 []
 
 -- what party 0 posts at time 21
 abbrev m0_21 : Msg
-m0_21 = msg 0 0 0 21 (Some (endpoint 1 1 0 0)) (endpoint 2 1 0 0) 6 ([])
+m0_21 = msg 0 0 0 21 (Some (endpoint 1 1 0 0)) (endpoint 2 1 0 0) 6 []
 
 -- what party 0 posts at time 24
 abbrev m0_24 : Msg
-m0_24 = msg 0 0 0 24 (Some (endpoint 1 1 0 0)) (endpoint 2 1 0 0) 8 ([])
+m0_24 = msg 0 0 0 24 (Some (endpoint 1 1 0 0)) (endpoint 2 1 0 0) 8 []
 
 -- what party 0 posts at time 25
 abbrev m0_25 : Msg
@@ -133,33 +72,18 @@ m0_35 = msg 0 0 3 35 (Some (endpoint 1 1 0 0)) (endpoint 0 1 0 0) 1 (pos 0 ∷ p
 abbrev pub lines : List Line
 lines = line 1 m1_1 ∷ line 2 m1_13 ∷ []
 
--- how the journal of controller 0 begins
-abbrev pub starts0 : List Entry
-starts0 = entry.Start (incarnation 0 1) 0 ([]) ∷ []
-
 -- all other entries, by stamp and party
 abbrev pub merge : List Placed
 merge =
-    posted m1_1
-    ∷ fetched 2 m1_1
-    ∷ turned 3 m1_1 (did.Handled (incarnation 0 1) 0) ([])
-    ∷ posted m0_4
-    ∷ fetched 5 m0_4
-    ∷ turned 6 m0_4 did.Duty (notes.Up (incarnation 1 1) 0 ∷ [])
-    ∷ posted m0_7
-    ∷ fetched 8 m0_7
-    ∷ turned 9 m0_7 did.Duty ([])
-    ∷ posted m0_10
-    ∷ fetched 11 m0_10
-    ∷ turned 12 m0_10 (did.Handled (incarnation 0 1) 0) ([])
-    ∷ posted m1_13
+    made
+    ++ (posted m1_13
     ∷ fetched 14 m1_13
-    ∷ turned 15 m1_13 (did.Handled (incarnation 0 1) 0) ([])
+    ∷ turned 15 m1_13 (did.Handled (incarnation 0 1) 0) []
     ∷ posted m0_16
     ∷ posted m0_17
     ∷ fetched 18 m0_16
     ∷ fetched 19 m0_17
-    ∷ turned 20 m0_16 did.Duty ([])
+    ∷ turned 20 m0_16 did.Duty []
     ∷ posted m0_21
     ∷ fetched 22 m0_21
     ∷ turned 23 m0_17 did.Duty (notes.Down (incarnation 1 1) 0 ∷ [])
@@ -167,20 +91,20 @@ merge =
     ∷ posted m0_25
     ∷ fetched 26 m0_24
     ∷ fetched 27 m0_25
-    ∷ turned 28 m0_21 did.Duty ([])
+    ∷ turned 28 m0_21 did.Duty []
     ∷ posted m0_29
     ∷ fetched 30 m0_29
-    ∷ turned 31 m0_24 did.Duty ([])
+    ∷ turned 31 m0_24 did.Duty []
     ∷ posted m0_32
     ∷ fetched 33 m0_32
-    ∷ turned 34 m0_25 did.Duty ([])
+    ∷ turned 34 m0_25 did.Duty []
     ∷ posted m0_35
     ∷ fetched 36 m0_35
-    ∷ turned 37 m0_29 (did.Handled (incarnation 0 1) 0) ([])
-    ∷ turned 38 m0_32 (did.Handled (incarnation 0 1) 0) ([])
-    ∷ turned 39 m0_35 (did.Handled (incarnation 0 1) 0) ([])
-    ∷ []
+    ∷ turned 37 m0_29 (did.Handled (incarnation 0 1) 0) []
+    ∷ turned 38 m0_32 (did.Handled (incarnation 0 1) 0) []
+    ∷ turned 39 m0_35 (did.Handled (incarnation 0 1) 0) []
+    ∷ [])
 
 -- the definitions give these journals
 abbrev pub HomeIsComputed : Type 0
-HomeIsComputed = IsComputed model tables lines (starts0 ∷ []) merge
+HomeIsComputed = IsComputed model tables lines (starts_alone ∷ []) merge

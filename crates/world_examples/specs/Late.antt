@@ -1,77 +1,21 @@
 -- A message is on its way from one controller to another while its target is destroyed.
-use Rattle.std.specs.Prelude.{ℕ, pos, ◌==◌, ◌&&◌, if◌then◌else◌, true, false, List, [], ◌∷◌, Some, None}
+use Rattle.std.specs.Prelude.{pos, true, false, List, [], ◌∷◌, Some, None}
 use Rattle.room_kinds.specs.declared.message.Msg.{Msg}
 use Rattle.room_kinds.specs.declared.note.Note.TheVariants as notes
-use Rattle.room_kinds.specs.declared.numbers.Incarnation.{Incarnation}
-use Rattle.room_kinds.specs.declared.command.Command.TheVariants as commands
-use Rattle.room_kinds.specs.declared.command.FrameCommand.TheVariants as frame
 use Rattle.journal.specs.declared.entry.Did.TheVariants as did
 use Rattle.journal.specs.declared.entry.Entry.{Entry}
-use Rattle.journal.specs.declared.entry.Entry.TheVariants as entry
 use Rattle.room_wiring.specs.declared.tables.Tables.{Tables}
-use Rattle.room_kinds.specs.declared.structure.ReferenceKind.TheVariants.{Fixed, Optional}
-use Rattle.room_wiring.specs.declared.slot.Partner.TheVariants.{Nobody, End}
-use Rattle.room_kinds.specs.declared.structure.PortKind.TheVariants as ports
 use Rattle.actor_merge.specs.Parties.{Line}
 use Rattle.actor_merge.specs.World.{Placed}
 use Rattle.actor_duties.specs.Words.{incarnation, endpoint}
-use Rattle.actor_world.specs.Behaviour.{Behaviour}
-use Rattle.world_examples.specs.Writing.{slot, class, port, span, msg, line, posted, fetched, turned, Step, first_of, is_at, handled, behaviour_of, IsComputed}
+use Rattle.world_examples.specs.Writing.{starts_alone, msg, line, posted, fetched, turned, IsComputed}
+pub use Rattle.world_examples.specs.models.OptionalActors.{model}
+use Rattle.world_examples.specs.models.OptionalActors as optional_actors
 
--- the wiring of the model
+-- the wiring of the model: the optional actors on controller 1, and each controller tells the other one
+-- of its slots
 abbrev pub tables : Tables
-tables = record {
-  slots =
-      slot 1 Fixed None 0 0 0
-      ∷ slot 0 Optional (Some (record { 0 = 0 })) 1 0 0
-      ∷ slot 0 Optional (Some (record { 0 = 0 })) 1 0 1
-      ∷ [];
-  controllers = [] ∷ [] ∷ [];
-  classes =
-      class (port ports.Frame None ∷ port ports.End (Some 0) ∷ [])
-      ∷ class (port ports.Frame None ∷ port ports.Internal (Some 0) ∷ port ports.Internal (Some 0) ∷ [])
-      ∷ [];
-  first_ports = 0 ∷ 3 ∷ 5 ∷ [];
-  ports =
-      span 0 1
-      ∷ span 1 1
-      ∷ span 2 2
-      ∷ span 4 1
-      ∷ span 5 1
-      ∷ span 6 1
-      ∷ span 7 1
-      ∷ [];
-  partners =
-      Nobody
-      ∷ Nobody
-      ∷ End (record { 0 = 1 }) 1 0
-      ∷ End (record { 0 = 2 }) 1 0
-      ∷ Nobody
-      ∷ End (record { 0 = 0 }) 2 0
-      ∷ Nobody
-      ∷ End (record { 0 = 0 }) 2 1
-      ∷ [];
-  told =
-      (false ∷ true ∷ [])
-      ∷ (true ∷ false ∷ [])
-      ∷ (true ∷ false ∷ [])
-      ∷ [];
-}
-
--- what the actors do: the top actor takes `make` (signal 0), `swap` (1) and `late` (2) at port 1, and
--- all else without a command
-abbrev step : Incarnation → ℕ → Msg → Step
-step x s m =
-    if is_at 0 1 m && (m.signal == 0) then handled 0 (commands.Frame (frame.Incarnate 0 (first_of m.payload)) ∷ [])
-    else if is_at 0 1 m && (m.signal == 1)
-    then handled 0 (commands.Send 2 (Some (pos 0)) 3 [] (record { 0 = 3 }) ∷ commands.Frame (frame.Destroy 0 (pos 0)) ∷ commands.Frame (frame.Incarnate 0 (pos 0)) ∷ [])
-    else if is_at 0 1 m
-    then handled 0 (commands.Frame (frame.Destroy 0 (pos 0)) ∷ commands.Send 2 (Some (pos 0)) 3 [] (record { 0 = 3 }) ∷ [])
-    else handled 0 []
-
--- the behaviour of all actors: each is in state 0 from its initial transition on
-abbrev pub model : Behaviour ℕ
-model = behaviour_of (λ x. 0) (λ x. []) step
+tables = optional_actors.tables 1 2 ((false ∷ true ∷ []) ∷ (true ∷ false ∷ []) ∷ (true ∷ false ∷ []) ∷ [])
 
 -- what party 2 posts at time 1
 abbrev m2_1 : Msg
@@ -79,7 +23,7 @@ m2_1 = msg 2 0 3 1 None (endpoint 0 0 1 0) 0 (pos 0 ∷ [])
 
 -- what party 0 posts at time 4
 abbrev m0_4 : Msg
-m0_4 = msg 0 1 0 4 (Some (endpoint 0 1 0 0)) (endpoint 1 0 0 0) 0 ([])
+m0_4 = msg 0 1 0 4 (Some (endpoint 0 1 0 0)) (endpoint 1 0 0 0) 0 []
 
 -- what party 1 posts at time 7
 abbrev m1_7 : Msg
@@ -87,7 +31,7 @@ m1_7 = msg 1 0 0 7 (Some (endpoint 1 1 0 0)) (endpoint 1 1 0 0) 11 (pos 1 ∷ []
 
 -- what party 1 posts at time 8
 abbrev m1_8 : Msg
-m1_8 = msg 1 0 0 8 (Some (endpoint 1 1 0 0)) (endpoint 0 1 0 0) 1 ([])
+m1_8 = msg 1 0 0 8 (Some (endpoint 1 1 0 0)) (endpoint 0 1 0 0) 1 []
 
 -- what party 0 posts at time 12
 abbrev m0_12 : Msg
@@ -95,15 +39,15 @@ m0_12 = msg 0 0 3 12 (Some (endpoint 1 1 0 0)) (endpoint 0 1 0 0) 0 (pos 0 ∷ p
 
 -- what party 2 posts at time 15
 abbrev m2_15 : Msg
-m2_15 = msg 2 0 3 15 None (endpoint 0 0 1 0) 2 ([])
+m2_15 = msg 2 0 3 15 None (endpoint 0 0 1 0) 2 []
 
 -- what party 0 posts at time 18
 abbrev m0_18 : Msg
-m0_18 = msg 0 1 0 18 (Some (endpoint 0 1 0 0)) (endpoint 1 0 0 0) 3 ([])
+m0_18 = msg 0 1 0 18 (Some (endpoint 0 1 0 0)) (endpoint 1 0 0 0) 3 []
 
 -- what party 0 posts at time 19
 abbrev m0_19 : Msg
-m0_19 = msg 0 1 3 19 (Some (endpoint 0 1 2 0)) (endpoint 1 1 1 0) 3 ([])
+m0_19 = msg 0 1 3 19 (Some (endpoint 0 1 2 0)) (endpoint 1 1 1 0) 3 []
 
 -- what party 1 posts at time 23
 abbrev m1_23 : Msg
@@ -121,10 +65,6 @@ m0_28 = msg 0 0 3 28 (Some (endpoint 1 1 0 0)) (endpoint 0 1 0 0) 1 (pos 0 ∷ p
 abbrev pub lines : List Line
 lines = line 1 m2_1 ∷ line 2 m2_15 ∷ []
 
--- how the journal of controller 0 begins
-abbrev pub starts0 : List Entry
-starts0 = entry.Start (incarnation 0 1) 0 ([]) ∷ []
-
 -- how the journal of controller 1 begins
 abbrev pub starts1 : List Entry
 starts1 = []
@@ -134,7 +74,7 @@ abbrev pub merge : List Placed
 merge =
     posted m2_1
     ∷ fetched 2 m2_1
-    ∷ turned 3 m2_1 (did.Handled (incarnation 0 1) 0) ([])
+    ∷ turned 3 m2_1 (did.Handled (incarnation 0 1) 0) []
     ∷ posted m0_4
     ∷ fetched 5 m0_4
     ∷ turned 6 m0_4 did.Duty (notes.Up (incarnation 1 1) 0 ∷ [])
@@ -142,14 +82,14 @@ merge =
     ∷ fetched 8 m1_7
     ∷ posted m1_8
     ∷ fetched 9 m1_8
-    ∷ turned 10 m1_7 did.Duty ([])
-    ∷ turned 11 m1_8 did.Duty ([])
+    ∷ turned 10 m1_7 did.Duty []
+    ∷ turned 11 m1_8 did.Duty []
     ∷ posted m0_12
     ∷ fetched 13 m0_12
-    ∷ turned 14 m0_12 (did.Handled (incarnation 0 1) 0) ([])
+    ∷ turned 14 m0_12 (did.Handled (incarnation 0 1) 0) []
     ∷ posted m2_15
     ∷ fetched 16 m2_15
-    ∷ turned 17 m2_15 (did.Handled (incarnation 0 1) 0) ([])
+    ∷ turned 17 m2_15 (did.Handled (incarnation 0 1) 0) []
     ∷ posted m0_18
     ∷ posted m0_19
     ∷ fetched 20 m0_19
@@ -159,14 +99,14 @@ merge =
     ∷ fetched 24 m1_23
     ∷ posted m1_24
     ∷ fetched 25 m1_24
-    ∷ turned 25 m0_19 (did.Empty (incarnation 1 1)) ([])
-    ∷ turned 26 m1_23 did.Duty ([])
-    ∷ turned 27 m1_24 did.Duty ([])
+    ∷ turned 25 m0_19 (did.Empty (incarnation 1 1)) []
+    ∷ turned 26 m1_23 did.Duty []
+    ∷ turned 27 m1_24 did.Duty []
     ∷ posted m0_28
     ∷ fetched 29 m0_28
-    ∷ turned 30 m0_28 (did.Handled (incarnation 0 1) 0) ([])
+    ∷ turned 30 m0_28 (did.Handled (incarnation 0 1) 0) []
     ∷ []
 
 -- the definitions give these journals
 abbrev pub LateIsComputed : Type 0
-LateIsComputed = IsComputed model tables lines (starts0 ∷ starts1 ∷ []) merge
+LateIsComputed = IsComputed model tables lines (starts_alone ∷ starts1 ∷ []) merge

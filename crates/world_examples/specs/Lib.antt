@@ -1,4 +1,5 @@
 pub mod Writing
+pub mod models
 pub mod Incarnate
 pub mod Stale
 pub mod Late

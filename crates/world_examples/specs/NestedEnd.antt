@@ -1,6 +1,6 @@
 -- An optional actor ends with all that ends with it, over two controllers: what is fixed in it lives on
 -- the other one, which made an optional actor in that, of which a part lives on the first one again.
-use Rattle.std.specs.Prelude.{ℕ, pos, ◌==◌, ◌&&◌, if◌then◌else◌, true, false, List, [], ◌∷◌, Some, None}
+use Rattle.std.specs.Prelude.{ℕ, pos, ◌==◌, ◌&&◌, if◌then◌else◌, List, [], ◌∷◌, Some, None}
 use Rattle.room_kinds.specs.declared.message.Msg.{Msg}
 use Rattle.room_kinds.specs.declared.note.Note.TheVariants as notes
 use Rattle.room_kinds.specs.declared.numbers.Incarnation.{Incarnation}
@@ -8,16 +8,15 @@ use Rattle.room_kinds.specs.declared.command.Command.TheVariants as commands
 use Rattle.room_kinds.specs.declared.command.FrameCommand.TheVariants as frame
 use Rattle.journal.specs.declared.entry.Did.TheVariants as did
 use Rattle.journal.specs.declared.entry.Entry.{Entry}
-use Rattle.journal.specs.declared.entry.Entry.TheVariants as entry
 use Rattle.room_wiring.specs.declared.tables.Tables.{Tables}
 use Rattle.room_kinds.specs.declared.structure.ReferenceKind.TheVariants.{Fixed, Optional}
-use Rattle.room_wiring.specs.declared.slot.Partner.TheVariants.{Nobody, End}
+use Rattle.room_wiring.specs.declared.slot.Partner.TheVariants.{Nobody}
 use Rattle.room_kinds.specs.declared.structure.PortKind.TheVariants as ports
 use Rattle.actor_merge.specs.Parties.{Line}
 use Rattle.actor_merge.specs.World.{Placed}
 use Rattle.actor_duties.specs.Words.{incarnation, endpoint}
 use Rattle.actor_world.specs.Behaviour.{Behaviour}
-use Rattle.world_examples.specs.Writing.{slot, class, port, span, msg, line, posted, fetched, turned, Step, first_of, is_at, handled, behaviour_of, IsComputed}
+use Rattle.world_examples.specs.Writing.{slot, class, port, single_places, told_nobody, starts_alone, msg, line, posted, fetched, turned, Step, is_at, handled, behaviour_of, IsComputed}
 
 -- the wiring of the model, each slot in the one before it: the optional slots 1 and 3, and what is
 -- fixed in them, 2 and 4. The slots 2 and 3 are on controller 1
@@ -33,14 +32,7 @@ tables = record {
   controllers = [] ∷ [] ∷ [];
   classes = class (port ports.Frame None ∷ []) ∷ class (port ports.Frame None ∷ port ports.Internal (Some 0) ∷ []) ∷ [];
   first_ports = 0 ∷ 2 ∷ 3 ∷ 4 ∷ 5 ∷ [];
-  ports =
-      span 0 1
-      ∷ span 1 1
-      ∷ span 2 1
-      ∷ span 3 1
-      ∷ span 4 1
-      ∷ span 5 1
-      ∷ [];
+  ports = single_places 6;
   partners =
       Nobody
       ∷ Nobody
@@ -49,13 +41,7 @@ tables = record {
       ∷ Nobody
       ∷ Nobody
       ∷ [];
-  told =
-      (false ∷ false ∷ [])
-      ∷ (false ∷ false ∷ [])
-      ∷ (false ∷ false ∷ [])
-      ∷ (false ∷ false ∷ [])
-      ∷ (false ∷ false ∷ [])
-      ∷ [];
+  told = told_nobody 5 2;
 }
 
 -- what the actors do: the top actor takes `make` (signal 0) and `end` (1) at port 1, and all else
@@ -135,10 +121,6 @@ m0_30 = msg 0 0 3 30 (Some (endpoint 1 1 0 0)) (endpoint 0 1 0 0) 1 (pos 0 ∷ p
 abbrev pub lines : List Line
 lines = line 1 m2_1 ∷ line 2 m2_20 ∷ []
 
--- how the journal of controller 0 begins
-abbrev pub starts0 : List Entry
-starts0 = entry.Start (incarnation 0 1) 0 ([]) ∷ []
-
 -- how the journal of controller 1 begins
 abbrev pub starts1 : List Entry
 starts1 = []
@@ -148,7 +130,7 @@ abbrev pub merge : List Placed
 merge =
     posted m2_1
     ∷ fetched 2 m2_1
-    ∷ turned 3 m2_1 (did.Handled (incarnation 0 1) 0) ([])
+    ∷ turned 3 m2_1 (did.Handled (incarnation 0 1) 0) []
     ∷ posted m0_4
     ∷ fetched 5 m0_4
     ∷ turned 6 m0_4 did.Duty (notes.Up (incarnation 1 1) 0 ∷ [])
@@ -157,25 +139,25 @@ merge =
     ∷ fetched 8 m0_7
     ∷ fetched 9 m0_8
     ∷ turned 9 m0_7 did.Duty (notes.Up (incarnation 2 1) 0 ∷ [])
-    ∷ turned 10 m0_8 did.Duty ([])
+    ∷ turned 10 m0_8 did.Duty []
     ∷ posted m1_10
     ∷ posted m0_11
     ∷ fetched 11 m1_10
     ∷ fetched 12 m0_11
     ∷ turned 12 m1_10 did.Duty (notes.Up (incarnation 3 1) 0 ∷ [])
-    ∷ turned 13 m0_11 (did.Handled (incarnation 0 1) 0) ([])
+    ∷ turned 13 m0_11 (did.Handled (incarnation 0 1) 0) []
     ∷ posted m1_13
     ∷ fetched 14 m1_13
     ∷ posted m1_14
     ∷ turned 15 m1_13 did.Duty (notes.Up (incarnation 4 1) 0 ∷ [])
     ∷ fetched 15 m1_14
-    ∷ turned 16 m1_14 did.Duty ([])
+    ∷ turned 16 m1_14 did.Duty []
     ∷ posted m1_17
     ∷ fetched 18 m1_17
-    ∷ turned 19 m1_17 (did.Handled (incarnation 2 1) 0) ([])
+    ∷ turned 19 m1_17 (did.Handled (incarnation 2 1) 0) []
     ∷ posted m2_20
     ∷ fetched 21 m2_20
-    ∷ turned 22 m2_20 (did.Handled (incarnation 0 1) 0) ([])
+    ∷ turned 22 m2_20 (did.Handled (incarnation 0 1) 0) []
     ∷ posted m0_23
     ∷ fetched 24 m0_23
     ∷ turned 25 m0_23 did.Duty (notes.Down (incarnation 1 1) 0 ∷ [])
@@ -184,15 +166,15 @@ merge =
     ∷ fetched 27 m0_26
     ∷ fetched 28 m0_27
     ∷ turned 28 m0_26 did.Duty (notes.Down (incarnation 3 1) 0 ∷ notes.Down (incarnation 2 1) 0 ∷ [])
-    ∷ turned 29 m0_27 did.Duty ([])
+    ∷ turned 29 m0_27 did.Duty []
     ∷ posted m1_29
     ∷ posted m0_30
     ∷ fetched 31 m0_30
-    ∷ turned 32 m0_30 (did.Handled (incarnation 0 1) 0) ([])
+    ∷ turned 32 m0_30 (did.Handled (incarnation 0 1) 0) []
     ∷ fetched 33 m1_29
     ∷ turned 34 m1_29 did.Duty (notes.Down (incarnation 4 1) 0 ∷ [])
     ∷ []
 
 -- the definitions give these journals
 abbrev pub NestedEndIsComputed : Type 0
-NestedEndIsComputed = IsComputed model tables lines (starts0 ∷ starts1 ∷ []) merge
+NestedEndIsComputed = IsComputed model tables lines (starts_alone ∷ starts1 ∷ []) merge

@@ -1,5 +1,5 @@
 -- What is fixed in an optional actor lives on another controller, and comes and goes with it.
-use Rattle.std.specs.Prelude.{ℕ, pos, ◌==◌, ◌&&◌, if◌then◌else◌, true, false, List, [], ◌∷◌, Some, None}
+use Rattle.std.specs.Prelude.{ℕ, pos, ◌==◌, ◌&&◌, if◌then◌else◌, List, [], ◌∷◌, Some, None}
 use Rattle.room_kinds.specs.declared.message.Msg.{Msg}
 use Rattle.room_kinds.specs.declared.note.Note.TheVariants as notes
 use Rattle.room_kinds.specs.declared.numbers.Incarnation.{Incarnation}
@@ -7,7 +7,6 @@ use Rattle.room_kinds.specs.declared.command.Command.TheVariants as commands
 use Rattle.room_kinds.specs.declared.command.FrameCommand.TheVariants as frame
 use Rattle.journal.specs.declared.entry.Did.TheVariants as did
 use Rattle.journal.specs.declared.entry.Entry.{Entry}
-use Rattle.journal.specs.declared.entry.Entry.TheVariants as entry
 use Rattle.room_wiring.specs.declared.tables.Tables.{Tables}
 use Rattle.room_kinds.specs.declared.structure.ReferenceKind.TheVariants.{Fixed, Optional}
 use Rattle.room_wiring.specs.declared.slot.Partner.TheVariants.{Nobody, End}
@@ -16,7 +15,7 @@ use Rattle.actor_merge.specs.Parties.{Line}
 use Rattle.actor_merge.specs.World.{Placed}
 use Rattle.actor_duties.specs.Words.{incarnation, endpoint}
 use Rattle.actor_world.specs.Behaviour.{Behaviour}
-use Rattle.world_examples.specs.Writing.{slot, class, port, span, msg, line, posted, fetched, turned, Step, first_of, is_at, handled, behaviour_of, IsComputed}
+use Rattle.world_examples.specs.Writing.{slot, class, port, single_places, told_nobody, starts_alone, msg, line, posted, fetched, turned, Step, first_of, is_at, handled, behaviour_of, IsComputed}
 
 -- the wiring of the model: the actor of slot 2 is fixed in the optional one of slot 1
 abbrev pub tables : Tables
@@ -33,14 +32,7 @@ tables = record {
       ∷ class (port ports.Frame None ∷ [])
       ∷ [];
   first_ports = 0 ∷ 3 ∷ 5 ∷ [];
-  ports =
-      span 0 1
-      ∷ span 1 1
-      ∷ span 2 1
-      ∷ span 3 1
-      ∷ span 4 1
-      ∷ span 5 1
-      ∷ [];
+  ports = single_places 6;
   partners =
       Nobody
       ∷ Nobody
@@ -49,11 +41,7 @@ tables = record {
       ∷ End (record { 0 = 0 }) 2 0
       ∷ Nobody
       ∷ [];
-  told =
-      (false ∷ false ∷ [])
-      ∷ (false ∷ false ∷ [])
-      ∷ (false ∷ false ∷ [])
-      ∷ [];
+  told = told_nobody 3 2;
 }
 
 -- what the actors do: the top actor takes `make` (signal 0) and `late` (2) at port 1, and all else
@@ -117,10 +105,6 @@ m0_26 = msg 0 0 3 26 (Some (endpoint 1 1 0 0)) (endpoint 0 1 0 0) 1 (pos 0 ∷ p
 abbrev pub lines : List Line
 lines = line 1 m2_1 ∷ line 2 m2_14 ∷ []
 
--- how the journal of controller 0 begins
-abbrev pub starts0 : List Entry
-starts0 = entry.Start (incarnation 0 1) 0 ([]) ∷ []
-
 -- how the journal of controller 1 begins
 abbrev pub starts1 : List Entry
 starts1 = []
@@ -130,7 +114,7 @@ abbrev pub merge : List Placed
 merge =
     posted m2_1
     ∷ fetched 2 m2_1
-    ∷ turned 3 m2_1 (did.Handled (incarnation 0 1) 0) ([])
+    ∷ turned 3 m2_1 (did.Handled (incarnation 0 1) 0) []
     ∷ posted m0_4
     ∷ fetched 5 m0_4
     ∷ turned 6 m0_4 did.Duty (notes.Up (incarnation 1 1) 0 ∷ [])
@@ -139,13 +123,13 @@ merge =
     ∷ fetched 8 m0_7
     ∷ fetched 9 m0_8
     ∷ turned 9 m0_7 did.Duty (notes.Up (incarnation 2 1) 0 ∷ [])
-    ∷ turned 10 m0_8 did.Duty ([])
+    ∷ turned 10 m0_8 did.Duty []
     ∷ posted m0_11
     ∷ fetched 12 m0_11
-    ∷ turned 13 m0_11 (did.Handled (incarnation 0 1) 0) ([])
+    ∷ turned 13 m0_11 (did.Handled (incarnation 0 1) 0) []
     ∷ posted m2_14
     ∷ fetched 15 m2_14
-    ∷ turned 16 m2_14 (did.Handled (incarnation 0 1) 0) ([])
+    ∷ turned 16 m2_14 (did.Handled (incarnation 0 1) 0) []
     ∷ posted m0_17
     ∷ posted m0_18
     ∷ fetched 19 m0_18
@@ -156,13 +140,13 @@ merge =
     ∷ fetched 23 m0_22
     ∷ fetched 24 m0_23
     ∷ turned 24 m0_22 did.Duty (notes.Down (incarnation 2 1) 0 ∷ [])
-    ∷ turned 25 m0_23 did.Duty ([])
+    ∷ turned 25 m0_23 did.Duty []
     ∷ posted m0_26
     ∷ fetched 27 m0_26
-    ∷ turned 28 m0_18 (did.Empty (incarnation 1 1)) ([])
-    ∷ turned 29 m0_26 (did.Handled (incarnation 0 1) 0) ([])
+    ∷ turned 28 m0_18 (did.Empty (incarnation 1 1)) []
+    ∷ turned 29 m0_26 (did.Handled (incarnation 0 1) 0) []
     ∷ []
 
 -- the definitions give these journals
 abbrev pub OtherPartIsComputed : Type 0
-OtherPartIsComputed = IsComputed model tables lines (starts0 ∷ starts1 ∷ []) merge
+OtherPartIsComputed = IsComputed model tables lines (starts_alone ∷ starts1 ∷ []) merge

@@ -1,48 +1,19 @@
 -- Lines at two priorities, and a later part that begins when all is quiet.
-use Rattle.std.specs.Prelude.{ℕ, ◌==◌, ◌&&◌, if◌then◌else◌, false, List, [], ◌∷◌, Some, None}
+use Rattle.std.specs.Prelude.{ℕ, ◌==◌, ◌&&◌, if◌then◌else◌, List, [], ◌∷◌, None}
 use Rattle.room_kinds.specs.declared.message.Msg.{Msg}
 use Rattle.room_kinds.specs.declared.numbers.Incarnation.{Incarnation}
 use Rattle.journal.specs.declared.entry.Did.TheVariants as did
-use Rattle.journal.specs.declared.entry.Entry.{Entry}
-use Rattle.journal.specs.declared.entry.Entry.TheVariants as entry
-use Rattle.room_wiring.specs.declared.tables.Tables.{Tables}
-use Rattle.room_kinds.specs.declared.structure.ReferenceKind.TheVariants.{Fixed}
-use Rattle.room_wiring.specs.declared.slot.Partner.TheVariants.{Nobody}
-use Rattle.room_kinds.specs.declared.structure.PortKind.TheVariants as ports
 use Rattle.actor_merge.specs.Parties.{Line}
 use Rattle.actor_merge.specs.World.{Placed}
 use Rattle.actor_duties.specs.Words.{incarnation, endpoint}
-use Rattle.actor_world.specs.Behaviour.{Behaviour, Unhandled}
-use Rattle.world_examples.specs.Writing.{slot, class, port, span, msg, line, posted, fetched, turned, Step, handled, behaviour_of, IsComputed}
-
--- the wiring of the model
-abbrev pub tables : Tables
-tables = record {
-  slots =
-      slot 0 Fixed None 0 0 0
-      ∷ [];
-  controllers = [] ∷ [];
-  classes =
-      class (port ports.Frame None ∷ port ports.Internal (Some 0) ∷ [])
-      ∷ [];
-  first_ports = 0 ∷ [];
-  ports =
-      span 0 1
-      ∷ span 1 1
-      ∷ [];
-  partners =
-      Nobody
-      ∷ Nobody
-      ∷ [];
-  told =
-      (false ∷ [])
-      ∷ [];
-}
+use Rattle.actor_world.specs.Behaviour.{Behaviour}
+use Rattle.world_examples.specs.Writing.{starts_alone, msg, line, posted, fetched, turned, Step, handled, unhandled, behaviour_of, IsComputed}
+pub use Rattle.world_examples.specs.models.OnePort.{tables}
 
 -- what the actors do: from state 0 a kick (signal 0) leads to state 1
 abbrev step : Incarnation → ℕ → Msg → Step
 step x s m =
-    if (s == 0) && (m.signal == 0) then handled 1 [] else record { state = s; result = Unhandled; commands = [] }
+    if (s == 0) && (m.signal == 0) then handled 1 [] else unhandled s
 
 -- the behaviour of all actors
 abbrev pub model : Behaviour ℕ
@@ -50,23 +21,19 @@ model = behaviour_of (λ x. 0) (λ x. []) step
 
 -- what party 1 posts at time 1
 abbrev m1_1 : Msg
-m1_1 = msg 1 0 4 1 None (endpoint 0 0 1 0) 1 ([])
+m1_1 = msg 1 0 4 1 None (endpoint 0 0 1 0) 1 []
 
 -- what party 1 posts at time 2
 abbrev m1_2 : Msg
-m1_2 = msg 1 0 1 2 None (endpoint 0 0 1 0) 0 ([])
+m1_2 = msg 1 0 1 2 None (endpoint 0 0 1 0) 0 []
 
 -- what party 1 posts at time 6
 abbrev m1_6 : Msg
-m1_6 = msg 1 0 3 6 None (endpoint 0 0 1 0) 1 ([])
+m1_6 = msg 1 0 3 6 None (endpoint 0 0 1 0) 1 []
 
 -- the lines of the environment, each with its part
 abbrev pub lines : List Line
 lines = line 1 m1_1 ∷ line 1 m1_2 ∷ line 2 m1_6 ∷ []
-
--- how the journal of controller 0 begins
-abbrev pub starts0 : List Entry
-starts0 = entry.Start (incarnation 0 1) 0 ([]) ∷ []
 
 -- all other entries, by stamp and party
 abbrev pub merge : List Placed
@@ -75,13 +42,13 @@ merge =
     ∷ fetched 2 m1_1
     ∷ posted m1_2
     ∷ fetched 3 m1_2
-    ∷ turned 4 m1_2 (did.Handled (incarnation 0 1) 1) ([])
-    ∷ turned 5 m1_1 (did.Unhandled (incarnation 0 1) 1) ([])
+    ∷ turned 4 m1_2 (did.Handled (incarnation 0 1) 1) []
+    ∷ turned 5 m1_1 (did.Unhandled (incarnation 0 1) 1) []
     ∷ posted m1_6
     ∷ fetched 7 m1_6
-    ∷ turned 8 m1_6 (did.Unhandled (incarnation 0 1) 1) ([])
+    ∷ turned 8 m1_6 (did.Unhandled (incarnation 0 1) 1) []
     ∷ []
 
 -- the definitions give these journals
 abbrev pub PartsIsComputed : Type 0
-PartsIsComputed = IsComputed model tables lines (starts0 ∷ []) merge
+PartsIsComputed = IsComputed model tables lines (starts_alone ∷ []) merge

@@ -1,73 +1,25 @@
 -- Two actors on two controllers send each other a number.
-use Rattle.std.specs.Prelude.{ℕ, pos, ◌==◌, ◌+ℤ◌, if◌then◌else◌, true, false, List, [], ◌∷◌, Some, None}
+use Rattle.std.specs.Prelude.{pos, true, false, List, [], ◌∷◌, Some, None}
 use Rattle.room_kinds.specs.declared.message.Msg.{Msg}
-use Rattle.room_kinds.specs.declared.numbers.Incarnation.{Incarnation}
-use Rattle.room_kinds.specs.declared.command.Command.TheVariants as commands
 use Rattle.journal.specs.declared.entry.Did.TheVariants as did
 use Rattle.journal.specs.declared.entry.Entry.{Entry}
 use Rattle.journal.specs.declared.entry.Entry.TheVariants as entry
 use Rattle.room_wiring.specs.declared.tables.Tables.{Tables}
-use Rattle.room_kinds.specs.declared.structure.ReferenceKind.TheVariants.{Fixed}
-use Rattle.room_wiring.specs.declared.slot.Partner.TheVariants.{Nobody, End}
-use Rattle.room_kinds.specs.declared.structure.PortKind.TheVariants as ports
 use Rattle.actor_merge.specs.Parties.{Line}
 use Rattle.actor_merge.specs.World.{Placed}
 use Rattle.actor_duties.specs.Words.{incarnation, endpoint}
-use Rattle.actor_world.specs.Behaviour.{Behaviour}
-use Rattle.world_examples.specs.Writing.{slot, class, port, span, msg, line, posted, fetched, turned, Step, first_of, is_at, handled, behaviour_of, IsComputed}
+use Rattle.world_examples.specs.Writing.{msg, line, posted, fetched, turned, IsComputed}
+pub use Rattle.world_examples.specs.models.Pair.{model}
+use Rattle.world_examples.specs.models.Pair as pair
 
--- the wiring of the model
+-- the wiring of the model: the second actor on controller 1, and each controller tells the other one
+-- of its actor
 abbrev pub tables : Tables
-tables = record {
-  slots =
-      slot 2 Fixed None 0 0 0
-      ∷ slot 0 Fixed (Some (record { 0 = 0 })) 0 0 0
-      ∷ slot 1 Fixed (Some (record { 0 = 0 })) 1 1 0
-      ∷ [];
-  controllers = [] ∷ [] ∷ [];
-  classes =
-      class (port ports.Frame None ∷ port ports.End (Some 1) ∷ port ports.Internal (Some 0) ∷ [])
-      ∷ class (port ports.Frame None ∷ port ports.End (Some 1) ∷ [])
-      ∷ class (port ports.Frame None ∷ [])
-      ∷ [];
-  first_ports = 0 ∷ 1 ∷ 4 ∷ [];
-  ports =
-      span 0 1
-      ∷ span 1 1
-      ∷ span 2 1
-      ∷ span 3 1
-      ∷ span 4 1
-      ∷ span 5 1
-      ∷ [];
-  partners =
-      Nobody
-      ∷ Nobody
-      ∷ End (record { 0 = 2 }) 1 0
-      ∷ Nobody
-      ∷ Nobody
-      ∷ End (record { 0 = 1 }) 1 0
-      ∷ [];
-  told =
-      (false ∷ false ∷ [])
-      ∷ (false ∷ true ∷ [])
-      ∷ (true ∷ false ∷ [])
-      ∷ [];
-}
-
--- what the actors do: at a kick actor 1 sends `ping` (signal 0) with 1, and at a ping actor 2 sends `pong` (1) with one more
-abbrev step : Incarnation → ℕ → Msg → Step
-step x s m =
-    if is_at 1 2 m then handled 0 (commands.Send 1 None 0 (pos 1 ∷ []) (record { 0 = 3 }) ∷ [])
-    else if is_at 2 1 m then handled 0 (commands.Send 1 None 1 ((first_of m.payload +ℤ pos 1) ∷ []) (record { 0 = 3 }) ∷ [])
-    else handled 0 []
-
--- the behaviour of all actors
-abbrev pub model : Behaviour ℕ
-model = behaviour_of (λ x. if x.slot.0 == 0 then 65535 else 0) (λ x. []) step
+tables = pair.tables 1 2 ((false ∷ false ∷ []) ∷ (false ∷ true ∷ []) ∷ (true ∷ false ∷ []) ∷ [])
 
 -- what party 2 posts at time 1
 abbrev m2_1 : Msg
-m2_1 = msg 2 0 3 1 None (endpoint 1 0 2 0) 0 ([])
+m2_1 = msg 2 0 3 1 None (endpoint 1 0 2 0) 0 []
 
 -- what party 0 posts at time 4
 abbrev m0_4 : Msg
@@ -83,24 +35,24 @@ lines = line 1 m2_1 ∷ []
 
 -- how the journal of controller 0 begins
 abbrev pub starts0 : List Entry
-starts0 = entry.Start (incarnation 0 1) 65535 ([]) ∷ entry.Start (incarnation 1 1) 0 ([]) ∷ []
+starts0 = entry.Start (incarnation 0 1) 65535 [] ∷ entry.Start (incarnation 1 1) 0 [] ∷ []
 
 -- how the journal of controller 1 begins
 abbrev pub starts1 : List Entry
-starts1 = entry.Start (incarnation 2 1) 0 ([]) ∷ []
+starts1 = entry.Start (incarnation 2 1) 0 [] ∷ []
 
 -- all other entries, by stamp and party
 abbrev pub merge : List Placed
 merge =
     posted m2_1
     ∷ fetched 2 m2_1
-    ∷ turned 3 m2_1 (did.Handled (incarnation 1 1) 0) ([])
+    ∷ turned 3 m2_1 (did.Handled (incarnation 1 1) 0) []
     ∷ posted m0_4
     ∷ fetched 5 m0_4
-    ∷ turned 6 m0_4 (did.Handled (incarnation 2 1) 0) ([])
+    ∷ turned 6 m0_4 (did.Handled (incarnation 2 1) 0) []
     ∷ posted m1_7
     ∷ fetched 8 m1_7
-    ∷ turned 9 m1_7 (did.Handled (incarnation 1 1) 0) ([])
+    ∷ turned 9 m1_7 (did.Handled (incarnation 1 1) 0) []
     ∷ []
 
 -- the definitions give these journals

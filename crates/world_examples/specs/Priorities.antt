@@ -1,58 +1,16 @@
 -- A message of a higher priority overtakes one that came before it.
-use Rattle.std.specs.Prelude.{ℕ, pos, ◌==◌, if◌then◌else◌, false, List, [], ◌∷◌, Some, None}
+use Rattle.std.specs.Prelude.{ℕ, pos, if◌then◌else◌, List, [], ◌∷◌, Some, None}
 use Rattle.room_kinds.specs.declared.message.Msg.{Msg}
 use Rattle.room_kinds.specs.declared.numbers.Incarnation.{Incarnation}
 use Rattle.room_kinds.specs.declared.command.Command.TheVariants as commands
 use Rattle.journal.specs.declared.entry.Did.TheVariants as did
-use Rattle.journal.specs.declared.entry.Entry.{Entry}
-use Rattle.journal.specs.declared.entry.Entry.TheVariants as entry
-use Rattle.room_wiring.specs.declared.tables.Tables.{Tables}
-use Rattle.room_kinds.specs.declared.structure.ReferenceKind.TheVariants.{Fixed}
-use Rattle.room_wiring.specs.declared.slot.Partner.TheVariants.{Nobody, End}
-use Rattle.room_kinds.specs.declared.structure.PortKind.TheVariants as ports
 use Rattle.actor_merge.specs.Parties.{Line}
 use Rattle.actor_merge.specs.World.{Placed}
 use Rattle.actor_duties.specs.Words.{incarnation, endpoint}
 use Rattle.actor_world.specs.Behaviour.{Behaviour}
-use Rattle.world_examples.specs.Writing.{slot, class, port, span, msg, line, posted, fetched, turned, Step, is_at, handled, behaviour_of, IsComputed}
-
--- the wiring of the model
-abbrev pub tables : Tables
-tables = record {
-  slots =
-      slot 2 Fixed None 0 0 0
-      ∷ slot 0 Fixed (Some (record { 0 = 0 })) 0 0 0
-      ∷ slot 1 Fixed (Some (record { 0 = 0 })) 0 1 0
-      ∷ [];
-  controllers = [] ∷ [];
-  classes =
-      class (port ports.Frame None ∷ port ports.End (Some 1) ∷ port ports.Internal (Some 0) ∷ [])
-      ∷ class (port ports.Frame None ∷ port ports.End (Some 1) ∷ [])
-      ∷ class (port ports.Frame None ∷ [])
-      ∷ [];
-  first_ports = 0 ∷ 1 ∷ 4 ∷ [];
-  ports =
-      span 0 1
-      ∷ span 1 1
-      ∷ span 2 1
-      ∷ span 3 1
-      ∷ span 4 1
-      ∷ span 5 1
-      ∷ [];
-  partners =
-      Nobody
-      ∷ Nobody
-      ∷ End (record { 0 = 2 }) 1 0
-      ∷ Nobody
-      ∷ Nobody
-      ∷ End (record { 0 = 1 }) 1 0
-      ∷ [];
-  told =
-      (false ∷ [])
-      ∷ (false ∷ [])
-      ∷ (false ∷ [])
-      ∷ [];
-}
+use Rattle.world_examples.specs.Writing.{msg, line, posted, fetched, turned, Step, chartless_top, is_at, handled, behaviour_of, IsComputed}
+pub use Rattle.world_examples.specs.models.Pair.{on_one_controller as tables}
+use Rattle.world_examples.specs.models.Pair.{starts}
 
 -- what the actors do: at a kick actor 1 sends `ping` with 1 at priority 5 and with 2 at priority 1
 abbrev step : Incarnation → ℕ → Msg → Step
@@ -63,11 +21,11 @@ step x s m =
 
 -- the behaviour of all actors
 abbrev pub model : Behaviour ℕ
-model = behaviour_of (λ x. if x.slot.0 == 0 then 65535 else 0) (λ x. []) step
+model = behaviour_of chartless_top (λ x. []) step
 
 -- what party 1 posts at time 1
 abbrev m1_1 : Msg
-m1_1 = msg 1 0 3 1 None (endpoint 1 0 2 0) 0 ([])
+m1_1 = msg 1 0 3 1 None (endpoint 1 0 2 0) 0 []
 
 -- what party 0 posts at time 4
 abbrev m0_4 : Msg
@@ -81,24 +39,20 @@ m0_5 = msg 0 0 1 5 (Some (endpoint 1 1 1 0)) (endpoint 2 1 1 0) 0 (pos 2 ∷ [])
 abbrev pub lines : List Line
 lines = line 1 m1_1 ∷ []
 
--- how the journal of controller 0 begins
-abbrev pub starts0 : List Entry
-starts0 = entry.Start (incarnation 0 1) 65535 ([]) ∷ entry.Start (incarnation 1 1) 0 ([]) ∷ entry.Start (incarnation 2 1) 0 ([]) ∷ []
-
 -- all other entries, by stamp and party
 abbrev pub merge : List Placed
 merge =
     posted m1_1
     ∷ fetched 2 m1_1
-    ∷ turned 3 m1_1 (did.Handled (incarnation 1 1) 0) ([])
+    ∷ turned 3 m1_1 (did.Handled (incarnation 1 1) 0) []
     ∷ posted m0_4
     ∷ posted m0_5
     ∷ fetched 6 m0_4
     ∷ fetched 7 m0_5
-    ∷ turned 8 m0_5 (did.Handled (incarnation 2 1) 0) ([])
-    ∷ turned 9 m0_4 (did.Handled (incarnation 2 1) 0) ([])
+    ∷ turned 8 m0_5 (did.Handled (incarnation 2 1) 0) []
+    ∷ turned 9 m0_4 (did.Handled (incarnation 2 1) 0) []
     ∷ []
 
 -- the definitions give these journals
 abbrev pub PrioritiesIsComputed : Type 0
-PrioritiesIsComputed = IsComputed model tables lines (starts0 ∷ []) merge
+PrioritiesIsComputed = IsComputed model tables lines (starts ∷ []) merge

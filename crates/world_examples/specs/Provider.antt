@@ -1,69 +1,22 @@
 -- A user and a provider meet by a name, and a second provider is refused.
-use Rattle.std.specs.Prelude.{ℕ, pos, ◌==◌, if◌then◌else◌, false, List, [], ◌∷◌, Some, None}
+use Rattle.std.specs.Prelude.{ℕ, pos, ◌==◌, if◌then◌else◌, List, [], ◌∷◌, Some}
 use Rattle.room_kinds.specs.declared.message.Msg.{Msg}
-use Rattle.room_kinds.specs.declared.numbers.Incarnation.{Incarnation}
 use Rattle.room_kinds.specs.declared.command.Command.TheVariants as commands
 use Rattle.room_kinds.specs.declared.command.NameCommand.TheVariants as names
 use Rattle.journal.specs.declared.entry.Did.TheVariants as did
 use Rattle.journal.specs.declared.entry.Entry.{Entry}
 use Rattle.journal.specs.declared.entry.Entry.TheVariants as entry
-use Rattle.room_wiring.specs.declared.tables.Tables.{Tables}
-use Rattle.room_kinds.specs.declared.structure.ReferenceKind.TheVariants.{Fixed}
-use Rattle.room_wiring.specs.declared.slot.Partner.TheVariants.{Nobody}
-use Rattle.room_kinds.specs.declared.structure.PortKind.TheVariants as ports
 use Rattle.actor_merge.specs.Parties.{Line}
 use Rattle.actor_merge.specs.World.{Placed}
 use Rattle.actor_duties.specs.Words.{incarnation, endpoint}
-use Rattle.actor_world.specs.Behaviour.{Behaviour, Unhandled}
-use Rattle.world_examples.specs.Writing.{slot, class, port, span, msg, posted, fetched, turned, Step, behaviour_of, IsComputed}
+use Rattle.actor_world.specs.Behaviour.{Behaviour}
+use Rattle.world_examples.specs.Writing.{msg, posted, fetched, turned, IsComputed}
+pub use Rattle.world_examples.specs.models.Providers.{tables}
+use Rattle.world_examples.specs.models.Providers.{model_with}
 
--- the wiring of the model
-abbrev pub tables : Tables
-tables = record {
-  slots =
-      slot 2 Fixed None 0 0 0
-      ∷ slot 0 Fixed (Some (record { 0 = 0 })) 0 0 0
-      ∷ slot 1 Fixed (Some (record { 0 = 0 })) 0 1 0
-      ∷ slot 1 Fixed (Some (record { 0 = 0 })) 0 2 0
-      ∷ [];
-  controllers = [] ∷ [];
-  classes =
-      class (port ports.Frame None ∷ port ports.Sap (Some 0) ∷ [])
-      ∷ class (port ports.Frame None ∷ port ports.Spp (Some 0) ∷ [])
-      ∷ class (port ports.Frame None ∷ [])
-      ∷ [];
-  first_ports = 0 ∷ 1 ∷ 3 ∷ 5 ∷ [];
-  ports =
-      span 0 1
-      ∷ span 1 1
-      ∷ span 2 1
-      ∷ span 3 1
-      ∷ span 4 0
-      ∷ span 4 1
-      ∷ span 5 0
-      ∷ [];
-  partners =
-      Nobody
-      ∷ Nobody
-      ∷ Nobody
-      ∷ Nobody
-      ∷ Nobody
-      ∷ [];
-  told =
-      (false ∷ [])
-      ∷ (false ∷ [])
-      ∷ (false ∷ [])
-      ∷ (false ∷ [])
-      ∷ [];
-}
-
--- what the actors do: nothing comes that they wait for; actors 1, 2 and 3 register at their port 1 under name 0 as they begin
-abbrev step : Incarnation → ℕ → Msg → Step
-step x s m = record { state = s; result = Unhandled; commands = [] }
-
--- the behaviour of all actors
+-- the behaviour of all actors: actors 1, 2 and 3 register at their port 1 under name 0 as they begin
 abbrev pub model : Behaviour ℕ
-model = behaviour_of (λ x. if x.slot.0 == 0 then 65535 else 0) (λ x. if x.slot.0 == 0 then [] else commands.Name (names.Register 1 0) ∷ []) step
+model = model_with (λ x. if x.slot.0 == 0 then [] else commands.Name (names.Register 1 0) ∷ [])
 
 -- what party 0 posts at time 1
 abbrev m0_1 : Msg
@@ -87,11 +40,11 @@ m0_11 = msg 0 0 0 11 (Some (endpoint 2 1 1 0)) (endpoint 2 1 1 0) 16 (pos 0 ∷ 
 
 -- what party 0 posts at time 12
 abbrev m0_12 : Msg
-m0_12 = msg 0 0 0 12 (Some (endpoint 1 1 1 0)) (endpoint 2 1 1 0) 14 ([])
+m0_12 = msg 0 0 0 12 (Some (endpoint 1 1 1 0)) (endpoint 2 1 1 0) 14 []
 
 -- what party 0 posts at time 13
 abbrev m0_13 : Msg
-m0_13 = msg 0 0 0 13 (Some (endpoint 2 1 1 0)) (endpoint 1 1 1 0) 14 ([])
+m0_13 = msg 0 0 0 13 (Some (endpoint 2 1 1 0)) (endpoint 1 1 1 0) 14 []
 
 -- what party 0 posts at time 18
 abbrev m0_18 : Msg
@@ -115,7 +68,7 @@ lines = []
 
 -- how the journal of controller 0 begins
 abbrev pub starts0 : List Entry
-starts0 = entry.Start (incarnation 0 1) 65535 ([]) ∷ entry.Start (incarnation 1 1) 0 ([]) ∷ entry.Start (incarnation 2 1) 0 ([]) ∷ entry.Start (incarnation 3 1) 0 ([]) ∷ []
+starts0 = entry.Start (incarnation 0 1) 65535 [] ∷ entry.Start (incarnation 1 1) 0 [] ∷ entry.Start (incarnation 2 1) 0 [] ∷ entry.Start (incarnation 3 1) 0 [] ∷ []
 
 -- all other entries, by stamp and party
 abbrev pub merge : List Placed
@@ -126,33 +79,33 @@ merge =
     ∷ fetched 4 m0_1
     ∷ fetched 5 m0_2
     ∷ fetched 6 m0_3
-    ∷ turned 7 m0_1 did.Duty ([])
+    ∷ turned 7 m0_1 did.Duty []
     ∷ posted m0_8
     ∷ fetched 9 m0_8
-    ∷ turned 10 m0_2 did.Duty ([])
+    ∷ turned 10 m0_2 did.Duty []
     ∷ posted m0_11
     ∷ posted m0_12
     ∷ posted m0_13
     ∷ fetched 14 m0_11
     ∷ fetched 15 m0_12
     ∷ fetched 16 m0_13
-    ∷ turned 17 m0_3 did.Duty ([])
+    ∷ turned 17 m0_3 did.Duty []
     ∷ posted m0_18
     ∷ fetched 19 m0_18
-    ∷ turned 20 m0_8 did.Duty ([])
+    ∷ turned 20 m0_8 did.Duty []
     ∷ posted m0_21
     ∷ fetched 22 m0_21
-    ∷ turned 23 m0_11 did.Duty ([])
+    ∷ turned 23 m0_11 did.Duty []
     ∷ posted m0_24
     ∷ fetched 25 m0_24
-    ∷ turned 26 m0_12 did.Duty ([])
-    ∷ turned 27 m0_13 did.Duty ([])
-    ∷ turned 28 m0_18 did.Duty ([])
+    ∷ turned 26 m0_12 did.Duty []
+    ∷ turned 27 m0_13 did.Duty []
+    ∷ turned 28 m0_18 did.Duty []
     ∷ posted m0_29
     ∷ fetched 30 m0_29
-    ∷ turned 31 m0_21 (did.Unhandled (incarnation 1 1) 0) ([])
-    ∷ turned 32 m0_24 (did.Unhandled (incarnation 2 1) 0) ([])
-    ∷ turned 33 m0_29 (did.Unhandled (incarnation 3 1) 0) ([])
+    ∷ turned 31 m0_21 (did.Unhandled (incarnation 1 1) 0) []
+    ∷ turned 32 m0_24 (did.Unhandled (incarnation 2 1) 0) []
+    ∷ turned 33 m0_29 (did.Unhandled (incarnation 3 1) 0) []
     ∷ []
 
 -- the definitions give these journals

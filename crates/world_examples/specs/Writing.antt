@@ -1,5 +1,6 @@
 -- Short forms for the worked examples, and what it is to compute one.
-use Rattle.std.specs.Prelude.{◌≡◌, ℕ, ℤ, pos, ◌+◌, Bool, false, ◌==◌, ◌&&◌, List, [], ◌∷◌, map, Option, Some, None, option_map, option_and_then}
+use Rattle.std.specs.Prelude.{◌≡◌, ℕ, ℤ, pos, ◌+◌, Bool, false, ◌==◌, ◌&&◌, if◌then◌else◌, List, [], ◌∷◌, map, replicate, Option, Some, None, option_map, option_and_then}
+use Rattle.std.specs.List.{range_with_len}
 use Rattle.room_kinds.specs.declared.message.Msg.{Msg}
 use Rattle.room_kinds.specs.declared.note.Note.{Note}
 use Rattle.room_kinds.specs.declared.command.Command.{Command}
@@ -18,9 +19,10 @@ use Rattle.room_kinds.specs.declared.structure.PortKind.{PortKind}
 use Rattle.actor_merge.specs.Mail.{event_of}
 use Rattle.actor_merge.specs.Parties.{Line, Plant}
 use Rattle.actor_merge.specs.World.{World, Placed, start, happens}
+use Rattle.actor_duties.specs.Words.{incarnation}
 use Rattle.actor_world.specs.Start.{plant_of, start_entries}
 use Rattle.room_wiring.specs.declared.tables.Tables.{Tables}
-use Rattle.actor_world.specs.Behaviour.{Behaviour, Handling, Handled}
+use Rattle.actor_world.specs.Behaviour.{Behaviour, Handling, Handled, Unhandled}
 
 -- a slot of a class and a kind, in its container, at its owner, with its reference and index; names
 -- don't matter here
@@ -40,6 +42,14 @@ class ports = record { name = []; ports = ports; references = []; states = []; a
 -- so many places of a port, from this row on
 abbrev pub span : ℕ → ℕ → PlaceSpan
 span first count = record { first = first; count = count }
+
+-- so many ports with one place each, the places one after another
+abbrev pub single_places : ℕ → List PlaceSpan
+single_places count = map (λ row. span row 1) (range_with_len 0 count)
+
+-- so many slots, of which none of so many controllers is told
+abbrev pub told_nobody : ℕ → ℕ → List (List Bool)
+told_nobody slots controllers = replicate slots (replicate controllers false)
 
 -- a message
 abbrev pub msg : ℕ → ℕ → ℕ → ℕ → Option Endpoint → Endpoint → ℕ → List ℤ → Msg
@@ -70,6 +80,10 @@ fetched stamp m = record { party = m.to.0; entry = entry.Fetch (record { 0 = sta
 abbrev pub turned : ℕ → Msg → Did → List Note → Placed
 turned stamp m what notes = record { party = m.to.0; entry = entry.Turn (record { 0 = stamp }) m.from m.stamp what notes }
 
+-- how the journal of a controller begins on which the actor of slot 0 alone starts, in its state 0
+abbrev pub starts_alone : List Entry
+starts_alone = entry.Start (incarnation 0 1) 0 [] ∷ []
+
 -- what an actor does at a message: the state after it, what it came to, and the commands
 pub record Step : Type 0 where
   pub state : ℕ
@@ -84,6 +98,10 @@ behaviour_of first initial step = record {
   handle = λ x s m. record { machine = (step x s m).state; result = (step x s m).result; notes = []; commands = (step x s m).commands };
   state = λ s. s;
 }
+
+-- the first state of each actor where the one of slot 0 has no chart
+abbrev pub chartless_top : Incarnation → ℕ
+chartless_top x = if x.slot.0 == 0 then 65535 else 0
 
 -- the entries that the definitions give, one after another, for the events that these entries name;
 -- none where an event isn't allowed
@@ -108,6 +126,10 @@ is_at s p m = (m.target.slot.0 == s) && (m.target.port == p)
 -- a transition that stays in this state, with these commands
 abbrev pub handled : ℕ → List Command → Step
 handled state commands = record { state = state; result = Handled; commands = commands }
+
+-- a message that no transition takes in this state
+abbrev pub unhandled : ℕ → Step
+unhandled state = record { state = state; result = Unhandled; commands = [] }
 
 -- the entries with which so many controllers begin
 abbrev pub starts_from : {M : Type 0} → Behaviour M → Tables → ℕ → List (List Entry) → List (List Entry)

@@ -5,6 +5,5 @@ pub mod History
 pub mod Numbers
 pub mod SideBySide
 pub mod Exchanged
-pub mod SecondPlug
 pub mod Ends
 pub mod Quiet

@@ -9,7 +9,7 @@ ghost use Rattle.world_examples.specs.world_rows.Numbers.{NumbersIsComputed, Spe
 ghost use Rattle.world_examples.specs.world_rows.SideBySide.{SideBySideIsComputed};
 ghost use Rattle.world_examples.specs.world_rows.Exchanged.{ExchangedIsComputed};
 ghost use Rattle.world_examples.specs.world_rows.Quiet.{AllEndQuietly, SpentLeavesOne};
-ghost use Rattle.world_examples.specs.world_rows.SecondPlug.{SecondPlugIsComputed};
+ghost use Rattle.world_examples.specs.Import.{SecondPlugIsComputed};
 
 /// An actor without ports: the start is all.
 pub fn smallest_model()

@@ -1,18 +1,15 @@
 -- An actor alone, without ports.
-use Rattle.std.specs.Prelude.{ℕ, false, List, [], ◌∷◌, None}
+use Rattle.std.specs.Prelude.{ℕ, List, [], ◌∷◌, None}
 use Rattle.room_kinds.specs.declared.message.Msg.{Msg}
 use Rattle.room_kinds.specs.declared.numbers.Incarnation.{Incarnation}
-use Rattle.journal.specs.declared.entry.Entry.{Entry}
-use Rattle.journal.specs.declared.entry.Entry.TheVariants as entry
 use Rattle.room_wiring.specs.declared.tables.Tables.{Tables}
 use Rattle.room_kinds.specs.declared.structure.ReferenceKind.TheVariants.{Fixed}
 use Rattle.room_wiring.specs.declared.slot.Partner.TheVariants.{Nobody}
 use Rattle.room_kinds.specs.declared.structure.PortKind.TheVariants as ports
 use Rattle.actor_merge.specs.Parties.{Line}
 use Rattle.actor_merge.specs.World.{Placed}
-use Rattle.actor_duties.specs.Words.{incarnation}
-use Rattle.actor_world.specs.Behaviour.{Behaviour, Unhandled}
-use Rattle.world_examples.specs.Writing.{slot, class, port, span, Step, behaviour_of, IsComputed}
+use Rattle.actor_world.specs.Behaviour.{Behaviour}
+use Rattle.world_examples.specs.Writing.{slot, class, port, single_places, told_nobody, starts_alone, Step, unhandled, behaviour_of, IsComputed}
 
 -- the wiring of the models
 abbrev pub tables : Tables
@@ -25,20 +22,16 @@ tables = record {
       class (port ports.Frame None ∷ [])
       ∷ [];
   first_ports = 0 ∷ [];
-  ports =
-      span 0 1
-      ∷ [];
+  ports = single_places 1;
   partners =
       Nobody
       ∷ [];
-  told =
-      (false ∷ [])
-      ∷ [];
+  told = told_nobody 1 1;
 }
 
 -- nothing comes to it
 abbrev step : Incarnation → ℕ → Msg → Step
-step x s m = record { state = s; result = Unhandled; commands = [] }
+step x s m = unhandled s
 
 -- the behaviour of the actor
 abbrev pub model : Behaviour ℕ
@@ -50,10 +43,6 @@ model = behaviour_of (λ x. 0) (λ x. []) step
 abbrev pub lines : List Line
 lines = []
 
--- how the journal of controller 0 begins
-abbrev pub starts0 : List Entry
-starts0 = entry.Start (incarnation 0 1) 0 ([]) ∷ []
-
 -- all other entries, by stamp and party
 abbrev pub merge : List Placed
 merge =
@@ -61,4 +50,4 @@ merge =
 
 -- the definitions give these journals
 abbrev pub AloneIsComputed : Type 0
-AloneIsComputed = IsComputed model tables lines (starts0 ∷ []) merge
+AloneIsComputed = IsComputed model tables lines (starts_alone ∷ []) merge

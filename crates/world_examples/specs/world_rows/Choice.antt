@@ -1,52 +1,23 @@
 -- A choice whose condition divides by zero.
-use Rattle.std.specs.Prelude.{ℕ, ◌==◌, ◌&&◌, if◌then◌else◌, false, List, [], ◌∷◌, Some, None}
+use Rattle.std.specs.Prelude.{ℕ, ◌==◌, ◌&&◌, if◌then◌else◌, List, [], ◌∷◌, None}
 use Rattle.room_kinds.specs.declared.message.Msg.{Msg}
-use Rattle.room_kinds.specs.declared.note.Note.TheVariants as notes
 use Rattle.room_kinds.specs.declared.note.Note.{Note}
+use Rattle.room_kinds.specs.declared.note.Note.TheVariants as notes
 use Rattle.room_kinds.specs.declared.numbers.Incarnation.{Incarnation}
 use Rattle.journal.specs.declared.entry.Did.TheVariants as did
-use Rattle.journal.specs.declared.entry.Entry.{Entry}
-use Rattle.journal.specs.declared.entry.Entry.TheVariants as entry
-use Rattle.room_wiring.specs.declared.tables.Tables.{Tables}
-use Rattle.room_kinds.specs.declared.structure.ReferenceKind.TheVariants.{Fixed}
-use Rattle.room_wiring.specs.declared.slot.Partner.TheVariants.{Nobody}
-use Rattle.room_kinds.specs.declared.structure.PortKind.TheVariants as ports
 use Rattle.actor_merge.specs.Parties.{Line}
 use Rattle.actor_merge.specs.World.{Placed}
 use Rattle.actor_duties.specs.Words.{incarnation, endpoint}
-use Rattle.actor_world.specs.Behaviour.{Behaviour, Unhandled}
-use Rattle.world_examples.specs.Writing.{slot, class, port, span, msg, line, posted, fetched, turned, Step, handled, IsComputed}
-
--- the wiring of the models
-abbrev pub tables : Tables
-tables = record {
-  slots =
-      slot 0 Fixed None 0 0 0
-      ∷ [];
-  controllers = [] ∷ [];
-  classes =
-      class (port ports.Frame None ∷ port ports.Internal (Some 0) ∷ [])
-      ∷ [];
-  first_ports = 0 ∷ [];
-  ports =
-      span 0 1
-      ∷ span 1 1
-      ∷ [];
-  partners =
-      Nobody
-      ∷ Nobody
-      ∷ [];
-  told =
-      (false ∷ [])
-      ∷ [];
-}
+use Rattle.actor_world.specs.Behaviour.{Behaviour}
+use Rattle.world_examples.specs.Writing.{starts_alone, msg, line, posted, fetched, turned, Step, handled, unhandled, IsComputed}
+pub use Rattle.world_examples.specs.models.OnePort.{tables}
 
 -- what the actor does at a `kick` in A: the condition `1 / x` divides by zero, which is noted and gives 0, so C is entered
 abbrev notes_at : ℕ → Msg → List Note
 notes_at s m = if (m.signal == 0) && (s == 0) then notes.Zero ∷ [] else []
 
 abbrev step : Incarnation → ℕ → Msg → Step
-step x s m = if (m.signal == 0) && (s == 0) then handled 2 [] else record { state = s; result = Unhandled; commands = [] }
+step x s m = if (m.signal == 0) && (s == 0) then handled 2 [] else unhandled s
 
 -- the behaviour of the actor
 abbrev pub model : Behaviour ℕ
@@ -60,15 +31,11 @@ model = record {
 
 -- what party 1 posts at time 1
 abbrev m1_1 : Msg
-m1_1 = msg 1 0 3 1 None (endpoint 0 0 1 0) 0 ([])
+m1_1 = msg 1 0 3 1 None (endpoint 0 0 1 0) 0 []
 
 -- the lines of the environment, each with its part
 abbrev pub lines : List Line
 lines = line 1 m1_1 ∷ []
-
--- how the journal of controller 0 begins
-abbrev pub starts0 : List Entry
-starts0 = entry.Start (incarnation 0 1) 0 ([]) ∷ []
 
 -- all other entries, by stamp and party
 abbrev pub merge : List Placed
@@ -80,4 +47,4 @@ merge =
 
 -- the definitions give these journals
 abbrev pub ChoiceIsComputed : Type 0
-ChoiceIsComputed = IsComputed model tables lines (starts0 ∷ []) merge
+ChoiceIsComputed = IsComputed model tables lines (starts_alone ∷ []) merge

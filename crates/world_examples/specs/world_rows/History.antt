@@ -1,5 +1,5 @@
 -- A group transition, which leaves three states at once, and a border that was never visited before. The states S, S.U, S.U.V, S.U.W and X have the numbers 0 to 4; 5 stands for X with the history S.U.W.
-use Rattle.std.specs.Prelude.{ℕ, pos, ◌==◌, ◌&&◌, if◌then◌else◌, false, List, [], ◌∷◌, Some, None}
+use Rattle.std.specs.Prelude.{ℕ, pos, ◌==◌, ◌&&◌, if◌then◌else◌, List, [], ◌∷◌, Some, None}
 use Rattle.room_kinds.specs.declared.message.Msg.{Msg}
 use Rattle.room_kinds.specs.declared.note.Note.TheVariants as notes
 use Rattle.room_kinds.specs.declared.numbers.Incarnation.{Incarnation}
@@ -8,39 +8,12 @@ use Rattle.room_kinds.specs.declared.command.Command.TheVariants as commands
 use Rattle.journal.specs.declared.entry.Did.TheVariants as did
 use Rattle.journal.specs.declared.entry.Entry.{Entry}
 use Rattle.journal.specs.declared.entry.Entry.TheVariants as entry
-use Rattle.room_wiring.specs.declared.tables.Tables.{Tables}
-use Rattle.room_kinds.specs.declared.structure.ReferenceKind.TheVariants.{Fixed}
-use Rattle.room_wiring.specs.declared.slot.Partner.TheVariants.{Nobody}
-use Rattle.room_kinds.specs.declared.structure.PortKind.TheVariants as ports
 use Rattle.actor_merge.specs.Parties.{Line}
 use Rattle.actor_merge.specs.World.{Placed}
 use Rattle.actor_duties.specs.Words.{incarnation, endpoint}
-use Rattle.actor_world.specs.Behaviour.{Behaviour, Unhandled}
-use Rattle.world_examples.specs.Writing.{slot, class, port, span, msg, line, posted, fetched, turned, Step, handled, IsComputed}
-
--- the wiring of the models
-abbrev pub tables : Tables
-tables = record {
-  slots =
-      slot 0 Fixed None 0 0 0
-      ∷ [];
-  controllers = [] ∷ [];
-  classes =
-      class (port ports.Frame None ∷ port ports.Internal (Some 0) ∷ [])
-      ∷ [];
-  first_ports = 0 ∷ [];
-  ports =
-      span 0 1
-      ∷ span 1 1
-      ∷ [];
-  partners =
-      Nobody
-      ∷ Nobody
-      ∷ [];
-  told =
-      (false ∷ [])
-      ∷ [];
-}
+use Rattle.actor_world.specs.Behaviour.{Behaviour}
+use Rattle.world_examples.specs.Writing.{msg, line, posted, fetched, turned, Step, handled, unhandled, IsComputed}
+pub use Rattle.world_examples.specs.models.OnePort.{tables}
 
 -- a send of `t` (signal 2) at this place of port 1, which is joined to nothing
 abbrev pub go : ℕ → Command
@@ -53,7 +26,7 @@ step x s m =
     else if (m.signal == 0) && (s == 3) then handled 5 (go 2 ∷ go 1 ∷ go 9 ∷ [])
     else if (m.signal == 1) && (s == 5) then handled 3 (go 5 ∷ [])
     else if (m.signal == 1) && (s == 4) then handled 2 (go 4 ∷ [])
-    else record { state = s; result = Unhandled; commands = [] }
+    else unhandled s
 
 -- the behaviour of an actor that begins in S.U.V or in X
 abbrev pub begun : ℕ → List Command → Behaviour ℕ
@@ -67,15 +40,15 @@ begun first commands = record {
 
 -- what party 1 posts at time 1
 abbrev group_m1_1 : Msg
-group_m1_1 = msg 1 0 3 1 None (endpoint 0 0 1 0) 1 ([])
+group_m1_1 = msg 1 0 3 1 None (endpoint 0 0 1 0) 1 []
 
 -- what party 1 posts at time 2
 abbrev group_m1_2 : Msg
-group_m1_2 = msg 1 0 3 2 None (endpoint 0 0 1 0) 0 ([])
+group_m1_2 = msg 1 0 3 2 None (endpoint 0 0 1 0) 0 []
 
 -- what party 1 posts at time 3
 abbrev group_m1_3 : Msg
-group_m1_3 = msg 1 0 3 3 None (endpoint 0 0 1 0) 1 ([])
+group_m1_3 = msg 1 0 3 3 None (endpoint 0 0 1 0) 1 []
 
 -- the lines of the environment, each with its part
 abbrev pub group_lines : List Line
@@ -107,7 +80,7 @@ GroupIsComputed = IsComputed (begun 2 (go 4 ∷ [])) tables group_lines (group_s
 
 -- what party 1 posts at time 1
 abbrev border_m1_1 : Msg
-border_m1_1 = msg 1 0 3 1 None (endpoint 0 0 1 0) 1 ([])
+border_m1_1 = msg 1 0 3 1 None (endpoint 0 0 1 0) 1 []
 
 -- the lines of the environment, each with its part
 abbrev pub border_lines : List Line
@@ -115,7 +88,7 @@ border_lines = line 1 border_m1_1 ∷ []
 
 -- how the journal of controller 0 begins
 abbrev pub border_starts0 : List Entry
-border_starts0 = entry.Start (incarnation 0 1) 4 ([]) ∷ []
+border_starts0 = entry.Start (incarnation 0 1) 4 [] ∷ []
 
 -- all other entries, by stamp and party
 abbrev pub border_merge : List Placed

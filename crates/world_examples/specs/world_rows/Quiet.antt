@@ -13,6 +13,8 @@ use Rattle.world_examples.specs.Import as of_import_then_deport
 use Rattle.world_examples.specs.Home as of_home
 use Rattle.world_examples.specs.Provider as of_provider
 use Rattle.world_examples.specs.Withdrawal as of_withdrawal
+use Rattle.world_examples.specs.OtherPart as of_other_part
+use Rattle.world_examples.specs.NestedEnd as of_nested_end
 use Rattle.world_examples.specs.world_rows.Alone as of_alone
 use Rattle.world_examples.specs.world_rows.Switch as of_switch
 use Rattle.world_examples.specs.world_rows.Choice as of_choice
@@ -20,7 +22,6 @@ use Rattle.world_examples.specs.world_rows.History as of_history
 use Rattle.world_examples.specs.world_rows.Numbers as of_numbers
 use Rattle.world_examples.specs.world_rows.SideBySide as of_side_by_side
 use Rattle.world_examples.specs.world_rows.Exchanged as of_exchanged
-use Rattle.world_examples.specs.world_rows.SecondPlug as of_second_plug
 use Rattle.world_examples.specs.world_rows.Ends.{EndsWith}
 
 -- All is quiet at the end, and nothing is left.
@@ -37,6 +38,8 @@ pub record AllEndQuietly : Type 0 where
   pub home : EndsWith of_home.model of_home.tables of_home.lines of_home.merge []
   pub provider : EndsWith of_provider.model of_provider.tables of_provider.lines of_provider.merge []
   pub withdrawal : EndsWith of_withdrawal.model of_withdrawal.tables of_withdrawal.lines of_withdrawal.merge []
+  pub other_part : EndsWith of_other_part.model of_other_part.tables of_other_part.lines of_other_part.merge []
+  pub nested_end : EndsWith of_nested_end.model of_nested_end.tables of_nested_end.lines of_nested_end.merge []
   pub alone : EndsWith of_alone.model of_alone.tables of_alone.lines of_alone.merge []
   pub one_message : EndsWith of_switch.model of_switch.tables of_switch.one_lines of_switch.one_merge []
   pub other_message : EndsWith of_switch.model of_switch.tables of_switch.other_lines of_switch.other_merge []
@@ -44,12 +47,12 @@ pub record AllEndQuietly : Type 0 where
   pub choice : EndsWith of_choice.model of_choice.tables of_choice.lines of_choice.merge []
   pub group : EndsWith (of_history.begun 2 (of_history.go 4 ∷ [])) of_history.tables of_history.group_lines of_history.group_merge []
   pub border : EndsWith (of_history.begun 4 []) of_history.tables of_history.border_lines of_history.border_merge []
-  pub numbers : EndsWith of_numbers.model of_numbers.tables of_numbers.whole_lines of_numbers.whole_merge []
+  pub numbers : EndsWith of_numbers.model of_numbers.tables of_numbers.lines of_numbers.whole_merge []
   pub no_lines : EndsWith of_numbers.model of_numbers.tables of_numbers.none_lines of_numbers.none_merge []
   pub side_by_side : EndsWith of_side_by_side.model of_side_by_side.tables of_side_by_side.lines of_side_by_side.merge []
   pub exchanged : EndsWith of_exchanged.model of_exchanged.tables of_exchanged.lines of_exchanged.merge []
-  pub second_plug : EndsWith of_second_plug.model of_second_plug.tables of_second_plug.lines of_second_plug.merge []
+  pub second_plug : EndsWith of_import_then_deport.model of_import_then_deport.tables of_import_then_deport.refused_lines of_import_then_deport.refused_merge []
 
 -- With fuel for one turn the answer of the second actor's message stays pending.
 abbrev pub SpentLeavesOne : Type 0
-SpentLeavesOne = EndsWith of_numbers.model of_numbers.tables of_numbers.spent_lines of_numbers.spent_merge (left 0 true of_numbers.spent_m0_4 ∷ [])
+SpentLeavesOne = EndsWith of_numbers.model of_numbers.tables of_numbers.lines of_numbers.spent_merge (left 0 true of_numbers.m0_4 ∷ [])

@@ -18,6 +18,8 @@ returns c =
       home = record { over = refl; posted = refl; silent = refl };
       provider = record { over = refl; posted = refl; silent = refl };
       withdrawal = record { over = refl; posted = refl; silent = refl };
+      other_part = record { over = refl; posted = refl; silent = refl };
+      nested_end = record { over = refl; posted = refl; silent = refl };
       alone = record { over = refl; posted = refl; silent = refl };
       one_message = record { over = refl; posted = refl; silent = refl };
       other_message = record { over = refl; posted = refl; silent = refl };
