@@ -8,8 +8,9 @@
 #   SIZE=1048576 bench/front_end.sh    1 MiB
 #   KINDS='states points' bench/front_end.sh
 #
-# The last column is the most memory that the program had allocated on the whole text, in bytes for
-# each byte of it. Of journals only the writing of their text is counted, and the memory of the run.
+# Beside them stand the time of the whole program, least of five, and the most memory that it had
+# allocated on the whole text, in bytes for each byte of it. Of journals only the instructions of the
+# writing of their text are counted; time and memory are those of the run.
 #
 # Rule 25 and the limits of the wiring hold at any size: of a kind of which a model may have no more
 # than so many the text is as long as they allow.
@@ -19,7 +20,6 @@ set -eu
 size="${SIZE:-65536}"
 kinds="${KINDS:-references mappings nested_mappings bindings layers ports classes messages states
 transitions choices points composites attributes data_classes services injections journals}"
-program="${ROOM_PROGRAM:-$top/crates/room/out/room}"
 
 head='RoomModel M {\nLogicalSystem L { SubSystemRef s: S }\nProtocolClass P { incoming { Message go() } outgoing { Message ok() } }\n'
 top_class='SubSystemClass S { ActorRef a: A }\n'
@@ -70,26 +70,8 @@ text_of() {
 }
 
 # The model of one actor that counts its messages, on which injections are read and journals written.
-one='RoomModel One {
-LogicalSystem L { SubSystemRef s: S }
-SubSystemClass S { ActorRef top: T }
-ProtocolClass G { incoming { Message kick(int32) } outgoing { } }
-ActorClass T { Structure { Port go: G Attribute n: int32 } Behavior { StateMachine {
-Transition i: initial -> A State A
-Transition k: A -> A { triggers { <kick: go> } action { "n = n + data;" } } } } }
-}'
-
-# How many instructions the program takes, whatever its status.
-instructions() {
-    valgrind --tool=callgrind --callgrind-out-file="$work/calls" "$program" "$@" 2>&1 >"$work/answer" |
-        awk '/Collected/ { print $4 }'
-}
-
-# How many of them went into the text of the journals.
-instructions_of_text() {
-    callgrind_annotate --inclusive=yes "$work/calls" 2>/dev/null |
-        awk '/ journal::|:journal::/ { gsub(",", "", $1); print $1; exit }'
-}
+one="$(one_actor 'Transition i: initial -> A State A
+Transition k: A -> A { triggers { <kick: go> } action { "n = n + data;" } }')"
 
 # The most bytes that the program had allocated at once.
 most_heap() {
@@ -97,7 +79,7 @@ most_heap() {
         awk '/At t-gmax/ { gsub(",", "", $4); print $4 }'
 }
 
-# Runs the program on a text of a kind and of at most so many bytes: sets `bytes`, `took` and `words`.
+# Runs the program on a text of a kind and of at most so many bytes: sets `bytes`, `counted` and `words`.
 run_on() {
     case "$1" in
     injections)
@@ -105,7 +87,7 @@ run_on() {
         fill "$2" '' 'top.go kick # at low\n' '' 10000 >"$work/inject.txt"
         printf '%s' "$one" >"$work/model.room"
         words=(run "$work/model.room" "$work/inject.txt" --fuel 1)
-        took="$(instructions "${words[@]}")"
+        counted="$(instructions "${words[@]}")"
         bytes="$(stat -c %s "$work/inject.txt")"
         ;;
     journals)
@@ -114,30 +96,30 @@ run_on() {
         printf '%s' "$one" >"$work/model.room"
         words=(run "$work/model.room" "$work/inject.txt" --fuel 100000)
         instructions "${words[@]}" >/dev/null
-        took="$(instructions_of_text)"
+        counted="$(instructions_in "$the_text")"
         bytes="$(stat -c %s "$work/answer")"
         ;;
     *)
         text_of "$1" "$2" >"$work/model.room"
         words=(check "$work/model.room")
-        took="$(instructions "${words[@]}")"
+        counted="$(instructions "${words[@]}")"
         bytes="$(stat -c %s "$work/model.room")"
         ;;
     esac
 }
 
-[ -n "${ROOM_PROGRAM:-}" ] || "$top/room" --prove
-echo "processors $(nproc), load $(cut -d ' ' -f 1-3 /proc/loadavg)"
-printf '%-16s %10s %14s %8s %10s %12s\n' kind bytes instructions ratio per_byte heap_per_byte
+begin_measuring
+printf '%-16s %10s %14s %8s %10s %13s %14s\n' kind bytes instructions ratio per_byte milliseconds heap_per_byte
 for kind in $kinds; do
     last=0
     for part in 4 2 1; do
         run_on "$kind" "$((size / part))"
         memory=-
         [ "$part" -gt 1 ] || memory="$(($(most_heap "${words[@]}") / bytes))"
-        grown="$(ratio "$took" "$last")"
+        grown="$(ratio "$counted" "$last")"
         mark="$(awk -v r="$grown" 'BEGIN { print (r != "-" && r > 2.3) ? "!" : "" }')"
-        printf '%-16s %10s %14s %8s %10s %12s\n' "$kind" "$bytes" "$took" "$grown$mark" "$((took / bytes))" "$memory"
-        last="$took"
+        printf '%-16s %10s %14s %8s %10s %13s %14s\n' "$kind" "$bytes" "$counted" "$grown$mark" \
+            "$((counted / bytes))" "$(milliseconds "$(best "$program" "${words[@]}")")" "$memory"
+        last="$counted"
     done
 done
