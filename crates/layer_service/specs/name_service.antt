@@ -1,2 +1,3 @@
-pub mod Places
+pub mod Services
 pub mod Steps
+pub mod Asking

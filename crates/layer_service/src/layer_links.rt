@@ -2,6 +2,7 @@
 //! endpoints that its places are linked to (ROOM has layer connections; meeting by name at run time
 //! is this project's own).
 
+mod link;
 mod links;
 mod point;
 mod points;

@@ -4,6 +4,7 @@
 mod entries;
 mod linking;
 mod name_service;
+mod requests;
 mod service;
 
 pub use name_service::NameService;

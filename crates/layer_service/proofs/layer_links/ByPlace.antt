@@ -1,133 +1,239 @@
--- The links of a point, which a map from places keeps.
-use Rattle.std.proofs.Common.{◌≡◌, ◌≢◌, ℕ, ◌<◌, ◌≤◌, Bool, true, false, cond, not, ◌&&◌, ◌||◌, List, [], ◌∷◌, Option, Some, None, refl, sym, ap, ◌∙◌, subst, arith}
-use Rattle.std.specs.Prelude.{nat_lt, nat_le, ◌==◌, filter, find, option_map}
-use Rattle.std.specs.Option.{option_map_or}
-use Rattle.std.specs.List.{list_any, AllByRecursion}
-use Rattle.std.specs.List.Sorted.{IsStrictlySortedBy}
-use Rattle.std.specs.Ordering.{nat_cmp, is_eq, is_le, match_ordering}
-use Rattle.std.specs.declared.cmp.Ordering.TheVariants.{Less, Equal, Greater}
-use Rattle.std.specs.declared.ops.Bound.TheVariants.{Included, Unbounded}
-use Rattle.std.specs.Map.{keys_of, lookup, remove_entry}
-use Rattle.std.specs.BTreeMap.{is_at, insert_entry}
-use Rattle.std.specs.BTreeMap.Range.{range_contains}
+-- Links in order of place: how the link of a place is found, put there, and taken away.
+use Rattle.std.proofs.Common.{◌≡◌, ◌≢◌, ℕ, zero, suc, ◌+◌, ◌<◌, ◌≤◌, ◌^◌, Bool, true, false, cond, not, ◌&&◌, List, [], ◌∷◌, length, get_or, set, Some, None, Result, Ok, Err, IfOk, IfErr, refl, sym, ap, subst, ◌∙◌, arith}
+use Rattle.std.specs.Prelude.{nat_lt, ◌==◌, filter, slice_index}
+use Rattle.std.specs.List.{insert, remove}
+use Rattle.std.specs.List.Sorted.{IsSearchInRange, IsBinarySearchResult, IsNonDecreasingBy}
+use Rattle.std.specs.Ordering.{nat_cmp, ordering_index}
+use Rattle.std.proofs.lemmas.Cmp.{ranked}
+use Rattle.std.proofs.lemmas.List.Sorted.{IsNonDecreasingBy-from_default}
 use Rattle.std.proofs.lemmas.Bool.Decides.{nat_tests}
-use Rattle.std.proofs.lemmas.Map.Keys.{sorted_head, sorted_tail}
 use Rattle.room_kinds.specs.declared.numbers.Endpoint.{Endpoint}
 use Rattle.actor_duties.specs.State.{Link}
 use Rattle.actor_duties.specs.Words.{is_endpoint}
-use Rattle.actor_duties.specs.Links.{is_link, with_link}
+use Rattle.actor_duties.specs.Links.{with_link}
 use Rattle.actor_duties.specs.Peers.{link_at}
-use Rattle.layer_service.specs.layer_links.Kept.{link_from, links_from}
+use Rattle.layer_service.specs.layer_links.Rising.{AreRisingFrom, AreRising, places_of, without_link, no_link, place_of, IsAt, IsGapFor}
 
--- entries of a map from places
-abbrev pub Entries : Type 0
-Entries = List (ℕ × Endpoint)
+-- ---- numbers
 
--- whether an entry is at a place
-abbrev at_place : ℕ → ℕ → Bool
-at_place k = is_at (nat_cmp k)
+is_below : (a b : ℕ) → a < b → nat_lt a b ≡ true
+is_below a b lt = grind (arith, nat_tests)
 
-same_place : (k a : ℕ) → is_eq (nat_cmp k a) ≡ (a == k)
-same_place k a = grind (arith, nat_tests)
+not_below : (a b : ℕ) → b ≤ a → nat_lt a b ≡ false
+not_below a b le = grind (arith, nat_tests)
 
-at_or_above : (from k : ℕ) → range_contains nat_cmp (Included from) Unbounded k ≡ nat_le from k
-at_or_above from k = grind (arith, nat_tests)
+is_same : (a b : ℕ) → a ≡ b → (a == b) ≡ true
+is_same a b same = grind (arith, nat_tests)
 
--- the peer of a place is what the map has there
-pub peer_found : (k : ℕ) (es : Entries) → option_map (λ (x : Link). x.peer) (link_at k (links_from es)) ≡ lookup (at_place k) es
-peer_found k [] = refl
-peer_found k (e ∷ es) = ap (λ (b : Bool). option_map (λ (x : Link). x.peer) (cond b (Some (link_from e)) (link_at k (links_from es)))) (sym (same_place k e.0)) ∙ go (peer_found k es) (at_place k e.0)
+not_same : (a b : ℕ) → a ≢ b → (a == b) ≡ false
+not_same a b differ = grind (arith, nat_tests)
+
+-- ---- order
+
+no_lower : (from : ℕ) (links : List Link) (i : ℕ) → AreRisingFrom from links → i < length links → from ≤ place_of links i
+no_lower from [] i rise lt = absurd (omega arith)
+no_lower from (x ∷ rest) zero rise lt = rise.0
+no_lower from (x ∷ rest) (suc i) rise lt =
+    let first : from ≤ x.place = rise.0 in
+    let more = no_lower (x.place + 1) rest i rise.2 (omega arith) in
+    omega (arith, first, more)
+
+rising : (from : ℕ) (links : List Link) (i j : ℕ) → AreRisingFrom from links → i < j → j < length links → place_of links i < place_of links j
+rising from [] i j rise lt within = absurd (omega arith)
+rising from (x ∷ rest) zero zero rise lt within = absurd (omega arith)
+rising from (x ∷ rest) zero (suc j) rise lt within = let more = no_lower (x.place + 1) rest j rise.2 (omega arith) in omega (arith, more)
+rising from (x ∷ rest) (suc i) zero rise lt within = absurd (omega arith)
+rising from (x ∷ rest) (suc i) (suc j) rise lt within = rising (x.place + 1) rest i j rise.2 (omega arith) (omega arith)
+
+rising_further : (low from : ℕ) (links : List Link) → low ≤ from → AreRisingFrom from links → AreRisingFrom low links
+rising_further low from [] le rise = tt
+rising_further low from (x ∷ rest) le rise = let first : from ≤ x.place = rise.0 in (omega (arith, le, first), rise.1, rise.2)
+
+-- ---- a search
+
+module _ (links : List Link) (rise : AreRising links) (k : ℕ) where
+  -- the comparisons with k rise along the list, as a binary search asks
+  comparisons_rise : IsNonDecreasingBy (λ (x : Link). ordering_index (nat_cmp x.place k)) links
+  comparisons_rise = IsNonDecreasingBy-from_default (λ (x : Link). ordering_index (nat_cmp x.place k)) links no_link (λ i j le within.
+      let places_rise : place_of links i ≤ place_of links j = grind (arith, rising 0 links i j rise, λ (same : i ≡ j). ap (place_of links) same) in
+      grind (arith, nat_tests))
+
+  -- a binary search by place ends at the link of the place, or at the gap for it
+  pub searched : (r : Result ℕ ℕ) → IsSearchInRange r (length links) → IsBinarySearchResult (λ (x : Link). nat_cmp x.place k) links r
+      → record { found : IfOk r (IsAt links k); absent : IfErr r (IsGapFor links k) }
+  searched (Ok at) in_range equal = record { found = record { within = in_range; is = ranked _ k _ (sym (equal no_link)) }; absent = tt }
+  searched (Err at) in_range parted = record {
+    found = tt;
+    absent = record {
+      within = in_range;
+      lower = λ j lt. ranked _ k _ (sym ((parted comparisons_rise).0 j no_link (omega arith) lt));
+      higher = λ j le lt. ranked _ k _ (sym ((parted comparisons_rise).1 j no_link le lt));
+    };
+  }
+
+-- ---- where no link has a place
+
+-- no link has this place
+abbrev NonePlaced : ℕ → List Link → Type 0
+NonePlaced k links = (j : ℕ) → j < length links → (place_of links j == k) ≡ false
+
+none_behind : (k : ℕ) (x : Link) (rest : List Link) → NonePlaced k (x ∷ rest) → NonePlaced k rest
+none_behind k x rest none j lt = none (suc j) (omega arith)
+
+none_in_gap : (links : List Link) (k i : ℕ) → IsGapFor links k i → NonePlaced k links
+none_in_gap links k i gap j lt = not_same (place_of links j) k (λ same. grind (arith, gap.lower j, gap.higher j))
+
+none_above : (k from : ℕ) (links : List Link) → k < from → AreRisingFrom from links → NonePlaced k links
+none_above k from links above rise j lt =
+    let le = no_lower from links j rise lt in
+    not_same (place_of links j) k (λ same. omega (arith, above, le, same))
+
+none_linked : (k : ℕ) (links : List Link) → NonePlaced k links → link_at k links ≡ None
+none_linked k [] none = refl
+none_linked k (x ∷ rest) none =
+    ap (λ (b : Bool). cond b (Some x) (link_at k rest)) (none 0 (omega arith)) ∙ none_linked k rest (none_behind k x rest none)
+
+none_taken : (p : Endpoint) (k : ℕ) (links : List Link) → NonePlaced k links → without_link p k links ≡ links
+none_taken p k [] none = refl
+none_taken p k (x ∷ rest) none =
+    ap (λ (b : Bool). cond (not (b && is_endpoint x.peer p)) (x ∷ without_link p k rest) (without_link p k rest)) (none 0 (omega arith))
+    ∙ ap (λ (links : List Link). x ∷ links) (none_taken p k rest (none_behind k x rest none))
+
+-- ---- the gap for a place
+
+pub absent : (links : List Link) (k i : ℕ) → IsGapFor links k i → link_at k links ≡ None
+absent links k i gap = none_linked k links (none_in_gap links k i gap)
+
+pub nothing_taken : (p : Endpoint) (links : List Link) (k i : ℕ) → IsGapFor links k i → without_link p k links ≡ links
+nothing_taken p links k i gap = none_taken p k links (none_in_gap links k i gap)
+
+-- one case of `with_link`
+abbrev put_case : Link → Link → List Link → Bool → Bool → List Link
+put_case y x rest below here = cond below (y ∷ x ∷ rest) (cond here (y ∷ rest) (x ∷ with_link y rest))
+
+-- a link that stands below the new one
+put_behind : (y x : Link) (rest : List Link) → x.place < y.place → with_link y (x ∷ rest) ≡ x ∷ with_link y rest
+put_behind y x rest lt =
+    ap (λ (b : Bool). put_case y x rest b (y.place == x.place)) (not_below y.place x.place (omega arith))
+    ∙ ap (put_case y x rest false) (not_same y.place x.place (λ same. omega arith))
+
+gap_behind : (x : Link) (rest : List Link) (k i : ℕ) → IsGapFor (x ∷ rest) k (suc i) → IsGapFor rest k i
+gap_behind x rest k i gap =
+    let within : suc i ≤ length (x ∷ rest) = gap.within in record {
+      within = omega arith;
+      lower = λ j lt. gap.lower (suc j) (omega arith);
+      higher = λ j le lt. gap.higher (suc j) (omega arith) (omega arith);
+    }
+
+-- in the gap for its place a link is added
+pub added : (y : Link) (links : List Link) (i : ℕ) → IsGapFor links y.place i → with_link y links ≡ insert links i y
+added y [] zero gap = refl
+added y [] (suc i) gap = let within : suc i ≤ 0 = gap.within in absurd (omega arith)
+added y (x ∷ rest) zero gap = ap (λ (b : Bool). put_case y x rest b (y.place == x.place)) (is_below y.place x.place (gap.higher 0 (omega arith) (omega arith)))
+added y (x ∷ rest) (suc i) gap =
+    put_behind y x rest (gap.lower 0 (omega arith)) ∙ ap (λ (links : List Link). x ∷ links) (added y rest i (gap_behind x rest y.place i gap))
+
+-- ---- the place of a link
+
+at_behind : (x : Link) (rest : List Link) (k i : ℕ) → IsAt (x ∷ rest) k (suc i) → IsAt rest k i
+at_behind x rest k i at = let within : suc i < length (x ∷ rest) = at.within in record { within = omega arith; is = at.is }
+
+-- the first link is below one behind it
+first_below : (from : ℕ) (x : Link) (rest : List Link) (k i : ℕ) → AreRisingFrom from (x ∷ rest) → IsAt (x ∷ rest) k (suc i) → x.place < k
+first_below from x rest k i rise at =
+    let within : suc i < length (x ∷ rest) = at.within in
+    let is : place_of rest i ≡ k = at.is in
+    let le = no_lower (x.place + 1) rest i rise.2 (omega arith) in
+    omega (arith, is, le)
+
+-- it is found
+pub found : (from : ℕ) (links : List Link) (k i : ℕ) (d : Link) → AreRisingFrom from links → IsAt links k i → link_at k links ≡ Some (get_or links i d)
+found from [] k i d rise at = let within : i < 0 = at.within in absurd (omega arith)
+found from (x ∷ rest) k zero d rise at = ap (λ (b : Bool). cond b (Some x) (link_at k rest)) (is_same x.place k at.is)
+found from (x ∷ rest) k (suc i) d rise at =
+    let lt = first_below from x rest k i rise at in
+    ap (λ (b : Bool). cond b (Some x) (link_at k rest)) (not_same x.place k (λ same. omega (arith, lt, same)))
+    ∙ found (x.place + 1) rest k i d rise.2 (at_behind x rest k i at)
+
+-- its place has at most 32 bits
+pub near : (from : ℕ) (links : List Link) (k i : ℕ) → AreRisingFrom from links → IsAt links k i → k < 2 ^ 32
+near from [] k i rise at = let within : i < 0 = at.within in absurd (omega arith)
+near from (x ∷ rest) k zero rise at =
+    let same : x.place ≡ k = at.is in
+    let low : x.place < 2 ^ 32 = rise.1 in
+    omega (arith, same, low)
+near from (x ∷ rest) k (suc i) rise at = near (x.place + 1) rest k i rise.2 (at_behind x rest k i at)
+
+-- another one is put there
+pub replaced : (from : ℕ) (y : Link) (links : List Link) (i : ℕ) → AreRisingFrom from links → IsAt links y.place i → with_link y links ≡ set links i y
+replaced from y [] i rise at = let within : i < 0 = at.within in absurd (omega arith)
+replaced from y (x ∷ rest) zero rise at =
+    let same : x.place ≡ y.place = at.is in
+    ap (λ (b : Bool). put_case y x rest b (y.place == x.place)) (not_below y.place x.place (omega (arith, same)))
+    ∙ ap (put_case y x rest false) (is_same y.place x.place (sym same))
+replaced from y (x ∷ rest) (suc i) rise at =
+    put_behind y x rest (first_below from x rest y.place i rise at)
+    ∙ ap (λ (links : List Link). x ∷ links) (replaced (x.place + 1) y rest i rise.2 (at_behind x rest y.place i at))
+
+-- it is taken away, if it leads to the peer
+pub taken : (from : ℕ) (p : Endpoint) (links : List Link) (k i : ℕ) (d : Link) → AreRisingFrom from links → IsAt links k i
+    → is_endpoint (get_or links i d).peer p ≡ true → without_link p k links ≡ remove links i
+taken from p [] k i d rise at there = let within : i < 0 = at.within in absurd (omega arith)
+taken from p (x ∷ rest) k zero d rise at there =
+    let same : x.place ≡ k = at.is in
+    ap (λ (b : Bool). cond (not (b && is_endpoint x.peer p)) (x ∷ without_link p k rest) (without_link p k rest)) (is_same x.place k same)
+    ∙ ap (λ (b : Bool). cond (not b) (x ∷ without_link p k rest) (without_link p k rest)) there
+    ∙ none_taken p k rest (none_above k (x.place + 1) rest (omega (arith, same)) rise.2)
+taken from p (x ∷ rest) k (suc i) d rise at there =
+    let lt = first_below from x rest k i rise at in
+    ap (λ (b : Bool). cond (not (b && is_endpoint x.peer p)) (x ∷ without_link p k rest) (without_link p k rest)) (not_same x.place k (λ same. omega (arith, lt, same)))
+    ∙ ap (λ (links : List Link). x ∷ links) (taken (x.place + 1) p rest k i d rise.2 (at_behind x rest k i at) there)
+
+-- it stays where it leads to another one
+pub kept : (from : ℕ) (p : Endpoint) (links : List Link) (k i : ℕ) (d : Link) → AreRisingFrom from links → IsAt links k i
+    → is_endpoint (get_or links i d).peer p ≡ false → without_link p k links ≡ links
+kept from p [] k i d rise at there = refl
+kept from p (x ∷ rest) k zero d rise at there =
+    let same : x.place ≡ k = at.is in
+    ap (λ (b : Bool). cond (not (b && is_endpoint x.peer p)) (x ∷ without_link p k rest) (without_link p k rest)) (is_same x.place k same)
+    ∙ ap (λ (b : Bool). cond (not b) (x ∷ without_link p k rest) (without_link p k rest)) there
+    ∙ ap (λ (links : List Link). x ∷ links) (none_taken p k rest (none_above k (x.place + 1) rest (omega (arith, same)) rise.2))
+kept from p (x ∷ rest) k (suc i) d rise at there =
+    let lt = first_below from x rest k i rise at in
+    ap (λ (b : Bool). cond (not (b && is_endpoint x.peer p)) (x ∷ without_link p k rest) (without_link p k rest)) (not_same x.place k (λ same. omega (arith, lt, same)))
+    ∙ ap (λ (links : List Link). x ∷ links) (kept (x.place + 1) p rest k i d rise.2 (at_behind x rest k i at) there)
+
+-- ---- the order stays
+
+pub put_rises : (from : ℕ) (y : Link) (links : List Link) → from ≤ y.place → y.place < 2 ^ 32 → AreRisingFrom from links → AreRisingFrom from (with_link y links)
+put_rises from y [] low near rise = (low, near, tt)
+put_rises from y (x ∷ rest) low near rise = go (nat_lt y.place x.place) refl (y.place == x.place) refl (put_rises (x.place + 1) y rest)
   where
-    go : option_map (λ (x : Link). x.peer) (link_at k (links_from es)) ≡ lookup (at_place k) es
-        → (b : Bool) → option_map (λ (x : Link). x.peer) (cond b (Some (link_from e)) (link_at k (links_from es))) ≡ cond b (Some e.1) (lookup (at_place k) es)
-    go rest true = refl
-    go rest false = rest
+    go : (below : Bool) → nat_lt y.place x.place ≡ below → (here : Bool) → (y.place == x.place) ≡ here
+        → (x.place + 1 ≤ y.place → y.place < 2 ^ 32 → AreRisingFrom (x.place + 1) rest → AreRisingFrom (x.place + 1) (with_link y rest))
+        → AreRisingFrom from (put_case y x rest below here)
+    go true is here here_is more =
+        let lt : y.place < x.place = grind (arith, nat_tests) in
+        (low, near, (omega (arith, lt), rise.1, rise.2))
+    go false is true here_is more =
+        let same : y.place ≡ x.place = grind (arith, nat_tests) in
+        (low, near, subst (λ (k : ℕ). AreRisingFrom (k + 1) rest) (sym same) rise.2)
+    go false is false here_is more =
+        let above : x.place + 1 ≤ y.place = grind (arith, nat_tests) in
+        (rise.0, rise.1, more above near rise.2)
 
--- the place of the first entry
-abbrev pub first_place : Entries → Option ℕ
-first_place [] = None
-first_place (e ∷ es) = Some e.0
-
--- the least linked place from one on is that of the first entry in this range
-pub next_found : (from : ℕ) (es : Entries)
-    → option_map (λ (x : Link). x.place) (find (λ (x : Link). nat_le from x.place) (links_from es)) ≡ first_place (filter (λ e. range_contains nat_cmp (Included from) Unbounded e.0) es)
-next_found from [] = refl
-next_found from (e ∷ es) =
-    ap (λ (b : Bool). option_map (λ (x : Link). x.place) (cond b (Some (link_from e)) (find (λ (x : Link). nat_le from x.place) (links_from es)))) (sym (at_or_above from e.0))
-    ∙ go (next_found from es) (range_contains nat_cmp (Included from) Unbounded e.0)
+pub filter_rises : (from : ℕ) (test : Link → Bool) (links : List Link) → AreRisingFrom from links → AreRisingFrom from (filter test links)
+filter_rises from test [] rise = tt
+filter_rises from test (x ∷ rest) rise = go (test x) (filter_rises (x.place + 1) test rest rise.2)
   where
-    go : option_map (λ (x : Link). x.place) (find (λ (x : Link). nat_le from x.place) (links_from es)) ≡ first_place (filter (λ (e : ℕ × Endpoint). range_contains nat_cmp (Included from) Unbounded e.0) es)
-        → (b : Bool)
-        → option_map (λ (x : Link). x.place) (cond b (Some (link_from e)) (find (λ (x : Link). nat_le from x.place) (links_from es)))
-        ≡ first_place (cond b (e ∷ filter (λ (e : ℕ × Endpoint). range_contains nat_cmp (Included from) Unbounded e.0) es) (filter (λ (e : ℕ × Endpoint). range_contains nat_cmp (Included from) Unbounded e.0) es))
-    go rest true = refl
-    go rest false = rest
+    go : (b : Bool) → AreRisingFrom (x.place + 1) (filter test rest) → AreRisingFrom from (cond b (x ∷ filter test rest) (filter test rest))
+    go true more = (rise.0, rise.1, more)
+    go false more = let first : from ≤ x.place = rise.0 in rising_further from (x.place + 1) (filter test rest) (omega (arith, first)) more
 
--- an entry that is put into the map is a link at its place
-pub link_placed : (k : ℕ) (p : Endpoint) (es : Entries) → links_from (insert_entry nat_cmp es k p) ≡ with_link (record { place = k; peer = p }) (links_from es)
-link_placed k p [] = refl
-link_placed k p (e ∷ es) = go (link_placed k p es) (nat_lt k e.0) (k == e.0) refl
-  where
-    new : Link
-    new = record { place = k; peer = p }
+-- ---- places
 
-    go : links_from (insert_entry nat_cmp es k p) ≡ with_link new (links_from es) → (below here : Bool) → (k == e.0) ≡ here
-        → links_from (match_ordering (cond below Less (cond here Equal Greater)) ((k, p) ∷ e ∷ es) ((e.0, p) ∷ es) (e ∷ insert_entry nat_cmp es k p))
-        ≡ cond below (new ∷ link_from e ∷ links_from es) (cond here (new ∷ links_from es) (link_from e ∷ with_link new (links_from es)))
-    go rest true here is = refl
-    go rest false true is = let same : k ≡ e.0 = grind (arith, nat_tests) in ap (λ (n : ℕ). link_from (n, p) ∷ links_from es) (sym same)
-    go rest false false is = ap (λ (links : List Link). link_from e ∷ links) rest
-
--- behind a place none of the links is at it
-none_behind : (k a : ℕ) (p : Endpoint) (es : Entries) → (a == k) ≡ true → AllByRecursion (λ y. nat_cmp a y ≡ Less) (keys_of es) → list_any (is_link p k) (links_from es) ≡ false
-none_behind k a p [] here above = refl
-none_behind k a p (e ∷ es) here above =
-    let apart : (e.0 == k) ≡ false = later k a e.0 here above.0 in
-    ap (λ (b : Bool). (b && is_endpoint e.1 p) || list_any (is_link p k) (links_from es)) apart ∙ none_behind k a p es here above.1
-  where
-    later : (k a y : ℕ) → (a == k) ≡ true → nat_cmp a y ≡ Less → (y == k) ≡ false
-    later k a y here above = grind (arith, nat_tests)
-
-or_false : (b : Bool) → (b || false) ≡ b
-or_false true = refl
-or_false false = refl
-
--- whether a place is linked to a peer is seen at the map's entry
-pub linked_there : (k : ℕ) (p : Endpoint) (es : Entries) → IsStrictlySortedBy nat_cmp (keys_of es)
-    → list_any (is_link p k) (links_from es) ≡ option_map_or (λ found. is_endpoint found p) (lookup (at_place k) es) false
-linked_there k p [] sorted = refl
-linked_there k p (e ∷ es) sorted =
-    go (linked_there k p es (sorted_tail nat_cmp e.0 (keys_of es) sorted)) (e.0 == k) refl ∙ ap (λ (b : Bool). option_map_or (λ found. is_endpoint found p) (cond b (Some e.1) (lookup (at_place k) es)) false) (sym (same_place k e.0))
-  where
-    go : list_any (is_link p k) (links_from es) ≡ option_map_or (λ found. is_endpoint found p) (lookup (at_place k) es) false
-        → (b : Bool) → (e.0 == k) ≡ b
-        → ((b && is_endpoint e.1 p) || list_any (is_link p k) (links_from es)) ≡ option_map_or (λ found. is_endpoint found p) (cond b (Some e.1) (lookup (at_place k) es)) false
-    go rest true is = ap (λ (b : Bool). is_endpoint e.1 p || b) (none_behind k e.0 p es is (sorted_head nat_cmp e.0 (keys_of es) sorted)) ∙ or_false (is_endpoint e.1 p)
-    go rest false is = rest
-
--- what no test finds stays through a filter
-pub all_stay : (k : ℕ) (p : Endpoint) (links : List Link) → list_any (is_link p k) links ≡ false → filter (λ x. not (is_link p k x)) links ≡ links
-all_stay k p [] none = refl
-all_stay k p (x ∷ xs) none = go (all_stay k p xs) (is_link p k x) none
-  where
-    go : (list_any (is_link p k) xs ≡ false → filter (λ y. not (is_link p k y)) xs ≡ xs) → (b : Bool) → (b || list_any (is_link p k) xs) ≡ false → cond (not b) (x ∷ filter (λ y. not (is_link p k y)) xs) (filter (λ y. not (is_link p k y)) xs) ≡ x ∷ xs
-    go rest true none = absurd cc
-    go rest false none = ap (λ (links : List Link). x ∷ links) (rest none)
-
--- where a place is linked to a peer, this link goes with the map's entry
-pub link_gone : (k : ℕ) (p : Endpoint) (es : Entries) → IsStrictlySortedBy nat_cmp (keys_of es) → list_any (is_link p k) (links_from es) ≡ true
-    → links_from (remove_entry (at_place k) es) ≡ filter (λ x. not (is_link p k x)) (links_from es)
-link_gone k p [] sorted there = refl
-link_gone k p (e ∷ es) sorted there =
-    ap (λ (b : Bool). links_from (cond b es (e ∷ remove_entry (at_place k) es))) (same_place k e.0)
-    ∙ go (link_gone k p es (sorted_tail nat_cmp e.0 (keys_of es) sorted)) (e.0 == k) refl (is_endpoint e.1 p) there
-  where
-    others : List Link
-    others = filter (λ x. not (is_link p k x)) (links_from es)
-
-    go : (list_any (is_link p k) (links_from es) ≡ true → links_from (remove_entry (at_place k) es) ≡ others)
-        → (b : Bool) → (e.0 == k) ≡ b → (same : Bool) → ((b && same) || list_any (is_link p k) (links_from es)) ≡ true
-        → links_from (cond b es (e ∷ remove_entry (at_place k) es)) ≡ cond (not (b && same)) (link_from e ∷ others) others
-    go rest true is true there = sym (all_stay k p (links_from es) (none_behind k e.0 p es is (sorted_head nat_cmp e.0 (keys_of es) sorted)))
-    go rest true is false there = absurd (let none = none_behind k e.0 p es is (sorted_head nat_cmp e.0 (keys_of es) sorted) in cc)
-    go rest false is same there = ap (λ (links : List Link). link_from e ∷ links) (rest there)
+-- the place of a link
+pub place_at : (links : List Link) (i : ℕ) (x : Link) → i < length links → x ≡ get_or links i x → x.place ≡ slice_index (places_of links) i
+place_at [] i x lt is = absurd (omega arith)
+place_at (y ∷ rest) zero x lt is = ap (λ (z : Link). z.place) is
+place_at (y ∷ rest) (suc i) x lt is = place_at rest i x (omega arith) is

@@ -1,5 +1,5 @@
 -- Steps of the name table at the place of a service.
-use Rattle.std.proofs.Common.{◌≡◌, ℕ, zero, suc, ◌+◌, ◌<◌, ◌≤◌, Bool, true, false, cond, not, List, [], ◌∷◌, ◌++◌, length, length-append, get_or, pos, Option, Some, None, refl, sym, ap, ◌∙◌, arith}
+use Rattle.std.proofs.Common.{◌≡◌, ℕ, zero, suc, ◌+◌, ◌<◌, ◌≤◌, Bool, true, false, cond, [], ◌∷◌, ◌++◌, length, length-append, get_or, pos, Option, Some, None, refl, sym, ap, ◌∙◌, arith}
 use Rattle.std.specs.Prelude.{slice_get, slice_set, position, nat_lt}
 use Rattle.std.specs.List.{position_or_len}
 use Rattle.std.proofs.lemmas.Bool.Decides.{nat_tests}
@@ -10,7 +10,7 @@ use Rattle.room_wiring.specs.declared.tables.Tables.{Tables}
 use Rattle.actor_duties.specs.Messages.{coded, NotRegistered}
 use Rattle.actor_duties.specs.State.{Service, NameTable, Done}
 use Rattle.actor_duties.specs.Names.{in_service, unmet, withdraw, leave, stands_in, name_reply_to}
-use Rattle.layer_service.specs.name_service.Places.{is_called, service_called}
+use Rattle.layer_service.specs.name_service.Services.{is_called, service_called}
 use Rattle.layer_service.specs.name_service.Steps.{StandsAt}
 
 -- a step of the service at this place

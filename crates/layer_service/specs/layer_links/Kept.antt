@@ -1,13 +1,12 @@
 -- What is kept of service points, as lists: by slot, and within a slot by port.
 use Rattle.std.specs.Prelude.{ℕ, ◌<◌, List, [], map, filter, length, slice_index_or}
-use Rattle.room_kinds.specs.declared.numbers.Endpoint.{Endpoint}
 use Rattle.room_kinds.specs.declared.numbers.Incarnation.{Incarnation}
 use Rattle.room_kinds.specs.declared.message.Msg.{Msg}
 use Rattle.room_kinds.specs.declared.system.SysKind.TheVariants as kinds
 use Rattle.actor_duties.specs.Words.{updated}
 use Rattle.actor_duties.specs.State as rows
 use Rattle.actor_duties.specs.Messages.{system}
-use Rattle.actor_duties.specs.Links.{point_of, is_entered}
+use Rattle.actor_duties.specs.Links.{updated_at, point_of, is_entered}
 use Rattle.layer_service.specs.declared.layer_links.point.Registration.{Registration}
 use Rattle.layer_service.specs.declared.layer_links.point.Registration.TheVariants as registrations
 
@@ -22,14 +21,6 @@ registration_of registrations.Leaving = rows.Leaving
 pub record PointState : Type 0 where
   pub registration : rows.Registration
   pub linked : List rows.Link
-
--- a place with the endpoint that it is linked to
-abbrev pub link_from : ℕ × Endpoint → rows.Link
-link_from entry = record { place = entry.0; peer = entry.1 }
-
--- links as a map from places to endpoints keeps them
-abbrev pub links_from : List (ℕ × Endpoint) → List rows.Link
-links_from entries = map link_from entries
 
 -- a point that was never named
 abbrev pub unnamed : PointState
@@ -61,6 +52,10 @@ links_of slots = links_by (point_in slots)
 -- nobody is registered, and nothing is linked
 abbrev pub no_links : rows.Links
 no_links = record { registrations = λ slot port. rows.Unnamed; linked = λ slot port. [] }
+
+-- the registration of a port of a slot becomes another one
+abbrev pub with_registration : rows.Links → ℕ → ℕ → rows.Registration → rows.Links
+with_registration l slot port next = record l { registrations = updated_at l.registrations slot port next }
 
 -- the registrations and links of a slot go
 abbrev pub cleared : rows.Links → ℕ → rows.Links

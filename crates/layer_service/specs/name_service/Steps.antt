@@ -2,7 +2,7 @@
 use Rattle.std.specs.Prelude.{◌≡◌, ℕ, ◌<◌, length, slice_get, slice_set, Some}
 use Rattle.actor_duties.specs.State.{Service, NameTable, Done}
 use Rattle.actor_duties.specs.Names.{in_service}
-use Rattle.layer_service.specs.name_service.Places.{service_called}
+use Rattle.layer_service.specs.name_service.Services.{service_called}
 
 -- a table with the service of a name and protocol at a place: a step of the service in the old table
 -- is a step at that place

@@ -1,14 +1,13 @@
 //! Registrations and links of all slots.
-ghost use Rattle.std.specs.Prelude.{◌&&◌, ◌==◌, ◌≡◌, ℕ, ◌<◌, ◌≤◌, ◌++◌, ◌∷◌, [], length, ℤ, pos, OnOk};
-ghost use Rattle.room_kinds.specs.Kinds.{number_of};
-ghost use Rattle.room_kinds.specs.declared.system.SysKind.{SysKind};
+ghost use Rattle.std.specs.Prelude.{◌&&◌, ◌==◌, ◌≡◌, ℕ, ◌<◌, ◌≤◌, ◌^◌, ◌++◌, ◌∷◌, [], length, slice_index, IfSome, OnOk};
 ghost use Rattle.room_kinds.specs.declared.system.SysKind.TheVariants as kinds;
-ghost use Rattle.actor_duties.specs.Words.{owner_of, whose, is_endpoint, is_sap, is_joined, joined_at};
+ghost use Rattle.actor_duties.specs.Words.{endpoint, whose, is_endpoint, is_sap, is_joined, joined_at};
 ghost use Rattle.actor_duties.specs.Messages.{system, name_told};
-ghost use Rattle.actor_duties.specs.Links.{updated_at, register_from, register_command, withdraw_command, name_request, bound, unbound, asked_heard, name_reply, is_own_point, links_duty_of, links_duty, end_of, next_place};
+ghost use Rattle.actor_duties.specs.Links.{register_from, register_command, withdraw_command, name_request, bound, unbound, asked_heard, name_reply, is_own_point, links_duty_of, links_duty, end_of};
 ghost use Rattle.actor_duties.specs.Peers.{link_peer};
 ghost use Rattle.service_messages.specs.Shown.{signal_of};
-ghost use Rattle.layer_service.specs.layer_links.Kept.{registration_of, points_of, point_in, links_of, no_links, cleared, withdrawals, IsListed};
+ghost use Rattle.layer_service.specs.layer_links.Kept.{registration_of, points_of, point_in, links_of, no_links, with_registration, cleared, withdrawals, IsListed};
+ghost use Rattle.layer_service.specs.layer_links.Rising.{places_of};
 ghost use Rattle.std.specs.List.{range_with_len};
 
 use crate::layer_links::point::Registration;
@@ -18,9 +17,7 @@ use room_kinds::{
     ControllerId, Endpoint, Incarnation, Msg, NameCommand, Outbox, Payload, SlotId, SysKind,
 };
 use room_wiring::{Partner, Wiring};
-use service_messages::{
-    Code, FrameSignal, is_own, is_same_endpoint, is_sap, is_spp, joined_at, owner_of,
-};
+use service_messages::{Code, FrameSignal, is_own, is_same_endpoint, is_sap, is_spp, joined_at};
 use std::alloc::{AllocError, Global};
 use std::marker::Model;
 
@@ -93,7 +90,8 @@ impl Links {
         port: u16,
         next: Registration,
     ) -> Result<(), AllocError>
-        ensures { OnOk result (links_of self.new ≡ record (links_of self.old) { registrations = updated_at (links_of self.old).registrations slot.0 port (registration_of next) }) }
+        ensures { let now = with_registration (links_of self.old) slot.0 port (registration_of next) in
+            OnOk result (links_of self.new ≡ now) }
     {
         self.list(slot, port)?;
         self.slots[usize::from(slot.0)].set_registration(port, next);
@@ -127,26 +125,49 @@ impl Links {
         }
     }
 
-    /// The endpoint that a place is linked to by name. It takes no memory.
-    #[tactic(auto, unfolding(actor_duties::specs::Peers::link_peer, crate::specs::layer_links::Kept::links_by, crate::specs::layer_links::Kept::point_in, crate::specs::layer_links::Kept::points_of, crate::specs::layer_links::Kept::point_at))]
+    /// The endpoint that an end place is linked to by name. It takes no memory.
+    #[tactic(auto, unfolding(actor_duties::specs::Peers::link_peer))]
     pub fn peer(&self, from: Endpoint) -> Option<Endpoint>
         ensures { result ≡ link_peer (links_of self.now) from }
     {
-        match self.slots.as_slice().get(usize::from(from.slot.0)) {
-            Some(points) => points.peer(from.port, from.place),
+        self.peer_at(from.slot, from.port, u64::from(from.place))
+    }
+
+    /// The endpoint that a place of a port is linked to by name, whatever stands in the slot; none
+    /// at a place of more than 32 bits. It takes no memory.
+    #[tactic(auto, unfolding(actor_duties::specs::Peers::link_peer, crate::specs::layer_links::Kept::links_by, crate::specs::layer_links::Kept::point_in, crate::specs::layer_links::Kept::points_of, crate::specs::layer_links::Kept::point_at))]
+    pub fn peer_at(&self, slot: SlotId, port: u16, place: u64) -> Option<Endpoint>
+        ensures peer { (generation : ℕ) →
+            result ≡ link_peer (links_of self.now) (endpoint slot.0 generation port place) }
+        ensures near { IfSome result (λ e. place < 2 ^ 32) }
+    {
+        match self.slots.as_slice().get(usize::from(slot.0)) {
+            Some(points) => points.peer(port, place),
             None => None,
         }
     }
 
-    /// The least linked place of the endpoint's port at or above the endpoint's; none exactly where
-    /// there is none. It takes no memory.
-    #[tactic(auto, unfolding(actor_duties::specs::Links::next_place, crate::specs::layer_links::Kept::links_by, crate::specs::layer_links::Kept::point_in, crate::specs::layer_links::Kept::points_of, crate::specs::layer_links::Kept::point_at))]
-    pub fn next_place(&self, from: Endpoint) -> Option<u32>
-        ensures { result ≡ next_place (links_of self.now) from }
+    /// How many places of a port are linked by name.
+    #[tactic(auto, unfolding(crate::specs::layer_links::Kept::links_by, crate::specs::layer_links::Kept::point_in, crate::specs::layer_links::Kept::points_of, crate::specs::layer_links::Kept::point_at))]
+    pub fn link_count(&self, slot: SlotId, port: u16) -> usize
+        ensures { result ≡ length ((links_of self.now).linked slot.0 port) }
     {
-        match self.slots.as_slice().get(usize::from(from.slot.0)) {
-            Some(points) => points.next_place(from.port, from.place),
-            None => None,
+        match self.slots.as_slice().get(usize::from(slot.0)) {
+            Some(points) => points.link_count(port),
+            None => 0,
+        }
+    }
+
+    /// The place of one of the links of a port, which stand in order of place; 0 where there is no
+    /// such link.
+    #[tactic(auto, unfolding(crate::specs::layer_links::Kept::links_by, crate::specs::layer_links::Kept::point_in, crate::specs::layer_links::Kept::points_of, crate::specs::layer_links::Kept::point_at))]
+    pub fn linked_place(&self, slot: SlotId, port: u16, index: usize) -> u32
+        ensures { let linked = (links_of self.now).linked slot.0 port in
+            index < length linked → result ≡ slice_index (places_of linked) index }
+    {
+        match self.slots.as_slice().get(usize::from(slot.0)) {
+            Some(points) => points.linked_place(port, index),
+            None => 0,
         }
     }
 
@@ -160,8 +181,11 @@ impl Links {
         payload: Payload,
         out: &mut Outbox,
     ) -> Result<(), AllocError>
-        ensures now { OnOk result (links_of self.new ≡ record (links_of self.old) { registrations = updated_at (links_of self.old).registrations point.slot.0 point.port (registration_of next) }) }
-        ensures sent { OnOk result (out.new ≡ out.old ++ system me.0 0 kind point point payload ∷ []) }
+        ensures now { let waiting = registration_of next in
+            let now = with_registration (links_of self.old) point.slot.0 point.port waiting in
+            OnOk result (links_of self.new ≡ now) }
+        ensures sent { let request = system me.0 0 kind point point payload in
+            OnOk result (out.new ≡ out.old ++ request ∷ []) }
     {
         self.set_registration(point.slot, point.port, next)?;
         ask(me, kind, point, payload, out)?;
@@ -177,8 +201,12 @@ impl Links {
         name: u32,
         out: &mut Outbox,
     ) -> Result<(), AllocError>
-        ensures now { OnOk result (links_of self.new ≡ (register_from me.0 (links_of self.old) actor port name ((links_of self.old).registrations actor.slot.0 port)).now) }
-        ensures sent { OnOk result (out.new ≡ out.old ++ (register_from me.0 (links_of self.old) actor port name ((links_of self.old).registrations actor.slot.0 port)).sent) }
+        ensures now { let l = links_of self.old in
+            let done = register_from me.0 l actor port name (l.registrations actor.slot.0 port) in
+            OnOk result (links_of self.new ≡ done.now) }
+        ensures sent { let l = links_of self.old in
+            let done = register_from me.0 l actor port name (l.registrations actor.slot.0 port) in
+            OnOk result (out.new ≡ out.old ++ done.sent) }
     {
         match self.registration(actor.slot, port) {
             Registration::Unnamed => {
@@ -218,8 +246,12 @@ impl Links {
         name: u32,
         out: &mut Outbox,
     ) -> Result<(), AllocError>
-        ensures now { OnOk result (links_of self.new ≡ (register_command wiring.now me.0 (links_of self.old) actor port name).now) }
-        ensures sent { OnOk result (out.new ≡ out.old ++ (register_command wiring.now me.0 (links_of self.old) actor port name).sent) }
+        ensures now { let l = links_of self.old in
+            let done = register_command wiring.now me.0 l actor port name in
+            OnOk result (links_of self.new ≡ done.now) }
+        ensures sent { let l = links_of self.old in
+            let done = register_command wiring.now me.0 l actor port name in
+            OnOk result (out.new ≡ out.old ++ done.sent) }
     {
         if is_joined_sap(wiring, actor.slot, port) {
             refuse(self.alloc, me, actor, port, Code::PortTaken, out)?;
@@ -239,8 +271,10 @@ impl Links {
         port: u16,
         out: &mut Outbox,
     ) -> Result<(), AllocError>
-        ensures now { OnOk result (links_of self.new ≡ (withdraw_command me.0 (links_of self.old) actor port).now) }
-        ensures sent { OnOk result (out.new ≡ out.old ++ (withdraw_command me.0 (links_of self.old) actor port).sent) }
+        ensures now { let done = withdraw_command me.0 (links_of self.old) actor port in
+            OnOk result (links_of self.new ≡ done.now) }
+        ensures sent { let done = withdraw_command me.0 (links_of self.old) actor port in
+            OnOk result (out.new ≡ out.old ++ done.sent) }
     {
         match self.registration(actor.slot, port) {
             Registration::Registered => {
@@ -271,14 +305,18 @@ impl Links {
     pub fn request(
         &mut self,
         wiring: &Wiring,
+        me: ControllerId,
         actor: Incarnation,
         command: &NameCommand,
         out: &mut Outbox,
     ) -> Result<(), AllocError>
-        ensures now { OnOk result (links_of self.new ≡ (name_request wiring.now (owner_of wiring.now actor.slot.0) (links_of self.old) actor command.now).now) }
-        ensures sent { OnOk result (out.new ≡ out.old ++ (name_request wiring.now (owner_of wiring.now actor.slot.0) (links_of self.old) actor command.now).sent) }
+        ensures now { let l = links_of self.old in
+            let done = name_request wiring.now me.0 l actor command.now in
+            OnOk result (links_of self.new ≡ done.now) }
+        ensures sent { let l = links_of self.old in
+            let done = name_request wiring.now me.0 l actor command.now in
+            OnOk result (out.new ≡ out.old ++ done.sent) }
     {
-        let me = owner_of(wiring, actor.slot);
         match *command {
             NameCommand::Register { port, name } => {
                 self.register(wiring, me, actor, port, name, out)
@@ -298,8 +336,11 @@ impl Links {
         out: &mut Outbox,
     ) -> Result<(), AllocError>
         requires { length numbers.now ≤ 64 }
-        ensures now { OnOk result (links_of self.new ≡ record (links_of self.old) { registrations = updated_at (links_of self.old).registrations own.slot.0 own.port (registration_of next) }) }
-        ensures sent { OnOk result (out.new ≡ out.old ++ name_told me.0 (signal_of signal) (whose own) numbers.now ∷ []) }
+        ensures now { let heard = registration_of next in
+            let now = with_registration (links_of self.old) own.slot.0 own.port heard in
+            OnOk result (links_of self.new ≡ now) }
+        ensures sent { let told = name_told me.0 (signal_of signal) (whose own) numbers.now in
+            OnOk result (out.new ≡ out.old ++ told ∷ []) }
     {
         self.set_registration(own.slot, own.port, next)?;
         let actor = Incarnation {
@@ -318,8 +359,10 @@ impl Links {
         code: u64,
         out: &mut Outbox,
     ) -> Result<(), AllocError>
-        ensures now { OnOk result (links_of self.new ≡ (asked_heard me.0 (links_of self.old) own code).now) }
-        ensures sent { OnOk result (out.new ≡ out.old ++ (asked_heard me.0 (links_of self.old) own code).sent) }
+        ensures now { let done = asked_heard me.0 (links_of self.old) own code in
+            OnOk result (links_of self.new ≡ done.now) }
+        ensures sent { let done = asked_heard me.0 (links_of self.old) own code in
+            OnOk result (out.new ≡ out.old ++ done.sent) }
     {
         let port = i64::from(own.port);
         if code == 0 {
@@ -357,8 +400,10 @@ impl Links {
         code: u64,
         out: &mut Outbox,
     ) -> Result<(), AllocError>
-        ensures now { OnOk result (links_of self.new ≡ (name_reply me.0 (links_of self.old) own code).now) }
-        ensures sent { OnOk result (out.new ≡ out.old ++ (name_reply me.0 (links_of self.old) own code).sent) }
+        ensures now { let done = name_reply me.0 (links_of self.old) own code in
+            OnOk result (links_of self.new ≡ done.now) }
+        ensures sent { let done = name_reply me.0 (links_of self.old) own code in
+            OnOk result (out.new ≡ out.old ++ done.sent) }
     {
         match self.registration(own.slot, own.port) {
             Registration::Asked => {
@@ -387,13 +432,15 @@ impl Links {
     pub fn end_of(
         &mut self,
         wiring: &Wiring,
+        me: ControllerId,
         actor: Incarnation,
         out: &mut Outbox,
     ) -> Result<(), AllocError>
-        ensures now { OnOk result (links_of self.new ≡ (end_of wiring.now (owner_of wiring.now actor.slot.0) (links_of self.old) actor).now) }
-        ensures sent { OnOk result (out.new ≡ out.old ++ (end_of wiring.now (owner_of wiring.now actor.slot.0) (links_of self.old) actor).sent) }
+        ensures now { let done = end_of wiring.now me.0 (links_of self.old) actor in
+            OnOk result (links_of self.new ≡ done.now) }
+        ensures sent { let done = end_of wiring.now me.0 (links_of self.old) actor in
+            OnOk result (out.new ≡ out.old ++ done.sent) }
     {
-        let me = owner_of(wiring, actor.slot);
         let ports = wiring.port_count(actor.slot);
         self.withdraw_each(me, actor, ports, out)?;
         self.clear(actor.slot);
@@ -409,7 +456,9 @@ impl Links {
         ports: usize,
         out: &mut Outbox,
     ) -> Result<(), AllocError>
-        ensures { OnOk result (out.new ≡ out.old ++ withdrawals me.0 actor (point_in self.now actor.slot.0) (range_with_len 0 ports)) }
+        ensures { let point = point_in self.now actor.slot.0 in
+            let sent = withdrawals me.0 actor point (range_with_len 0 ports) in
+            OnOk result (out.new ≡ out.old ++ sent) }
     {
         if usize::from(actor.slot.0) < self.slots.len() {
             let points = &self.slots[usize::from(actor.slot.0)];
@@ -419,71 +468,56 @@ impl Links {
         Ok(())
     }
 
-    /// What a controller does at a message of the name table to a service point of its own, of the
-    /// kinds `Bound`, `Ended` and `NameReply`. `live` says whether the target's actor lives. A message
-    /// of no form that is known changes nothing.
+    /// What controller `me` does at a message of this kind to a service point of its own: something
+    /// at `Bound`, `Ended` and `NameReply`, where the message has the form of the kind and the
+    /// target's actor lives (`live`); else nothing.
+    #[tactic(auto, unfolding(actor_duties::specs::Links::links_duty))]
     pub fn duty(
         &mut self,
         wiring: &Wiring,
-        message: &Msg,
-        live: bool,
-        out: &mut Outbox,
-    ) -> Result<(), AllocError>
-        ensures now { OnOk result ((kind : SysKind) → number_of kind ≡ message.now.signal
-            → links_of self.new ≡ (links_duty wiring.now (owner_of wiring.now message.now.target.slot.0) (links_of self.old) live kind message.now).now) }
-        ensures sent { OnOk result ((kind : SysKind) → number_of kind ≡ message.now.signal
-            → out.new ≡ out.old ++ (links_duty wiring.now (owner_of wiring.now message.now.target.slot.0) (links_of self.old) live kind message.now).sent) }
-        ensures unknown { OnOk result (19 ≤ message.now.signal → links_of self.new ≡ links_of self.old) }
-        ensures silent { OnOk result (19 ≤ message.now.signal → out.new ≡ out.old) }
-    {
-        let Some(kind) = SysKind::from_number(message.signal) else {
-            return Ok(());
-        };
-        self.duty_of(wiring, kind, message, live, out)?;
-        Ok(())
-    }
-
-    #[tactic(auto, unfolding(actor_duties::specs::Links::links_duty))]
-    fn duty_of(
-        &mut self,
-        wiring: &Wiring,
+        me: ControllerId,
         kind: SysKind,
-        message: &Msg,
+        m: &Msg,
         live: bool,
         out: &mut Outbox,
     ) -> Result<(), AllocError>
-        ensures now { OnOk result (links_of self.new ≡ (links_duty wiring.now (owner_of wiring.now message.now.target.slot.0) (links_of self.old) live kind message.now).now) }
-        ensures sent { OnOk result (out.new ≡ out.old ++ (links_duty wiring.now (owner_of wiring.now message.now.target.slot.0) (links_of self.old) live kind message.now).sent) }
+        ensures now { let done = links_duty wiring.now me.0 (links_of self.old) live kind m.now in
+            OnOk result (links_of self.new ≡ done.now) }
+        ensures sent { let done = links_duty wiring.now me.0 (links_of self.old) live kind m.now in
+            OnOk result (out.new ≡ out.old ++ done.sent) }
     {
         if !live {
             return Ok(());
         }
-        let Some(source) = message.source else {
+        let Some(source) = m.source else {
             return Ok(());
         };
-        let me = owner_of(wiring, message.target.slot);
-        let numbers = message.payload.numbers();
-        self.duty_from(wiring, me, kind, source, message.target, numbers, out)?;
+        self.duty_from(wiring, me, kind, source, m, out)?;
         Ok(())
     }
 
+    /// The same at a message with a source.
     fn duty_from(
         &mut self,
         wiring: &Wiring,
         me: ControllerId,
         kind: SysKind,
         source: Endpoint,
-        own: Endpoint,
-        numbers: &[i64],
+        m: &Msg,
         out: &mut Outbox,
     ) -> Result<(), AllocError>
-        ensures now { OnOk result (links_of self.new ≡ (links_duty_of wiring.now me.0 (links_of self.old) kind source own numbers.now).now) }
-        ensures sent { OnOk result (out.new ≡ out.old ++ (links_duty_of wiring.now me.0 (links_of self.old) kind source own numbers.now).sent) }
+        ensures now { let l = links_of self.old in
+            let done = links_duty_of wiring.now me.0 l kind source m.now.target m.now.payload in
+            OnOk result (links_of self.new ≡ done.now) }
+        ensures sent { let l = links_of self.old in
+            let done = links_duty_of wiring.now me.0 l kind source m.now.target m.now.payload in
+            OnOk result (out.new ≡ out.old ++ done.sent) }
     {
+        let numbers = m.payload.numbers();
         match kind {
-            SysKind::Bound => self.hear_bound(wiring, me, source, own, numbers),
-            SysKind::Ended => self.hear_ended(wiring, me, source, own, numbers),
-            SysKind::NameReply => self.hear_answer(wiring, me, source, own, numbers, out),
+            SysKind::Bound => self.hear_bound(wiring, me, source, m.target, numbers),
+            SysKind::Ended => self.hear_ended(wiring, me, source, m.target, numbers),
+            SysKind::NameReply => self.hear_answer(wiring, me, source, m.target, numbers, out),
             _ => Ok(()),
         }
     }
@@ -498,8 +532,12 @@ impl Links {
         own: Endpoint,
         numbers: &[i64],
     ) -> Result<(), AllocError>
-        ensures now { OnOk result (links_of self.new ≡ (links_duty_of wiring.now me.0 (links_of self.old) kinds.Bound peer own numbers.now).now) }
-        ensures silent { (links_duty_of wiring.now me.0 (links_of self.old) kinds.Bound peer own numbers.now).sent ≡ [] }
+        ensures now { let l = links_of self.old in
+            let done = links_duty_of wiring.now me.0 l kinds.Bound peer own numbers.now in
+            OnOk result (links_of self.new ≡ done.now) }
+        ensures silent { let l = links_of self.old in
+            let done = links_duty_of wiring.now me.0 l kinds.Bound peer own numbers.now in
+            done.sent ≡ [] }
     {
         if is_plain(wiring, me, own, numbers) {
             self.link(own, peer)?;
@@ -518,8 +556,12 @@ impl Links {
         own: Endpoint,
         numbers: &[i64],
     ) -> Result<(), AllocError>
-        ensures now { OnOk result (links_of self.new ≡ (links_duty_of wiring.now me.0 (links_of self.old) kinds.Ended peer own numbers.now).now) }
-        ensures silent { (links_duty_of wiring.now me.0 (links_of self.old) kinds.Ended peer own numbers.now).sent ≡ [] }
+        ensures now { let l = links_of self.old in
+            let done = links_duty_of wiring.now me.0 l kinds.Ended peer own numbers.now in
+            OnOk result (links_of self.new ≡ done.now) }
+        ensures silent { let l = links_of self.old in
+            let done = links_duty_of wiring.now me.0 l kinds.Ended peer own numbers.now in
+            done.sent ≡ [] }
     {
         if is_plain(wiring, me, own, numbers) {
             self.unlink(own, peer)?;
@@ -538,8 +580,12 @@ impl Links {
         numbers: &[i64],
         out: &mut Outbox,
     ) -> Result<(), AllocError>
-        ensures now { OnOk result (links_of self.new ≡ (links_duty_of wiring.now me.0 (links_of self.old) kinds.NameReply source own numbers.now).now) }
-        ensures sent { OnOk result (out.new ≡ out.old ++ (links_duty_of wiring.now me.0 (links_of self.old) kinds.NameReply source own numbers.now).sent) }
+        ensures now { let l = links_of self.old in
+            let done = links_duty_of wiring.now me.0 l kinds.NameReply source own numbers.now in
+            OnOk result (links_of self.new ≡ done.now) }
+        ensures sent { let l = links_of self.old in
+            let done = links_duty_of wiring.now me.0 l kinds.NameReply source own numbers.now in
+            OnOk result (out.new ≡ out.old ++ done.sent) }
     {
         if numbers.len() != 1 || !is_answered(wiring, me, source, own) {
             return Ok(());
@@ -555,7 +601,8 @@ impl Links {
 
 /// Whether a port is a service access point that is joined by the model.
 fn is_joined_sap(wiring: &Wiring, slot: SlotId, port: u16) -> bool
-    ensures { result ≡ (is_sap wiring.now slot.0 port && is_joined (joined_at wiring.now slot.0 port 0)) }
+    ensures { let partner = joined_at wiring.now slot.0 port 0 in
+        result ≡ (is_sap wiring.now slot.0 port && is_joined partner) }
 {
     is_sap(wiring, slot, port) && is_joined(joined_at(wiring, slot, port, 0))
 }
@@ -583,7 +630,8 @@ fn is_plain(wiring: &Wiring, me: ControllerId, own: Endpoint, numbers: &[i64]) -
 
 /// Whether an answer is from and to place 0 of a service point of this controller.
 fn is_answered(wiring: &Wiring, me: ControllerId, source: Endpoint, own: Endpoint) -> bool
-    ensures { result ≡ (is_own_point wiring.now me.0 own && is_endpoint source own && (own.place == 0)) }
+    ensures { let is_own = is_own_point wiring.now me.0 own in
+        result ≡ (is_own && is_endpoint source own && (own.place == 0)) }
 {
     is_own_point(wiring, me, own) && is_same_endpoint(source, own) && own.place == 0
 }

@@ -1,14 +1,14 @@
 //! One service point.
-ghost use Rattle.std.specs.Prelude.{◌≡◌, not, filter, find, nat_le, option_map, OnOk};
-ghost use Rattle.std.specs.List.{list_any};
-ghost use Rattle.actor_duties.specs.Links.{is_link, with_link, is_entered};
+ghost use Rattle.std.specs.Prelude.{◌≡◌, ◌<◌, ◌^◌, length, option_map, slice_index, IfErr, IfOk, IfSome, OnOk};
+ghost use Rattle.actor_duties.specs.Links.{with_link, is_entered};
 ghost use Rattle.actor_duties.specs.Peers.{link_at};
 ghost use Rattle.layer_service.specs.layer_links.Kept.{registration_of, unnamed};
+ghost use Rattle.layer_service.specs.layer_links.Rising.{IsAt, IsGapFor, places_of, without_link};
 
+use crate::layer_links::link::Link;
 use room_kinds::Endpoint;
 use service_messages::is_same_endpoint;
 use std::alloc::{AllocError, Global};
-use std::collections::BTreeMap;
 use std::marker::Model;
 
 /// How far a service point is registered under a name.
@@ -32,24 +32,25 @@ impl Registration {
     }
 }
 
-/// A service point: its registration, and the endpoints that its places are linked to.
+/// A service point: its registration, and its links in order of place.
 #[derive(Drop)]
 pub struct Point {
     registration: Registration,
-    linked: BTreeMap<u32, Endpoint>,
+    linked: Vec<Link>,
 }
 
 impl Model for Point {
-    ghost use Rattle.layer_service.specs.layer_links.Kept.{PointState, registration_of, links_from};
+    ghost use Rattle.layer_service.specs.layer_links.Kept.{PointState, registration_of};
+    ghost use Rattle.layer_service.specs.layer_links.Rising.{AreRising};
 
     ghost Value = { PointState };
 
-    ghost use Rattle.std.specs.Ordering.{nat_cmp};
-    ghost use Rattle.std.specs.BTreeMap.{IsOrdered};
+    ghost view = { λ p. record {
+      registration = registration_of p.registration;
+      linked = p.linked.items;
+    } };
 
-    ghost view = { λ p. record { registration = registration_of p.registration; linked = links_from p.linked.entries } };
-
-    ghost invariant = { λ p. IsOrdered nat_cmp p.linked };
+    ghost invariant = { λ p. AreRising p.linked.items };
 }
 
 impl Point {
@@ -59,7 +60,7 @@ impl Point {
     {
         Point {
             registration: Registration::Unnamed,
-            linked: BTreeMap::new(alloc),
+            linked: Vec::new(alloc),
         }
     }
 
@@ -75,51 +76,66 @@ impl Point {
         self.registration = next;
     }
 
-    /// The endpoint that a place is linked to.
-    #[tactic(auto, using(crate::proofs::layer_links::ByPlace::peer_found))]
-    pub fn peer(&self, place: u32) -> Option<Endpoint>
-        ensures { result ≡ option_map (λ x. x.peer) (link_at place self.now.linked) }
+    pub fn link_count(&self) -> usize
+        ensures { result ≡ length self.now.linked }
     {
-        self.linked.get(&place).copied()
+        self.linked.len()
     }
 
-    /// The least linked place at or above this one.
-    #[tactic(auto, using(crate::proofs::layer_links::ByPlace::next_found))]
-    pub fn next_place(&self, from: u32) -> Option<u32>
-        ensures { result ≡ option_map (λ x. x.place) (find (λ x. nat_le from x.place) self.now.linked) }
+    /// The place of one of the links; 0 where there is no such link.
+    pub fn linked_place(&self, index: usize) -> u32
+        ensures { let linked = self.now.linked in
+            index < length linked → result ≡ slice_index (places_of linked) index }
     {
-        match self.linked.range(from..).next() {
-            Some((place, _)) => Some(*place),
-            None => None,
+        match self.linked.as_slice().get(index) {
+            Some(link) => link.place(),
+            None => 0,
+        }
+    }
+
+    /// Where the link of a place stands, or where it would stand.
+    fn search(&self, place: u64) -> Result<usize, usize>
+        ensures found { IfOk result (IsAt self.now.linked place) }
+        ensures absent { IfErr result (IsGapFor self.now.linked place) }
+    {
+        self.linked
+            .binary_search_by_key(&place, |link| u64::from(link.place()))
+    }
+
+    /// The endpoint that a place is linked to; none at a place of more than 32 bits.
+    pub fn peer(&self, place: u64) -> Option<Endpoint>
+        ensures peer { result ≡ option_map (λ x. x.peer) (link_at place self.now.linked) }
+        ensures near { IfSome result (λ e. place < 2 ^ 32) }
+    {
+        match self.search(place) {
+            Ok(index) => Some(self.linked[index].peer()),
+            Err(_) => None,
         }
     }
 
     /// Links a place to an endpoint. A link that stood there is replaced.
-    #[tactic(auto, using(crate::proofs::layer_links::ByPlace::link_placed))]
     pub fn link(&mut self, place: u32, peer: Endpoint) -> Result<(), AllocError>
-        ensures { OnOk result (self.new ≡ record self.old { linked = with_link (record { place = place; peer = peer }) self.old.linked }) }
+        ensures { let linked = with_link (record { place = place; peer = peer }) self.old.linked in
+            OnOk result (self.new ≡ record self.old { linked = linked }) }
     {
-        self.linked.insert(place, peer)?;
-        Ok(())
-    }
-
-    #[tactic(auto, using(crate::proofs::layer_links::ByPlace::linked_there))]
-    fn is_linked(&self, place: u32, peer: Endpoint) -> bool
-        ensures { result ≡ list_any (is_link peer place) self.now.linked }
-    {
-        match self.linked.get(&place) {
-            Some(found) => is_same_endpoint(*found, peer),
-            None => false,
+        let link = Link::new(place, peer);
+        match self.search(u64::from(place)) {
+            Ok(index) => {
+                self.linked[index] = link;
+                Ok(())
+            }
+            Err(index) => Ok(self.linked.insert(index, link)?),
         }
     }
 
     /// Ends the link of a place to an endpoint, if it is there.
-    #[tactic(auto, using(crate::proofs::layer_links::ByPlace::all_stay, crate::proofs::layer_links::ByPlace::link_gone))]
     pub fn unlink(&mut self, place: u32, peer: Endpoint)
-        ensures { self.new ≡ record self.old { linked = filter (λ x. not (is_link peer place x)) self.old.linked } }
+        ensures { self.new ≡ record self.old { linked = without_link peer place self.old.linked } }
     {
-        if self.is_linked(place, peer) {
-            self.linked.remove(&place);
+        if let Ok(index) = self.search(u64::from(place)) {
+            if is_same_endpoint(self.linked[index].peer(), peer) {
+                self.linked.remove(index);
+            }
         }
     }
 }

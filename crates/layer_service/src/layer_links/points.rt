@@ -1,9 +1,10 @@
 //! The service points of one slot.
-ghost use Rattle.std.specs.Prelude.{◌≡◌, ◌<◌, ◌≤◌, ◌++◌, [], length, slice_set, not, filter, find, nat_le, option_map, OnOk};
+ghost use Rattle.std.specs.Prelude.{◌≡◌, ◌<◌, ◌≤◌, ◌^◌, ◌++◌, [], length, slice_set, slice_index, option_map, IfSome, OnOk};
 ghost use Rattle.std.specs.List.{range_with_len};
-ghost use Rattle.actor_duties.specs.Links.{is_link, with_link};
+ghost use Rattle.actor_duties.specs.Links.{with_link};
 ghost use Rattle.actor_duties.specs.Peers.{link_at};
 ghost use Rattle.layer_service.specs.layer_links.Kept.{registration_of, point_at, withdrawals};
+ghost use Rattle.layer_service.specs.layer_links.Rising.{places_of, without_link};
 
 use crate::layer_links::point::{Point, Registration};
 use crate::layer_links::sent::{ask, point_of};
@@ -68,8 +69,10 @@ impl Points {
     }
 
     #[tactic(auto, unfolding(crate::specs::layer_links::Kept::point_at))]
-    pub fn peer(&self, port: u16, place: u32) -> Option<Endpoint>
-        ensures { result ≡ option_map (λ x. x.peer) (link_at place (point_at self.now port).linked) }
+    pub fn peer(&self, port: u16, place: u64) -> Option<Endpoint>
+        ensures peer { let linked = (point_at self.now port).linked in
+            result ≡ option_map (λ x. x.peer) (link_at place linked) }
+        ensures near { IfSome result (λ e. place < 2 ^ 32) }
     {
         match self.by_port.as_slice().get(usize::from(port)) {
             Some(point) => point.peer(place),
@@ -77,20 +80,35 @@ impl Points {
         }
     }
 
+    /// How many places of a port are linked.
     #[tactic(auto, unfolding(crate::specs::layer_links::Kept::point_at))]
-    pub fn next_place(&self, port: u16, from: u32) -> Option<u32>
-        ensures { result ≡ option_map (λ x. x.place) (find (λ x. nat_le from x.place) (point_at self.now port).linked) }
+    pub fn link_count(&self, port: u16) -> usize
+        ensures { result ≡ length (point_at self.now port).linked }
     {
         match self.by_port.as_slice().get(usize::from(port)) {
-            Some(point) => point.next_place(from),
-            None => None,
+            Some(point) => point.link_count(),
+            None => 0,
+        }
+    }
+
+    /// The place of one of the links of a port; 0 where there is no such link.
+    #[tactic(auto, unfolding(crate::specs::layer_links::Kept::point_at))]
+    pub fn linked_place(&self, port: u16, index: usize) -> u32
+        ensures { let linked = (point_at self.now port).linked in
+            index < length linked → result ≡ slice_index (places_of linked) index }
+    {
+        match self.by_port.as_slice().get(usize::from(port)) {
+            Some(point) => point.linked_place(index),
+            None => 0,
         }
     }
 
     #[tactic(auto, unfolding(crate::specs::layer_links::Kept::point_at))]
     pub fn set_registration(&mut self, port: u16, next: Registration)
         requires { port < length self.old }
-        ensures { self.new ≡ slice_set self.old port (record (point_at self.old port) { registration = registration_of next }) }
+        ensures { let point = point_at self.old port in
+            let now = record point { registration = registration_of next } in
+            self.new ≡ slice_set self.old port now }
     {
         self.by_port[usize::from(port)].set_registration(next);
     }
@@ -98,7 +116,9 @@ impl Points {
     #[tactic(auto, unfolding(crate::specs::layer_links::Kept::point_at))]
     pub fn link(&mut self, port: u16, place: u32, peer: Endpoint) -> Result<(), AllocError>
         requires { port < length self.old }
-        ensures { OnOk result (self.new ≡ slice_set self.old port (record (point_at self.old port) { linked = with_link (record { place = place; peer = peer }) (point_at self.old port).linked })) }
+        ensures { let point = point_at self.old port in
+            let linked = with_link (record { place = place; peer = peer }) point.linked in
+            OnOk result (self.new ≡ slice_set self.old port (record point { linked = linked })) }
     {
         self.by_port[usize::from(port)].link(place, peer)
     }
@@ -106,7 +126,9 @@ impl Points {
     #[tactic(auto, unfolding(crate::specs::layer_links::Kept::point_at))]
     pub fn unlink(&mut self, port: u16, place: u32, peer: Endpoint)
         requires { port < length self.old }
-        ensures { self.new ≡ slice_set self.old port (record (point_at self.old port) { linked = filter (λ x. not (is_link peer place x)) (point_at self.old port).linked }) }
+        ensures { let point = point_at self.old port in
+            let linked = without_link peer place point.linked in
+            self.new ≡ slice_set self.old port (record point { linked = linked }) }
     {
         self.by_port[usize::from(port)].unlink(place, peer);
     }
@@ -121,7 +143,9 @@ impl Points {
         ports: usize,
         out: &mut Outbox,
     ) -> Result<(), AllocError>
-        ensures { OnOk result (out.new ≡ out.old ++ withdrawals me.0 actor (point_at self.now) (range_with_len 0 ports)) }
+        ensures { let point = point_at self.now in
+            let sent = withdrawals me.0 actor point (range_with_len 0 ports) in
+            OnOk result (out.new ≡ out.old ++ sent) }
     {
         for index in 0..ports.min(self.len()) {
             let port = index as u16;

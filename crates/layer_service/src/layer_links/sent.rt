@@ -1,6 +1,7 @@
 //! What is sent for the names of an actor.
 ghost use Rattle.std.specs.Prelude.{◌≡◌, ◌≤◌, ◌++◌, ◌∷◌, [], length, pos, OnOk};
 ghost use Rattle.actor_duties.specs.Messages as rows;
+ghost use Rattle.actor_duties.specs.Words.{frame_of};
 ghost use Rattle.actor_duties.specs.Links.{point_of};
 ghost use Rattle.service_messages.specs.Shown.{signal_of, code_of};
 
@@ -10,7 +11,7 @@ use std::alloc::{AllocError, Global};
 
 /// Place 0 of the port `frame` of an actor.
 fn frame_of(actor: Incarnation) -> Endpoint
-    ensures { result ≡ record { slot = actor.slot; generation = actor.generation; port = 0; place = 0 } }
+    ensures { result ≡ frame_of actor }
 {
     point_of(actor, 0)
 }
@@ -37,7 +38,8 @@ pub fn tell(
     out: &mut Outbox,
 ) -> Result<(), AllocError>
     requires { length numbers.now ≤ 64 }
-    ensures { OnOk result (out.new ≡ out.old ++ rows.name_told me.0 (signal_of signal) actor numbers.now ∷ []) }
+    ensures { let told = rows.name_told me.0 (signal_of signal) actor numbers.now in
+        OnOk result (out.new ≡ out.old ++ told ∷ []) }
 {
     let frame = frame_of(actor);
     let payload = Payload::from_slice(alloc, numbers)?;
@@ -54,7 +56,9 @@ pub fn refuse(
     code: Code,
     out: &mut Outbox,
 ) -> Result<(), AllocError>
-    ensures { OnOk result (out.new ≡ out.old ++ rows.name_told me.0 rows.NameRefused actor (pos port ∷ pos (rows.code_number (code_of code)) ∷ []) ∷ []) }
+    ensures { let number = rows.code_number (code_of code) in
+        let told = rows.name_told me.0 rows.NameRefused actor (pos port ∷ pos number ∷ []) in
+        OnOk result (out.new ≡ out.old ++ told ∷ []) }
 {
     let numbers = [i64::from(port), i64::from(code.number())];
     tell(alloc, me, FrameSignal::NameRefused, actor, &numbers, out)

@@ -1,8 +1,7 @@
 //! The messages that link users with a provider, and that end their links.
-ghost use Rattle.std.specs.Prelude.{◌≡◌, ◌+◌, ◌<◌, ◌^◌, ◌++◌, ◌∷◌, [], pos, map, filter, IfOk, OnOk};
+ghost use Rattle.std.specs.Prelude.{◌≡◌, ◌+◌, ◌++◌, ◌∷◌, [], pos, map, filter, IfOk, OnOk};
 ghost use Rattle.actor_duties.specs.Messages.{to_owner};
 ghost use Rattle.actor_duties.specs.Names.{at_place, both_told, name_reply_to, linked_users, link_ended, links_ended, is_user, waiting};
-ghost use Rattle.layer_service.specs.name_service.Places.{waiting_count};
 
 use crate::name_service::entries::User;
 use room_kinds::{ControllerId, Endpoint, Msg, Outbox, Payload, SysKind};
@@ -32,7 +31,8 @@ pub fn reply(
     code: u8,
     out: &mut Outbox,
 ) -> Result<(), AllocError>
-    ensures { OnOk result (out.new ≡ out.old ++ name_reply_to wiring.now endpoint (pos code ∷ []) ∷ []) }
+    ensures { let told = name_reply_to wiring.now endpoint (pos code ∷ []) in
+        OnOk result (out.new ≡ out.old ++ told ∷ []) }
 {
     let payload = Payload::from_slice(alloc, &[i64::from(code)])?;
     out.push(to_owner(wiring, SysKind::NameReply, endpoint, endpoint, payload))?;
@@ -56,8 +56,19 @@ fn tell_both(
     Ok(())
 }
 
+/// The place after this one. Where the numbers of places are used up, after 4,294,967,295, want of
+/// memory is answered.
+fn place_after(place: u32) -> Result<u32, AllocError>
+    ensures { IfOk result (λ next. next ≡ place + 1) }
+{
+    match place.checked_add(1) {
+        Some(next) => Ok(next),
+        None => Err(AllocError),
+    }
+}
+
 /// Links each user that waits, in order; each link takes the provider's next place. Gives the next
-/// place then.
+/// place then. Where the numbers of places are used up, want of memory is answered.
 pub fn link_users(
     alloc: Global,
     wiring: &Wiring,
@@ -66,15 +77,18 @@ pub fn link_users(
     users: &mut [User],
     out: &mut Outbox,
 ) -> Result<u32, AllocError>
-    requires { next + waiting_count users.old < 2 ^ 32 }
-    ensures users { OnOk result (users.new ≡ (linked_users wiring.now provider users.old next).users) }
-    ensures next { IfOk result (λ n. n ≡ (linked_users wiring.now provider users.old next).next) }
-    ensures sent { OnOk result (out.new ≡ out.old ++ (linked_users wiring.now provider users.old next).sent) }
+    ensures users { let done = linked_users wiring.now provider users.old next in
+        OnOk result (users.new ≡ done.users) }
+    ensures next { let done = linked_users wiring.now provider users.old next in
+        IfOk result (λ n. n ≡ done.next) }
+    ensures sent { let done = linked_users wiring.now provider users.old next in
+        OnOk result (out.new ≡ out.old ++ done.sent) }
 {
     let mut place = next;
     for i in 0..users.len() {
         let user = users[i];
         if user.linked().is_none() {
+            let next = place_after(place)?;
             tell_both(
                 alloc,
                 wiring,
@@ -85,7 +99,7 @@ pub fn link_users(
                 out,
             )?;
             users[i] = User::new(user.at(), Some(place));
-            place += 1;
+            place = next;
         }
     }
     Ok(place)
@@ -140,7 +154,8 @@ pub fn end_links_of(
     users: &[User],
     out: &mut Outbox,
 ) -> Result<(), AllocError>
-    ensures { OnOk result (out.new ≡ out.old ++ links_ended wiring.now provider (filter (is_user endpoint) users.now)) }
+    ensures { let ended = filter (is_user endpoint) users.now in
+        OnOk result (out.new ≡ out.old ++ links_ended wiring.now provider ended) }
 {
     for user in users {
         if user.is(endpoint) {

@@ -1,7 +1,7 @@
 //! One service.
 ghost use Rattle.std.specs.Prelude.{◌≡◌, ◌++◌, OnOk};
 ghost use Rattle.actor_duties.specs.Names.{unmet, meet, provide, use_service, unprovide, unuse, leave, is_provider, stands_in};
-ghost use Rattle.layer_service.specs.name_service.Places.{is_called, HasPlaces, HasPlacesFrom, HasPlaceForOne};
+ghost use Rattle.layer_service.specs.name_service.Services.{is_called};
 
 use crate::name_service::entries::{Provider, User, is_among, remove_user};
 use crate::name_service::linking::{end_links, end_links_of, link_users, reply, wait_again};
@@ -11,10 +11,11 @@ use service_messages::{Code, is_same_endpoint};
 use std::alloc::{AllocError, Global};
 use std::marker::Model;
 
-/// The service of one name and protocol: at most one provider, and the users in order of registration.
+/// The service of one name and protocol: at most one provider, and the users in order of
+/// registration.
 #[derive(Drop)]
 pub struct Service {
-    name: u32,
+    name: u64,
     protocol: u16,
     provider: Option<Provider>,
     users: Vec<User>,
@@ -25,12 +26,17 @@ impl Model for Service {
 
     ghost Value = { rows.Service };
 
-    ghost view = { λ s. record { name = s.name; protocol = s.protocol; provider = s.provider; users = s.users.items } };
+    ghost view = { λ s. record {
+      name = s.name;
+      protocol = s.protocol;
+      provider = s.provider;
+      users = s.users.items;
+    } };
 }
 
 impl Service {
     /// A service without anybody. It takes no memory.
-    pub fn new(alloc: Global, name: u32, protocol: u16) -> Service
+    pub fn new(alloc: Global, name: u64, protocol: u16) -> Service
         ensures { result ≡ unmet name protocol }
     {
         Service {
@@ -41,7 +47,7 @@ impl Service {
         }
     }
 
-    pub fn is_called(&self, name: u32, protocol: u16) -> bool
+    pub fn is_called(&self, name: u64, protocol: u16) -> bool
         ensures { result ≡ is_called name protocol self.now }
     {
         self.name == name && self.protocol == protocol
@@ -66,9 +72,10 @@ impl Service {
     /// Where there is a provider, the users that wait are linked to it.
     #[tactic(auto, unfolding(actor_duties::specs::Names::meet))]
     fn meet(&mut self, alloc: Global, wiring: &Wiring, out: &mut Outbox) -> Result<(), AllocError>
-        requires { HasPlaces self.old }
-        ensures now { OnOk result (self.new ≡ (meet wiring.now self.old).now) }
-        ensures sent { OnOk result (out.new ≡ out.old ++ (meet wiring.now self.old).sent) }
+        ensures now { let done = meet wiring.now self.old in
+            OnOk result (self.new ≡ done.now) }
+        ensures sent { let done = meet wiring.now self.old in
+            OnOk result (out.new ≡ out.old ++ done.sent) }
     {
         let Some(provider) = self.provider else {
             return Ok(());
@@ -86,8 +93,8 @@ impl Service {
         Ok(())
     }
 
-    /// A provider with `base` static places registers: where one stands it is refused, else its links
-    /// take the places from `base` on.
+    /// A provider with `base` static places registers: where one stands it is refused, else its
+    /// links take the places from `base` on.
     #[tactic(auto, unfolding(actor_duties::specs::Names::provide))]
     pub fn provide(
         &mut self,
@@ -97,9 +104,10 @@ impl Service {
         endpoint: Endpoint,
         out: &mut Outbox,
     ) -> Result<(), AllocError>
-        requires { HasPlacesFrom base self.old }
-        ensures now { OnOk result (self.new ≡ (provide wiring.now base endpoint self.old).now) }
-        ensures sent { OnOk result (out.new ≡ out.old ++ (provide wiring.now base endpoint self.old).sent) }
+        ensures now { let done = provide wiring.now base endpoint self.old in
+            OnOk result (self.new ≡ done.now) }
+        ensures sent { let done = provide wiring.now base endpoint self.old in
+            OnOk result (out.new ≡ out.old ++ done.sent) }
     {
         if self.provider.is_some() {
             return reply(alloc, wiring, endpoint, Code::NameTaken.number(), out);
@@ -118,9 +126,10 @@ impl Service {
         endpoint: Endpoint,
         out: &mut Outbox,
     ) -> Result<(), AllocError>
-        requires { HasPlaceForOne self.old }
-        ensures now { OnOk result (self.new ≡ (use_service wiring.now endpoint self.old).now) }
-        ensures sent { OnOk result (out.new ≡ out.old ++ (use_service wiring.now endpoint self.old).sent) }
+        ensures now { let done = use_service wiring.now endpoint self.old in
+            OnOk result (self.new ≡ done.now) }
+        ensures sent { let done = use_service wiring.now endpoint self.old in
+            OnOk result (out.new ≡ out.old ++ done.sent) }
     {
         self.users.push(User::new(endpoint, None))?;
         reply(alloc, wiring, endpoint, 0, out)?;
@@ -135,8 +144,10 @@ impl Service {
         endpoint: Endpoint,
         out: &mut Outbox,
     ) -> Result<(), AllocError>
-        ensures now { OnOk result (self.new ≡ (unprovide wiring.now endpoint self.old).now) }
-        ensures sent { OnOk result (out.new ≡ out.old ++ (unprovide wiring.now endpoint self.old).sent) }
+        ensures now { let done = unprovide wiring.now endpoint self.old in
+            OnOk result (self.new ≡ done.now) }
+        ensures sent { let done = unprovide wiring.now endpoint self.old in
+            OnOk result (out.new ≡ out.old ++ done.sent) }
     {
         end_links(alloc, wiring, endpoint, self.users.as_slice(), out)?;
         wait_again(self.users.as_mut_slice());
@@ -152,8 +163,10 @@ impl Service {
         endpoint: Endpoint,
         out: &mut Outbox,
     ) -> Result<(), AllocError>
-        ensures now { OnOk result (self.new ≡ (unuse wiring.now endpoint self.old).now) }
-        ensures sent { OnOk result (out.new ≡ out.old ++ (unuse wiring.now endpoint self.old).sent) }
+        ensures now { let done = unuse wiring.now endpoint self.old in
+            OnOk result (self.new ≡ done.now) }
+        ensures sent { let done = unuse wiring.now endpoint self.old in
+            OnOk result (out.new ≡ out.old ++ done.sent) }
     {
         if let Some(provider) = self.provider {
             end_links_of(
@@ -177,8 +190,10 @@ impl Service {
         endpoint: Endpoint,
         out: &mut Outbox,
     ) -> Result<(), AllocError>
-        ensures now { OnOk result (self.new ≡ (leave wiring.now endpoint self.old).now) }
-        ensures sent { OnOk result (out.new ≡ out.old ++ (leave wiring.now endpoint self.old).sent) }
+        ensures now { let done = leave wiring.now endpoint self.old in
+            OnOk result (self.new ≡ done.now) }
+        ensures sent { let done = leave wiring.now endpoint self.old in
+            OnOk result (out.new ≡ out.old ++ done.sent) }
     {
         if self.is_provider(endpoint) {
             self.unprovide(alloc, wiring, endpoint, out)

@@ -1,5 +1,4 @@
-use Rattle.std.proofs.Common.{ap, ◌∙◌, sym}
-use Rattle.actor_duties.specs.State.{User}
+use Rattle.std.proofs.Common.{ap, ◌∙◌}
 use Rattle.actor_duties.specs.Names.{waiting}
 use Rattle.room_kinds.specs.declared.numbers.Endpoint.{Endpoint}
 use Rattle.std.specs.Prelude.{None}

@@ -1,4 +1,4 @@
-use Rattle.std.proofs.Common.{◌≡◌, ◌<◌, ◌≤◌, length, List, ap, ◌∙◌, arith}
+use Rattle.std.proofs.Common.{◌<◌, ◌≤◌, length, List, ap, ◌∙◌, arith}
 use Rattle.layer_service.specs.layer_links.Kept.{PointState, links_of, cleared}
 use Rattle.layer_service.proofs.layer_links.ByPort.{cleared_at, cleared_beyond}
 use Rattle.layer_service.proofs.layer_links.links.Links.clear.Goals as goal

@@ -1,9 +1,7 @@
-use Rattle.std.proofs.Common.{◌≡◌, ◌<◌, List, length, get_or, not, subst, sym, ap, ◌∙◌}
-use Rattle.std.specs.Prelude.{filter}
-use Rattle.actor_duties.specs.State.{Link}
-use Rattle.actor_duties.specs.Links.{with_link, is_link, bound, unbound}
-use Rattle.layer_service.specs.layer_links.Kept.{PointState, registration_of, point_in, IsListed}
-use Rattle.layer_service.proofs.layer_links.ByPort.{registered_at, relinked_at, port_there}
+use Rattle.std.proofs.Common.{◌≡◌, List, get_or, subst, sym, ap, ◌∙◌}
+use Rattle.actor_duties.specs.Links.{with_link, bound}
+use Rattle.layer_service.specs.layer_links.Kept.{PointState, point_in, IsListed}
+use Rattle.layer_service.proofs.layer_links.ByPort.{relinked_at, port_there}
 use Rattle.layer_service.proofs.layer_links.links.Links.link.Goals as goal
 
 pub link-requires : goal.link-requires

@@ -1,9 +1,9 @@
-use Rattle.std.proofs.Common.{◌≡◌, ◌<◌, List, length, get_or, not, subst, sym, ap, ◌∙◌}
+use Rattle.std.proofs.Common.{◌≡◌, List, get_or, not, subst, sym, ap, ◌∙◌}
 use Rattle.std.specs.Prelude.{filter}
 use Rattle.actor_duties.specs.State.{Link}
-use Rattle.actor_duties.specs.Links.{with_link, is_link, bound, unbound}
-use Rattle.layer_service.specs.layer_links.Kept.{PointState, registration_of, point_in, IsListed}
-use Rattle.layer_service.proofs.layer_links.ByPort.{registered_at, relinked_at, port_there}
+use Rattle.actor_duties.specs.Links.{is_link, unbound}
+use Rattle.layer_service.specs.layer_links.Kept.{PointState, point_in, IsListed}
+use Rattle.layer_service.proofs.layer_links.ByPort.{relinked_at, port_there}
 use Rattle.layer_service.proofs.layer_links.links.Links.unlink.Goals as goal
 
 pub unlink-requires : goal.unlink-requires

@@ -1,6 +1,6 @@
 use Rattle.std.proofs.Common.{◌≡◌, sym, ◌∙◌}
 use Rattle.std.specs.Prelude.{position, None}
-use Rattle.layer_service.specs.name_service.Places.{is_called}
+use Rattle.layer_service.specs.name_service.Services.{is_called}
 use Rattle.layer_service.proofs.name_service.Table.{found, made}
 use Rattle.layer_service.proofs.name_service.name_service.NameService.place_for.Goals as goal
 
