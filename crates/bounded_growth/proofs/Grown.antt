@@ -1,6 +1,5 @@
 -- Each registration takes a name table's numbers at most one further.
-use Rattle.std.proofs.Common.{◌≡◌, ◌∙◌, ℕ, suc, ◌+◌, ◌<◌, ◌≤◌, ◌^◌, ◌==◌, Bool, true, false, not, cond, ◌&&◌, if◌then◌else◌, List, [], ◌∷◌, ◌++◌, map, filter, length, Option, Some, None, ℤ, pos, refl, sym, ap, subst, arith}
-use Rattle.std.specs.Prelude.{is_some}
+use Rattle.std.proofs.Common.{◌≡◌, ℕ, suc, ◌+◌, ◌≤◌, ◌==◌, Bool, true, false, not, cond, ◌&&◌, if◌then◌else◌, List, [], ◌∷◌, ◌++◌, map, filter, length, Option, Some, None, ℤ, pos, refl, ap, arith}
 use Rattle.room_kinds.specs.declared.message.Msg.{Msg}
 use Rattle.room_kinds.specs.declared.numbers.Endpoint.{Endpoint}
 use Rattle.room_kinds.specs.declared.system.SysKind.{SysKind}
@@ -10,8 +9,7 @@ use Rattle.room_wiring.specs.Places.{place_count}
 use Rattle.actor_duties.specs.Words.{is_spp, protocol_of}
 use Rattle.actor_duties.specs.State.{User, Provider, Service, NameTable, Done}
 use Rattle.actor_duties.specs.Names.{name_reply_to, linked_users, meet_with, meet, provide, use_service, unmet, in_service, register_spp, register_sap, waiting, unprovide, unuse, is_user, leave, is_provider, stands_in, withdraw, register, is_name_request, same_table, table_duty_of, table_duty_from, table_duty}
-use Rattle.layer_service.specs.name_service.Places.{is_waiting, waiting_count, is_called, service_called, HasPlacesFrom, HasPlaceForOne}
-use Rattle.bounded_growth.specs.Growth.{HasCome, IsGrown, AreGrown}
+use Rattle.bounded_growth.specs.Growth.{is_waiting, waiting_count, HasCome, IsGrown, AreGrown}
 
 -- the table that a step gives
 abbrev now_of : Done NameTable → NameTable
@@ -199,28 +197,3 @@ module _ (t : Tables) (me b n : ℕ) (table : NameTable) (small : (s p : ℕ) �
 pub duty_grown : (t : Tables) (me b n : ℕ) (table : NameTable) (kind : SysKind) (m : Msg) → ((s p : ℕ) → place_count t s p ≤ b) → AreGrown b n table → AreGrown b (n + 1) (table_duty t me table kind m).now
 unfolding table_duty
 duty_grown t me b n table kind m small g = duty_from_grown t me b n table small g kind m.source m
-
--- ---- places that are left
-
-called_grown : (b n name protocol : ℕ) (table : NameTable) → AreGrown b n table → IsGrown b n (service_called name protocol table)
-called_grown b n name protocol [] g = (omega arith, tt)
-called_grown b n name protocol (s ∷ rest) g = go (is_called name protocol s) (called_grown b n name protocol rest g.1)
-  where
-    go : (c : Bool) → IsGrown b n (service_called name protocol rest) → IsGrown b n (if c then s else service_called name protocol rest)
-    go true r = g.0
-    go false r = r
-
-pub places_for_provider : (b n name protocol base : ℕ) (table : NameTable) → base ≤ b → b + n < 2 ^ 32 → AreGrown b n table → HasPlacesFrom base (service_called name protocol table)
-places_for_provider b n name protocol base table small room g none =
-    let few = (called_grown b n name protocol table g).0 in
-    let wait = some_wait (service_called name protocol table).users in
-    omega (arith, small, room, few, wait)
-
-come_of : (most : ℕ) (o : Option Provider) (us : List User) (p : Provider) → o ≡ Some p → HasCome most o us → p.next + waiting_count us ≤ most
-come_of most o us p e h = let P : Option Provider → Type 0 = λ x. HasCome most x us in subst P e h
-
-pub place_for_user : (b n name protocol : ℕ) (table : NameTable) → b + n + 1 < 2 ^ 32 → AreGrown b n table → HasPlaceForOne (service_called name protocol table)
-place_for_user b n name protocol table room g p there =
-    let s = service_called name protocol table in
-    let come = come_of (b + n) s.provider s.users p there (called_grown b n name protocol table g).1 in
-    omega (arith, room, come)

@@ -1,15 +1,15 @@
 -- Each duty of the frame service raises the last generation of a slot by at most one.
 use Rattle.std.proofs.Common.{ℕ, ◌+◌, ◌≤◌, Bool, true, false, cond, List, [], ◌∷◌, Option, Some, None, arith}
-use Rattle.std.specs.Prelude.{ℤ, pos, negsuc, not, ◌&&◌, ◌||◌, ◌==◌}
+use Rattle.std.specs.Prelude.{ℤ, pos, negsuc, not, ◌||◌}
 use Rattle.room_kinds.specs.declared.message.Msg.{Msg}
 use Rattle.room_kinds.specs.declared.numbers.Endpoint.{Endpoint}
 use Rattle.room_kinds.specs.declared.system.SysKind.{SysKind}
 use Rattle.room_kinds.specs.declared.system.SysKind.TheVariants as kinds
 use Rattle.room_wiring.specs.declared.tables.Tables.{Tables}
-use Rattle.actor_duties.specs.Words.{whose, is_own}
+use Rattle.actor_duties.specs.Words.{whose}
 use Rattle.actor_duties.specs.State.{Lives, Frame}
-use Rattle.actor_duties.specs.Lives.{Lived, counts_as_live, is_live, comes_up, lives_made, lives_ended, part_make, made, create, announce}
-use Rattle.actor_duties.specs.Frame.{FrameDone, only_sends, nothing, with_lives, with_plugs, with_places, with_told, frame_ended, end_set_ended, destroy, part_end, is_request, is_answer, is_forth, is_back, is_announced, plainly, with_number, of_natural, frame_duty_of, frame_duty_from, frame_duty}
+use Rattle.actor_duties.specs.Lives.{Lived, counts_as_live, comes_up, lives_made, lives_ended, part_make, made, create}
+use Rattle.actor_duties.specs.Frame.{FrameDone, nothing, frame_ended, end_set_ended, destroy, part_end, plainly, with_number, of_natural, frame_duty_of, frame_duty_from, frame_duty}
 
 -- a duty that raises no generation by more than one
 abbrev Raises : Frame → FrameDone → Type 0

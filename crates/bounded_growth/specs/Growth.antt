@@ -1,7 +1,14 @@
 -- How far the numbers of a name table have come.
-use Rattle.std.specs.Prelude.{ℕ, ◌+◌, ◌≤◌, List, [], ◌∷◌, length, Option, Some, None}
+use Rattle.std.specs.Prelude.{ℕ, ◌+◌, ◌≤◌, Bool, not, is_some, filter, List, [], ◌∷◌, length, Option, Some, None}
 use Rattle.actor_duties.specs.State.{User, Provider, Service, NameTable}
-use Rattle.layer_service.specs.name_service.Places.{waiting_count}
+
+-- whether a user is not linked
+abbrev pub is_waiting : User → Bool
+is_waiting u = not (is_some u.linked)
+
+-- how many users are not linked
+abbrev pub waiting_count : List User → ℕ
+waiting_count users = length (filter is_waiting users)
 
 -- a provider's next place, with one for each user that waits, is at most so far
 abbrev pub HasCome : ℕ → Option Provider → List User → Type 0

@@ -8,4 +8,4 @@ mod generations;
 mod places;
 
 pub use generations::{duties_raise_by_one, starts_are_low};
-pub use places::{duties_grow_by_one, grown_tables_have_places, registrations_grow_by_one};
+pub use places::{duties_grow_by_one, registrations_grow_by_one};

@@ -1,5 +1,5 @@
 //! The places of links by name.
-ghost use Rattle.std.specs.Prelude.{ℕ, ◌+◌, ◌^◌, ◌<◌, ◌≤◌};
+ghost use Rattle.std.specs.Prelude.{ℕ, ◌+◌, ◌≤◌};
 ghost use Rattle.room_kinds.specs.declared.message.Msg.{Msg as AnyMsg};
 ghost use Rattle.room_kinds.specs.declared.numbers.Endpoint.{Endpoint as AnyEndpoint};
 ghost use Rattle.room_kinds.specs.declared.system.SysKind.{SysKind as AnyKind};
@@ -7,7 +7,6 @@ ghost use Rattle.room_wiring.specs.declared.tables.Tables.{Tables as AnyTables};
 ghost use Rattle.room_wiring.specs.Places.{place_count};
 ghost use Rattle.actor_duties.specs.State.{NameTable};
 ghost use Rattle.actor_duties.specs.Names.{register_spp, register_sap, withdraw, table_duty};
-ghost use Rattle.layer_service.specs.name_service.Places.{service_called, HasPlacesFrom, HasPlaceForOne};
 ghost use Rattle.bounded_growth.specs.Growth.{AreGrown};
 
 /// A name table after `n` registrations is one after `n + 1` when one more point registers, and stays
@@ -22,11 +21,4 @@ pub fn registrations_grow_by_one()
 /// `b` places.
 pub fn duties_grow_by_one()
     ensures { (t : AnyTables) (me b n : ℕ) (table : NameTable) (kind : AnyKind) (m : AnyMsg) → ((s p : ℕ) → place_count t s p ≤ b) → AreGrown b n table → AreGrown b (n + 1) (table_duty t me table kind m).now }
-{}
-
-/// A name table after few registrations has places for a provider with at most `b` static places, and
-/// for one more user.
-pub fn grown_tables_have_places()
-    ensures provider { (b n name protocol base : ℕ) (table : NameTable) → base ≤ b → b + n < 2 ^ 32 → AreGrown b n table → HasPlacesFrom base (service_called name protocol table) }
-    ensures user { (b n name protocol : ℕ) (table : NameTable) → b + n + 1 < 2 ^ 32 → AreGrown b n table → HasPlaceForOne (service_called name protocol table) }
 {}

@@ -1,22 +1,17 @@
 //! What a layer service sends and tells at the steps of a story.
-ghost use Rattle.std.specs.Prelude.{◌<◌, ◌≤◌, length, IfOk, IfSome, OnOk};
-ghost use Rattle.service_tests.specs.Hubs.{IsHub};
+ghost use Rattle.std.specs.Prelude.{◌<◌, length, IfSome};
 
 use crate::lines::{push_messages, push_peer, push_unread};
 use crate::steps::{Coming, NameStep, name_step};
 use frame_host::{Host, Refusal};
 use layer_service::{Links, NameService};
-use room_kinds::{ControllerId, Endpoint, Msg, Outbox, SlotId, SysKind};
-use room_wiring::Wiring;
-use service_messages::is_spp;
+use room_kinds::{ControllerId, Endpoint, Msg, Outbox, Payload, SlotId, SysKind};
+use service_messages::system;
 use service_peers::peer;
 use std::alloc::{AllocError, Global};
 
-/// The most registrations of a story.
-const MOST_REGISTERED: u32 = 1_000_000_000;
-
-/// The most static places of a service provision point.
-const MOST_PLACES: u32 = 65_536;
+/// The controller that has both the points and the name table.
+const ME: ControllerId = ControllerId(0);
 
 /// The most messages that are treated in one step.
 const MOST_HEARD: u32 = 1000;
@@ -32,37 +27,13 @@ pub(crate) struct Hub {
     pub(crate) sent: Outbox,
     /// How many of the sent messages it has looked at.
     pub(crate) heard: usize,
-    /// How many points were registered.
-    pub(crate) registered: u32,
     /// The slot whose actor has ended, if one has.
     pub(crate) gone: Option<SlotId>,
 }
 
-/// How many static places a port has, and its protocol; none where there is no such port.
-fn port_of(wiring: &Wiring, at: Endpoint) -> Option<(u32, u16)> {
-    if usize::from(at.port) >= wiring.port_count(at.slot)
-        || u32::from(at.slot.0) >= wiring.slot_count()
-    {
-        return None;
-    }
-    let names = wiring.class(wiring.slot(at.slot).class);
-    let protocol = names.ports.as_slice().get(usize::from(at.port))?.protocol?;
-    Some((wiring.places(at.slot, at.port), protocol))
-}
-
-/// The name that a Register brings.
-fn name_in(m: &Msg) -> Option<u32> {
-    match m.payload.numbers() {
-        [name] => u32::try_from(*name).ok(),
-        _ => None,
-    }
-}
-
 impl Hub {
-    fn start(alloc: Global, text: &str) -> Result<Hub, Refusal>
-        ensures { IfOk result IsHub }
-    {
-        let host = Host::start(alloc, text, ControllerId(0))?;
+    fn start(alloc: Global, text: &str) -> Result<Hub, Refusal> {
+        let host = Host::start(alloc, text, ME)?;
         Ok(Hub {
             alloc,
             host,
@@ -70,81 +41,34 @@ impl Hub {
             table: NameService::new(alloc),
             sent: Outbox::new(alloc),
             heard: 0,
-            registered: 0,
             gone: None,
         })
     }
 
-    /// Registers a point of a port with so many static places under a name.
-    #[tactic(auto, using(crate::proofs::Registered::provider_places, crate::proofs::Registered::user_place, bounded_growth::proofs::Grown::provider_grown, bounded_growth::proofs::Grown::user_grown))]
-    fn enter(&mut self, at: Endpoint, name: u32, protocol: u16, base: u32) -> Result<(), AllocError>
-        requires hub { IsHub self.old }
-        requires few { self.old.registered < 1000000000 }
-        requires base { base ≤ 65536 }
-        ensures { OnOk result (IsHub self.new) }
-    {
-        self.registered += 1;
-        if is_spp(&self.host.wiring, at.slot, at.port) {
-            self.table.register_spp(&self.host.wiring, name, protocol, base, at, &mut self.sent)
-        } else {
-            self.table
-                .register_sap(&self.host.wiring, name, protocol, at, &mut self.sent)
-        }
-    }
-
-    /// Row 12, Register.
-    fn register(&mut self, m: &Msg) -> Result<(), AllocError>
-        requires { IsHub self.old }
-        ensures { OnOk result (IsHub self.new) }
-    {
-        let Some((base, protocol)) = port_of(&self.host.wiring, m.target) else {
+    fn hear(&mut self, m: &Msg) -> Result<(), AllocError> {
+        let Some(kind) = SysKind::from_number(m.signal) else {
             return Ok(());
         };
-        let Some(name) = name_in(m) else {
-            return Ok(());
-        };
-        if self.registered >= MOST_REGISTERED || base > MOST_PLACES {
-            return Ok(());
-        }
-        self.enter(m.target, name, protocol, base)
+        let wiring = &self.host.wiring;
+        let live = self.gone != Some(m.target.slot);
+        self.table.duty(wiring, ME, kind, m, &mut self.sent)?;
+        self.links.duty(wiring, ME, kind, m, live, &mut self.sent)
     }
 
-    #[tactic(auto, using(bounded_growth::proofs::Grown::withdrawal_grown))]
-    fn withdraw(&mut self, at: Endpoint) -> Result<(), AllocError>
-        requires { IsHub self.old }
-        ensures { OnOk result (IsHub self.new) }
-    {
-        self.table.withdraw(&self.host.wiring, at, &mut self.sent)
-    }
-
-    fn hear(&mut self, m: &Msg) -> Result<(), AllocError>
-        requires { IsHub self.old }
-        ensures { OnOk result (IsHub self.new) }
-    {
-        match SysKind::from_number(m.signal) {
-            Some(SysKind::Register) => self.register(m),
-            Some(SysKind::Withdraw) => self.withdraw(m.target),
-            _ => {
-                let live = self.gone != Some(m.target.slot);
-                self.links.duty(&self.host.wiring, m, live, &mut self.sent)
-            }
-        }
+    /// An endpoint is withdrawn from the name table.
+    fn withdraw(&mut self, at: Endpoint) -> Result<(), AllocError> {
+        let nothing = Payload::empty(self.alloc);
+        self.hear(&system(ME, ME, SysKind::Withdraw, at, at, nothing))
     }
 
     /// A message comes.
-    fn comes(&mut self, coming: &Coming) -> Result<(), AllocError>
-        requires { IsHub self.old }
-        ensures { OnOk result (IsHub self.new) }
-    {
-        let message = coming.message(self.alloc, ControllerId(0))?;
+    fn comes(&mut self, coming: &Coming) -> Result<(), AllocError> {
+        let message = coming.message(self.alloc, ME)?;
         self.hear(&message)
     }
 
     /// Treats the oldest message of the service that wasn't treated yet. Whether there was one.
-    fn hear_next(&mut self) -> Result<bool, AllocError>
-        requires { IsHub self.old }
-        ensures { OnOk result (IsHub self.new) }
-    {
+    fn hear_next(&mut self) -> Result<bool, AllocError> {
         let Some(at) = next_system(self.sent.as_slice(), self.heard) else {
             return Ok(false);
         };
@@ -154,10 +78,7 @@ impl Hub {
         Ok(true)
     }
 
-    fn settle(&mut self) -> Result<(), AllocError>
-        requires { IsHub self.old }
-        ensures { OnOk result (IsHub self.new) }
-    {
+    fn settle(&mut self) -> Result<(), AllocError> {
         for _ in 0..MOST_HEARD {
             if !self.hear_next()? {
                 return Ok(());
@@ -180,14 +101,16 @@ fn next_system(sent: &[Msg], from: usize) -> Option<usize>
 }
 
 /// Takes a step, and adds what it tells.
-fn take(alloc: Global, text: &mut String, hub: &mut Hub, step: &NameStep) -> Result<(), AllocError>
-    requires { IsHub hub.old }
-    ensures { OnOk result (IsHub hub.new) }
-{
+fn take(
+    alloc: Global,
+    text: &mut String,
+    hub: &mut Hub,
+    step: &NameStep,
+) -> Result<(), AllocError> {
     match step {
         NameStep::Asks(actor, command) => {
             hub.links
-                .request(&hub.host.wiring, *actor, command, &mut hub.sent)
+                .request(&hub.host.wiring, ME, *actor, command, &mut hub.sent)
         }
         NameStep::Hears => {
             hub.hear_next()?;
@@ -197,15 +120,27 @@ fn take(alloc: Global, text: &mut String, hub: &mut Hub, step: &NameStep) -> Res
         NameStep::Comes(coming) => hub.comes(coming),
         NameStep::Ends(actor) => {
             hub.gone = Some(actor.slot);
-            hub.links.end_of(&hub.host.wiring, *actor, &mut hub.sent)
+            hub.links
+                .end_of(&hub.host.wiring, ME, *actor, &mut hub.sent)
         }
         NameStep::Withdraws(at) => hub.withdraw(*at),
         NameStep::Peer(from) => {
             let peer = peer(&hub.host.state, &hub.links, &hub.host.wiring, *from);
             push_peer(alloc, text, &hub.host.wiring, *from, peer)
         }
-        NameStep::Next(from) => push_next(alloc, text, hub.links.next_place(*from)),
+        NameStep::Next(from) => push_next(alloc, text, next_place(&hub.links, *from)),
     }
+}
+
+/// The least linked place of an endpoint's port at or above the endpoint's.
+fn next_place(links: &Links, from: Endpoint) -> Option<u32> {
+    for index in 0..links.link_count(from.slot, from.port) {
+        let place = links.linked_place(from.slot, from.port, index);
+        if place >= from.place {
+            return Some(place);
+        }
+    }
+    None
 }
 
 /// Adds the next linked place, as `next 3`.
@@ -217,10 +152,7 @@ fn push_next(alloc: Global, text: &mut String, place: Option<u32>) -> Result<(),
 }
 
 /// Takes the step of a line, and adds what it sent and told.
-fn tell(alloc: Global, text: &mut String, hub: &mut Hub, line: &str) -> Result<(), AllocError>
-    requires { IsHub hub.old }
-    ensures { OnOk result (IsHub hub.new) }
-{
+fn tell(alloc: Global, text: &mut String, hub: &mut Hub, line: &str) -> Result<(), AllocError> {
     let words: Vec<&str> = line.split_whitespace().collect(alloc)?;
     let Some(step) = name_step(&hub.host.wiring, words.as_slice()) else {
         return push_unread(text, line);
