@@ -7,6 +7,7 @@ use Rattle.room_kinds.specs.declared.message.Msg.{Msg}
 use Rattle.room_kinds.specs.declared.note.Note.{Note}
 use Rattle.room_kinds.specs.declared.command.Command.{Command}
 use Rattle.room_kinds.specs.declared.command.FrameCommand.{FrameCommand}
+use Rattle.room_kinds.specs.declared.command.NameCommand.{NameCommand}
 use Rattle.room_kinds.specs.declared.command.Command.TheVariants as commands
 use Rattle.room_kinds.specs.declared.numbers.Incarnation.{Incarnation}
 use Rattle.room_kinds.specs.declared.numbers.Priority.{Priority}
@@ -19,7 +20,7 @@ use Rattle.frame_lives.proofs.Rows.{updated_here, updated_else}
 use Rattle.chart_behaviour.specs.ModelCharts.{Actor}
 use Rattle.actor_commands.specs.declared.command_sends.said.Said.{Said}
 use Rattle.actor_commands.specs.command_sends.Adding.{Adds}
-use Rattle.actor_commands.specs.command_sends.Asking.{FrameAsked}
+use Rattle.actor_commands.specs.command_sends.Asking.{FrameAsked, NameAsked}
 use Rattle.actor_commands.specs.deferred_messages.Steps.{Applies as KeptStep}
 use Rattle.actor_commands.specs.declared.doing.Doing.{Doing}
 use Rattle.actor_commands.specs.Doings.{doing_on, said_at, Keeps, Applies, AppliesAll}
@@ -115,6 +116,14 @@ module _ (t : Tables) (me : ℕ) (f : Frame) (l : Links) (x : Incarnation) (m : 
   pub asks_frame : (c : FrameCommand) (f' : Frame) (l' : Links) (old : Doing) (out : List Msg) → FrameAsked t me x c f l f' l' old.said.messages out
       → Applies t me f l f' l' x m (commands.Frame c) old (record old { said = record { messages = out; notes = old.said.notes } })
   asks_frame c f' l' old out h = record {
+    on = λ b. same_asked b x.slot.0 old (sym h.frame) (sym h.links) (sym h.sent);
+  }
+
+  -- ---- what is asked of the layer service
+
+  pub asks_name : (c : NameCommand) (f' : Frame) (l' : Links) (old : Doing) (out : List Msg) → NameAsked t me x c f l f' l' old.said.messages out
+      → Applies t me f l f' l' x m (commands.Name c) old (record old { said = record { messages = out; notes = old.said.notes } })
+  asks_name c f' l' old out h = record {
     on = λ b. same_asked b x.slot.0 old (sym h.frame) (sym h.links) (sym h.sent);
   }
 

@@ -57,7 +57,7 @@ fn say<S: Services>(
 }
 
 /// Applies a command of the speaker, who has this message in hand, or none.
-#[tactic(auto, using(crate::proofs::Steps::sends, crate::proofs::Steps::asks_frame, crate::proofs::Steps::defers, crate::proofs::Steps::recalls, crate::proofs::Steps::recalls_all))]
+#[tactic(auto, using(crate::proofs::Steps::sends, crate::proofs::Steps::asks_frame, crate::proofs::Steps::asks_name, crate::proofs::Steps::defers, crate::proofs::Steps::recalls, crate::proofs::Steps::recalls_all))]
 fn apply<S: Services>(
     alloc: Global,
     speaker: &Speaker<'_>,
@@ -117,8 +117,16 @@ fn apply<S: Services>(
             )?;
             Ok(())
         }
-        // Models that register names don't run yet; this comes with the layer service.
-        Command::Name(_) => Err(AllocError),
+        Command::Name(command) => {
+            services.ask_name(
+                speaker.wiring,
+                speaker.me,
+                speaker.who,
+                command,
+                &mut doing.said.messages,
+            )?;
+            Ok(())
+        }
     }
 }
 

@@ -1,7 +1,6 @@
-//! The commands of an actor, applied in order: what it sends, and what it keeps for later and takes back
-//! (ROOM: Selic, Gullekson and Ward 1994). All steps are exactly the definitions of `actor_world`.
-//!
-//! What an actor asks of the layer service is not applied here: it is answered as want of memory is.
+//! The commands of an actor, applied in order: what it sends, what it keeps for later and takes back, and
+//! what it asks of the frame service and of the layer service (ROOM: Selic, Gullekson and Ward 1994). All
+//! steps are exactly the definitions of `actor_world`.
 #![tactic(auto)]
 
 pub mod command_sends;

@@ -4,14 +4,14 @@ ghost use Rattle.room_wiring.specs.declared.tables.Tables.{Tables};
 ghost use Rattle.actor_duties.specs.Words.{endpoint};
 ghost use Rattle.actor_duties.specs.State.{Frame, Links, Link};
 ghost use Rattle.actor_duties.specs.Peers.{peer};
-ghost use Rattle.actor_commands.specs.command_sends.Asking.{FrameAsked};
+ghost use Rattle.actor_commands.specs.command_sends.Asking.{FrameAsked, NameAsked};
 
-use room_kinds::{ControllerId, Endpoint, FrameCommand, Incarnation, Outbox, SlotId};
+use room_kinds::{ControllerId, Endpoint, FrameCommand, Incarnation, NameCommand, Outbox, SlotId};
 use room_wiring::Wiring;
 use std::alloc::AllocError;
 
 /// The services of a controller: to whom the places of its actors lead, and what its actors ask of
-/// the frame service.
+/// the frame service and of the layer service.
 pub trait Services {
     /// The frame service's state: who lives where, directories, imports and plugs.
     ghost frame_of: { Self → Frame };
@@ -57,4 +57,17 @@ pub trait Services {
         requires there { who.slot.0 < length wiring.now.slots }
         ensures serves { OnOk result (serves wiring.now me.0 self.new) }
         ensures asked { OnOk result (FrameAsked wiring.now me.0 who command.now (frame_of self.old) (links_of self.old) (frame_of self.new) (links_of self.new) out.old out.new) };
+
+    /// A command of an actor of controller `me` on the names of its service points.
+    fn ask_name(
+        &mut self,
+        wiring: &Wiring,
+        me: ControllerId,
+        who: Incarnation,
+        command: &NameCommand,
+        out: &mut Outbox,
+    ) -> Result<(), AllocError>
+        requires serves { serves wiring.now me.0 self.old }
+        ensures serves { OnOk result (serves wiring.now me.0 self.new) }
+        ensures asked { OnOk result (NameAsked wiring.now me.0 who command.now (frame_of self.old) (links_of self.old) (frame_of self.new) (links_of self.new) out.old out.new) };
 }
