@@ -1,5 +1,5 @@
 -- The starts of a controller's actors, one after another.
-use Rattle.std.proofs.Common.{◌≡◌, ℕ, ◌+◌, ◌<◌, Bool, true, false, cond, List, [], ◌∷◌, ◌++◌, map, filter, length, set, replicate, refl, sym, ap, ◌∙◌, subst, arith, length-set, inl, inr}
+use Rattle.std.proofs.Common.{◌≡◌, ℕ, ◌+◌, ◌<◌, Bool, true, false, cond, List, [], ◌∷◌, ◌++◌, map, filter, length, set, replicate, refl, sym, ap, ◌∙◌, subst, arith, inl, inr}
 use Rattle.std.proofs.Math.Path.{fun_ext}
 use Rattle.std.specs.List.{range_with_len}
 use Rattle.std.proofs.lemmas.Bool.{cases_lt}
@@ -12,7 +12,7 @@ use Rattle.journal.specs.declared.entry.Entry.{Entry}
 use Rattle.journal.specs.declared.entry.Entry.TheVariants as entry
 use Rattle.actor_duties.specs.Words.{incarnation}
 use Rattle.actor_duties.specs.Lives.{last_of}
-use Rattle.actor_duties.specs.State.{Frame, Lives}
+use Rattle.actor_duties.specs.State.{Frame, Lives, Links, NameTable}
 use Rattle.actor_world.specs.Behaviour.{Behaviour}
 use Rattle.actor_world.specs.Body.{Body, Doing}
 use Rattle.actor_world.specs.Start.{Starting as WorldStarting, all_started, started, starting, first_state, start_entries, first_body, first_frame, first_lives, first_links, first_actors}
@@ -20,7 +20,7 @@ use Rattle.chart_behaviour.specs.ModelCharts.{Actor, tables_at, begins, state_nu
 use Rattle.actor_commands.proofs.command_sends.Broadcasting.{range-more}
 use Rattle.controller_mail.specs.MailState.{HasPriority}
 use Rattle.frame_service.specs.State.{frame_in}
-use Rattle.controller_actors.specs.Served.{Serves}
+use Rattle.controller_actors.specs.Served.{Serves, links_in}
 use Rattle.controller_actors.specs.declared.actor_seats.seat.Seat.{Seat}
 use Rattle.controller_actors.specs.declared.actor_seats.seat.Entrance.{Entrance}
 use Rattle.controller_actors.specs.actor_seats.Stands.{actor_in}
@@ -38,10 +38,10 @@ use Rattle.controller_actors.proofs.Bodies.{body_same, body_set, seated_set, emp
 module _ (p : Plant) (me : ℕ) where
   -- the actor of a slot began
   pub actors_begin : (old new : Actors) (s : ℕ) (before after : Seat) (sent back : List Msg) (e : Entrance) → s < length old.seats.items
-      → before ≡ seat_at old.seats.items s → new.seats.items ≡ set old.seats.items s after → Serves p.wiring me new.services
-      → SeatBegins p.wiring me (frame_in old.services.frame) first_links (frame_in new.services.frame) first_links (last_of (lives_of old) s) (tables_at p.wiring p.tables.items s) before after sent back e
+      → before ≡ seat_at old.seats.items s → new.table ≡ old.table → new.seats.items ≡ set old.seats.items s after → Serves p.wiring me new.services
+      → SeatBegins p.wiring me (frame_in old.services.frame) (links_in old.services) (frame_in new.services.frame) (links_in new.services) (last_of (lives_of old) s) (tables_at p.wiring p.tables.items s) before after sent back e
       → (lives_of old).lives s ≡ true → IsSeated p me old → ActorsBegin p me s old new sent back e
-  actors_begin old new s before after sent back e l is seats serves h live seated =
+  actors_begin old new s before after sent back e l is table seats serves h live seated =
       let x = last_of (lives_of old) s in
       let o = tables_at p.wiring p.tables.items s in
       let f = frame_in old.services.frame in
@@ -50,10 +50,10 @@ module _ (p : Plant) (me : ℕ) where
         kept = h.kept;
         doing = λ notes held.
             ap (λ (c : Body Actor). entered p.wiring me x (begins x o) (record { body = c; sent = sent; back = back; notes = notes; kept = held }))
-            (body_same p me old s ∙ ap (seat_body f first_links b s) (sym is))
+            (body_same p me old s ∙ ap (seat_body f (links_in old.services) b s) (sym is))
             ∙ h.doing b notes held
             ∙ ap (λ (c : Body Actor). record { body = c; sent = e.said.messages; back = e.back; notes = e.said.notes; kept = h.kept })
-            (sym (body_set p me old new s after l seats));
+            (sym (body_set p me old new s after l table seats));
         state = h.state;
         seated = seated_set p me old new s after l h.lives seats serves seated h.fits;
         lives = h.lives;
@@ -163,23 +163,26 @@ module _ (p : Plant) (me : ℕ) where
   same_start e f g h = cc
 
   -- the body of actors of which none has started
-  body_none : (a : Actors) → frame_in a.services.frame ≡ first_frame p.wiring me → a.seats.items ≡ replicate (length p.wiring.slots) vacant → first_body p.wiring me ≡ body_of p me a
+  body_none : (a : Actors) → frame_in a.services.frame ≡ first_frame p.wiring me → links_in a.services ≡ first_links → a.table ≡ []
+      → a.seats.items ≡ replicate (length p.wiring.slots) vacant → first_body p.wiring me ≡ body_of p me a
   unfolding body_of
-  body_none a frame seats =
-      sym (ap (λ (f : Frame). record { frame = f; links = first_links; table = []; machines = λ s. actor_in (seat_at a.seats.items s).stand; deferred = λ s. (seat_at a.seats.items s).deferred }) frame
+  body_none a frame links table seats =
+      sym (ap (λ (f : Frame). record { frame = f; links = links_in a.services; table = a.table; machines = λ s. actor_in (seat_at a.seats.items s).stand; deferred = λ s. (seat_at a.seats.items s).deferred }) frame
+      ∙ ap (λ (l : Links). record { frame = first_frame p.wiring me; links = l; table = a.table; machines = λ s. actor_in (seat_at a.seats.items s).stand; deferred = λ s. (seat_at a.seats.items s).deferred }) links
+      ∙ ap (λ (t : NameTable). record { frame = first_frame p.wiring me; links = first_links; table = t; machines = λ s. actor_in (seat_at a.seats.items s).stand; deferred = λ s. (seat_at a.seats.items s).deferred }) table
       ∙ ap (λ (f : ℕ → Seat). record { frame = first_frame p.wiring me; links = first_links; table = []; machines = λ s. actor_in (f s).stand; deferred = λ s. (f s).deferred })
       (fun_ext (λ s. ap (λ (xs : List Seat). seat_at xs s) seats ∙ vacant_at (length p.wiring.slots) s)))
 
   -- nobody has started
-  pub starts_none : (s : Starting) → Serves p.wiring me s.actors.services → frame_in s.actors.services.frame ≡ first_frame p.wiring me → s.actors.seats.items ≡ replicate (length p.wiring.slots) vacant
-      → s.sent ≡ [] → s.back ≡ [] → s.entries ≡ [] → Starts p me [] s
-  starts_none s serves frame seats sent back entries =
+  pub starts_none : (s : Starting) → Serves p.wiring me s.actors.services → frame_in s.actors.services.frame ≡ first_frame p.wiring me → links_in s.actors.services ≡ first_links → s.actors.table ≡ []
+      → s.actors.seats.items ≡ replicate (length p.wiring.slots) vacant → s.sent ≡ [] → s.back ≡ [] → s.entries ≡ [] → Starts p me [] s
+  starts_none s serves frame links table seats sent back entries =
       let nobody : (n : ℕ) → seat_at s.actors.seats.items n ≡ vacant =
       λ n. ap (λ (xs : List Seat). seat_at xs n) seats ∙ vacant_at (length p.wiring.slots) n in
       record {
         notes = [];
         kept = false;
-        started = same_start (body_none s.actors frame seats) (sym sent) (sym back) (sym entries);
+        started = same_start (body_none s.actors frame links table seats) (sym sent) (sym back) (sym entries);
         well = record {
           seated = record {
             serves = serves;

@@ -1,5 +1,5 @@
 -- A slot that changes, on the body that the actors are.
-use Rattle.std.proofs.Common.{◌≡◌, ℕ, ◌<◌, ◌==◌, ◌||◌, Bool, true, false, List, [], ◌∷◌, length, set, Option, refl, sym, ap, ◌∙◌, subst, get_or-set_same, get_or-set_other, length-set, inl, inr}
+use Rattle.std.proofs.Common.{◌≡◌, ℕ, ◌<◌, ◌||◌, Bool, true, false, List, ◌∷◌, length, set, Option, refl, sym, ap, ◌∙◌, subst, get_or-set_same, get_or-set_other, length-set, inl, inr}
 use Rattle.std.specs.List.{list_any}
 use Rattle.std.proofs.Math.Path.{fun_ext}
 use Rattle.std.proofs.lemmas.Bool.{cases_eq, ne_eqb}
@@ -7,26 +7,25 @@ use Rattle.room_kinds.specs.declared.message.Msg.{Msg}
 use Rattle.room_kinds.specs.declared.numbers.Incarnation.{Incarnation}
 use Rattle.actor_duties.specs.Words.{updated}
 use Rattle.actor_duties.specs.Lives.{last_of}
-use Rattle.actor_duties.specs.State.{Frame, Lives}
+use Rattle.actor_duties.specs.State.{Frame, Lives, Links, NameTable}
 use Rattle.actor_world.specs.Body.{Body}
-use Rattle.actor_world.specs.Start.{first_links}
 use Rattle.frame_lives.proofs.Rows.{updated_here, updated_else, updated_same}
 use Rattle.frame_service.specs.State.{frame_in}
 use Rattle.chart_behaviour.specs.ModelCharts.{Actor, tables_at}
-use Rattle.controller_actors.specs.declared.actor_seats.stand.Stand.TheVariants as stands
 use Rattle.controller_actors.specs.declared.actor_seats.seat.Seat.{Seat}
 use Rattle.controller_actors.specs.actor_seats.Stands.{actor_in}
 use Rattle.controller_actors.specs.actor_seats.Seats.{SeatFits, seat_body}
 use Rattle.controller_actors.specs.declared.plant.Plant.{Plant}
 use Rattle.controller_actors.specs.declared.actors.Actors.{Actors}
-use Rattle.controller_actors.specs.Served.{Serves}
+use Rattle.controller_actors.specs.Served.{Serves, links_in}
 use Rattle.controller_actors.specs.Stands.{AreEmpty, IsSeated, body_of, is_in, lives_of, seat_at, vacant}
 
-same_body : (f : Frame) {machines machines' : ℕ → Option Actor} {deferred deferred' : ℕ → List Msg} → machines ≡ machines' → deferred ≡ deferred'
+same_body : (f : Frame) (l : Links) {table table' : NameTable} {machines machines' : ℕ → Option Actor} {deferred deferred' : ℕ → List Msg}
+    → table ≡ table' → machines ≡ machines' → deferred ≡ deferred'
     → ◌≡◌ {A = Body Actor}
-    (record { frame = f; links = first_links; table = []; machines = machines; deferred = deferred })
-    (record { frame = f; links = first_links; table = []; machines = machines'; deferred = deferred' })
-same_body f p q = cc
+    (record { frame = f; links = l; table = table; machines = machines; deferred = deferred })
+    (record { frame = f; links = l; table = table'; machines = machines'; deferred = deferred' })
+same_body f l t p q = cc
 
 -- seats of which one is another, as a function of the slot
 seat_set : {A : Type 0} (field : Seat → A) (seats : List Seat) (s : ℕ) (seat : Seat) → s < length seats
@@ -41,19 +40,19 @@ seat_set {A} field seats s seat l = fun_ext (λ n.
 
 module _ (p : Plant) (me : ℕ) where
   -- the body with what stands in a slot anyway
-  pub body_same : (a : Actors) (s : ℕ) → body_of p me a ≡ seat_body (frame_in a.services.frame) first_links (body_of p me a) s (seat_at a.seats.items s)
+  pub body_same : (a : Actors) (s : ℕ) → body_of p me a ≡ seat_body (frame_in a.services.frame) (links_in a.services) (body_of p me a) s (seat_at a.seats.items s)
   unfolding body_of
   body_same a s =
-      same_body (frame_in a.services.frame)
+      same_body (frame_in a.services.frame) (links_in a.services) refl
       (sym (updated_same (λ n. actor_in (seat_at a.seats.items n).stand) s (actor_in (seat_at a.seats.items s).stand) refl))
       (sym (updated_same (λ n. (seat_at a.seats.items n).deferred) s (seat_at a.seats.items s).deferred refl))
 
   -- the body after a slot has changed
-  pub body_set : (old new : Actors) (s : ℕ) (seat : Seat) → s < length old.seats.items → new.seats.items ≡ set old.seats.items s seat
-      → body_of p me new ≡ seat_body (frame_in new.services.frame) first_links (body_of p me old) s seat
+  pub body_set : (old new : Actors) (s : ℕ) (seat : Seat) → s < length old.seats.items → new.table ≡ old.table → new.seats.items ≡ set old.seats.items s seat
+      → body_of p me new ≡ seat_body (frame_in new.services.frame) (links_in new.services) (body_of p me old) s seat
   unfolding body_of
-  body_set old new s seat l seats =
-      same_body (frame_in new.services.frame)
+  body_set old new s seat l table seats =
+      same_body (frame_in new.services.frame) (links_in new.services) table
       (ap (λ (xs : List Seat). λ n. actor_in (seat_at xs n).stand) seats ∙ seat_set (λ (x : Seat). actor_in x.stand) old.seats.items s seat l)
       (ap (λ (xs : List Seat). λ n. (seat_at xs n).deferred) seats ∙ seat_set (λ (x : Seat). x.deferred) old.seats.items s seat l)
 

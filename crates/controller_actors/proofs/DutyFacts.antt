@@ -1,9 +1,9 @@
 -- What a duty of the frame service does to lives: what lives keeps its generation, what goes down is told
 -- as ended, and what is told as made lives.
-use Rattle.std.proofs.Common.{◌≡◌, ℕ, zero, suc, ◌+◌, ◌<◌, ◌≤◌, ◌==◌, Bool, true, false, not, cond, ◌&&◌, ◌||◌, if◌then◌else◌, List, [], ◌∷◌, map, flat_map, filter, reverse, length, All, Option, Some, None, ℤ, pos, negsuc, refl, sym, ap, ◌∙◌, subst, arith, inl, inr}
+use Rattle.std.proofs.Common.{◌≡◌, ℕ, zero, suc, ◌+◌, ◌<◌, ◌≤◌, Bool, true, false, not, cond, ◌&&◌, ◌||◌, if◌then◌else◌, List, [], ◌∷◌, map, filter, reverse, length, All, Option, Some, None, ℤ, pos, negsuc, refl, sym, ap, ◌∙◌, subst, arith, inl, inr}
 use mathlib.Core.List.{reverse_aux}
 use Rattle.std.specs.List.{list_any, range_with_len}
-use Rattle.std.proofs.lemmas.Bool.{and_parts, cases_lt, eq-eqb}
+use Rattle.std.proofs.lemmas.Bool.{cases_lt, eq-eqb}
 use Rattle.std.proofs.lemmas.List.Elements.{All-nil, All-cons, All-head, All-tail}
 use Rattle.room_kinds.specs.declared.message.Msg.{Msg}
 use Rattle.room_kinds.specs.declared.numbers.Incarnation.{Incarnation}
@@ -15,7 +15,7 @@ use Rattle.actor_duties.specs.Messages.{reply, coded, NotHere, Occupied}
 use Rattle.actor_duties.specs.Words.{frame_at, frame_of, whose}
 use Rattle.actor_duties.specs.State.{Lives, Frame}
 use Rattle.actor_duties.specs.Lives.{answered, comes_up, counts_as_live, create, ended_slots, goes_down, last_of, lives_ended, lives_made, made, made_slots, part_make}
-use Rattle.actor_duties.specs.Frame.{FrameDone, destroy, end_set_ended, frame_duty, frame_duty_from, frame_duty_of, frame_ended, nothing, of_natural, only_sends, part_end, plainly, with_lives, with_number}
+use Rattle.actor_duties.specs.Frame.{FrameDone, destroy, end_set_ended, frame_duty, frame_duty_from, frame_duty_of, frame_ended, of_natural, part_end, plainly, with_lives, with_number}
 use Rattle.actor_world.proofs.LifeSteps.{up_parts, down_parts}
 use Rattle.actor_world.proofs.Slots.{own_in_range}
 use Rattle.controller_actors.specs.Stands.{is_in}

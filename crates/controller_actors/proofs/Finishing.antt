@@ -1,18 +1,16 @@
 -- Duties of the frame service, with what is left to do after them.
-use Rattle.std.proofs.Common.{◌≡◌, ℕ, zero, suc, ◌+◌, ◌<◌, ◌≤◌, ◌==◌, Bool, true, false, List, [], ◌∷◌, ◌++◌, length, slice_get, All, Option, Some, None, refl, sym, ap, ◌∙◌, subst, arith, inl, inr, ◌⊎◌}
+use Rattle.std.proofs.Common.{◌≡◌, ℕ, zero, suc, ◌+◌, ◌<◌, ◌==◌, Bool, true, false, List, [], ◌∷◌, ◌++◌, length, slice_get, All, Option, Some, None, refl, sym, ap, ◌∙◌, subst, arith}
 use Rattle.std.specs.List.{list_any}
 use Rattle.std.proofs.lemmas.List.Elements.{All-nil}
 use Rattle.std.proofs.lemmas.Bool.{eq-eqb}
 use Rattle.room_kinds.specs.declared.message.Msg.{Msg}
-use Rattle.room_kinds.specs.declared.note.Note.{Note}
 use Rattle.room_kinds.specs.declared.numbers.Incarnation.{Incarnation}
 use Rattle.room_kinds.specs.declared.system.SysKind.{SysKind}
 use Rattle.room_kinds.specs.declared.system.SysKind.TheVariants as kinds
 use Rattle.room_kinds.specs.Kinds.{number_of}
 use Rattle.room_kinds.specs.Names.{kind_at}
-use Rattle.room_wiring.specs.declared.tables.Tables.{Tables}
 use Rattle.journal.specs.declared.entry.Did.TheVariants as did
-use Rattle.actor_duties.specs.State.{Frame, Lives}
+use Rattle.actor_duties.specs.State.{Frame, Lives, NameTable}
 use Rattle.actor_duties.specs.Lives.{last_of}
 use Rattle.actor_duties.specs.Frame.{FrameDone, frame_duty}
 use Rattle.actor_world.specs.Behaviour.{Behaviour}
@@ -24,7 +22,7 @@ use Rattle.frame_lives.specs.declared.done.DutyDone.{DutyDone}
 use Rattle.frame_service.specs.State.{frame_in}
 use Rattle.frame_service.specs.declared.state.FrameState.{FrameState}
 use Rattle.frame_service.specs.Done.{IsDone}
-use Rattle.frame_service.specs.frame_endings.Ends.{left_of}
+use Rattle.layer_service.specs.layer_links.Kept.{links_of}
 use Rattle.controller_mail.specs.MailState.{HasPriority, with_body}
 use Rattle.controller_mail.specs.declared.controller_mail.Treatment.{Treatment}
 use Rattle.controller_actors.specs.declared.actor_seats.stand.Stand.{Stand}
@@ -33,12 +31,14 @@ use Rattle.controller_actors.specs.declared.actor_seats.seat.Seat.{Seat}
 use Rattle.controller_actors.specs.declared.changes.SoFar.{SoFar}
 use Rattle.controller_actors.specs.declared.plant.Plant.{Plant}
 use Rattle.controller_actors.specs.declared.actors.Actors.{Actors}
+use Rattle.controller_actors.specs.declared.duties.Service.TheVariants as services
+use Rattle.controller_actors.specs.Served.{links_in}
 use Rattle.controller_actors.specs.actor_seats.Stands.{HasTables, IsOf}
 use Rattle.controller_actors.specs.actor_seats.Seats.{SeatFits}
 use Rattle.controller_actors.specs.Plants.{model_of}
 use Rattle.controller_actors.specs.Stands.{AreEmpty, IsSeated, IsWell, body_of, done_of, is_in, lives_of, seat_at}
 use Rattle.controller_actors.specs.Steps.{Closes, IsLast, Moves, doing_of}
-use Rattle.controller_actors.specs.Duties.{Finishes, HasDuty, finishing, is_named}
+use Rattle.controller_actors.specs.Duties.{Finishes, HasDuty, finishing, service_of}
 use Rattle.controller_actors.proofs.DutyFacts.{Facts, facts}
 use Rattle.controller_actors.proofs.Moving.{then_moves}
 use Rattle.controller_actors.proofs.Turning.{treat_duty}
@@ -94,7 +94,7 @@ nobody_fits x o seat e kept = record {
 }
 
 module _ (p : Plant) (me : ℕ) (m : Msg) (kind : SysKind) (old mid : Actors) (sent : List Msg) (left : DutyDone) (well : IsWell p me old)
-    (seats : mid.seats ≡ old.seats)
+    (seats : mid.seats ≡ old.seats) (links : mid.services.links ≡ old.services.links) (table : mid.table ≡ old.table)
     (h : IsDone p.wiring old.services.frame mid.services.frame (frame_duty p.wiring me (frame_in old.services.frame) kind m) [] sent left) where
   abbrev row : FrameDone
   row = frame_duty p.wiring me (frame_in old.services.frame) kind m
@@ -137,7 +137,7 @@ module _ (p : Plant) (me : ℕ) (m : Msg) (kind : SysKind) (old mid : Actors) (s
   pub duty_ended : All (λ (x : Incarnation). x.slot.0 < length p.wiring.slots) left.ended
   duty_ended = subst (λ (d : DutyDone). All (λ (x : Incarnation). x.slot.0 < length p.wiring.slots) d.ended) (sym h.done) known.goes
 
-  is_frame : (model : Behaviour Actor) (b : Body Actor) (k : SysKind) → is_named k ≡ false → duty model p.wiring me b m k ≡ with_frame model p.wiring me b (frame_duty p.wiring me b.frame k m)
+  is_frame : (model : Behaviour Actor) (b : Body Actor) (k : SysKind) → service_of k ≡ services.Frame → duty model p.wiring me b m k ≡ with_frame model p.wiring me b (frame_duty p.wiring me b.frame k m)
   is_frame model b kinds.Register e = absurd cc
   is_frame model b kinds.Withdraw e = absurd cc
   is_frame model b kinds.Bound e = absurd cc
@@ -165,9 +165,11 @@ module _ (p : Plant) (me : ℕ) (m : Msg) (kind : SysKind) (old mid : Actors) (s
   begun_from =
       ap (λ (f : Frame). record (doing (body_of p me old)) { body = record (body_of p me old) { frame = f }; sent = row.sent }) (sym h.frame)
       ∙ ap (λ (ms : List Msg). record (doing (body_of p me old)) { body = record (body_of p me old) { frame = frame_in mid.services.frame }; sent = ms }) (sym h.sent)
+      ∙ ap (λ v. record (doing (body_of p me old)) { body = record (body_of p me old) { frame = frame_in mid.services.frame; links = links_of v }; sent = sent }) (sym links)
+      ∙ ap (λ (v : NameTable). record (doing (body_of p me old)) { body = record (body_of p me old) { frame = frame_in mid.services.frame; links = links_in mid.services; table = v }; sent = sent }) (sym table)
       ∙ ap (λ v. record (doing (body_of p me old)) { body = body_of p me (record mid { seats = v }); sent = sent }) (sym seats)
 
-  pub has_duty : (new : Actors) (done : Treatment) → is_named kind ≡ false → Finishes p me left sent mid new done → HasDuty p me m kind old new done
+  pub has_duty : (new : Actors) (done : Treatment) → service_of kind ≡ services.Frame → Finishes p me left sent mid new done → HasDuty p me m kind old new done
   unfolding body_of
   has_duty new done e f = record {
     turn =

@@ -1,10 +1,10 @@
 pub mod Tabled
-pub mod Peering
 pub mod Bodies
 pub mod Turning
 pub mod Moving
 pub mod DutyFacts
 pub mod Finishing
+pub mod Naming
 pub mod Beginnings
 pub mod SeatReads
 pub mod Occupants

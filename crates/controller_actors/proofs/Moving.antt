@@ -1,32 +1,25 @@
 -- Actors that come up and go down, as steps of what is done in a turn.
-use Rattle.std.proofs.Common.{◌≡◌, ℕ, ◌<◌, Bool, false, List, [], ◌∷◌, ◌++◌, map, filter, length, set, All, Option, None, refl, sym, ap, ◌∙◌, subst}
-use Rattle.std.proofs.lemmas.List.{append-nil}
+use Rattle.std.proofs.Common.{◌≡◌, ◌<◌, ℕ, Bool, List, [], ◌∷◌, ◌++◌, length, set, All, refl, sym, ap, ◌∙◌, subst}
 use Rattle.std.proofs.lemmas.List.Elements.{All-nil}
 use Rattle.room_kinds.specs.declared.message.Msg.{Msg}
 use Rattle.room_kinds.specs.declared.note.Note.{Note}
 use Rattle.room_kinds.specs.declared.note.Note.TheVariants as notes
 use Rattle.room_kinds.specs.declared.numbers.Incarnation.{Incarnation}
 use Rattle.room_wiring.specs.declared.tables.Tables.{Tables as Wiring}
-use Rattle.room_kinds.specs.declared.system.SysKind.TheVariants as kinds
-use Rattle.actor_duties.specs.Words.{updated, ports_of}
-use Rattle.actor_duties.specs.Messages.{system}
-use Rattle.frame_lives.proofs.Rows.{updated_same}
-use Rattle.actor_duties.specs.Lives.{last_of}
-use Rattle.actor_duties.specs.State.{Registration, Unnamed, Link, Links, Done}
-use Rattle.actor_duties.specs.Links.{end_of, point_of}
-use Rattle.actor_world.specs.Body.{Body, Doing, naming}
-use Rattle.actor_world.specs.Start.{first_links}
+use Rattle.actor_duties.specs.State.{Links}
+use Rattle.actor_duties.specs.Links.{end_of}
+use Rattle.actor_world.specs.Body.{Body, Doing}
 use Rattle.actor_world.specs.Turns.{begun, all_begun, gone, all_gone}
 use Rattle.chart_behaviour.specs.ModelCharts.{Actor, begins, tables_at}
 use Rattle.controller_mail.specs.MailState.{HasPriority}
-use Rattle.frame_service.specs.State.{frame_in}
+use Rattle.frame_service.specs.declared.state.FrameState.{FrameState}
+use Rattle.frame_service.specs.State.{IsFrameOf, frame_in}
 use Rattle.controller_actors.specs.declared.actor_seats.seat.Seat.{Seat}
 use Rattle.controller_actors.specs.declared.changes.SoFar.{SoFar}
 use Rattle.controller_actors.specs.actor_seats.Seats.{SeatComesUp, SeatFits, seat_body, risen}
 use Rattle.controller_actors.specs.declared.plant.Plant.{Plant}
 use Rattle.controller_actors.specs.declared.actors.Actors.{Actors}
-use Rattle.controller_actors.specs.declared.services.ActorServices.{ActorServices}
-use Rattle.controller_actors.specs.Served.{Serves}
+use Rattle.controller_actors.specs.Served.{Serves, links_in}
 use Rattle.controller_actors.specs.Plants.{model_of}
 use Rattle.controller_actors.specs.Stands.{IsSeated, body_of, lives_of, seat_at, vacant}
 use Rattle.controller_actors.specs.Steps.{IsLast, Moves, doing_of}
@@ -38,26 +31,6 @@ same_doing : {b c : Body Actor} {sent sent' back back' : List Msg} {told told' :
     (record { body = b; sent = sent; back = back; notes = told; kept = kept })
     (record { body = c; sent = sent'; back = back'; notes = told'; kept = kept })
 same_doing p q r e kept = cc
-
--- nothing passes
-none_pass : {A : Type 0} (xs : List A) → filter (λ x. false) xs ≡ []
-none_pass [] = refl
-none_pass (x ∷ xs) = none_pass xs
-
-same_links : {registrations registrations' : ℕ → ℕ → Registration} {linked linked' : ℕ → ℕ → List Link} {sent sent' : List Msg} → registrations ≡ registrations' → linked ≡ linked' → sent ≡ sent'
-    → ◌≡◌ {A = Done Links}
-    (record { now = record { registrations = registrations; linked = linked }; sent = sent })
-    (record { now = record { registrations = registrations'; linked = linked' }; sent = sent' })
-same_links p q r = cc
-
--- where nothing is registered and nobody linked, an end leaves it so and sends nothing
-ended_links : (t : Wiring) (me : ℕ) (x : Incarnation) → end_of t me first_links x ≡ record { now = first_links; sent = [] }
-unfolding end_of
-ended_links t me x =
-    same_links
-    (updated_same (λ s. (λ p. Unnamed)) x.slot.0 (λ p. Unnamed) refl)
-    (updated_same (λ s. (λ p. [])) x.slot.0 (λ p. []) refl)
-    (ap (map (λ p. system me 0 kinds.Withdraw (point_of x p) (point_of x p) [])) (none_pass (ports_of t x.slot.0)))
 
 module _ (p : Plant) (me : ℕ) where
   -- ---- steps one after another
@@ -92,10 +65,10 @@ module _ (p : Plant) (me : ℕ) where
   begun_is x d = refl
 
   pub comes_up : (old new : Actors) (x : Incarnation) (before after : Seat) (first last : SoFar) → x.slot.0 < length old.seats.items
-      → before ≡ seat_at old.seats.items x.slot.0 → new.seats.items ≡ set old.seats.items x.slot.0 after → Serves p.wiring me new.services
-      → SeatComesUp p.wiring me (frame_in old.services.frame) first_links (frame_in new.services.frame) first_links x (tables_at p.wiring p.tables.items x.slot.0) before after first.said first.back last.said last.back
+      → before ≡ seat_at old.seats.items x.slot.0 → new.table ≡ old.table → new.seats.items ≡ set old.seats.items x.slot.0 after → Serves p.wiring me new.services
+      → SeatComesUp p.wiring me (frame_in old.services.frame) (links_in old.services) (frame_in new.services.frame) (links_in new.services) x (tables_at p.wiring p.tables.items x.slot.0) before after first.said first.back last.said last.back
       → IsSeated p me old → IsLast p.wiring (lives_of old) x → Moves (begun (model_of p) p.wiring me x) p me old first new last
-  comes_up old new x before after first last l is seats serves h seated here =
+  comes_up old new x before after first last l is table seats serves h seated here =
       let s = x.slot.0 in
       let o = tables_at p.wiring p.tables.items s in
       let f = frame_in old.services.frame in
@@ -105,10 +78,10 @@ module _ (p : Plant) (me : ℕ) where
           h.kept,
           begun_is x (doing_of p me old first held)
               ∙ ap (λ (c : Body Actor). risen p.wiring me x (begins x o) (record { body = c; sent = first.said.messages; back = first.back; notes = first.said.notes; kept = held }))
-              (body_same p me old s ∙ ap (seat_body f first_links b s) (sym is))
+              (body_same p me old s ∙ ap (seat_body f (links_in old.services) b s) (sym is))
               ∙ h.doing b held
               ∙ ap (λ (c : Body Actor). record { body = c; sent = last.said.messages; back = last.back; notes = last.said.notes; kept = h.kept })
-              (sym (body_set p me old new s after l seats)),
+              (sym (body_set p me old new s after l table seats)),
         );
         seated = seated_set p me old new s after l h.lives seats serves seated (subst (λ y. SeatFits y o after) (sym here.last) h.fits);
         lives = h.lives;
@@ -131,31 +104,28 @@ module _ (p : Plant) (me : ℕ) where
   -- ---- an actor is gone
 
   pub goes_down : (old new : Actors) (x : Incarnation) (first last : SoFar) → x.slot.0 < length old.seats.items
-      → new.services ≡ old.services → new.seats.items ≡ set old.seats.items x.slot.0 vacant
-      → last.said.messages ≡ first.said.messages → last.back ≡ first.back
+      → new.services.frame ≡ old.services.frame → links_in new.services ≡ (end_of p.wiring me (links_in old.services) x).now
+      → new.table ≡ old.table → new.seats.items ≡ set old.seats.items x.slot.0 vacant
+      → last.said.messages ≡ first.said.messages ++ (end_of p.wiring me (links_in old.services) x).sent → last.back ≡ first.back
       → last.said.notes ≡ first.said.notes ++ notes.Down x (length (seat_at old.seats.items x.slot.0).deferred) ∷ []
       → IsSeated p me old → Moves (gone p.wiring me x) p me old first new last
   unfolding body_of
-  goes_down old new x first last l services seats sent back told seated =
+  goes_down old new x first last l frame links table seats sent back told seated =
       let s = x.slot.0 in
       let b = body_of p me old in
-      let lives : lives_of new ≡ lives_of old = ap (λ (v : ActorServices). (frame_in v.frame).lives) services in
-      let body : seat_body (frame_in old.services.frame) first_links b s vacant ≡ body_of p me new =
-      ap (λ (v : ActorServices). seat_body (frame_in v.frame) first_links b s vacant) (sym services) ∙ sym (body_set p me old new s vacant l seats) in
+      let r = end_of p.wiring me (links_in old.services) x in
+      let lives : lives_of new ≡ lives_of old = ap (λ (f : FrameState). (frame_in f).lives) frame in
+      let body : seat_body (frame_in old.services.frame) r.now b s vacant ≡ body_of p me new =
+      ap (λ (f : FrameState). seat_body (frame_in f) r.now b s vacant) (sym frame)
+      ∙ ap (λ (k : Links). seat_body (frame_in new.services.frame) k b s vacant) (sym links)
+      ∙ sym (body_set p me old new s vacant l table seats) in
+      let serves : Serves p.wiring me new.services = record {
+        fits = subst (IsFrameOf p.wiring) (sym frame) seated.serves.fits;
+        owner = ap (λ (f : FrameState). f.me.0) frame ∙ seated.serves.owner;
+      } in
       record {
-        on = λ held. (
-          held,
-          ap (naming (record {
-            body = record b { machines = updated b.machines s None; deferred = updated b.deferred s [] };
-            sent = first.said.messages;
-            back = first.back;
-            notes = first.said.notes ++ notes.Down x (length (b.deferred s)) ∷ [];
-            kept = held;
-          })) (ended_links p.wiring me x)
-              ∙ same_doing body (append-nil first.said.messages ∙ sym sent) (sym back) (sym told) held,
-        );
-        seated = seated_set p me old new s vacant l lives seats (subst (Serves p.wiring me) (sym services) seated.serves) seated
-            (record { of = tt; tables = tt; kept = All-nil HasPriority });
+        on = λ held. (held, same_doing body (sym sent) (sym back) (sym told) held);
+        seated = seated_set p me old new s vacant l lives seats serves seated (record { of = tt; tables = tt; kept = All-nil HasPriority });
         lives = lives;
         back = λ all. subst (λ (ms : List Msg). All HasPriority ms) (sym back) all;
       }

@@ -1,13 +1,10 @@
 -- The actor that is found in a slot.
-use Rattle.std.proofs.Common.{◌≡◌, ℕ, ◌<◌, Bool, true, false, cond, Option, Some, None, length, refl, sym, ap}
+use Rattle.std.proofs.Common.{◌≡◌, ℕ, ◌<◌, Bool, true, false, cond, Option, Some, None, length, refl, ap}
 use Rattle.room_kinds.specs.declared.numbers.SlotId.{SlotId}
 use Rattle.room_kinds.specs.declared.numbers.Generation.{Generation}
-use Rattle.room_kinds.specs.declared.numbers.Incarnation.{Incarnation}
 use Rattle.room_wiring.specs.declared.tables.Tables.{Tables}
-use Rattle.actor_duties.specs.Words.{is_own}
 use Rattle.actor_duties.specs.State.{Lives}
 use Rattle.frame_lives.specs.Known.{live_in}
-use Rattle.actor_world.proofs.Slots.{own_in_range}
 use Rattle.controller_actors.specs.Steps.{IsLast}
 
 -- a generation that is found lives

@@ -11,8 +11,7 @@ use Rattle.chart_behaviour.specs.ModelCharts.{tables_at}
 use Rattle.controller_mail.specs.MailState.{HasPriority, with_body}
 use Rattle.controller_mail.specs.declared.controller_mail.Treatment.{Treatment}
 use Rattle.controller_actors.specs.declared.services.ActorServices.{ActorServices}
-use Rattle.controller_actors.specs.Served.{Serves}
-use Rattle.actor_world.specs.Start.{first_links}
+use Rattle.controller_actors.specs.Served.{Serves, links_in}
 use Rattle.frame_service.specs.State.{frame_in}
 use Rattle.controller_actors.specs.declared.actor_seats.seat.Seat.{Seat}
 use Rattle.controller_actors.specs.actor_seats.Stands.{AreSound, actor_in}
@@ -48,10 +47,10 @@ read_kept p me a s seat seated is = subst (λ (y : Seat). All HasPriority y.defe
 
 -- nobody stands in the slot of a message, which stays as it was
 pub dispatches_none : (p : Plant) (me : ℕ) (m : Msg) (old new : Actors) (before after : Seat) (done : Treatment) → m.target.slot.0 < length old.seats.items
-    → before ≡ seat_at old.seats.items m.target.slot.0 → new.services ≡ old.services → new.seats.items ≡ set old.seats.items m.target.slot.0 after
+    → before ≡ seat_at old.seats.items m.target.slot.0 → new.services ≡ old.services → new.table ≡ old.table → new.seats.items ≡ set old.seats.items m.target.slot.0 after
     → actor_in before.stand ≡ None → after ≡ before → done ≡ record { sent = []; back = []; did = did.Empty (whose m.target); notes = [] }
     → (lives_of old).lives m.target.slot.0 ≡ true → IsWell p me old → Dispatches p me m old new done
-dispatches_none p me m old new before after done l read services seats none stays is live well =
+dispatches_none p me m old new before after done l read services table seats none stays is live well =
     let s = m.target.slot.0 in
     let b = body_of p me old in
     let same : after ≡ seat_at old.seats.items s = stays ∙ read in
@@ -61,9 +60,9 @@ dispatches_none p me m old new before after done l read services seats none stay
       turn =
           there.turn
           ∙ ap (with_body (done_of done))
-          (body_same p me old s ∙ ap (seat_body (frame_in old.services.frame) first_links b s) (sym same)
-          ∙ ap (λ (x : ActorServices). seat_body (frame_in x.frame) first_links b s after) (sym services)
-          ∙ sym (body_set p me old new s after l seats));
+          (body_same p me old s ∙ ap (seat_body (frame_in old.services.frame) (links_in old.services) b s) (sym same)
+          ∙ ap (λ (x : ActorServices). seat_body (frame_in x.frame) (links_in x) b s after) (sym services)
+          ∙ sym (body_set p me old new s after l table seats));
       well = record {
         seated = seated_set p me old new s after l lives seats (subst (Serves p.wiring me) (sym services) well.seated.serves) well.seated
             (subst (λ (y : Seat). SeatFits (last_of (lives_of old) s) (tables_at p.wiring p.tables.items s) y) (sym same) (well.seated.each s));

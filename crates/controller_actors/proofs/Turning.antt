@@ -11,13 +11,12 @@ use Rattle.actor_duties.specs.Words.{is_own, whose}
 use Rattle.actor_duties.specs.Lives.{last_of}
 use Rattle.actor_world.specs.Behaviour.{Behaviour}
 use Rattle.actor_world.specs.Body.{Body}
-use Rattle.actor_world.specs.Start.{first_links}
 use Rattle.actor_world.specs.Turns.{doing, treated, is_meant, nobody_there, handled, all_kinds, system_done, dispatched, dispatch, treat}
 use Rattle.frame_service.specs.State.{frame_in}
 use Rattle.chart_behaviour.specs.ModelCharts.{Actor, tables_at, handles}
 use Rattle.controller_mail.specs.MailState.{HasPriority, with_body}
 use Rattle.controller_mail.specs.declared.controller_mail.Treatment.{Treatment}
-use Rattle.controller_actors.specs.Served.{Serves}
+use Rattle.controller_actors.specs.Served.{Serves, links_in}
 use Rattle.controller_actors.specs.declared.actor_seats.seat.Seat.{Seat}
 use Rattle.controller_actors.specs.actor_seats.Stands.{actor_in, actor_of}
 use Rattle.controller_actors.specs.actor_seats.Seats.{SeatTurns, seat_body, turned, treated_on}
@@ -128,10 +127,10 @@ module _ (p : Plant) (me : ℕ) (m : Msg) (old : Actors) where
 
   -- an actor stands in the slot
   pub dispatches_actor : (new : Actors) (before after : Seat) (done : Treatment) → m.target.slot.0 < length old.seats.items
-      → before ≡ seat_at old.seats.items m.target.slot.0 → new.seats.items ≡ set old.seats.items m.target.slot.0 after → Serves p.wiring me new.services
-      → SeatTurns p.wiring me (frame_in old.services.frame) first_links (frame_in new.services.frame) first_links (last_of (lives_of old) m.target.slot.0) m (tables_at p.wiring p.tables.items m.target.slot.0) before after done
+      → before ≡ seat_at old.seats.items m.target.slot.0 → new.table ≡ old.table → new.seats.items ≡ set old.seats.items m.target.slot.0 after → Serves p.wiring me new.services
+      → SeatTurns p.wiring me (frame_in old.services.frame) (links_in old.services) (frame_in new.services.frame) (links_in new.services) (last_of (lives_of old) m.target.slot.0) m (tables_at p.wiring p.tables.items m.target.slot.0) before after done
       → (lives_of old).lives m.target.slot.0 ≡ true → IsWell p me old → Dispatches p me m old new done
-  dispatches_actor new before after done l is seats serves h live well =
+  dispatches_actor new before after done l is table seats serves h live well =
       let s = m.target.slot.0 in
       let x = last_of (lives_of old) s in
       let f = frame_in old.services.frame in
@@ -142,9 +141,9 @@ module _ (p : Plant) (me : ℕ) (m : Msg) (old : Actors) where
             ap (dispatched (model_of p) p.wiring me b m) (machine_is s ∙ ap (λ (y : Seat). actor_in y.stand) (sym is) ∙ h.stood)
             ∙ dispatched_is (actor_of before.stand)
             ∙ handled_is (actor_of before.stand)
-            ∙ ap (λ (c : Body Actor). turned p.wiring me c x m r) (body_same p me old s ∙ ap (seat_body f first_links b s) (sym is))
+            ∙ ap (λ (c : Body Actor). turned p.wiring me c x m r) (body_same p me old s ∙ ap (seat_body f (links_in old.services) b s) (sym is))
             ∙ h.turn b
-            ∙ ap (treated_on done) (sym (body_set p me old new s after l seats));
+            ∙ ap (treated_on done) (sym (body_set p me old new s after l table seats));
         well = record {
           seated = seated_set p me old new s after l h.lives seats serves well.seated h.fits;
           empty = empty_set old new s after h.lives seats live [] well.empty;

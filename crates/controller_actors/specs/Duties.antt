@@ -1,7 +1,6 @@
 -- What a turn makes of a message of priority 0.
-use Rattle.std.specs.Prelude.{◌≡◌, ℕ, Bool, true, false, List, All, Option}
+use Rattle.std.specs.Prelude.{◌≡◌, ℕ, List, All}
 use Rattle.room_kinds.specs.declared.message.Msg.{Msg}
-use Rattle.room_kinds.specs.declared.numbers.Incarnation.{Incarnation}
 use Rattle.room_kinds.specs.declared.system.SysKind.{SysKind}
 use Rattle.room_kinds.specs.declared.system.SysKind.TheVariants as kinds
 use Rattle.journal.specs.declared.entry.Did.TheVariants as did
@@ -13,30 +12,32 @@ use Rattle.controller_mail.specs.MailState.{HasPriority, with_body}
 use Rattle.controller_mail.specs.declared.controller_mail.Treatment.{Treatment}
 use Rattle.controller_actors.specs.declared.plant.Plant.{Plant}
 use Rattle.controller_actors.specs.declared.actors.Actors.{Actors}
+use Rattle.controller_actors.specs.declared.duties.Service.{Service}
+use Rattle.controller_actors.specs.declared.duties.Service.TheVariants as services
 use Rattle.controller_actors.specs.Plants.{model_of}
 use Rattle.controller_actors.specs.Stands.{IsWell, body_of, done_of}
 
--- whether a kind is the layer service's
-abbrev pub is_named : SysKind → Bool
-is_named kinds.Register = true
-is_named kinds.Withdraw = true
-is_named kinds.Bound = true
-is_named kinds.Ended = true
-is_named kinds.NameReply = true
-is_named kinds.Create = false
-is_named kinds.CreateDone = false
-is_named kinds.CreateRefused = false
-is_named kinds.Destroy = false
-is_named kinds.DestroyDone = false
-is_named kinds.Import = false
-is_named kinds.ImportDone = false
-is_named kinds.ImportRefused = false
-is_named kinds.ImportEnded = false
-is_named kinds.Deport = false
-is_named kinds.DeportDone = false
-is_named kinds.Announce = false
-is_named kinds.PartMake = false
-is_named kinds.PartEnd = false
+-- whose duty a system message of this kind is
+abbrev pub service_of : SysKind → Service
+service_of kinds.Register = services.NameTable
+service_of kinds.Withdraw = services.NameTable
+service_of kinds.Bound = services.Links
+service_of kinds.Ended = services.Links
+service_of kinds.NameReply = services.Links
+service_of kinds.Create = services.Frame
+service_of kinds.CreateDone = services.Frame
+service_of kinds.CreateRefused = services.Frame
+service_of kinds.Destroy = services.Frame
+service_of kinds.DestroyDone = services.Frame
+service_of kinds.Import = services.Frame
+service_of kinds.ImportDone = services.Frame
+service_of kinds.ImportRefused = services.Frame
+service_of kinds.ImportEnded = services.Frame
+service_of kinds.Deport = services.Frame
+service_of kinds.DeportDone = services.Frame
+service_of kinds.Announce = services.Frame
+service_of kinds.PartMake = services.Frame
+service_of kinds.PartEnd = services.Frame
 
 -- a duty of this kind was done
 pub record HasDuty (plant : Plant) (me : ℕ) (m : Msg) (kind : SysKind) (old new : Actors) (done : Treatment) : Type 0 where

@@ -5,7 +5,6 @@ use Rattle.room_kinds.specs.declared.numbers.Incarnation.{Incarnation}
 use Rattle.actor_duties.specs.State.{Lives}
 use Rattle.actor_duties.specs.Lives.{last_of}
 use Rattle.actor_world.specs.Body.{Body}
-use Rattle.actor_world.specs.Start.{first_links}
 use Rattle.chart_behaviour.specs.ModelCharts.{Actor, tables_at}
 use Rattle.controller_mail.specs.MailState.{TurnDone}
 use Rattle.controller_mail.specs.declared.controller_mail.Treatment.{Treatment}
@@ -16,7 +15,7 @@ use Rattle.controller_actors.specs.actor_seats.Stands.{actor_in}
 use Rattle.controller_actors.specs.actor_seats.Seats.{SeatFits}
 use Rattle.controller_actors.specs.declared.plant.Plant.{Plant}
 use Rattle.controller_actors.specs.declared.actors.Actors.{Actors}
-use Rattle.controller_actors.specs.Served.{Serves}
+use Rattle.controller_actors.specs.Served.{Serves, links_in}
 
 -- a slot where nobody stands
 abbrev pub vacant : Seat
@@ -30,8 +29,8 @@ seat_at seats s = slice_index_or seats s vacant
 unfoldable pub body_of : Plant → ℕ → Actors → Body Actor
 body_of plant me actors = record {
   frame = frame_in actors.services.frame;
-  links = first_links;
-  table = [];
+  links = links_in actors.services;
+  table = actors.table;
   machines = λ s. actor_in (seat_at actors.seats.items s).stand;
   deferred = λ s. (seat_at actors.seats.items s).deferred;
 }

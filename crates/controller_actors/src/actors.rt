@@ -15,16 +15,18 @@ use crate::start::start;
 use actor_commands::{Recalled, Speaker};
 use controller_mail::Treatment;
 use journal::{Did, Journal};
+use layer_service::NameService;
 use room_kinds::{ControllerId, Incarnation, Msg, Notes, Outbox, Sequence, SlotId};
 use service_messages::{is_own, whose};
 use std::alloc::{AllocError, Global};
 
-/// What a controller keeps besides its mail: its services, and for each slot what stands there and what
-/// that keeps for later.
+/// What a controller keeps besides its mail: its services, the name table, which is used on controller 0
+/// alone, and for each slot what stands there and what that keeps for later.
 #[derive(Drop)]
 pub struct Actors {
     pub(crate) alloc: Global,
     pub(crate) services: ActorServices,
+    pub(crate) table: NameService,
     pub(crate) seats: Vec<Seat>,
 }
 
@@ -135,7 +137,12 @@ impl Actors {
     }
 
     /// The actor that lives in a slot of the wiring, if it is the controller's own.
-    fn occupant(&self, plant: &Plant, me: ControllerId, slot: SlotId) -> Option<Incarnation>
+    pub(crate) fn occupant(
+        &self,
+        plant: &Plant,
+        me: ControllerId,
+        slot: SlotId,
+    ) -> Option<Incarnation>
         ensures { MatchOption result ((is_own plant.now.wiring me.0 slot.0 && (lives_of self.now).lives slot.0) ≡ false) (λ x. (x.slot ≡ slot) × IsLast plant.now.wiring (lives_of self.now) x × (is_own plant.now.wiring me.0 slot.0 ≡ true)) }
     {
         if !is_own(&plant.wiring, me, slot) {

@@ -1,8 +1,7 @@
 //! Actors that come up and go down in a turn.
-ghost use Rattle.std.specs.Prelude.{◌≡◌, ◌<◌, ◌∷◌, ℕ, List, [], length, All, IfOk, OnOk};
+ghost use Rattle.std.specs.Prelude.{◌<◌, ◌∷◌, List, [], length, All, IfOk, OnOk};
 ghost use Rattle.room_kinds.specs.declared.numbers.Incarnation.{Incarnation as Actor};
 ghost use Rattle.actor_world.specs.Turns.{begun, all_begun, gone, all_gone};
-ghost use Rattle.controller_actors.specs.declared.plant.Plant.{Plant as SomePlant};
 ghost use Rattle.controller_actors.specs.Plants.{IsPlant, model_of};
 ghost use Rattle.controller_actors.specs.Stands.{AreEmpty, IsSeated, lives_of};
 ghost use Rattle.controller_actors.specs.Steps.{IsLast, Moves};
@@ -70,33 +69,44 @@ impl Actors {
         Ok(so_far)
     }
 
-    /// An actor that has ended is gone: its note tells how many messages it had kept, and nobody stands
-    /// in its slot.
-    pub(crate) fn go_down(&mut self, who: Incarnation, so_far: &mut SoFar) -> Result<(), AllocError>
-        requires there { who.slot.0 < length self.old.seats.items }
-        ensures moves { OnOk result ((plant : SomePlant) (me : ℕ) → IsSeated plant me self.old → Moves (gone plant.wiring me who) plant me self.old so_far.old self.new so_far.new) }
+    /// An actor that has ended is gone: its note tells how many messages it had kept, nobody stands in its
+    /// slot, and its names are withdrawn.
+    pub(crate) fn go_down(
+        &mut self,
+        plant: &Plant,
+        me: ControllerId,
+        who: Incarnation,
+        so_far: &mut SoFar,
+    ) -> Result<(), AllocError>
+        requires seated { IsSeated plant.now me.0 self.old }
+        requires there { who.slot.0 < length plant.now.wiring.slots }
+        ensures moves { OnOk result (Moves (gone plant.now.wiring me.0 who) plant.now me.0 self.old so_far.old self.new so_far.new) }
         ensures empty { OnOk result ((rest : List Actor) → AreEmpty (who ∷ rest) self.old → AreEmpty rest self.new) }
-        ensures count { OnOk result (length self.new.seats.items ≡ length self.old.seats.items) }
     {
         let seat = &mut self.seats[usize::from(who.slot.0)];
         let lost = seat.deferred.len() as u64;
         so_far.said.notes.push(Note::Down { who, lost })?;
         *seat = Seat::vacant(self.alloc);
+        let out = &mut so_far.said.messages;
+        self.services.links.end_of(&plant.wiring, me, who, out)?;
         Ok(())
     }
 
     /// Actors that have ended are gone, one after another.
     pub(crate) fn all_go_down(
         &mut self,
+        plant: &Plant,
+        me: ControllerId,
         ended: &[Incarnation],
         so_far: &mut SoFar,
     ) -> Result<(), AllocError>
-        requires there { All (λ (x : Actor). x.slot.0 < length self.old.seats.items) ended.now }
-        ensures moves { OnOk result ((plant : SomePlant) (me : ℕ) → IsSeated plant me self.old → Moves (all_gone plant.wiring me ended.now) plant me self.old so_far.old self.new so_far.new) }
+        requires seated { IsSeated plant.now me.0 self.old }
+        requires there { All (λ (x : Actor). x.slot.0 < length plant.now.wiring.slots) ended.now }
+        ensures moves { OnOk result (Moves (all_gone plant.now.wiring me.0 ended.now) plant.now me.0 self.old so_far.old self.new so_far.new) }
         ensures empty { OnOk result (AreEmpty ended.now self.old → AreEmpty [] self.new) }
     {
         for who in ended {
-            self.go_down(*who, so_far)?;
+            self.go_down(plant, me, *who, so_far)?;
         }
         Ok(())
     }

@@ -1,13 +1,15 @@
 //! Duties: what a turn makes of a message of priority 0.
-ghost use Rattle.std.specs.Prelude.{◌≡◌, ◌<◌, [], false, length, All, IfOk, OnOk};
-ghost use Rattle.room_kinds.specs.declared.numbers.Incarnation.{Incarnation};
+ghost use Rattle.std.specs.Prelude.{◌≡◌, ◌<◌, ◌&&◌, [], length, All, IfOk, OnOk};
+ghost use Rattle.room_kinds.specs.declared.numbers.Incarnation.{Incarnation as Actor};
 ghost use Rattle.room_kinds.specs.Kinds.{number_of};
+ghost use Rattle.actor_duties.specs.Words.{is_own};
+ghost use Rattle.actor_duties.specs.Lives.{is_live};
 ghost use Rattle.actor_world.specs.Turns.{treat};
 ghost use Rattle.controller_mail.specs.MailState.{HasPriority, with_body};
 ghost use Rattle.controller_actors.specs.Plants.{IsPlant, model_of};
 ghost use Rattle.controller_actors.specs.Stands.{AreEmpty, IsSeated, IsWell, body_of, done_of, lives_of};
 ghost use Rattle.controller_actors.specs.Steps.{Closes, IsLast};
-ghost use Rattle.controller_actors.specs.Duties.{Finishes, HasDuty, is_named};
+ghost use Rattle.controller_actors.specs.Duties.{Finishes, HasDuty, service_of};
 
 use crate::actors::Actors;
 use crate::changes::SoFar;
@@ -16,29 +18,59 @@ use actor_commands::{Recalled, Said};
 use controller_mail::Treatment;
 use frame_lives::DutyDone;
 use journal::Did;
-use room_kinds::{ControllerId, Msg, Notes, Outbox, Sequence, SysKind};
+use room_kinds::{ControllerId, Incarnation, Msg, Notes, Outbox, Sequence, SysKind};
+use service_messages::whose;
 use std::alloc::{AllocError, Global};
 
-/// Whether a kind is the layer service's: by it service points meet by name.
-fn is_named(kind: SysKind) -> bool
-    ensures { result ≡ is_named kind }
+/// A service of a controller, which does duties.
+#[derive(Clone, Copy)]
+pub(crate) enum Service {
+    Frame,
+    NameTable,
+    Links,
+}
+
+/// Whose duty a system message of this kind is.
+fn service_of(kind: SysKind) -> Service
+    ensures { result ≡ service_of kind }
 {
-    matches!(
-        kind,
-        SysKind::Register | SysKind::Withdraw | SysKind::Bound | SysKind::Ended | SysKind::NameReply
-    )
+    match kind {
+        SysKind::Register | SysKind::Withdraw => Service::NameTable,
+        SysKind::Bound | SysKind::Ended | SysKind::NameReply => Service::Links,
+        SysKind::Create
+        | SysKind::CreateDone
+        | SysKind::CreateRefused
+        | SysKind::Destroy
+        | SysKind::DestroyDone
+        | SysKind::Import
+        | SysKind::ImportDone
+        | SysKind::ImportRefused
+        | SysKind::ImportEnded
+        | SysKind::Deport
+        | SysKind::DeportDone
+        | SysKind::Announce
+        | SysKind::PartMake
+        | SysKind::PartEnd => Service::Frame,
+    }
+}
+
+/// A duty by which messages are sent, and nothing else comes of it.
+fn only_sends(alloc: Global, sent: Outbox) -> Treatment
+    ensures { result ≡ record { sent = sent; back = []; did = Did.Duty; notes = [] } }
+{
+    Treatment {
+        sent,
+        back: Sequence::new(alloc),
+        did: Did::Duty,
+        notes: Notes::new(alloc),
+    }
 }
 
 /// A message that is passed over.
 fn passed_over(alloc: Global) -> Treatment
     ensures { result ≡ record { sent = []; back = []; did = Did.Duty; notes = [] } }
 {
-    Treatment {
-        sent: Outbox::new(alloc),
-        back: Sequence::new(alloc),
-        did: Did::Duty,
-        notes: Notes::new(alloc),
-    }
+    only_sends(alloc, Outbox::new(alloc))
 }
 
 /// What a duty made of its message.
@@ -79,7 +111,7 @@ impl Actors {
         requires seated { IsSeated plant.now me.0 self.old }
         requires empty { AreEmpty left.ended self.old }
         requires made { All (IsLast plant.now.wiring (lives_of self.old)) left.made }
-        requires ended { All (λ (x : Incarnation). x.slot.0 < length plant.now.wiring.slots) left.ended }
+        requires ended { All (λ (x : Actor). x.slot.0 < length plant.now.wiring.slots) left.ended }
         ensures { IfOk result (λ done. Finishes plant.now me.0 left sent self.old self.new done) }
     {
         let alloc = self.alloc;
@@ -92,7 +124,7 @@ impl Actors {
             back: Recalled::new(alloc),
         };
         let mut so_far = self.all_come_up(plant, me, made.as_slice(), first)?;
-        self.all_go_down(ended.as_slice(), &mut so_far)?;
+        self.all_go_down(plant, me, ended.as_slice(), &mut so_far)?;
         close(&mut so_far, last)?;
         Ok(done(so_far))
     }
@@ -108,7 +140,7 @@ impl Actors {
         requires plant { IsPlant plant.now }
         requires well { IsWell plant.now me.0 self.old }
         requires kind { number_of kind ≡ m.now.signal }
-        requires frame { is_named kind ≡ false }
+        requires frame { service_of kind ≡ Service.Frame }
         ensures { IfOk result (λ done. HasDuty plant.now me.0 m.now kind self.old self.new done) }
     {
         let _kind = kind;
@@ -116,6 +148,52 @@ impl Actors {
         let left = self.services.frame.duty(&plant.wiring, m, &mut sent)?;
         let done = self.finish(plant, me, left, sent)?;
         Ok(done)
+    }
+
+    /// A duty of the name table, at a message of this kind.
+    fn table_duty(
+        &mut self,
+        plant: &Plant,
+        me: ControllerId,
+        kind: SysKind,
+        m: &Msg,
+    ) -> Result<Treatment, AllocError>
+        requires well { IsWell plant.now me.0 self.old }
+        requires table { service_of kind ≡ Service.NameTable }
+        ensures { IfOk result (λ done. HasDuty plant.now me.0 m.now kind self.old self.new done) }
+    {
+        let mut sent = Outbox::new(self.alloc);
+        self.table.duty(&plant.wiring, me, kind, m, &mut sent)?;
+        Ok(only_sends(self.alloc, sent))
+    }
+
+    /// Whether an actor of this controller lives.
+    fn is_live(&self, plant: &Plant, me: ControllerId, who: Incarnation) -> bool
+        ensures { result ≡ (is_own plant.now.wiring me.0 who.slot.0 && is_live (lives_of self.now) who) }
+    {
+        match self.occupant(plant, me, who.slot) {
+            Some(occupant) => occupant.generation == who.generation,
+            None => false,
+        }
+    }
+
+    /// A duty on the own side of a name, at a message of this kind.
+    fn links_duty(
+        &mut self,
+        plant: &Plant,
+        me: ControllerId,
+        kind: SysKind,
+        m: &Msg,
+    ) -> Result<Treatment, AllocError>
+        requires well { IsWell plant.now me.0 self.old }
+        requires links { service_of kind ≡ Service.Links }
+        ensures { IfOk result (λ done. HasDuty plant.now me.0 m.now kind self.old self.new done) }
+    {
+        let live = self.is_live(plant, me, whose(m.target));
+        let mut sent = Outbox::new(self.alloc);
+        let links = &mut self.services.links;
+        links.duty(&plant.wiring, me, kind, m, live, &mut sent)?;
+        Ok(only_sends(self.alloc, sent))
     }
 
     /// A message of priority 0. A number that is no kind's is passed over.
@@ -135,11 +213,19 @@ impl Actors {
         let Some(kind) = SysKind::from_number(m.signal) else {
             return Ok(passed_over(self.alloc));
         };
-        // Models that register names don't run yet; this comes with the layer service.
-        if is_named(kind) {
-            return Err(AllocError);
+        match service_of(kind) {
+            Service::Frame => {
+                let done = self.frame_duty(plant, me, kind, m)?;
+                Ok(done)
+            }
+            Service::NameTable => {
+                let done = self.table_duty(plant, me, kind, m)?;
+                Ok(done)
+            }
+            Service::Links => {
+                let done = self.links_duty(plant, me, kind, m)?;
+                Ok(done)
+            }
         }
-        let done = self.frame_duty(plant, me, kind, m)?;
-        Ok(done)
     }
 }

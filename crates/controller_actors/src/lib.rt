@@ -2,9 +2,9 @@
 //!
 //! A message of priority 1 to 5 goes to the actor that stands in its slot, whose machine handles it to
 //! completion; then the actor's commands are applied in order (ROOM: Selic, Gullekson and Ward 1994). A
-//! message of priority 0 is a duty of the frame service: actors come up, go down, and are lent. Each call
-//! is exactly the definition of `actor_world`. Duties of the layer service, by which service points meet
-//! by name, are answered as want of memory: no model that asks for them runs yet.
+//! message of priority 0 is a duty of the frame service, by which actors come up, go down, and are lent, or
+//! of the layer service, by which service points meet by name. Each call is exactly the definition of
+//! `actor_world`.
 #![tactic(auto)]
 
 pub mod actor_seats;

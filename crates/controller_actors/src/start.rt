@@ -12,6 +12,7 @@ use crate::services::ActorServices;
 use actor_commands::{Recalled, Said};
 use frame_service::FrameState;
 use journal::{Entry, Journal};
+use layer_service::{Links, NameService};
 use room_kinds::{ControllerId, Incarnation, Outbox, SlotId};
 use std::alloc::{AllocError, Global};
 use std::mem;
@@ -100,7 +101,11 @@ pub(crate) fn start(alloc: Global, plant: &Plant, me: ControllerId) -> Result<Be
     let mut starting = Starting {
         actors: Actors {
             alloc,
-            services: ActorServices { frame },
+            services: ActorServices {
+                frame,
+                links: Links::new(alloc),
+            },
+            table: NameService::new(alloc),
             seats,
         },
         sent: Outbox::new(alloc),

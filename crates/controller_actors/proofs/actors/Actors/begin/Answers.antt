@@ -2,9 +2,9 @@ use Rattle.std.proofs.Common.{◌<◌, Option, length, set, refl, ap, subst, sym
 use Rattle.std.specs.Option.{option_copied}
 use Rattle.room_kinds.specs.declared.numbers.Incarnation.{Incarnation}
 use Rattle.actor_duties.specs.Lives.{last_of}
-use Rattle.actor_world.specs.Start.{first_links}
 use Rattle.chart_run.specs.declared.chart_tables.tables.Tables.{Tables}
 use Rattle.frame_service.specs.State.{frame_in}
+use Rattle.controller_actors.specs.Served.{links_in}
 use Rattle.controller_actors.specs.Stands.{lives_of}
 use Rattle.controller_actors.specs.actor_seats.Seats.{SeatBegins}
 use Rattle.controller_actors.proofs.Beginnings.{actors_begin}
@@ -21,14 +21,16 @@ returns c =
     let s = c.args.who.slot.0 in
     let f = frame_in old.services.frame in
     let g = frame_in c.begin.new.services.frame in
+    let l = links_in old.services in
+    let k = links_in c.begin.new.services in
     let before = c.index_mut-seat.result.now in
     let after = c.begin.new.self in
     let e = c.in_ok-entrance.entrance in
     let there : s < length old.seats.items = omega (arith, c.requires.last.there, c.requires.seated.count) in
     let within : c.from.result < length old.seats.items = omega (arith, c.from.ensures, there) in
     actors_begin p c.args.me.0 old _ s before after c.args.sent c.args.back e there
-    (seat_read old.seats.items s c.from.result before c.from.ensures within c.index_mut-seat.ensures.value)
+    (seat_read old.seats.items s c.from.result before c.from.ensures within c.index_mut-seat.ensures.value) refl
     (ap (λ i. set old.seats.items i after) c.from.ensures) c.in_ok-entrance.ensures.serves
-    (subst (λ (o : Option Tables). SeatBegins p.wiring c.args.me.0 f first_links g first_links (last_of (lives_of old) s) o before after c.args.sent c.args.back e) c.tables_of-tables.ensures
-    (subst (λ (x : Incarnation). SeatBegins p.wiring c.args.me.0 f first_links g first_links x (option_copied c.tables_of-tables.result) before after c.args.sent c.args.back e) (sym c.requires.last.last) c.in_ok-entrance.ensures.begins))
+    (subst (λ (o : Option Tables). SeatBegins p.wiring c.args.me.0 f l g k (last_of (lives_of old) s) o before after c.args.sent c.args.back e) c.tables_of-tables.ensures
+    (subst (λ (x : Incarnation). SeatBegins p.wiring c.args.me.0 f l g k x (option_copied c.tables_of-tables.result) before after c.args.sent c.args.back e) (sym c.requires.last.last) c.in_ok-entrance.ensures.begins))
     c.requires.last.live c.requires.seated

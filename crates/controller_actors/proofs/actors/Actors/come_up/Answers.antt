@@ -1,9 +1,9 @@
-use Rattle.std.proofs.Common.{◌<◌, Option, length, set, ap, subst, arith}
+use Rattle.std.proofs.Common.{◌<◌, Option, length, set, refl, ap, subst, arith}
 use Rattle.std.specs.Option.{option_copied}
-use Rattle.actor_world.specs.Start.{first_links}
 use Rattle.chart_run.specs.declared.chart_tables.tables.Tables.{Tables}
 use Rattle.frame_service.specs.State.{frame_in}
 use Rattle.std.specs.Vec.{with_item}
+use Rattle.controller_actors.specs.Served.{links_in}
 use Rattle.controller_actors.specs.declared.actors.Actors.{Actors}
 use Rattle.controller_actors.specs.declared.changes.SoFar.{SoFar}
 use Rattle.controller_actors.specs.actor_seats.Seats.{SeatComesUp}
@@ -22,6 +22,8 @@ returns-clause-moves c =
     let x = c.args.who in
     let f = frame_in old.services.frame in
     let g = frame_in c.come_up.new.services.frame in
+    let l = links_in old.services in
+    let k = links_in c.come_up.new.services in
     let before = c.index_mut-seat.result.now in
     let after = c.come_up.new.self in
     let first = c.args.so_far in
@@ -29,14 +31,14 @@ returns-clause-moves c =
     let there : x.slot.0 < length old.seats.items = omega (arith, c.requires.last.there, c.requires.seated.count) in
     let within : c.from.result < length old.seats.items = omega (arith, c.from.ensures, there) in
     comes_up p c.args.me.0 old _ x before after first last there
-    (seat_read old.seats.items x.slot.0 c.from.result before c.from.ensures within c.index_mut-seat.ensures.value)
+    (seat_read old.seats.items x.slot.0 c.from.result before c.from.ensures within c.index_mut-seat.ensures.value) refl
     (ap (λ i. set old.seats.items i after) c.from.ensures) c.in_ok-said.ensures.serves
-    (subst (λ (o : Option Tables). SeatComesUp p.wiring c.args.me.0 f first_links g first_links x o before after first.said first.back last.said last.back) c.tables_of-tables.ensures c.in_ok-said.ensures.up)
+    (subst (λ (o : Option Tables). SeatComesUp p.wiring c.args.me.0 f l g k x o before after first.said first.back last.said last.back) c.tables_of-tables.ensures c.in_ok-said.ensures.up)
     c.requires.seated c.requires.last
 
 pub returns-clause-empty : goal.returns-clause-empty
 returns-clause-empty c =
     let old = c.args.self.now in
     let after = c.come_up.new.self in
-    let new : Actors = record { alloc = old.alloc; services = c.come_up.new.services; seats = with_item old.seats c.from.result after } in
+    let new : Actors = record { alloc = old.alloc; services = c.come_up.new.services; table = old.table; seats = with_item old.seats c.from.result after } in
     empty_set old new c.args.who.slot.0 after c.in_ok-said.ensures.up.lives (ap (λ i. set old.seats.items i after) c.from.ensures) c.requires.last.live

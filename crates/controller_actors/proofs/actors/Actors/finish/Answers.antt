@@ -1,10 +1,10 @@
-use Rattle.std.proofs.Common.{List, ◌<◌, ℕ, All, length, sym, ap, ◌∙◌, subst, refl}
+use Rattle.std.proofs.Common.{List, sym, subst, refl}
 use Rattle.room_kinds.specs.declared.numbers.Incarnation.{Incarnation}
 use Rattle.actor_world.specs.Turns.{all_begun, all_gone}
 use Rattle.controller_actors.specs.declared.changes.SoFar.{SoFar}
 use Rattle.controller_actors.specs.Plants.{model_of}
-use Rattle.controller_actors.specs.Stands.{AreEmpty, lives_of}
-use Rattle.controller_actors.specs.Steps.{IsLast, Moves}
+use Rattle.controller_actors.specs.Stands.{AreEmpty}
+use Rattle.controller_actors.specs.Steps.{Moves}
 use Rattle.controller_actors.proofs.Finishing.{finishes}
 use Rattle.controller_actors.proofs.actors.Actors.finish.Goals as goal
 
@@ -22,7 +22,7 @@ returns c =
     let h : Moves (all_begun (model_of p) p.wiring me left.made) p me old first mid one =
     subst (λ (xs : List Incarnation). Moves (all_begun (model_of p) p.wiring me xs) p me old first mid one) c.as_slice.ensures c.in_ok-so_far.ensures.moves in
     let k : Moves (all_gone p.wiring me left.ended) p me mid one new two =
-    subst (λ (xs : List Incarnation). Moves (all_gone p.wiring me xs) p me mid one new two) c.as_slice-2.ensures (c.in_ok-all_go_down.ensures.moves p me h.seated) in
+    subst (λ (xs : List Incarnation). Moves (all_gone p.wiring me xs) p me mid one new two) c.as_slice-2.ensures c.in_ok-all_go_down.ensures.moves in
     let empty : AreEmpty left.ended mid = c.in_ok-so_far.ensures.empty left.ended c.requires.empty in
     finishes p me left c.args.sent old mid new first one two c.close.new.so_far c.done.result refl c.new.ensures c.new-2.ensures h k c.in_ok-close.ensures c.done.ensures
     (c.in_ok-all_go_down.ensures.empty (subst (λ (xs : List Incarnation). AreEmpty xs mid) (sym c.as_slice-2.ensures) empty))

@@ -9,10 +9,10 @@ finish-requires-clause-seated c =
     let me = c.args.me.0 in
     let m = c.args.m.now in
     let old = c.args.self.now in
-    let mid : Actors = record { alloc = old.alloc; services = record { frame = c.duty.new.self }; seats = old.seats } in
+    let mid : Actors = record { alloc = old.alloc; services = record { frame = c.duty.new.self; links = old.services.links }; table = old.table; seats = old.seats } in
     let left = c.in_ok-left.left in
     let h = own_done p me m c.args.kind old.services.frame c.duty.new.self c.new-sent.result c.duty.new.out left c.requires.well.seated.serves.owner c.new-sent.ensures (c.in_ok-left.ensures.done c.args.kind c.requires.kind) in
-    duty_seated p me m c.args.kind old mid c.duty.new.out left c.requires.well refl h
+    duty_seated p me m c.args.kind old mid c.duty.new.out left c.requires.well refl refl refl h
 
 pub finish-requires-clause-empty : goal.finish-requires-clause-empty
 finish-requires-clause-empty c =
@@ -20,10 +20,10 @@ finish-requires-clause-empty c =
     let me = c.args.me.0 in
     let m = c.args.m.now in
     let old = c.args.self.now in
-    let mid : Actors = record { alloc = old.alloc; services = record { frame = c.duty.new.self }; seats = old.seats } in
+    let mid : Actors = record { alloc = old.alloc; services = record { frame = c.duty.new.self; links = old.services.links }; table = old.table; seats = old.seats } in
     let left = c.in_ok-left.left in
     let h = own_done p me m c.args.kind old.services.frame c.duty.new.self c.new-sent.result c.duty.new.out left c.requires.well.seated.serves.owner c.new-sent.ensures (c.in_ok-left.ensures.done c.args.kind c.requires.kind) in
-    duty_empty p me m c.args.kind old mid c.duty.new.out left c.requires.well refl h
+    duty_empty p me m c.args.kind old mid c.duty.new.out left c.requires.well refl refl refl h
 
 pub finish-requires-clause-made : goal.finish-requires-clause-made
 finish-requires-clause-made c =
@@ -31,10 +31,10 @@ finish-requires-clause-made c =
     let me = c.args.me.0 in
     let m = c.args.m.now in
     let old = c.args.self.now in
-    let mid : Actors = record { alloc = old.alloc; services = record { frame = c.duty.new.self }; seats = old.seats } in
+    let mid : Actors = record { alloc = old.alloc; services = record { frame = c.duty.new.self; links = old.services.links }; table = old.table; seats = old.seats } in
     let left = c.in_ok-left.left in
     let h = own_done p me m c.args.kind old.services.frame c.duty.new.self c.new-sent.result c.duty.new.out left c.requires.well.seated.serves.owner c.new-sent.ensures (c.in_ok-left.ensures.done c.args.kind c.requires.kind) in
-    duty_made p me m c.args.kind old mid c.duty.new.out left c.requires.well refl h
+    duty_made p me m c.args.kind old mid c.duty.new.out left c.requires.well refl refl refl h
 
 pub finish-requires-clause-ended : goal.finish-requires-clause-ended
 finish-requires-clause-ended c =
@@ -42,10 +42,10 @@ finish-requires-clause-ended c =
     let me = c.args.me.0 in
     let m = c.args.m.now in
     let old = c.args.self.now in
-    let mid : Actors = record { alloc = old.alloc; services = record { frame = c.duty.new.self }; seats = old.seats } in
+    let mid : Actors = record { alloc = old.alloc; services = record { frame = c.duty.new.self; links = old.services.links }; table = old.table; seats = old.seats } in
     let left = c.in_ok-left.left in
     let h = own_done p me m c.args.kind old.services.frame c.duty.new.self c.new-sent.result c.duty.new.out left c.requires.well.seated.serves.owner c.new-sent.ensures (c.in_ok-left.ensures.done c.args.kind c.requires.kind) in
-    duty_ended p me m c.args.kind old mid c.duty.new.out left c.requires.well refl h
+    duty_ended p me m c.args.kind old mid c.duty.new.out left c.requires.well refl refl refl h
 
 pub returns : goal.returns
 returns c =
@@ -53,7 +53,7 @@ returns c =
     let me = c.args.me.0 in
     let m = c.args.m.now in
     let old = c.args.self.now in
-    let mid : Actors = record { alloc = old.alloc; services = record { frame = c.duty.new.self }; seats = old.seats } in
+    let mid : Actors = record { alloc = old.alloc; services = record { frame = c.duty.new.self; links = old.services.links }; table = old.table; seats = old.seats } in
     let left = c.in_ok-left.left in
     let h = own_done p me m c.args.kind old.services.frame c.duty.new.self c.new-sent.result c.duty.new.out left c.requires.well.seated.serves.owner c.new-sent.ensures (c.in_ok-left.ensures.done c.args.kind c.requires.kind) in
-    has_duty p me m c.args.kind old mid c.duty.new.out left c.requires.well refl h c.finish.new.self c.in_ok-done.done c.requires.frame c.in_ok-done.ensures
+    has_duty p me m c.args.kind old mid c.duty.new.out left c.requires.well refl refl refl h c.finish.new.self c.in_ok-done.done c.requires.frame c.in_ok-done.ensures

@@ -1,9 +1,9 @@
-use Rattle.std.proofs.Common.{◌<◌, ◌≡◌, ℕ, List, [], ◌∷◌, ◌++◌, length, set, refl, sym, ap, ◌∙◌, arith}
+use Rattle.std.proofs.Common.{◌<◌, ◌≡◌, ℕ, [], ◌∷◌, ◌++◌, length, set, refl, ap, ◌∙◌, arith}
 use Rattle.room_kinds.specs.declared.note.Note.TheVariants as notes
 use Rattle.std.specs.Vec.{with_item}
 use Rattle.controller_actors.specs.declared.actors.Actors.{Actors}
 use Rattle.controller_actors.specs.declared.actor_seats.seat.Seat.{Seat}
-use Rattle.controller_actors.specs.Stands.{seat_at, vacant}
+use Rattle.controller_actors.specs.Stands.{seat_at}
 use Rattle.controller_actors.proofs.SeatReads.{seat_read}
 use Rattle.controller_actors.proofs.Moving.{goes_down}
 use Rattle.controller_actors.proofs.Bodies.{empty_vacated}
@@ -13,18 +13,20 @@ pub returns-clause-moves : goal.returns-clause-moves
 returns-clause-moves c =
     let old = c.args.self.now in
     let x = c.args.who in
-    let within : c.from.result < length old.seats.items = omega (arith, c.from.ensures, c.requires.there) in
+    let there : x.slot.0 < length old.seats.items = omega (arith, c.requires.there, c.requires.seated.count) in
+    let within : c.from.result < length old.seats.items = omega (arith, c.from.ensures, there) in
     let read : c.index_mut-seat.result.now ≡ seat_at old.seats.items x.slot.0 = seat_read old.seats.items x.slot.0 c.from.result c.index_mut-seat.result.now c.from.ensures within c.index_mut-seat.ensures.value in
-    λ plant me seated. goes_down plant me old _ x c.args.so_far.now _ c.requires.there refl
+    goes_down c.args.plant.now c.args.me.0 old _ x c.args.so_far.now _ there refl c.in_ok-end_of.ensures.now refl
     (ap (λ i. set old.seats.items i c.vacant.result) c.from.ensures ∙ ap (set old.seats.items x.slot.0) c.vacant.ensures)
-    refl refl
+    c.in_ok-end_of.ensures.sent refl
     (c.in_ok-push.ensures.ok ∙ ap (λ (n : ℕ). c.args.so_far.now.said.notes ++ notes.Down x n ∷ []) (c.len-lost.ensures ∙ ap (λ (y : Seat). length y.deferred) read))
-    seated
+    c.requires.seated
 
 pub returns-clause-empty : goal.returns-clause-empty
 returns-clause-empty c =
     let old = c.args.self.now in
     let x = c.args.who in
-    let new : Actors = record { alloc = old.alloc; services = old.services; seats = with_item old.seats c.from.result c.vacant.result } in
-    empty_vacated old new x c.requires.there refl
+    let there : x.slot.0 < length old.seats.items = omega (arith, c.requires.there, c.requires.seated.count) in
+    let new : Actors = record { alloc = old.alloc; services = record { frame = old.services.frame; links = c.end_of.new.self }; table = old.table; seats = with_item old.seats c.from.result c.vacant.result } in
+    empty_vacated old new x there refl
     (ap (λ i. set old.seats.items i c.vacant.result) c.from.ensures ∙ ap (set old.seats.items x.slot.0) c.vacant.ensures)

@@ -1,18 +1,17 @@
-use Rattle.std.proofs.Common.{◌≡◌, ◌<◌, true, Option, None, length, set, sym, ap, ◌∙◌, subst, arith}
+use Rattle.std.proofs.Common.{◌≡◌, ◌<◌, true, Option, None, length, set, refl, sym, ap, ◌∙◌, subst, arith}
 use Rattle.std.specs.Option.{option_copied}
 use Rattle.room_kinds.specs.declared.numbers.SlotId.{SlotId}
 use Rattle.room_kinds.specs.declared.numbers.Incarnation.{Incarnation}
 use Rattle.actor_duties.specs.Lives.{last_of}
-use Rattle.actor_world.specs.Start.{first_links}
 use Rattle.chart_run.specs.declared.chart_tables.tables.Tables.{Tables}
 use Rattle.chart_behaviour.specs.ModelCharts.{tables_at}
 use Rattle.frame_service.specs.State.{frame_in}
-use Rattle.controller_actors.specs.declared.services.ActorServices.{ActorServices}
+use Rattle.controller_actors.specs.Served.{links_in}
 use Rattle.controller_actors.specs.Stands.{lives_of}
 use Rattle.controller_actors.specs.actor_seats.Stands.{actor_in}
 use Rattle.controller_actors.specs.actor_seats.Seats.{SeatTurns}
 use Rattle.controller_actors.proofs.Turning.{dispatches_actor}
-use Rattle.controller_actors.proofs.SeatReads.{seat_read, read_sound, read_fits, dispatches_none}
+use Rattle.controller_actors.proofs.SeatReads.{seat_read, read_sound, dispatches_none}
 use Rattle.controller_actors.proofs.actors.Actors.handle.Goals as goal
 
 pub handle-requires-clause-sound : goal.handle-requires-clause-sound
@@ -27,6 +26,8 @@ returns-in-Some c =
     let same : c.args.who.slot.0 ≡ s = ap (λ (n : SlotId). n.0) c.requires.target in
     let f = frame_in old.services.frame in
     let g = frame_in c.handle.new.services.frame in
+    let l = links_in old.services in
+    let k = links_in c.handle.new.services in
     let before = c.index_mut-seat.result.now in
     let after = c.handle.new.self in
     let done = c.in-Some.done in
@@ -36,12 +37,12 @@ returns-in-Some c =
     let who : c.args.who ≡ last_of (lives_of old) s = sym (subst (λ n. last_of (lives_of old) n ≡ c.args.who) same c.requires.last.last) in
     let live : (lives_of old).lives s ≡ true = subst (λ n. (lives_of old).lives n ≡ true) same c.requires.last.live in
     let tables : option_copied c.tables_of-tables.result ≡ tables_at p.wiring p.tables.items s = c.tables_of-tables.ensures ∙ ap (tables_at p.wiring p.tables.items) same in
-    let h : SeatTurns p.wiring c.args.me.0 f first_links g first_links c.args.who m (option_copied c.tables_of-tables.result) before after done = rw c.in-Some.is at c.in_ok-handled.ensures.turns in
+    let h : SeatTurns p.wiring c.args.me.0 f l g k c.args.who m (option_copied c.tables_of-tables.result) before after done = rw c.in-Some.is at c.in_ok-handled.ensures.turns in
     dispatches_actor p c.args.me.0 m old _ before after done there
-    (seat_read old.seats.items s c.from.result before at within c.index_mut-seat.ensures.value)
+    (seat_read old.seats.items s c.from.result before at within c.index_mut-seat.ensures.value) refl
     (ap (λ i. set old.seats.items i after) at) c.in_ok-handled.ensures.serves
-    (subst (λ (o : Option Tables). SeatTurns p.wiring c.args.me.0 f first_links g first_links (last_of (lives_of old) s) m o before after done) tables
-    (subst (λ (x : Incarnation). SeatTurns p.wiring c.args.me.0 f first_links g first_links x m (option_copied c.tables_of-tables.result) before after done) who h))
+    (subst (λ (o : Option Tables). SeatTurns p.wiring c.args.me.0 f l g k (last_of (lives_of old) s) m o before after done) tables
+    (subst (λ (x : Incarnation). SeatTurns p.wiring c.args.me.0 f l g k x m (option_copied c.tables_of-tables.result) before after done) who h))
     live c.requires.well
 
 pub returns-in-None : goal.returns-in-None
@@ -59,6 +60,6 @@ returns-in-None c =
     let live : (lives_of old).lives s ≡ true = subst (λ n. (lives_of old).lives n ≡ true) same c.requires.last.live in
     let h : (actor_in before.stand ≡ None) × (after ≡ before) × (c.handle.new.services ≡ old.services) = rw c.in-None.is at c.in_ok-handled.ensures.turns in
     dispatches_none p c.args.me.0 m old _ before after c.nobody_there.result there
-    (seat_read old.seats.items s c.from.result before at within c.index_mut-seat.ensures.value) h.2
+    (seat_read old.seats.items s c.from.result before at within c.index_mut-seat.ensures.value) h.2 refl
     (ap (λ i. set old.seats.items i after) at) h.0 h.1
     c.nobody_there.ensures live c.requires.well
