@@ -1,0 +1,25 @@
+//! Agreement: wherever a run of the world is quiet, all controllers agree on which actors live. Laws that
+//! hold of every run, as functions without a body, whose contract is the law; they hold over any kind `M`
+//! of machine and any tables.
+//!
+//! Their premises: actors and the lines of the environment send nothing at priority 0, which is the system's.
+#![tactic(auto)]
+
+ghost use Rattle.world_agreement.specs.Trails.{TrailsAreQueues, QuietTrailsAreEmpty};
+ghost use Rattle.world_agreement.specs.Announced.{RunsForetell, QuietDirectoriesAgree};
+
+/// The system messages on their way from one controller to another are a queue. `steps`: an event that is
+/// not a turn leaves every trail as it is; a turn takes the front of at most one, and appends what it sends.
+/// `quiet`: in a quiet world all of them are empty.
+pub fn trails_are_queues<M>()
+    ensures steps { TrailsAreQueues M }
+    ensures quiet { QuietTrailsAreEmpty M }
+{}
+
+/// Directories agree with the owners of the slots. `runs`: at every moment, what a directory tells of a
+/// slot that is announced to it, changed by the Announces on their way, is what stands in the slot at its
+/// owner. `quiet`: so in a quiet world the directory itself tells that.
+pub fn directories_agree<M>()
+    ensures runs { RunsForetell M }
+    ensures quiet { QuietDirectoriesAgree M }
+{}
