@@ -25,18 +25,19 @@ use Rattle.actor_world.specs.Turns.{doing, treat}
 use Rattle.actor_world.specs.Start.{lives_from_start, first_body, first_actors, Starting, started, all_started, starting, first_state, plant_of}
 use Rattle.actor_world.specs.Directories.{IsOpen, AreOpen}
 use Rattle.actor_world.specs.Agreed.{DirectoriesAgree}
-use Rattle.actor_world.proofs.Silent.{AllSilent}
-use Rattle.world_agreement.specs.Trails.{contents, from_a, system_to, is_system_to, trail, taken_from, leaves, comes}
-use Rattle.world_agreement.specs.Announced.{heard, foretold, AreForetold}
-use Rattle.world_agreement.proofs.Lists.{all_append, all_before, all_later, all_filter, all_passed}
+use Rattle.world_agreement.specs.Trails.{contents, from_a, system_to, is_system_to, trail, leaves, comes, hear_all}
+use Rattle.world_agreement.specs.Announced.{heard, AreForetold}
+use Rattle.world_agreement.proofs.Lists.{all_append, all_later, all_filter, all_passed}
+use Rattle.world_agreement.proofs.Plain.{AllPlain}
 use Rattle.world_agreement.proofs.Carrying.{Carries, carries_same, carries_two, apply_all_carries}
-use Rattle.world_agreement.proofs.Hearing.{IsApart, heard_apart, heard_contents, foretold_append, foretold_system, after, after_silent, from_append}
-use Rattle.world_agreement.proofs.Telling.{IsOwned, AllOwned, silent_owned}
+use Rattle.world_agreement.proofs.Hearing.{heard_apart, heard_stamped}
+use Rattle.world_agreement.proofs.Telling.{IsOwned, AllOwned, plain_owned}
 use Rattle.world_agreement.proofs.Turning.{TurnSays, treat_says}
-use Rattle.world_agreement.proofs.Moving.{Ranked, IsSorted, next_front, kept_by, from_one, post_from, turn_from, world_after, controller_moves}
+use Rattle.world_agreement.proofs.Moving.{Ranked, IsSorted, next_front, post_from, turn_from, world_after, controller_moves}
+use Rattle.world_agreement.proofs.Reading.{IsHearing, unread, TurnReads, step_reads}
 
 -- a slot that is there is its owner's own
-own_there : (t : Tables) (s : ℕ) → s < length t.slots → is_own t (owner_of t s) s ≡ true
+pub own_there : (t : Tables) (s : ℕ) → s < length t.slots → is_own t (owner_of t s) s ≡ true
 unfolding is_own owner_of
 own_there t s h = go (slice_get_cases t.slots s).1
   where
@@ -45,7 +46,7 @@ own_there t s h = go (slice_get_cases t.slots s).1
     go (inl q) = rw q.2 (eq-eqb q.0.owner.0 q.0.owner.0 refl)
     go (inr q) = absurd (omega (arith, q.0))
 
-put_each : {A : Type 0} (P : A → Type 0) (f : ℕ → A) (at : ℕ) (v : A) → ((n : ℕ) → P (f n)) → P v → (n : ℕ) → P (put f at v n)
+pub put_each : {A : Type 0} (P : A → Type 0) (f : ℕ → A) (at : ℕ) (v : A) → ((n : ℕ) → P (f n)) → P v → (n : ℕ) → P (put f at v n)
 unfolding put
 put_each P f at v h k n = go (n == at)
   where
@@ -53,7 +54,7 @@ put_each P f at v h k n = go (n == at)
     go true = k
     go false = h n
 
-put_own : {A : Type 0} (P : ℕ → A → Type 0) (f : ℕ → A) (at : ℕ) (v : A) → ((n : ℕ) → P n (f n)) → P at v → (n : ℕ) → P n (put f at v n)
+pub put_own : {A : Type 0} (P : ℕ → A → Type 0) (f : ℕ → A) (at : ℕ) (v : A) → ((n : ℕ) → P n (f n)) → P at v → (n : ℕ) → P n (put f at v n)
 unfolding put
 put_own P f at v h k n = go (n == at) refl
   where
@@ -71,7 +72,7 @@ unfolding system_to
 owned_system t a b d ms h = owned_contents t a b (filter (is_system_to d) ms) (all_filter (IsOwned t a) (is_system_to d) ms h)
 
 -- a trail of which nothing was fetched or posted yet
-fresh_trail : (a b : ℕ) (box : List Msg) → from_a a [] ++ (contents a [] ++ system_to a b box) ≡ system_to a b box
+pub fresh_trail : (a b : ℕ) (box : List Msg) → from_a a [] ++ (contents a [] ++ system_to a b box) ≡ system_to a b box
 unfolding from_a contents
 fresh_trail a b box = refl
 
@@ -85,7 +86,7 @@ pub record IsForetold {M : Type 0} (t : Tables) (w : World (Body M)) : Type 0 wh
   pub owned : (a b : ℕ) → AllOwned t a (trail w a b)
   pub foretold : AreForetold t w
   -- a number that is no controller's has sent nothing
-  pub idle : (c : ℕ) → length t.controllers ≤ c → AllSilent (w.controllers c).outbox
+  pub idle : (c : ℕ) → length t.controllers ≤ c → AllPlain (w.controllers c).outbox
 
 module _ {M : Type 0} (model : Behaviour M) (clear : IsOpen model) (t : Tables) (lines : List Line) (clear_lines : AreOpen lines) where
   fetch_sorted : (s : State (Body M)) (m : Msg) → IsSorted s → IsSorted (fetch s m).0
@@ -122,139 +123,23 @@ module _ {M : Type 0} (model : Behaviour M) (clear : IsOpen model) (t : Tables) 
       let r = turn_from model t lines c s next (entry.Turn stamp from sent what ns) s.outbox (next_of s.pending) d in
       subst (λ (z : State (Body M) × Entry). IsSorted z.0) r.3 (turned_sorted c s r.0 r.2 h)
 
-  -- what one event does to what is told, and to what stands
+  -- a directory hears Announces alone, and only what is announced of the slot
+  directory_hearing : (d s : ℕ) → IsHearing s (heard t d s)
+  directory_hearing d s = record { unstamped = λ a stamp m n. heard_stamped t d s a stamp m n; apart = λ m n h. heard_apart t d s m n h }
+
+  -- in a turn a directory hears its message, and what is announced of a slot is what happens there
+  directory_reads : (w : World (Body M)) → ((c : ℕ) → IsSorted (w.controllers c)) → (s d : ℕ) → s < length t.slots → d < length t.controllers → is_told t s d ≡ true
+      → TurnReads model clear t lines s d (heard t d s) (directory_hearing d s) (λ (b : Body M). b.frame.told s) (λ (b : Body M). standing b.frame.lives s) w
+  directory_reads w sorted s d there below told =
+      record {
+        hears = λ m. (treat_says model clear t d (w.controllers d).body m (sorted d).deferred).told s;
+        tells = λ m.
+            (treat_says model clear t (owner_of t s) (w.controllers (owner_of t s)).body m (sorted (owner_of t s)).deferred).says.announced s d (own_there t s there) below told;
+      }
+
+  -- what one event of a controller does
   module _ (w : World (Body M)) (inv : IsForetold t w) (c : ℕ) where
-    -- a turn takes out a message of the trail from a, or one that says nothing of a's slots
-    taken_heard : (k : Taken) → next_of (w.controllers c).pending ≡ Some k → (s n : ℕ)
-        → foretold t c s (taken_from (owner_of t s) (Some k)) n ≡ heard t c s k.message n
-    taken_heard k front s n = go (0 == k.priority) refl (owner_of t s == k.message.from.0) refl
-      where
-        whole : (w.controllers c).pending k.priority ≡ k.message ∷ k.rest
-        whole = next_front (w.controllers c).pending k front
-
-        rank : k.message.prio.0 ≡ k.priority
-        rank = (subst (Ranked k.priority) whole ((inv.sorted c).pending k.priority)).0
-
-        one : {b : Bool} (a : ℕ) → (a == k.message.from.0) ≡ b → from_a a (k.message ∷ []) ≡ (if b then stamped a 0 k.message ∷ [] else [])
-        one a e = from_one a k.message ∙ ap (λ (z : Bool). if z then stamped a 0 k.message ∷ [] else []) e
-
-        -- what comes from f announces slots of f
-        front_owned : (0 == k.priority) ≡ true → IsOwned t k.message.from.0 k.message
-        front_owned e =
-            let f : ℕ = k.message.from.0 in
-            let zero_list : (w.controllers c).pending 0 ≡ k.message ∷ k.rest = ap (w.controllers c).pending (eqb-true 0 k.priority e) ∙ whole in
-            let all : AllOwned t f (from_a f ((w.controllers c).pending 0)) = all_before (IsOwned t f) (from_a f ((w.controllers c).pending 0)) _ (inv.owned f c) in
-            let split : from_a f ((w.controllers c).pending 0) ≡ from_a f (k.message ∷ []) ++ from_a f k.rest = ap (from_a f) zero_list ∙ from_append f (k.message ∷ []) k.rest in
-            let first : AllOwned t f (from_a f (k.message ∷ [])) = all_before (IsOwned t f) (from_a f (k.message ∷ [])) (from_a f k.rest) (subst (AllOwned t f) split all) in
-            (subst (AllOwned t f) (one f (eq-eqb f f refl)) first).0
-
-        other_owner : (0 == k.priority) ≡ true → (owner_of t s == k.message.from.0) ≡ false → IsApart s k.message
-        other_owner e f x q = ne_eqb x.slot.0 s (λ p. eqb-false (owner_of t s) k.message.from.0 f (sym (ap (owner_of t) p) ∙ front_owned e x q))
-
-        not_system : (0 == k.priority) ≡ false → IsApart s k.message
-        not_system e x q =
-            let low : (k.message.prio.0 == 0) ≡ false = ne_eqb k.message.prio.0 0 (λ z. eqb-false 0 k.priority e (sym (sym rank ∙ z))) in
-            let z : ◌≡◌ {A = Option Incarnation} None (Some x) = rw low at q in absurd cc
-
-        go : (b : Bool) → (0 == k.priority) ≡ b → (d : Bool) → (owner_of t s == k.message.from.0) ≡ d
-            → foretold t c s (if b then from_a (owner_of t s) (k.message ∷ []) else []) n ≡ heard t c s k.message n
-        go true e true f = ap (λ (z : List Msg). foretold t c s z n) (one (owner_of t s) f) ∙ heard_contents t c s (owner_of t s) 0 k.message n
-        go true e false f = ap (λ (z : List Msg). foretold t c s z n) (one (owner_of t s) f) ∙ sym (heard_apart t c s k.message n (other_owner e f))
-        go false e d f = sym (heard_apart t c s k.message n (not_system e))
-
-    -- a turn: each directory hears what leaves the trail to it
-    turn_hears : (next : State (Body M)) (k : Taken) → next_of (w.controllers c).pending ≡ Some k
-        → next ≡ (turned (w.controllers c) k (treat model t c (w.controllers c).body k.message)).0 → (s d : ℕ)
-        → foretold t d s (if d == c then taken_from (owner_of t s) (next_of (w.controllers d).pending) else []) ((w.controllers d).body.frame.told s)
-        ≡ (put w.controllers c next d).body.frame.told s
-    unfolding put
-    turn_hears next k front same s d = go (d == c) refl
-      where
-        z : TurnSays t c (w.controllers c).body k.message (treat model t c (w.controllers c).body k.message)
-        z = treat_says model clear t c (w.controllers c).body k.message (inv.sorted c).deferred
-
-        here : foretold t c s (taken_from (owner_of t s) (next_of (w.controllers c).pending)) ((w.controllers c).body.frame.told s) ≡ next.body.frame.told s
-        here =
-            ap (λ (o : Option Taken). foretold t c s (taken_from (owner_of t s) o) ((w.controllers c).body.frame.told s)) front
-            ∙ taken_heard k front s ((w.controllers c).body.frame.told s)
-            ∙ sym (z.told s)
-            ∙ ap (λ (q : State (Body M)). q.body.frame.told s) (sym same)
-
-        go : (b : Bool) → (d == c) ≡ b
-            → foretold t d s (if b then taken_from (owner_of t s) (next_of (w.controllers d).pending) else []) ((w.controllers d).body.frame.told s)
-            ≡ (if b then next else w.controllers d).body.frame.told s
-        go true e =
-            subst (λ n. foretold t n s (taken_from (owner_of t s) (next_of (w.controllers n).pending)) ((w.controllers n).body.frame.told s) ≡ next.body.frame.told s)
-            (sym (eqb-true d c e)) here
-        go false e = refl
-
-    -- a turn: what comes into the trail from a slot's owner changes what stood there to what stands
-    turn_tells : (next : State (Body M)) (k : Taken) → next ≡ (turned (w.controllers c) k (treat model t c (w.controllers c).body k.message)).0
-        → (s d : ℕ) → s < length t.slots → d < length t.controllers → is_told t s d ≡ true
-        → foretold t d s (if owner_of t s == c then system_to (owner_of t s) d (put w.controllers c next (owner_of t s)).outbox else []) (standing (w.controllers (owner_of t s)).body.frame.lives s)
-        ≡ standing (put w.controllers c next (owner_of t s)).body.frame.lives s
-    unfolding put
-    turn_tells next k same s d there below told = go (owner_of t s == c) refl
-      where
-        r : Treated (Body M)
-        r = treat model t c (w.controllers c).body k.message
-
-        z : TurnSays t c (w.controllers c).body k.message (treat model t c (w.controllers c).body k.message)
-        z = treat_says model clear t c (w.controllers c).body k.message (inv.sorted c).deferred
-
-        here : owner_of t s ≡ c
-            → foretold t d s (system_to (owner_of t s) d next.outbox) (standing (w.controllers c).body.frame.lives s) ≡ standing next.body.frame.lives s
-        here e =
-            let own : is_own t c s ≡ true = subst (λ n. is_own t n s ≡ true) e (own_there t s there) in
-            let said : after t d s (treat model t c (w.controllers c).body k.message).sent (standing (w.controllers c).body.frame.lives s)
-            ≡ standing (treat model t c (w.controllers c).body k.message).body.frame.lives s =
-            z.says.announced s d own below told in
-            foretold_system t d s (owner_of t s) next.outbox (standing (w.controllers c).body.frame.lives s)
-            ∙ ap (λ (q : State (Body M)). after t d s q.outbox (standing (w.controllers c).body.frame.lives s)) same
-            ∙ said
-            ∙ ap (λ (q : State (Body M)). standing q.body.frame.lives s) (sym same)
-
-        go : (b : Bool) → (owner_of t s == c) ≡ b
-            → foretold t d s (if b then system_to (owner_of t s) d (if b then next else w.controllers (owner_of t s)).outbox else [])
-            (standing (w.controllers (owner_of t s)).body.frame.lives s)
-            ≡ standing (if b then next else w.controllers (owner_of t s)).body.frame.lives s
-        go true e =
-            ap (λ n. foretold t d s (system_to (owner_of t s) d next.outbox) (standing (w.controllers n).body.frame.lives s)) (eqb-true (owner_of t s) c e)
-            ∙ here (eqb-true (owner_of t s) c e)
-        go false e = refl
-
-    -- each event: the directories hear what leaves, and what comes tells what was done
-    step_hears : (e : Entry) (next : State (Body M)) → controller_does (plant_of model t lines) w c (event_of e) ≡ Some (next, e) → (s d : ℕ)
-        → foretold t d s (leaves w c e (owner_of t s) d) ((w.controllers d).body.frame.told s) ≡ (put w.controllers c next d).body.frame.told s
-    unfolding turn post fetch
-    step_hears (entry.Start who state ns) next h s d = absurd cc
-    step_hears (entry.Fetch stamp m) next h s d =
-        let q : fetch (w.controllers c) m ≡ (next, entry.Fetch stamp m) = own_of (plant_of model t lines) w c (entry.Fetch stamp m) next h in
-        sym (kept_by (λ (z : State (Body M)). z.body.frame.told s) w.controllers c next (sym (ap (λ (z : State (Body M) × Entry). z.0.body.frame.told s) q)) d)
-    step_hears (entry.Post stamp m) next h s d =
-        let r = post_from model t lines c (w.controllers c) next (entry.Post stamp m) (w.controllers c).outbox h in
-        sym (kept_by (λ (z : State (Body M)). z.body.frame.told s) w.controllers c next (sym (ap (λ (z : State (Body M) × Entry). z.0.body.frame.told s) r.3)) d)
-    step_hears (entry.Turn stamp from sent what ns) next h s d =
-        let r = turn_from model t lines c (w.controllers c) next (entry.Turn stamp from sent what ns) (w.controllers c).outbox (next_of (w.controllers c).pending) h in
-        turn_hears next r.0 r.2 (sym (ap (λ (z : State (Body M) × Entry). z.0) r.3)) s d
-
-    step_tells : (e : Entry) (next : State (Body M)) → controller_does (plant_of model t lines) w c (event_of e) ≡ Some (next, e)
-        → (s d : ℕ) → s < length t.slots → d < length t.controllers → is_told t s d ≡ true
-        → foretold t d s (comes (world_after model t lines w c e next) c e (owner_of t s) d) (standing (w.controllers (owner_of t s)).body.frame.lives s)
-        ≡ standing (put w.controllers c next (owner_of t s)).body.frame.lives s
-    unfolding turn post fetch
-    step_tells (entry.Start who state ns) next h s d there below told = absurd cc
-    step_tells (entry.Fetch stamp m) next h s d there below told =
-        let q : fetch (w.controllers c) m ≡ (next, entry.Fetch stamp m) = own_of (plant_of model t lines) w c (entry.Fetch stamp m) next h in
-        sym (kept_by (λ (z : State (Body M)). standing z.body.frame.lives s) w.controllers c next (sym (ap (λ (z : State (Body M) × Entry). standing z.0.body.frame.lives s) q)) (owner_of t s))
-    step_tells (entry.Post stamp m) next h s d there below told =
-        let r = post_from model t lines c (w.controllers c) next (entry.Post stamp m) (w.controllers c).outbox h in
-        sym (kept_by (λ (z : State (Body M)). standing z.body.frame.lives s) w.controllers c next (sym (ap (λ (z : State (Body M) × Entry). standing z.0.body.frame.lives s) r.3)) (owner_of t s))
-    step_tells (entry.Turn stamp from sent what ns) next h s d there below told =
-        let r = turn_from model t lines c (w.controllers c) next (entry.Turn stamp from sent what ns) (w.controllers c).outbox (next_of (w.controllers c).pending) h in
-        turn_tells next r.0 (sym (ap (λ (z : State (Body M) × Entry). z.0) r.3)) s d there below told
-
-    -- what comes into a trail announces slots of its controller
+    -- what comes into a trail tells of slots of its controller
     step_owned : (e : Entry) (next : State (Body M)) → controller_does (plant_of model t lines) w c (event_of e) ≡ Some (next, e)
         → (a b : ℕ) → AllOwned t a (comes (world_after model t lines w c e next) c e a b)
     unfolding turn put
@@ -274,7 +159,7 @@ module _ {M : Type 0} (model : Behaviour M) (clear : IsOpen model) (t : Tables) 
         go true e = owned_system t a a b next.outbox (subst (λ n. AllOwned t n next.outbox) (sym (eqb-true a c e)) sent_owned)
         go false e = tt
 
-    controller_foretold : c < length t.controllers → (e : Entry) (next : State (Body M)) → controller_does (plant_of model t lines) w c (event_of e) ≡ Some (next, e)
+    pub controller_foretold : c < length t.controllers → (e : Entry) (next : State (Body M)) → controller_does (plant_of model t lines) w c (event_of e) ≡ Some (next, e)
         → IsForetold t (world_after model t lines w c e next)
     unfolding put
     controller_foretold below e next h =
@@ -287,19 +172,12 @@ module _ {M : Type 0} (model : Behaviour M) (clear : IsOpen model) (t : Tables) 
               (subst (AllOwned t a) (sym (moves a b))
               (all_append (IsOwned t a) (trail w a b) (comes (world_after model t lines w c e next) c e a b) (inv.owned a b) (step_owned e next h a b)));
           foretold = λ s d there told_below told.
-              let a : ℕ = owner_of t s in
-              let n : ℕ = (w.controllers d).body.frame.told s in
-              let after_all : List Msg = trail (world_after model t lines w c e next) a d in
-              ap (foretold t d s after_all) (sym (step_hears e next h s d))
-              ∙ sym (foretold_append t d s (leaves w c e a d) after_all n)
-              ∙ ap (λ (z : List Msg). foretold t d s z n) (moves a d)
-              ∙ foretold_append t d s (trail w a d) (comes (world_after model t lines w c e next) c e a d) n
-              ∙ ap (foretold t d s (comes (world_after model t lines w c e next) c e a d)) (inv.foretold s d there told_below told)
-              ∙ step_tells e next h s d there told_below told;
+              step_reads model clear t lines s d (heard t d s) (directory_hearing d s) (λ (b : Body M). b.frame.told s) (λ (b : Body M). standing b.frame.lives s)
+              w inv.sorted inv.owned (directory_reads w inv.sorted s d there told_below told) c e next h (inv.foretold s d there told_below told);
           idle = λ n far. put_idle n far (n == c) refl;
         }
       where
-        put_idle : (n : ℕ) → length t.controllers ≤ n → (b : Bool) → (n == c) ≡ b → AllSilent (put w.controllers c next n).outbox
+        put_idle : (n : ℕ) → length t.controllers ≤ n → (b : Bool) → (n == c) ≡ b → AllPlain (put w.controllers c next n).outbox
         put_idle n far true q = let same : n ≡ c = eqb-true n c q in absurd (omega arith)
         put_idle n far false q = rw q (inv.idle n far)
 
@@ -329,7 +207,7 @@ module _ {M : Type 0} (model : Behaviour M) (clear : IsOpen model) (t : Tables) 
       go true false = refl
       go false y = refl
 
-  environment_moves : (w : World (Body M)) (c : ℕ) (e : Entry) (v : Environment) → environment_does (plant_of model t lines) w (event_of e) ≡ Some (v, e)
+  pub environment_moves : (w : World (Body M)) (c : ℕ) (e : Entry) (v : Environment) → environment_does (plant_of model t lines) w (event_of e) ≡ Some (v, e)
       → (a b : ℕ) → trail (world_then w c e v) a b ≡ trail w a b
   environment_moves w c (entry.Start who state ns) v h a b = absurd cc
   environment_moves w c (entry.Fetch stamp m) v h a b = absurd cc
@@ -341,14 +219,14 @@ module _ {M : Type 0} (model : Behaviour M) (clear : IsOpen model) (t : Tables) 
       post_step w.lanes at (lane a b 0) m ∙ ap (λ (x : Bool). w.lanes (lane a b 0) ++ (if x then m ∷ [] else [])) apart ∙ append-nil (w.lanes (lane a b 0)) in
       ap (λ (z : List Msg). from_a a ((w.controllers b).pending 0) ++ (contents a z ++ system_to a b (w.controllers a).outbox)) same
 
-  environment_foretold : (w : World (Body M)) (c : ℕ) (e : Entry) (v : Environment) → IsForetold t w
+  pub environment_foretold : (w : World (Body M)) (c : ℕ) (e : Entry) (v : Environment) → IsForetold t w
       → environment_does (plant_of model t lines) w (event_of e) ≡ Some (v, e) → IsForetold t (world_then w c e v)
   environment_foretold w c e v inv h =
       record {
         sorted = inv.sorted;
         owned = λ a b. subst (AllOwned t a) (sym (environment_moves w c e v h a b)) (inv.owned a b);
         foretold = λ s d there below told.
-            ap (λ (z : List Msg). foretold t d s z ((w.controllers d).body.frame.told s)) (environment_moves w c e v h (owner_of t s) d) ∙ inv.foretold s d there below told;
+            ap (λ (z : List Msg). hear_all (heard t d s) z ((w.controllers d).body.frame.told s)) (environment_moves w c e v h (owner_of t s) d) ∙ inv.foretold s d there below told;
         idle = inv.idle;
       }
 
@@ -361,7 +239,7 @@ module _ {M : Type 0} (model : Behaviour M) (clear : IsOpen model) (t : Tables) 
   run_foretold [] w end inv r = subst (IsForetold t) (sym r) inv
   run_foretold (x ∷ xs) w end inv r = run_foretold xs r.0 end (step_foretold w x r.0 inv (happened (plant_of model t lines) w x r.0 r.2)) r.3
 
-  -- the start: initial transitions announce nothing
+  -- the start: initial transitions tell of no life
   all_started_carries : (c : ℕ) (xs : List Incarnation) (s : Starting M) → Carries s.doing (all_started model t c xs s).doing
   all_started_carries c [] s = carries_same s.doing
   all_started_carries c (x ∷ xs) s =
@@ -370,32 +248,31 @@ module _ {M : Type 0} (model : Behaviour M) (clear : IsOpen model) (t : Tables) 
       first : (x : Incarnation) (s : Starting M) → Carries s.doing (started model t c s x).doing
       first x s =
           let k = apply_all_carries t c x None tt (model.begin x).commands (clear.begin x) _ in
-          record { lives = k.lives; told = k.told; more = k.more; sent = k.sent; silent = k.silent; kept = λ h. k.kept h }
+          record { lives = k.lives; told = k.told; more = k.more; sent = k.sent; plain = k.plain; kept = λ h. k.kept h }
 
-  first_carries : (c : ℕ) → Carries (doing (first_body t c)) (starting model t c).doing
+  pub first_carries : (c : ℕ) → Carries (doing (first_body t c)) (starting model t c).doing
   unfolding starting
   first_carries c = all_started_carries c (first_actors t c) (record { doing = doing (first_body t c); entries = [] })
 
-  first_silent : (c : ℕ) → AllSilent (first_state model t c).outbox
-  first_silent c = let k = first_carries c in subst AllSilent (sym k.sent) k.silent
+  pub first_plain : (c : ℕ) → AllPlain (first_state model t c).outbox
+  first_plain c = let k = first_carries c in subst AllPlain (sym k.sent) k.plain
 
-  start_foretold : IsForetold t (start (plant_of model t lines))
+  pub start_foretold : IsForetold t (start (plant_of model t lines))
   start_foretold =
       record {
         sorted = λ c. record { pending = λ p. tt; deferred = ((first_carries c).kept (tt, (λ n. tt))).1 };
         owned = λ a b.
             subst (AllOwned t a) (sym (fresh_trail a b (first_state model t a).outbox))
-            (owned_system t a a b (first_state model t a).outbox (silent_owned t a (first_state model t a).outbox (first_silent a)));
+            (owned_system t a a b (first_state model t a).outbox (plain_owned t a (first_state model t a).outbox (first_plain a)));
         foretold = λ s d there below told.
             let o : ℕ = owner_of t s in
             let n : ℕ = (first_state model t d).body.frame.told s in
-            ap (λ (z : List Msg). foretold t d s z n) (fresh_trail o d (first_state model t o).outbox)
-            ∙ foretold_system t d s o (first_state model t o).outbox n
-            ∙ after_silent t d s (first_state model t o).outbox n (first_silent o)
+            ap (λ (z : List Msg). hear_all (heard t d s) z n) (fresh_trail o d (first_state model t o).outbox)
+            ∙ unread s (heard t d s) (directory_hearing d s) o d (first_state model t o).outbox (first_plain o) n
             ∙ ap (λ (g : ℕ → ℕ). g s) (first_carries d).told
             ∙ first_told s d there told (lives_from_start t s)
             ∙ ap (λ l. standing l s) (sym (first_carries o).lives);
-        idle = λ c far. first_silent c;
+        idle = λ c far. first_plain c;
       }
     where
       first_told : (s d : ℕ) → s < length t.slots → is_told t s d ≡ true → (b : Bool)
@@ -406,25 +283,25 @@ module _ {M : Type 0} (model : Behaviour M) (clear : IsOpen model) (t : Tables) 
   pub runs_foretell : (xs : List Placed) (end : World (Body M)) → Runs (plant_of model t lines) (start (plant_of model t lines)) xs end → IsForetold t end
   runs_foretell xs end r = run_foretold xs (start (plant_of model t lines)) end start_foretold r
 
-  -- in a quiet world no trail says anything of a slot
-  pub quiet_agree : (end : World (Body M)) → IsForetold t end → IsQuiet (plant_of model t lines) end → DirectoriesAgree t end
-  quiet_agree end inv quiet s d there below told =
+  -- in a quiet world nothing is on its way that tells of a life
+  pub quiet_unread : {X : Type 0} (s d : ℕ) (hear : Msg → X → X) → IsHearing s hear → (end : World (Body M)) → IsForetold t end → IsQuiet (plant_of model t lines) end
+      → d < length t.controllers → (x : X) → hear_all hear (trail end (owner_of t s) d) x ≡ x
+  quiet_unread s d hear hearing end inv quiet below x =
       let o : ℕ = owner_of t s in
-      let n : ℕ = (end.controllers d).body.frame.told s in
       let box : List Msg = (end.controllers o).outbox in
       let empty : trail end o d ≡ system_to o d box =
       ap (λ (z : List Msg). from_a o z ++ (contents o (end.lanes (lane o d 0)) ++ system_to o d box)) (quiet.pending d 0 below)
       ∙ ap (λ (z : List Msg). from_a o [] ++ (contents o z ++ system_to o d box)) (quiet.lanes (lane o d 0))
       ∙ fresh_trail o d box in
-      sym (
-      ap (λ (z : List Msg). foretold t d s z n) empty
-      ∙ foretold_system t d s o box n
-      ∙ after_silent t d s box n (silent (cases_lt o (length t.controllers)))
-      ) ∙ inv.foretold s d there below told
+      ap (λ (z : List Msg). hear_all hear z x) empty ∙ unread s hear hearing o d box (plain (cases_lt o (length t.controllers))) x
     where
-      silent : (owner_of t s < length t.controllers) ⊎ (length t.controllers ≤ owner_of t s) → AllSilent (end.controllers (owner_of t s)).outbox
-      silent (inl near) = subst AllSilent (sym (quiet.outbox (owner_of t s) near)) tt
-      silent (inr far) = inv.idle (owner_of t s) far
+      plain : (owner_of t s < length t.controllers) ⊎ (length t.controllers ≤ owner_of t s) → AllPlain (end.controllers (owner_of t s)).outbox
+      plain (inl near) = subst AllPlain (sym (quiet.outbox (owner_of t s) near)) tt
+      plain (inr far) = inv.idle (owner_of t s) far
+
+  pub quiet_agree : (end : World (Body M)) → IsForetold t end → IsQuiet (plant_of model t lines) end → DirectoriesAgree t end
+  quiet_agree end inv quiet s d there below told =
+      sym (quiet_unread s d (heard t d s) (directory_hearing d s) end inv quiet below ((end.controllers d).body.frame.told s)) ∙ inv.foretold s d there below told
 
   -- each event of a run: what leaves a trail and then stands is what stood and then comes
   nothing_moves : (w next : World (Body M)) (e : Entry) (c : ℕ) (v : Environment) → environment_does (plant_of model t lines) w (event_of e) ≡ Some (v, e)

@@ -1,5 +1,5 @@
 -- What commands, initial transitions and withdrawals do to what controllers are told of each other:
--- nothing. They announce nothing, and what actors keep for later isn't the system's.
+-- nothing. They tell of no life, and what actors keep for later isn't the system's.
 use Rattle.std.proofs.Common.{◌≡◌, ℕ, ◌==◌, Bool, true, false, if◌then◌else◌, List, [], ◌∷◌, ◌++◌, Option, Some, None, ℤ, refl, sym, ap, ◌∙◌, append-nil, append_assoc}
 use Rattle.std.specs.List.{AllByRecursion}
 use Rattle.room_kinds.specs.declared.message.Msg.{Msg}
@@ -18,7 +18,7 @@ use Rattle.actor_world.specs.Behaviour.{Behaviour}
 use Rattle.actor_world.specs.Body.{Body, Doing, sent_at, apply_all}
 use Rattle.actor_world.specs.Turns.{doing, begun, all_begun, gone, all_gone, closing, with_frame}
 use Rattle.actor_world.specs.Directories.{SendsOpenly, IsOpen}
-use Rattle.actor_world.proofs.Silent.{announced, AllSilent, silent_append, silent_request, silent_name_request, silent_end_of, silent_send, silent_broadcast}
+use Rattle.world_agreement.proofs.Plain.{IsPlain, AllPlain, plain_append, plain_request, plain_name_request, plain_end_of, plain_send, plain_broadcast}
 use Rattle.world_agreement.proofs.Lists.{all_append}
 
 -- messages of which none is the system's
@@ -29,17 +29,17 @@ NotSystem ms = AllByRecursion (λ (m : Msg). (m.prio.0 == 0) ≡ false) ms
 abbrev pub KeepsOpen : {M : Type 0} → Doing M → Type 0
 KeepsOpen d = NotSystem d.back × ((n : ℕ) → NotSystem (d.body.deferred n))
 
--- from d to e the frame service's lives and directory stay, and what is sent announces nothing
+-- from d to e the frame service's lives and directory stay, and what is sent tells of no life
 pub record Carries {M : Type 0} (d e : Doing M) : Type 0 where
   pub lives : e.body.frame.lives ≡ d.body.frame.lives
   pub told : e.body.frame.told ≡ d.body.frame.told
   pub more : List Msg
   pub sent : e.sent ≡ d.sent ++ more
-  pub silent : AllSilent more
+  pub plain : AllPlain more
   pub kept : KeepsOpen d → KeepsOpen e
 
 pub carries_same : {M : Type 0} (d : Doing M) → Carries d d
-carries_same d = record { lives = refl; told = refl; more = []; sent = sym (append-nil d.sent); silent = tt; kept = λ h. h }
+carries_same d = record { lives = refl; told = refl; more = []; sent = sym (append-nil d.sent); plain = tt; kept = λ h. h }
 
 pub carries_two : {M : Type 0} (d e f : Doing M) → Carries d e → Carries e f → Carries d f
 carries_two d e f h k =
@@ -48,7 +48,7 @@ carries_two d e f h k =
       told = k.told ∙ h.told;
       more = h.more ++ k.more;
       sent = k.sent ∙ ap (λ (z : List Msg). z ++ k.more) h.sent ∙ append_assoc d.sent h.more k.more;
-      silent = silent_append h.more k.more h.silent k.silent;
+      plain = plain_append h.more k.more h.plain k.plain;
       kept = λ q. k.kept (h.kept q);
     }
 
@@ -100,16 +100,16 @@ request_told t me f x (frames.Import reference index id) = refl
 request_told t me f x (frames.Deport reference index) = refl
 
 module _ {M : Type 0} (t : Tables) (me : ℕ) where
-  sent_at_silent : (d : Doing M) (x : Incarnation) (p : ℕ) (k : Option ℤ) (c : Content) → (c.prio.0 == 0) ≡ false → AllSilent (sent_at t me d x p k c).messages
-  sent_at_silent d x p (Some k) c h = silent_send t me d.body.frame d.body.links x p k c h
-  sent_at_silent d x p None c h = silent_broadcast t me d.body.frame d.body.links x p c h
+  sent_at_plain : (d : Doing M) (x : Incarnation) (p : ℕ) (k : Option ℤ) (c : Content) → (c.prio.0 == 0) ≡ false → AllPlain (sent_at t me d x p k c).messages
+  sent_at_plain d x p (Some k) c h = plain_send t me d.body.frame d.body.links x p k c h
+  sent_at_plain d x p None c h = plain_broadcast t me d.body.frame d.body.links x p c h
 
   pub apply_all_carries : (x : Incarnation) (m : Option Msg) → HandOpen m → (cs : List Command) → SendsOpenly cs → (d : Doing M) → Carries d (apply_all t me x m cs d)
   apply_all_carries x m hand [] clear d = carries_same d
   apply_all_carries x m hand (commands.Send p k signal payload prio ∷ cs) clear d =
       let c : Content = record { signal = signal; payload = payload; prio = prio } in
       carries_two d _ _
-      (record { lives = refl; told = refl; more = (sent_at t me d x p k c).messages; sent = refl; silent = sent_at_silent d x p k c clear.0; kept = λ h. h })
+      (record { lives = refl; told = refl; more = (sent_at t me d x p k c).messages; sent = refl; plain = sent_at_plain d x p k c clear.0; kept = λ h. h })
       (apply_all_carries x m hand cs clear.1 _)
   apply_all_carries x m hand (commands.Defer ∷ cs) clear d =
       carries_two d _ _
@@ -118,7 +118,7 @@ module _ {M : Type 0} (t : Tables) (me : ℕ) where
         told = refl;
         more = [];
         sent = sym (append-nil d.sent);
-        silent = tt;
+        plain = tt;
         kept = λ h. keeping_open d x.slot.0 (defer d.kept m (d.body.deferred x.slot.0)) h (defer_open d.kept m (d.body.deferred x.slot.0) hand (h.1 x.slot.0));
       })
       (apply_all_carries x m hand cs clear _)
@@ -129,7 +129,7 @@ module _ {M : Type 0} (t : Tables) (me : ℕ) where
         told = refl;
         more = [];
         sent = sym (append-nil d.sent);
-        silent = tt;
+        plain = tt;
         kept = λ h. keeping_open d x.slot.0 (recall (d.body.deferred x.slot.0)) h (recall_open (d.body.deferred x.slot.0) (h.1 x.slot.0));
       })
       (apply_all_carries x m hand cs clear _)
@@ -140,7 +140,7 @@ module _ {M : Type 0} (t : Tables) (me : ℕ) where
         told = refl;
         more = [];
         sent = sym (append-nil d.sent);
-        silent = tt;
+        plain = tt;
         kept = λ h. keeping_open d x.slot.0 (recall_all (d.body.deferred x.slot.0)) h (recall_all_open (d.body.deferred x.slot.0) (h.1 x.slot.0));
       })
       (apply_all_carries x m hand cs clear _)
@@ -151,7 +151,7 @@ module _ {M : Type 0} (t : Tables) (me : ℕ) where
         told = request_told t me d.body.frame x c;
         more = (frame_request t me d.body.frame x c).sent;
         sent = refl;
-        silent = silent_request t me d.body.frame x c;
+        plain = plain_request t me d.body.frame x c;
         kept = λ h. h;
       })
       (apply_all_carries x m hand cs clear _)
@@ -162,15 +162,15 @@ module _ {M : Type 0} (t : Tables) (me : ℕ) where
         told = refl;
         more = (name_request t me d.body.links x c).sent;
         sent = refl;
-        silent = silent_name_request t me d.body.links x c;
+        plain = plain_name_request t me d.body.links x c;
         kept = λ h. h;
       })
       (apply_all_carries x m hand cs clear _)
 
--- a message that closes a duty announces nothing
-abbrev pub IsSilentLast : Option Msg → Type 0
-IsSilentLast None = Unit {0}
-IsSilentLast (Some m) = announced m ≡ None
+-- a message that closes a duty tells of no life
+abbrev pub IsPlainLast : Option Msg → Type 0
+IsPlainLast None = Unit {0}
+IsPlainLast (Some m) = IsPlain m
 
 module _ {M : Type 0} (model : Behaviour M) (clear : IsOpen model) (t : Tables) (me : ℕ) where
   begun_carries : (x : Incarnation) (d : Doing M) → Carries d (begun model t me x d)
@@ -181,7 +181,7 @@ module _ {M : Type 0} (model : Behaviour M) (clear : IsOpen model) (t : Tables) 
         told = k.told;
         more = k.more;
         sent = k.sent;
-        silent = k.silent;
+        plain = k.plain;
         kept = λ h. k.kept (h.0, updated_open d.body.deferred x.slot.0 [] h.1 tt);
       }
 
@@ -196,7 +196,7 @@ module _ {M : Type 0} (model : Behaviour M) (clear : IsOpen model) (t : Tables) 
         told = refl;
         more = (end_of t me d.body.links x).sent;
         sent = refl;
-        silent = silent_end_of t me d.body.links x;
+        plain = plain_end_of t me d.body.links x;
         kept = λ h. (h.0, updated_open d.body.deferred x.slot.0 [] h.1 tt);
       }
 
@@ -204,12 +204,12 @@ module _ {M : Type 0} (model : Behaviour M) (clear : IsOpen model) (t : Tables) 
   all_gone_carries [] d = carries_same d
   all_gone_carries (x ∷ xs) d = carries_two d _ _ (gone_carries x d) (all_gone_carries xs (gone t me x d))
 
-  closing_carries : (d : Doing M) (o : Option Msg) → IsSilentLast o → Carries d (closing d o)
+  closing_carries : (d : Doing M) (o : Option Msg) → IsPlainLast o → Carries d (closing d o)
   closing_carries d None h = carries_same d
-  closing_carries d (Some m) h = record { lives = refl; told = refl; more = m ∷ []; sent = refl; silent = (h, tt); kept = λ q. q }
+  closing_carries d (Some m) h = record { lives = refl; told = refl; more = m ∷ []; sent = refl; plain = (h, tt); kept = λ q. q }
 
   -- what follows a duty of the frame service
-  pub frame_carries : (b : Body M) (r : FrameDone) → IsSilentLast r.last
+  pub frame_carries : (b : Body M) (r : FrameDone) → IsPlainLast r.last
       → Carries (record (doing b) { body = record b { frame = r.frame }; sent = r.sent }) (with_frame model t me b r)
   frame_carries b r h =
       carries_two _ _ _ (carries_two _ _ _ (all_begun_carries r.made _) (all_gone_carries r.ended _)) (closing_carries _ r.last h)

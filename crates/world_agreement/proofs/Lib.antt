@@ -1,7 +1,13 @@
 pub mod Lists
+pub mod Plain
 pub mod Carrying
 pub mod Hearing
+pub mod Below
+pub mod Living
 pub mod Telling
+pub mod Duties
 pub mod Turning
 pub mod Moving
+pub mod Reading
 pub mod Agreeing
+pub mod Parting

@@ -50,6 +50,10 @@ pub all_map : {X Y : Type 0} (P : Y → Type 0) (f : X → Y) → ((x : X) → P
 all_map P f h [] = tt
 all_map P f h (x ∷ xs) = (h x, all_map P f h xs)
 
+pub all_unit : {X : Type 0} (xs : List X) → AllByRecursion (λ (x : X). Unit {0}) xs
+all_unit [] = tt
+all_unit (x ∷ xs) = (tt, all_unit xs)
+
 -- where no element passes a test, no element is left
 pub filter_none : {X : Type 0} (p : X → Bool) (xs : List X) → AllByRecursion (λ x. p x ≡ false) xs → filter p xs ≡ []
 filter_none p [] h = refl

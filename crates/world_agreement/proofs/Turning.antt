@@ -16,33 +16,44 @@ use Rattle.actor_world.specs.Behaviour.{Behaviour}
 use Rattle.actor_world.specs.Body.{Body, Doing}
 use Rattle.actor_world.specs.Turns.{all_kinds, doing, treated, with_frame, with_table, with_links, duty, system_done, moved, handled, nobody_there, dispatched, is_meant, dispatch, treat}
 use Rattle.actor_world.specs.Directories.{IsOpen}
-use Rattle.actor_world.proofs.Silent.{AllSilent, silent_table, silent_links}
+use Rattle.actor_world.proofs.LifeSteps.{IsSound}
 use Rattle.world_agreement.specs.Announced.{heard_of, heard}
+use Rattle.world_agreement.specs.Bodies.{part_heard_of, part_heard}
 use Rattle.world_agreement.proofs.Lists.{all_append}
+use Rattle.world_agreement.proofs.Plain.{AllPlain, plain_table, plain_links}
 use Rattle.world_agreement.proofs.Carrying.{NotSystem, KeepsOpen, apply_all_carries, frame_carries}
-use Rattle.world_agreement.proofs.Telling.{IsOwned, AllOwned, silent_owned, Announces, announces_silent, announces_more, Tells, frame_duty_tells, frame_duty_told}
+use Rattle.world_agreement.proofs.Hearing.{heard_plain}
+use Rattle.world_agreement.proofs.Living.{Stepped, stays}
+use Rattle.world_agreement.proofs.Telling.{IsOwned, AllOwned, plain_owned, Announces, announces_plain, announces_more, TellsParts, parts_plain, parts_more, Tells}
+use Rattle.world_agreement.proofs.Duties.{IsFar, frame_duty_tells, frame_duty_told, frame_duty_lives}
 
 -- in the middle of a turn: what was sent so far tells what was done to lives
 pub record Says {M : Type 0} (t : Tables) (me : ℕ) (b : Body M) (sent : List Msg) (came : List Msg) (next : Body M) : Type 0 where
   pub owned : AllOwned t me sent
   pub announced : Announces t me b.frame.lives next.frame.lives sent
+  pub parts : IsSound t me b.frame.lives → TellsParts t me b.frame.lives next.frame.lives sent
+  pub stepped : Stepped t me b.frame.lives next.frame.lives
   pub back : NotSystem came
   pub deferred : (n : ℕ) → NotSystem (next.deferred n)
 
--- what a turn makes of its message
+-- what a turn makes of its message: what it tells, what its directory hears, and what a part here of another
+-- controller's slot does
 pub record TurnSays {M : Type 0} (t : Tables) (me : ℕ) (b : Body M) (m : Msg) (r : Treated (Body M)) : Type 0 where
   pub says : Says t me b r.sent r.back r.body
   pub told : (s : ℕ) → r.body.frame.told s ≡ heard t me s m (b.frame.told s)
+  pub lives : IsSound t me b.frame.lives → (o s : ℕ) → IsFar t me o s → r.body.frame.lives.lives s ≡ part_heard t me o m (b.frame.lives.lives s)
 
 module _ {M : Type 0} (model : Behaviour M) (clear : IsOpen model) (t : Tables) (me : ℕ) where
-  -- a duty that leaves the frame service alone
-  still_says : (b next : Body M) (sent : List Msg) → next.frame.lives ≡ b.frame.lives → AllSilent sent → ((n : ℕ) → NotSystem (next.deferred n))
-      → Says t me b sent [] next
-  still_says b next sent lives silent deferred =
+  -- what leaves lives alone and tells of none
+  still_says : (b next : Body M) (sent came : List Msg) → next.frame.lives ≡ b.frame.lives → AllPlain sent → NotSystem came → ((n : ℕ) → NotSystem (next.deferred n))
+      → Says t me b sent came next
+  still_says b next sent came lives plain back deferred =
       record {
-        owned = silent_owned t me sent silent;
-        announced = subst (λ (z : Lives). Announces t me b.frame.lives z sent) (sym lives) (announces_silent t me b.frame.lives sent silent);
-        back = tt;
+        owned = plain_owned t me sent plain;
+        announced = subst (λ (z : Lives). Announces t me b.frame.lives z sent) (sym lives) (announces_plain t me b.frame.lives sent plain);
+        parts = λ sound. subst (λ (z : Lives). TellsParts t me b.frame.lives z sent) (sym lives) (parts_plain t me b.frame.lives sent plain);
+        stepped = stays lives;
+        back = back;
         deferred = deferred;
       }
 
@@ -52,42 +63,54 @@ module _ {M : Type 0} (model : Behaviour M) (clear : IsOpen model) (t : Tables) 
       let c = frame_carries model clear t me b r k.last in
       let open_then : KeepsOpen (with_frame model t me b r) = c.kept (tt, deferred) in
       record {
-        owned = subst (AllOwned t me) (sym c.sent) (all_append (IsOwned t me) r.sent c.more k.owned (silent_owned t me c.more c.silent));
+        owned = subst (AllOwned t me) (sym c.sent) (all_append (IsOwned t me) r.sent c.more k.owned (plain_owned t me c.more c.plain));
         announced = subst (λ (z : Lives). Announces t me b.frame.lives z (with_frame model t me b r).sent) (sym c.lives)
             (subst (Announces t me b.frame.lives r.frame.lives) (sym c.sent)
-            (announces_more t me b.frame.lives r.frame.lives r.sent c.more k.announced c.silent));
+            (announces_more t me b.frame.lives r.frame.lives r.sent c.more k.announced (λ d s. heard_plain t d s c.more c.plain)));
+        parts = λ sound.
+            subst (λ (z : Lives). TellsParts t me b.frame.lives z (with_frame model t me b r).sent) (sym c.lives)
+            (subst (TellsParts t me b.frame.lives r.frame.lives) (sym c.sent)
+            (parts_more t me b.frame.lives r.frame.lives r.sent c.more (k.parts sound) c.plain));
+        stepped = subst (Stepped t me b.frame.lives) (sym c.lives) k.stepped;
         back = open_then.0;
         deferred = open_then.1;
       }
 
   -- what a duty makes of a body, of a kind that is known
-  DutySays : Body M → Msg → SysKind → Doing M → Type 0
-  DutySays b m kind d = Says t me b d.sent d.back d.body × ((s : ℕ) → d.body.frame.told s ≡ heard_of t me s (Some kind) m.source m.target m.payload (b.frame.told s))
+  record DutySays (b : Body M) (m : Msg) (kind : Option SysKind) (d : Doing M) : Type 0 where
+    pub says : Says t me b d.sent d.back d.body
+    pub told : (s : ℕ) → d.body.frame.told s ≡ heard_of t me s kind m.source m.target m.payload (b.frame.told s)
+    pub lives : IsSound t me b.frame.lives → (o s : ℕ) → IsFar t me o s
+        → d.body.frame.lives.lives s ≡ part_heard_of t me o kind m.source m.target m.payload (b.frame.lives.lives s)
 
-  of_frame : (b : Body M) (m : Msg) (kind : SysKind) → ((n : ℕ) → NotSystem (b.deferred n)) → DutySays b m kind (with_frame model t me b (frame_duty t me b.frame kind m))
-  unfolding DutySays
+  of_frame : (b : Body M) (m : Msg) (kind : SysKind) → ((n : ℕ) → NotSystem (b.deferred n)) → DutySays b m (Some kind) (with_frame model t me b (frame_duty t me b.frame kind m))
   of_frame b m kind deferred =
       let r : FrameDone = frame_duty t me b.frame kind m in
       let k : Tells t me b.frame.lives r = frame_duty_tells t me b.frame m kind in
       let c = frame_carries model clear t me b r k.last in
-      (frame_says b r deferred k, (λ s. ap (λ (g : ℕ → ℕ). g s) c.told ∙ frame_duty_told t me b.frame s m kind))
+      record {
+        says = frame_says b r deferred k;
+        told = λ s. ap (λ (g : ℕ → ℕ). g s) c.told ∙ frame_duty_told t me b.frame s m kind;
+        lives = λ sound o s far. ap (λ (z : Lives). z.lives s) c.lives ∙ frame_duty_lives t me b.frame o s far sound m kind;
+      }
 
   -- a duty of the name table, and one of the links
-  of_table : (b : Body M) (r : Done NameTable) → ((n : ℕ) → NotSystem (b.deferred n)) → AllSilent r.sent
-      → Says t me b (with_table b r).sent (with_table b r).back (with_table b r).body × ((s : ℕ) → (with_table b r).body.frame.told s ≡ b.frame.told s)
-  of_table b r h silent = (still_says b (with_table b r).body r.sent refl silent h, (λ s. refl))
+  of_table : (b : Body M) (r : Done NameTable) → ((n : ℕ) → NotSystem (b.deferred n)) → AllPlain r.sent
+      → Says t me b (with_table b r).sent (with_table b r).back (with_table b r).body
+  of_table b r h plain = still_says b (with_table b r).body r.sent [] refl plain tt h
 
-  of_links : (b : Body M) (r : Done Links) → ((n : ℕ) → NotSystem (b.deferred n)) → AllSilent r.sent
-      → Says t me b (with_links b r).sent (with_links b r).back (with_links b r).body × ((s : ℕ) → (with_links b r).body.frame.told s ≡ b.frame.told s)
-  of_links b r h silent = (still_says b (with_links b r).body r.sent refl silent h, (λ s. refl))
+  of_links : (b : Body M) (r : Done Links) → ((n : ℕ) → NotSystem (b.deferred n)) → AllPlain r.sent
+      → Says t me b (with_links b r).sent (with_links b r).back (with_links b r).body
+  of_links b r h plain = still_says b (with_links b r).body r.sent [] refl plain tt h
 
-  duty_says : (b : Body M) (m : Msg) → ((n : ℕ) → NotSystem (b.deferred n)) → (kind : SysKind) → DutySays b m kind (duty model t me b m kind)
-  unfolding DutySays
-  duty_says b m h kinds.Register = of_table b (table_duty t me b.table kinds.Register m) h (silent_table t me b.table kinds.Register m)
-  duty_says b m h kinds.Withdraw = of_table b (table_duty t me b.table kinds.Withdraw m) h (silent_table t me b.table kinds.Withdraw m)
-  duty_says b m h kinds.Bound = of_links b _ h (silent_links t me b.links _ kinds.Bound m)
-  duty_says b m h kinds.Ended = of_links b _ h (silent_links t me b.links _ kinds.Ended m)
-  duty_says b m h kinds.NameReply = of_links b _ h (silent_links t me b.links _ kinds.NameReply m)
+  duty_says : (b : Body M) (m : Msg) → ((n : ℕ) → NotSystem (b.deferred n)) → (kind : SysKind) → DutySays b m (Some kind) (duty model t me b m kind)
+  duty_says b m h kinds.Register =
+      record { says = of_table b (table_duty t me b.table kinds.Register m) h (plain_table t me b.table kinds.Register m); told = λ s. refl; lives = λ sound o s far. refl }
+  duty_says b m h kinds.Withdraw =
+      record { says = of_table b (table_duty t me b.table kinds.Withdraw m) h (plain_table t me b.table kinds.Withdraw m); told = λ s. refl; lives = λ sound o s far. refl }
+  duty_says b m h kinds.Bound = record { says = of_links b _ h (plain_links t me b.links _ kinds.Bound m); told = λ s. refl; lives = λ sound o s far. refl }
+  duty_says b m h kinds.Ended = record { says = of_links b _ h (plain_links t me b.links _ kinds.Ended m); told = λ s. refl; lives = λ sound o s far. refl }
+  duty_says b m h kinds.NameReply = record { says = of_links b _ h (plain_links t me b.links _ kinds.NameReply m); told = λ s. refl; lives = λ sound o s far. refl }
   duty_says b m h kinds.Create = of_frame b m kinds.Create h
   duty_says b m h kinds.CreateDone = of_frame b m kinds.CreateDone h
   duty_says b m h kinds.CreateRefused = of_frame b m kinds.CreateRefused h
@@ -103,66 +126,63 @@ module _ {M : Type 0} (model : Behaviour M) (clear : IsOpen model) (t : Tables) 
   duty_says b m h kinds.PartMake = of_frame b m kinds.PartMake h
   duty_says b m h kinds.PartEnd = of_frame b m kinds.PartEnd h
 
-  system_says : (b : Body M) (m : Msg) → ((n : ℕ) → NotSystem (b.deferred n)) → (o : Option SysKind)
-      → Says t me b (system_done model t me b m o).sent (system_done model t me b m o).back (system_done model t me b m o).body
-      × ((s : ℕ) → (system_done model t me b m o).body.frame.told s ≡ heard_of t me s o m.source m.target m.payload (b.frame.told s))
-  unfolding DutySays
-  system_says b m h None = (still_says b b [] refl tt h, (λ s. refl))
+  system_says : (b : Body M) (m : Msg) → ((n : ℕ) → NotSystem (b.deferred n)) → (o : Option SysKind) → DutySays b m o (system_done model t me b m o)
+  system_says b m h None = record { says = still_says b b [] [] refl tt tt h; told = λ s. refl; lives = λ sound o s far. refl }
   system_says b m h (Some kind) = duty_says b m h kind
 
+  -- what a message of an actor makes of a body
+  record ActorSays (b : Body M) (r : Treated (Body M)) : Type 0 where
+    pub says : Says t me b r.sent r.back r.body
+    pub told : r.body.frame.told ≡ b.frame.told
+    pub lives : r.body.frame.lives ≡ b.frame.lives
+
   handled_says : (b : Body M) (x : Incarnation) (m : Msg) (machine : M) → ((n : ℕ) → NotSystem (b.deferred n)) → (m.prio.0 == 0) ≡ false
-      → Says t me b (handled model t me b x m machine).sent (handled model t me b x m machine).back (handled model t me b x m machine).body
-      × ((handled model t me b x m machine).body.frame.told ≡ b.frame.told)
+      → ActorSays b (handled model t me b x m machine)
   unfolding handled
   handled_says b x m machine h hand =
       let r = model.handle x machine m in
       let first : Doing M = record (doing b) { body = record b { machines = updated b.machines x.slot.0 (Some r.machine) }; notes = r.notes } in
       let c = apply_all_carries t me x (Some m) hand r.commands (clear.handle x machine m) first in
-      let k = c.kept (tt, h) in (
-        record {
-          owned = subst (AllOwned t me) (sym c.sent) (silent_owned t me c.more c.silent);
-          announced = subst (λ (z : Lives). Announces t me b.frame.lives z (moved t me b x m r).sent) (sym c.lives)
-              (subst (Announces t me b.frame.lives b.frame.lives) (sym c.sent) (announces_silent t me b.frame.lives c.more c.silent));
-          back = k.0;
-          deferred = k.1;
-        },
-        c.told,
-      )
+      let k = c.kept (tt, h) in
+      record {
+        says = still_says b (moved t me b x m r).body (moved t me b x m r).sent (moved t me b x m r).back c.lives (subst AllPlain (sym c.sent) c.plain) k.0 k.1;
+        told = c.told;
+        lives = c.lives;
+      }
 
-  nobody_says : (b : Body M) (m : Msg) → ((n : ℕ) → NotSystem (b.deferred n)) → Says t me b [] [] b
-  nobody_says b m h = still_says b b [] refl tt h
-
-  -- what a message of an actor makes of a body
-  ActorSays : Body M → Treated (Body M) → Type 0
-  ActorSays b r = Says t me b r.sent r.back r.body × (r.body.frame.told ≡ b.frame.told)
+  nobody_says : (b : Body M) (m : Msg) → ((n : ℕ) → NotSystem (b.deferred n)) → ActorSays b (nobody_there b m)
+  nobody_says b m h = record { says = still_says b b [] [] refl tt tt h; told = refl; lives = refl }
 
   dispatched_says : (b : Body M) (m : Msg) (k : Option M) → ((n : ℕ) → NotSystem (b.deferred n)) → (m.prio.0 == 0) ≡ false → ActorSays b (dispatched model t me b m k)
-  unfolding ActorSays
-  dispatched_says b m None h hand = (nobody_says b m h, refl)
+  dispatched_says b m None h hand = nobody_says b m h
   dispatched_says b m (Some machine) h hand = handled_says b (last_of b.frame.lives m.target.slot.0) m machine h hand
 
   dispatch_says : (b : Body M) (m : Msg) → ((n : ℕ) → NotSystem (b.deferred n)) → (m.prio.0 == 0) ≡ false → ActorSays b (dispatch model t me b m)
-  unfolding dispatch ActorSays
+  unfolding dispatch
   dispatch_says b m h hand = go (not (is_own t me m.target.slot.0 && b.frame.lives.lives m.target.slot.0)) (not (is_meant b.frame m))
     where
       go : (a c : Bool) → ActorSays b (
           if a then nobody_there b m
           else if c then treated (doing b) (did.Stale (whose m.target))
           else dispatched model t me b m (b.machines m.target.slot.0))
-      go true c = (nobody_says b m h, refl)
-      go false true = (nobody_says b m h, refl)
+      go true c = nobody_says b m h
+      go false true = record { says = still_says b b [] [] refl tt tt h; told = refl; lives = refl }
       go false false = dispatched_says b m (b.machines m.target.slot.0) h hand
 
-  -- THE TURN: what it announces is what it does to lives, and its directory is what it heard
+  -- THE TURN: what it tells is what it does to lives, and what it does to others' is what it heard
   pub treat_says : (b : Body M) (m : Msg) → ((n : ℕ) → NotSystem (b.deferred n)) → TurnSays t me b m (treat model t me b m)
-  unfolding treat heard ActorSays
+  unfolding treat heard part_heard
   treat_says b m h = go (m.prio.0 == 0) refl
     where
       go : (a : Bool) → (m.prio.0 == 0) ≡ a
           → TurnSays t me b m (if a then treated (system_done model t me b m (slice_get all_kinds m.signal)) did.Duty else dispatch model t me b m)
       go true e =
-          let k = system_says b m h (slice_get all_kinds m.signal) in
-          record { says = k.0; told = λ s. rw e (k.1 s) }
+          let k : DutySays b m (slice_get all_kinds m.signal) (system_done model t me b m (slice_get all_kinds m.signal)) = system_says b m h (slice_get all_kinds m.signal) in
+          record { says = k.says; told = λ s. rw e (k.told s); lives = λ sound o s far. rw e (k.lives sound o s far) }
       go false e =
-          let k = dispatch_says b m h e in
-          record { says = k.0; told = λ s. rw e (ap (λ (g : ℕ → ℕ). g s) k.1) }
+          let k : ActorSays b (dispatch model t me b m) = dispatch_says b m h e in
+          record {
+            says = k.says;
+            told = λ s. rw e (ap (λ (g : ℕ → ℕ). g s) k.told);
+            lives = λ sound o s far. rw e (ap (λ (z : Lives). z.lives s) k.lives);
+          }

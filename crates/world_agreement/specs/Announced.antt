@@ -1,7 +1,7 @@
 -- What controllers are told of each other's actors, and that in the end they agree.
 -- `heard`: what a directory tells of a slot after a message, if it told something before: an
 -- Announce of the slot tells the generation that came up, or 0; every other message tells nothing
--- of it. `foretold` is the same of a list of messages, one after another.
+-- of it.
 -- The law `directories_agree`: in every run of the world that is quiet at its end all directories
 -- agree with the owners' lives. It follows from what holds at every moment (`AreForetold`): for
 -- each slot that is announced to a controller, what its directory tells, changed by what is on the
@@ -26,7 +26,7 @@ use Rattle.actor_world.specs.Turns.{all_kinds}
 use Rattle.actor_world.specs.Start.{plant_of}
 use Rattle.actor_world.specs.Directories.{IsOpen, AreOpen}
 use Rattle.actor_world.specs.Agreed.{frame_at, DirectoriesAgree}
-use Rattle.world_agreement.specs.Trails.{trail}
+use Rattle.world_agreement.specs.Trails.{trail, hear_all}
 
 -- what a directory tells of slot s after an Announce of x, if it told n before: x came up, or it went
 -- down; any other number says nothing
@@ -50,17 +50,12 @@ heard_of t d s kind source target numbers n = n
 unfoldable pub heard : Tables → ℕ → ℕ → Msg → ℕ → ℕ
 heard t d s m n = if m.prio.0 == 0 then heard_of t d s (slice_get all_kinds m.signal) m.source m.target m.payload n else n
 
--- the same after messages, one after another
-abbrev pub foretold : Tables → ℕ → ℕ → List Msg → ℕ → ℕ
-foretold t d s [] n = n
-foretold t d s (m ∷ ms) n = foretold t d s ms (heard t d s m n)
-
 -- at each controller that a slot is announced to: what its directory tells of the slot, changed by what
 -- is on the trail from the slot's owner, is what stands in the slot at its owner
 abbrev pub AreForetold : {M : Type 0} → Tables → World (Body M) → Type 0
 AreForetold t w =
     (s d : ℕ) → s < length t.slots → d < length t.controllers → is_told t s d ≡ true
-    → foretold t d s (trail w (owner_of t s) d) ((w.controllers d).body.frame.told s) ≡ standing (frame_at t w s).lives s
+    → hear_all (heard t d s) (trail w (owner_of t s) d) ((w.controllers d).body.frame.told s) ≡ standing (frame_at t w s).lives s
 
 -- over every run of the world: what is told, and on its way, is what stands
 abbrev pub RunsForetell : Type 0 → Type 0

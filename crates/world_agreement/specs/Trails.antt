@@ -46,6 +46,11 @@ trail w a b =
     from_a a ((w.controllers b).pending 0)
     ++ (contents a (w.lanes (lane a b 0)) ++ system_to a b (w.controllers a).outbox)
 
+-- what is told after messages, one after another, by what each makes of what was told before
+abbrev pub hear_all : {X : Type 0} → (Msg → X → X) → List Msg → X → X
+hear_all hear [] x = x
+hear_all hear (m ∷ ms) x = hear_all hear ms (hear m x)
+
 -- what a message that is taken out of a pending list takes from the trail from a
 abbrev pub taken_from : ℕ → Option Taken → List Msg
 taken_from a None = []

@@ -7,6 +7,7 @@
 
 ghost use Rattle.world_agreement.specs.Trails.{TrailsAreQueues, QuietTrailsAreEmpty};
 ghost use Rattle.world_agreement.specs.Announced.{RunsForetell, QuietDirectoriesAgree};
+ghost use Rattle.world_agreement.specs.Bodies.{RunsForetellParts, QuietBodiesAgree, ContainersLive};
 
 /// The system messages on their way from one controller to another are a queue. `steps`: an event that is
 /// not a turn leaves every trail as it is; a turn takes the front of at most one, and appends what it sends.
@@ -22,4 +23,18 @@ pub fn trails_are_queues<M>()
 pub fn directories_agree<M>()
     ensures runs { RunsForetell M }
     ensures quiet { QuietDirectoriesAgree M }
+{}
+
+/// The body of an optional slot, all that it reaches by fixed references, lives exactly where the slot
+/// does, whoever owns its parts. `runs`: at every moment, at the slot's owner as it is, and at every other
+/// controller where what is on its way counts. `quiet`: so in a quiet world it lives exactly where the slot
+/// does.
+pub fn bodies_agree<M>()
+    ensures runs { RunsForetellParts M }
+    ensures quiet { QuietBodiesAgree M }
+{}
+
+/// A live optional slot has a live container, at every moment.
+pub fn containers_live<M>()
+    ensures { ContainersLive M }
 {}
