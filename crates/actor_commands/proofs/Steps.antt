@@ -18,12 +18,12 @@ use Rattle.actor_duties.specs.Commands.{Sent, Kept, defer, recall, recall_all}
 use Rattle.actor_world.specs.Body.{Body, Doing as WorldDoing, keeping, sending, apply, apply_all}
 use Rattle.frame_lives.proofs.Rows.{updated_here, updated_else}
 use Rattle.chart_behaviour.specs.ModelCharts.{Actor}
-use Rattle.actor_commands.specs.declared.command_sends.said.Said.{Said}
+use Rattle.actor_commands.specs.declared.command_sends.output.Output.{Output}
 use Rattle.actor_commands.specs.command_sends.Adding.{Adds}
 use Rattle.actor_commands.specs.command_sends.Asking.{FrameAsked, NameAsked}
 use Rattle.actor_commands.specs.deferred_messages.Steps.{Applies as KeptStep}
 use Rattle.actor_commands.specs.declared.doing.Doing.{Doing}
-use Rattle.actor_commands.specs.Doings.{doing_on, said_at, Keeps, Applies, AppliesAll}
+use Rattle.actor_commands.specs.Doings.{doing_on, sent_at, Keeps, Applies, AppliesAll}
 
 -- ---- functions that are updated twice
 
@@ -36,8 +36,8 @@ updated_twice f s a b = fun_ext (λ n. elim (cases_eq n s) [
 -- ---- steps on what is kept
 
 -- a step that takes nothing back from what is kept
-pub keeps_here : (k : Kept) (old : Doing) (deferred : List Msg) (told : List Note) → KeptStep k deferred [] [] old.said.notes told
-    → Keeps k true old (record { deferred = deferred; said = record { messages = old.said.messages; notes = told }; back = old.back; kept = true })
+pub keeps_here : (k : Kept) (old : Doing) (deferred : List Msg) (told : List Note) → KeptStep k deferred [] [] old.output.notes told
+    → Keeps k true old (record { deferred = deferred; output = record { messages = old.output.messages; notes = told }; back = old.back; kept = true })
 keeps_here k old deferred told h = record {
   deferred = h.deferred;
   messages = refl;
@@ -47,8 +47,8 @@ keeps_here k old deferred told h = record {
 }
 
 -- a step by which messages may come back
-pub keeps_back : (k : Kept) (old : Doing) (deferred back : List Msg) (told : List Note) → KeptStep k deferred old.back back old.said.notes told
-    → Keeps k old.kept old (record { deferred = deferred; said = record { messages = old.said.messages; notes = told }; back = back; kept = old.kept })
+pub keeps_back : (k : Kept) (old : Doing) (deferred back : List Msg) (told : List Note) → KeptStep k deferred old.back back old.output.notes told
+    → Keeps k old.kept old (record { deferred = deferred; output = record { messages = old.output.messages; notes = told }; back = back; kept = old.kept })
 keeps_back k old deferred back told h = record { deferred = h.deferred; messages = refl; notes = h.notes; back = h.back; kept = refl }
 
 -- equal parts make equal states
@@ -62,8 +62,8 @@ same_doing f l b p q r s u = cc
 -- the same, with another state of the services and more messages
 same_asked : (b : Body Actor) (s : ℕ) (old : Doing) {f f' : Frame} {l l' : Links} {sent sent' : List Msg} → f ≡ f' → l ≡ l' → sent ≡ sent'
     → ◌≡◌ {A = WorldDoing Actor}
-    (record { body = record b { frame = f; links = l; deferred = updated b.deferred s old.deferred }; sent = sent; back = old.back; notes = old.said.notes; kept = old.kept })
-    (record { body = record b { frame = f'; links = l'; deferred = updated b.deferred s old.deferred }; sent = sent'; back = old.back; notes = old.said.notes; kept = old.kept })
+    (record { body = record b { frame = f; links = l; deferred = updated b.deferred s old.deferred }; sent = sent; back = old.back; notes = old.output.notes; kept = old.kept })
+    (record { body = record b { frame = f'; links = l'; deferred = updated b.deferred s old.deferred }; sent = sent'; back = old.back; notes = old.output.notes; kept = old.kept })
 same_asked b s old p q r = cc
 
 module _ (t : Tables) (me : ℕ) (f : Frame) (l : Links) (x : Incarnation) (m : Option Msg) where
@@ -101,28 +101,28 @@ module _ (t : Tables) (me : ℕ) (f : Frame) (l : Links) (x : Incarnation) (m : 
 
   -- ---- sends
 
-  sending_on : (b : Body Actor) (s : Sent) (old : Doing) (said : Said) → Adds s old.said said
-      → sending (doing_on f l b x.slot.0 old) s ≡ doing_on f l b x.slot.0 (record old { said = said })
-  sending_on b s old said h = same_doing f l b refl (sym h.messages) refl (sym h.notes) refl
+  sending_on : (b : Body Actor) (s : Sent) (old : Doing) (output : Output) → Adds s old.output output
+      → sending (doing_on f l b x.slot.0 old) s ≡ doing_on f l b x.slot.0 (record old { output = output })
+  sending_on b s old output h = same_doing f l b refl (sym h.messages) refl (sym h.notes) refl
 
-  pub sends : (p : ℕ) (k : Option ℤ) (signal : ℕ) (payload : List ℤ) (prio : Priority) (old : Doing) (said : Said)
-      → Adds (said_at t me f l x p k (record { signal = signal; payload = payload; prio = prio })) old.said said
-      → Applies t me f l f l x m (commands.Send p k signal payload prio) old (record old { said = said })
-  sends p (Some k) signal payload prio old said h = record { on = λ b. sending_on b _ old said h }
-  sends p None signal payload prio old said h = record { on = λ b. sending_on b _ old said h }
+  pub sends : (p : ℕ) (k : Option ℤ) (signal : ℕ) (payload : List ℤ) (prio : Priority) (old : Doing) (output : Output)
+      → Adds (sent_at t me f l x p k (record { signal = signal; payload = payload; prio = prio })) old.output output
+      → Applies t me f l f l x m (commands.Send p k signal payload prio) old (record old { output = output })
+  sends p (Some k) signal payload prio old output h = record { on = λ b. sending_on b _ old output h }
+  sends p None signal payload prio old output h = record { on = λ b. sending_on b _ old output h }
 
   -- ---- what is asked of the frame service
 
-  pub asks_frame : (c : FrameCommand) (f' : Frame) (l' : Links) (old : Doing) (out : List Msg) → FrameAsked t me x c f l f' l' old.said.messages out
-      → Applies t me f l f' l' x m (commands.Frame c) old (record old { said = record { messages = out; notes = old.said.notes } })
+  pub asks_frame : (c : FrameCommand) (f' : Frame) (l' : Links) (old : Doing) (out : List Msg) → FrameAsked t me x c f l f' l' old.output.messages out
+      → Applies t me f l f' l' x m (commands.Frame c) old (record old { output = record { messages = out; notes = old.output.notes } })
   asks_frame c f' l' old out h = record {
     on = λ b. same_asked b x.slot.0 old (sym h.frame) (sym h.links) (sym h.sent);
   }
 
   -- ---- what is asked of the layer service
 
-  pub asks_name : (c : NameCommand) (f' : Frame) (l' : Links) (old : Doing) (out : List Msg) → NameAsked t me x c f l f' l' old.said.messages out
-      → Applies t me f l f' l' x m (commands.Name c) old (record old { said = record { messages = out; notes = old.said.notes } })
+  pub asks_name : (c : NameCommand) (f' : Frame) (l' : Links) (old : Doing) (out : List Msg) → NameAsked t me x c f l f' l' old.output.messages out
+      → Applies t me f l f' l' x m (commands.Name c) old (record old { output = record { messages = out; notes = old.output.notes } })
   asks_name c f' l' old out h = record {
     on = λ b. same_asked b x.slot.0 old (sym h.frame) (sym h.links) (sym h.sent);
   }

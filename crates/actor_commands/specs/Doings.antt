@@ -15,23 +15,23 @@ use Rattle.actor_commands.specs.declared.doing.Doing.{Doing}
 abbrev pub doing_on : Frame → Links → Body Actor → ℕ → Doing → WorldDoing Actor
 doing_on f l b slot d = record {
   body = record b { frame = f; links = l; deferred = updated b.deferred slot d.deferred };
-  sent = d.said.messages;
+  sent = d.output.messages;
   back = d.back;
-  notes = d.said.notes;
+  notes = d.output.notes;
   kept = d.kept;
 }
 
 -- what is sent at a place of a port; without a place, at all of them
-abbrev pub said_at : Tables → ℕ → Frame → Links → Incarnation → ℕ → Option ℤ → Content → Sent
-said_at t me f l x p (Some k) c = send t me f l x p k c
-said_at t me f l x p None c = broadcast t me f l x p c
+abbrev pub sent_at : Tables → ℕ → Frame → Links → Incarnation → ℕ → Option ℤ → Content → Sent
+sent_at t me f l x p (Some k) c = send t me f l x p k c
+sent_at t me f l x p None c = broadcast t me f l x p c
 
 -- a step on the messages that are kept for later: those that are kept then, what comes back before what
 -- came back earlier, more notes, and whether the message in hand is kept then
 pub record Keeps (k : Kept) (held : Bool) (old new : Doing) : Type 0 where
   pub deferred : new.deferred ≡ k.deferred
-  pub messages : new.said.messages ≡ old.said.messages
-  pub notes : new.said.notes ≡ old.said.notes ++ k.notes
+  pub messages : new.output.messages ≡ old.output.messages
+  pub notes : new.output.notes ≡ old.output.notes ++ k.notes
   pub back : new.back ≡ k.back ++ old.back
   pub kept : new.kept ≡ held
 

@@ -5,11 +5,11 @@
 //! Each step is exactly the definition of its command in `actor_duties`.
 
 mod broadcasts;
-mod said;
+mod output;
 mod sends;
 mod services;
 
 pub use broadcasts::broadcast;
-pub use said::{Content, Said, Speaker};
+pub use output::{Content, Output, Speaker};
 pub use sends::send;
 pub use services::Services;

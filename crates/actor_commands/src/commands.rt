@@ -3,9 +3,9 @@ ghost use Rattle.std.specs.Prelude.{◌<◌, length, OnOk};
 ghost use Rattle.std.specs.Option.{option_copied};
 ghost use Rattle.actor_duties.specs.Commands.{broadcast};
 ghost use Rattle.actor_commands.specs.command_sends.Adding.{Adds, content_of};
-ghost use Rattle.actor_commands.specs.Doings.{Applies, AppliesAll, said_at};
+ghost use Rattle.actor_commands.specs.Doings.{Applies, AppliesAll, sent_at};
 
-use crate::command_sends::{Content, Said, Services, Speaker, broadcast, send};
+use crate::command_sends::{Content, Output, Services, Speaker, broadcast, send};
 use crate::doing::Doing;
 use room_kinds::{Command, Msg};
 use std::alloc::{AllocError, Global};
@@ -17,17 +17,17 @@ fn send_to_all<S: Services>(
     services: &S,
     port: u16,
     content: &Content<'_>,
-    said: &mut Said,
+    output: &mut Output,
 ) -> Result<(), AllocError>
     requires serves { S.serves speaker.now.wiring.now speaker.now.me.0 services.now }
     requires there { speaker.now.who.slot.0 < length speaker.now.wiring.now.slots }
-    ensures { OnOk result (Adds (broadcast speaker.now.wiring.now speaker.now.me.0 (S.frame_of services.now) (S.links_of services.now) speaker.now.who port (content_of content.now)) said.old said.new) }
+    ensures { OnOk result (Adds (broadcast speaker.now.wiring.now speaker.now.me.0 (S.frame_of services.now) (S.links_of services.now) speaker.now.who port (content_of content.now)) output.old output.new) }
 {
     // A program names ports of its class alone, so this refusal never comes.
     if usize::from(port) >= speaker.wiring.port_count(speaker.who.slot) {
         return Err(AllocError);
     }
-    broadcast(alloc, speaker, services, port, content, said)
+    broadcast(alloc, speaker, services, port, content, output)
 }
 
 /// A send at a place of a port; without a place, at all of them.
@@ -38,19 +38,19 @@ fn say<S: Services>(
     port: u16,
     place: Option<i64>,
     content: &Content<'_>,
-    said: &mut Said,
+    output: &mut Output,
 ) -> Result<(), AllocError>
     requires serves { S.serves speaker.now.wiring.now speaker.now.me.0 services.now }
     requires there { speaker.now.who.slot.0 < length speaker.now.wiring.now.slots }
-    ensures { OnOk result (Adds (said_at speaker.now.wiring.now speaker.now.me.0 (S.frame_of services.now) (S.links_of services.now) speaker.now.who port place (content_of content.now)) said.old said.new) }
+    ensures { OnOk result (Adds (sent_at speaker.now.wiring.now speaker.now.me.0 (S.frame_of services.now) (S.links_of services.now) speaker.now.who port place (content_of content.now)) output.old output.new) }
 {
     match place {
         Some(at) => {
-            send(alloc, speaker, services, port, at, content, said)?;
+            send(alloc, speaker, services, port, at, content, output)?;
             Ok(())
         }
         None => {
-            send_to_all(alloc, speaker, services, port, content, said)?;
+            send_to_all(alloc, speaker, services, port, content, output)?;
             Ok(())
         }
     }
@@ -91,7 +91,7 @@ fn apply<S: Services>(
                 *port,
                 *place,
                 &content,
-                &mut doing.said,
+                &mut doing.output,
             )?;
             Ok(())
         }
@@ -113,7 +113,7 @@ fn apply<S: Services>(
                 speaker.me,
                 speaker.who,
                 command,
-                &mut doing.said.messages,
+                &mut doing.output.messages,
             )?;
             Ok(())
         }
@@ -123,7 +123,7 @@ fn apply<S: Services>(
                 speaker.me,
                 speaker.who,
                 command,
-                &mut doing.said.messages,
+                &mut doing.output.messages,
             )?;
             Ok(())
         }

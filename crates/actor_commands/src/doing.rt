@@ -4,7 +4,7 @@ ghost use Rattle.std.specs.Option.{option_copied};
 ghost use Rattle.actor_duties.specs.Commands.{defer, recall, recall_all};
 ghost use Rattle.actor_commands.specs.Doings.{Keeps};
 
-use crate::command_sends::Said;
+use crate::command_sends::Output;
 use crate::deferred_messages::{DeferredMessages, Recalled};
 use room_kinds::Msg;
 use std::alloc::AllocError;
@@ -17,7 +17,7 @@ pub struct Doing {
     /// The messages that the actor keeps for later.
     pub deferred: DeferredMessages,
     /// The messages for the outbox, and the notes.
-    pub said: Said,
+    pub output: Output,
     /// The messages that come back, first the one that will be in front.
     pub back: Recalled,
     /// Whether the message in hand is kept.
@@ -31,7 +31,7 @@ impl Doing {
         ensures { OnOk result (Keeps (defer self.old.kept (option_copied message.entry) self.old.deferred) true self.old self.new) }
     {
         self.deferred
-            .defer(self.kept, message, &mut self.said.notes)?;
+            .defer(self.kept, message, &mut self.output.notes)?;
         self.kept = true;
         Ok(())
     }
@@ -41,7 +41,8 @@ impl Doing {
     pub(crate) fn recall(&mut self) -> Result<(), AllocError>
         ensures { OnOk result (Keeps (recall self.old.deferred) self.old.kept self.old self.new) }
     {
-        self.deferred.recall(&mut self.back, &mut self.said.notes)?;
+        self.deferred
+            .recall(&mut self.back, &mut self.output.notes)?;
         Ok(())
     }
 
@@ -51,7 +52,7 @@ impl Doing {
         ensures { OnOk result (Keeps (recall_all self.old.deferred) self.old.kept self.old self.new) }
     {
         self.deferred
-            .recall_all(&mut self.back, &mut self.said.notes)?;
+            .recall_all(&mut self.back, &mut self.output.notes)?;
         Ok(())
     }
 }

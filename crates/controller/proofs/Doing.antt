@@ -18,7 +18,7 @@ use Rattle.controller_mail.proofs.controller_moves.Looked.{Took-boxes}
 use Rattle.controller_mail.proofs.controller_moves.Prompt.{count_at-cons}
 use Rattle.controller_mail.proofs.controller_moves.Replayed.{posted_as, turned_as, fetched_at, fetch_entries, PostsEach-journal, PostsEach-replays, posted-given, posts-take_nothing, posting_all-same, FetchesEach-journal, FetchesEach-replays, FetchesEach-turns, FetchesEach-outbox, taken-of, fetches-give_nothing, turn-journal, turn-does}
 use Rattle.controller_actors.specs.Plants.{model_of}
-use Rattle.controller_actors.specs.Stands.{body_of}
+use Rattle.controller_actors.specs.Bodies.{body_of}
 use Rattle.controller_actors.specs.declared.plant.Plant.{Plant}
 use Rattle.controller.specs.Controllers.{Goes, EndGoes, run_plant, state_in}
 use Rattle.controller.specs.Calls.{is_post, AreFetches, no_fetches, one_more, PostsAll, Polls, FetchesLeft, Turns, took_one}

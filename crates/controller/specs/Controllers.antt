@@ -15,7 +15,7 @@ use Rattle.actor_world.specs.Start.{plant_of, first_state, start_entries}
 use Rattle.chart_behaviour.specs.ModelCharts.{Actor}
 use Rattle.controller_mail.specs.MailState.{state_of}
 use Rattle.controller_actors.specs.Plants.{model_of}
-use Rattle.controller_actors.specs.Stands.{IsWell, body_of}
+use Rattle.controller_actors.specs.Bodies.{IsWell, body_of}
 use Rattle.controller_actors.specs.declared.plant.Plant.{Plant}
 use Rattle.controller.specs.declared.controller.Controller.{Controller}
 

@@ -21,27 +21,27 @@ use Rattle.actor_commands.proofs.command_sends.Broadcasting.{range-more}
 use Rattle.controller_mail.specs.MailState.{HasPriority}
 use Rattle.frame_service.specs.State.{frame_in}
 use Rattle.controller_actors.specs.Served.{Serves, links_in}
-use Rattle.controller_actors.specs.declared.actor_seats.seat.Seat.{Seat}
-use Rattle.controller_actors.specs.declared.actor_seats.seat.Entrance.{Entrance}
-use Rattle.controller_actors.specs.actor_seats.Stands.{actor_in}
-use Rattle.controller_actors.specs.actor_seats.Seats.{SeatBegins, SeatFits, seat_body, entered}
+use Rattle.controller_actors.specs.declared.actor_slots.actor_slot.ActorSlot.{ActorSlot}
+use Rattle.controller_actors.specs.declared.actor_slots.actor_slot.Entrance.{Entrance}
+use Rattle.controller_actors.specs.actor_slots.Occupants.{actor_in}
+use Rattle.controller_actors.specs.actor_slots.Slots.{SlotBegins, SlotFits, slot_body, entered}
 use Rattle.controller_actors.specs.declared.plant.Plant.{Plant}
 use Rattle.controller_actors.specs.declared.actors.Actors.{Actors}
 use Rattle.controller_actors.specs.declared.start.Starting.{Starting}
 use Rattle.controller_actors.specs.Plants.{model_of}
-use Rattle.controller_actors.specs.Stands.{IsSeated, body_of, lives_of, seat_at, vacant}
+use Rattle.controller_actors.specs.Bodies.{HasSlots, body_of, lives_of, slot_at, vacant}
 use Rattle.controller_actors.specs.Steps.{ActorsBegin, Starts, StartsIn, unstarted, is_first, first_below, first_in}
-use Rattle.controller_actors.proofs.Bodies.{body_same, body_set, seated_set, empty_set}
+use Rattle.controller_actors.proofs.Bodies.{body_same, body_set, slots_set, empty_set}
 
 -- ---- one actor
 
 module _ (p : Plant) (me : ℕ) where
   -- the actor of a slot began
-  pub actors_begin : (old new : Actors) (s : ℕ) (before after : Seat) (sent back : List Msg) (e : Entrance) → s < length old.seats.items
-      → before ≡ seat_at old.seats.items s → new.table ≡ old.table → new.seats.items ≡ set old.seats.items s after → Serves p.wiring me new.services
-      → SeatBegins p.wiring me (frame_in old.services.frame) (links_in old.services) (frame_in new.services.frame) (links_in new.services) (last_of (lives_of old) s) (tables_at p.wiring p.tables.items s) before after sent back e
-      → (lives_of old).lives s ≡ true → IsSeated p me old → ActorsBegin p me s old new sent back e
-  actors_begin old new s before after sent back e l is table seats serves h live seated =
+  pub actors_begin : (old new : Actors) (s : ℕ) (before after : ActorSlot) (sent back : List Msg) (e : Entrance) → s < length old.slots.items
+      → before ≡ slot_at old.slots.items s → new.table ≡ old.table → new.slots.items ≡ set old.slots.items s after → Serves p.wiring me new.services
+      → SlotBegins p.wiring me (frame_in old.services.frame) (links_in old.services) (frame_in new.services.frame) (links_in new.services) (last_of (lives_of old) s) (tables_at p.wiring p.tables.items s) before after sent back e
+      → (lives_of old).lives s ≡ true → HasSlots p me old → ActorsBegin p me s old new sent back e
+  actors_begin old new s before after sent back e l is table slots serves h live slots =
       let x = last_of (lives_of old) s in
       let o = tables_at p.wiring p.tables.items s in
       let f = frame_in old.services.frame in
@@ -50,14 +50,14 @@ module _ (p : Plant) (me : ℕ) where
         kept = h.kept;
         doing = λ notes held.
             ap (λ (c : Body Actor). entered p.wiring me x (begins x o) (record { body = c; sent = sent; back = back; notes = notes; kept = held }))
-            (body_same p me old s ∙ ap (seat_body f (links_in old.services) b s) (sym is))
+            (body_same p me old s ∙ ap (slot_body f (links_in old.services) b s) (sym is))
             ∙ h.doing b notes held
-            ∙ ap (λ (c : Body Actor). record { body = c; sent = e.said.messages; back = e.back; notes = e.said.notes; kept = h.kept })
-            (sym (body_set p me old new s after l table seats));
+            ∙ ap (λ (c : Body Actor). record { body = c; sent = e.output.messages; back = e.back; notes = e.output.notes; kept = h.kept })
+            (sym (body_set p me old new s after l table slots));
         state = h.state;
-        seated = seated_set p me old new s after l h.lives seats serves seated h.fits;
+        slots = slots_set p me old new s after l h.lives slots serves slots h.fits;
         lives = h.lives;
-        empty = empty_set old new s after h.lives seats live;
+        empty = empty_set old new s after h.lives slots live;
       }
 
   last_started : (model : Behaviour Actor) (t : Wiring) (xs : List Incarnation) (x : Incarnation) (s : WorldStarting Actor)
@@ -76,8 +76,8 @@ module _ (p : Plant) (me : ℕ) where
 
   -- an actor has started after others
   pub starts_in : (slot : ℕ) (old new : Starting) (e : Entrance) → ActorsBegin p me slot old.actors new.actors old.sent old.back e
-      → new.sent ≡ e.said.messages → new.back ≡ e.back
-      → new.entries ≡ old.entries ++ entry.Start (last_of (lives_of old.actors) slot) e.state e.said.notes ∷ []
+      → new.sent ≡ e.output.messages → new.back ≡ e.back
+      → new.entries ≡ old.entries ++ entry.Start (last_of (lives_of old.actors) slot) e.state e.output.notes ∷ []
       → StartsIn p me slot old new
   starts_in slot old new e h sent back entries = record {
     on = λ xs s.
@@ -85,7 +85,7 @@ module _ (p : Plant) (me : ℕ) where
         let o = tables_at p.wiring p.tables.items slot in
         let before : Doing Actor = record { body = body_of p me old.actors; sent = old.sent; back = old.back; notes = s.notes; kept = s.kept } in
         record {
-          notes = e.said.notes;
+          notes = e.output.notes;
           kept = h.kept;
           started =
               last_started (model_of p) p.wiring xs x (unstarted p.wiring me)
@@ -93,22 +93,22 @@ module _ (p : Plant) (me : ℕ) where
               ∙ started_is (record { doing = before; entries = old.entries }) x
               ∙ ap (λ (d : Doing Actor). record { doing = d; entries = old.entries ++ entry.Start x (state_number (begins x o).machine) d.notes ∷ [] }) (h.doing s.notes s.kept)
               ∙ ap (λ (n : ℕ). record {
-                doing = record { body = body_of p me new.actors; sent = e.said.messages; back = e.back; notes = e.said.notes; kept = h.kept };
-                entries = old.entries ++ entry.Start x n e.said.notes ∷ [];
+                doing = record { body = body_of p me new.actors; sent = e.output.messages; back = e.back; notes = e.output.notes; kept = h.kept };
+                entries = old.entries ++ entry.Start x n e.output.notes ∷ [];
               }) (sym h.state)
               ∙ ap (λ (ms : List Msg). record {
-                doing = record { body = body_of p me new.actors; sent = ms; back = e.back; notes = e.said.notes; kept = h.kept };
-                entries = old.entries ++ entry.Start x e.state e.said.notes ∷ [];
+                doing = record { body = body_of p me new.actors; sent = ms; back = e.back; notes = e.output.notes; kept = h.kept };
+                entries = old.entries ++ entry.Start x e.state e.output.notes ∷ [];
               }) (sym sent)
               ∙ ap (λ (ms : List Msg). record {
-                doing = record { body = body_of p me new.actors; sent = new.sent; back = ms; notes = e.said.notes; kept = h.kept };
-                entries = old.entries ++ entry.Start x e.state e.said.notes ∷ [];
+                doing = record { body = body_of p me new.actors; sent = new.sent; back = ms; notes = e.output.notes; kept = h.kept };
+                entries = old.entries ++ entry.Start x e.state e.output.notes ∷ [];
               }) (sym back)
               ∙ ap (λ (es : List Entry). record {
-                doing = record { body = body_of p me new.actors; sent = new.sent; back = new.back; notes = e.said.notes; kept = h.kept };
+                doing = record { body = body_of p me new.actors; sent = new.sent; back = new.back; notes = e.output.notes; kept = h.kept };
                 entries = es;
               }) (sym entries);
-          well = record { seated = h.seated; empty = h.empty [] s.well.empty };
+          well = record { slots = h.slots; empty = h.empty [] s.well.empty };
           lives = h.lives ∙ s.lives;
         };
   }
@@ -150,7 +150,7 @@ module _ (p : Plant) (me : ℕ) where
 
   -- ---- before and after
 
-  vacant_at : (n s : ℕ) → seat_at (replicate n vacant) s ≡ vacant
+  vacant_at : (n s : ℕ) → slot_at (replicate n vacant) s ≡ vacant
   vacant_at n s = elim (cases_lt s n) [
     | inl l ↦ get_or-replicate n s vacant vacant l
     | inr l ↦ get_or_past (replicate n vacant) s vacant (let many = length-replicate n vacant in omega arith)
@@ -164,34 +164,34 @@ module _ (p : Plant) (me : ℕ) where
 
   -- the body of actors of which none has started
   body_none : (a : Actors) → frame_in a.services.frame ≡ first_frame p.wiring me → links_in a.services ≡ first_links → a.table ≡ []
-      → a.seats.items ≡ replicate (length p.wiring.slots) vacant → first_body p.wiring me ≡ body_of p me a
+      → a.slots.items ≡ replicate (length p.wiring.slots) vacant → first_body p.wiring me ≡ body_of p me a
   unfolding body_of
-  body_none a frame links table seats =
-      sym (ap (λ (f : Frame). record { frame = f; links = links_in a.services; table = a.table; machines = λ s. actor_in (seat_at a.seats.items s).stand; deferred = λ s. (seat_at a.seats.items s).deferred }) frame
-      ∙ ap (λ (l : Links). record { frame = first_frame p.wiring me; links = l; table = a.table; machines = λ s. actor_in (seat_at a.seats.items s).stand; deferred = λ s. (seat_at a.seats.items s).deferred }) links
-      ∙ ap (λ (t : NameTable). record { frame = first_frame p.wiring me; links = first_links; table = t; machines = λ s. actor_in (seat_at a.seats.items s).stand; deferred = λ s. (seat_at a.seats.items s).deferred }) table
-      ∙ ap (λ (f : ℕ → Seat). record { frame = first_frame p.wiring me; links = first_links; table = []; machines = λ s. actor_in (f s).stand; deferred = λ s. (f s).deferred })
-      (fun_ext (λ s. ap (λ (xs : List Seat). seat_at xs s) seats ∙ vacant_at (length p.wiring.slots) s)))
+  body_none a frame links table slots =
+      sym (ap (λ (f : Frame). record { frame = f; links = links_in a.services; table = a.table; machines = λ s. actor_in (slot_at a.slots.items s).occupant; deferred = λ s. (slot_at a.slots.items s).deferred }) frame
+      ∙ ap (λ (l : Links). record { frame = first_frame p.wiring me; links = l; table = a.table; machines = λ s. actor_in (slot_at a.slots.items s).occupant; deferred = λ s. (slot_at a.slots.items s).deferred }) links
+      ∙ ap (λ (t : NameTable). record { frame = first_frame p.wiring me; links = first_links; table = t; machines = λ s. actor_in (slot_at a.slots.items s).occupant; deferred = λ s. (slot_at a.slots.items s).deferred }) table
+      ∙ ap (λ (f : ℕ → ActorSlot). record { frame = first_frame p.wiring me; links = first_links; table = []; machines = λ s. actor_in (f s).occupant; deferred = λ s. (f s).deferred })
+      (fun_ext (λ s. ap (λ (xs : List ActorSlot). slot_at xs s) slots ∙ vacant_at (length p.wiring.slots) s)))
 
   -- nobody has started
   pub starts_none : (s : Starting) → Serves p.wiring me s.actors.services → frame_in s.actors.services.frame ≡ first_frame p.wiring me → links_in s.actors.services ≡ first_links → s.actors.table ≡ []
-      → s.actors.seats.items ≡ replicate (length p.wiring.slots) vacant → s.sent ≡ [] → s.back ≡ [] → s.entries ≡ [] → Starts p me [] s
-  starts_none s serves frame links table seats sent back entries =
-      let nobody : (n : ℕ) → seat_at s.actors.seats.items n ≡ vacant =
-      λ n. ap (λ (xs : List Seat). seat_at xs n) seats ∙ vacant_at (length p.wiring.slots) n in
+      → s.actors.slots.items ≡ replicate (length p.wiring.slots) vacant → s.sent ≡ [] → s.back ≡ [] → s.entries ≡ [] → Starts p me [] s
+  starts_none s serves frame links table slots sent back entries =
+      let nobody : (n : ℕ) → slot_at s.actors.slots.items n ≡ vacant =
+      λ n. ap (λ (xs : List ActorSlot). slot_at xs n) slots ∙ vacant_at (length p.wiring.slots) n in
       record {
         notes = [];
         kept = false;
-        started = same_start (body_none s.actors frame links table seats) (sym sent) (sym back) (sym entries);
+        started = same_start (body_none s.actors frame links table slots) (sym sent) (sym back) (sym entries);
         well = record {
-          seated = record {
+          slots = record {
             serves = serves;
             each = λ n.
-                subst (λ (x : Seat). SeatFits (last_of (lives_of s.actors) n) (tables_at p.wiring p.tables.items n) x)
+                subst (λ (x : ActorSlot). SlotFits (last_of (lives_of s.actors) n) (tables_at p.wiring p.tables.items n) x)
                 (sym (nobody n)) (record { of = tt; tables = tt; kept = All-nil HasPriority });
-            count = ap length seats ∙ length-replicate (length p.wiring.slots) vacant;
+            count = ap length slots ∙ length-replicate (length p.wiring.slots) vacant;
           };
-          empty = λ n dead out. ap (λ (x : Seat). x.stand) (nobody n);
+          empty = λ n dead out. ap (λ (x : ActorSlot). x.occupant) (nobody n);
         };
         lives = ap (λ (f : Frame). f.lives) frame;
       }

@@ -18,7 +18,7 @@ use Rattle.actor_duties.specs.Lives.{answered, comes_up, counts_as_live, create,
 use Rattle.actor_duties.specs.Frame.{FrameDone, destroy, end_set_ended, frame_duty, frame_duty_from, frame_duty_of, frame_ended, of_natural, part_end, plainly, with_lives, with_number}
 use Rattle.actor_world.proofs.LifeSteps.{up_parts, down_parts}
 use Rattle.actor_world.proofs.Slots.{own_in_range}
-use Rattle.controller_actors.specs.Stands.{is_in}
+use Rattle.controller_actors.specs.Bodies.{is_in}
 use Rattle.controller_actors.specs.Steps.{IsLast}
 
 -- an incarnation in a slot of the wiring

@@ -24,19 +24,19 @@ use Rattle.frame_service.specs.declared.state.FrameState.{FrameState}
 use Rattle.frame_service.specs.Done.{IsDone}
 use Rattle.layer_service.specs.layer_links.Kept.{links_of}
 use Rattle.controller_mail.specs.MailState.{HasPriority, with_body}
-use Rattle.controller_mail.specs.declared.controller_mail.Treatment.{Treatment}
-use Rattle.controller_actors.specs.declared.actor_seats.stand.Stand.{Stand}
-use Rattle.controller_actors.specs.declared.actor_seats.stand.Stand.TheVariants as stands
-use Rattle.controller_actors.specs.declared.actor_seats.seat.Seat.{Seat}
+use Rattle.controller_mail.specs.declared.controller_mail.TurnResult.{TurnResult}
+use Rattle.controller_actors.specs.declared.actor_slots.occupant.Occupant.{Occupant}
+use Rattle.controller_actors.specs.declared.actor_slots.occupant.Occupant.TheVariants as occupants
+use Rattle.controller_actors.specs.declared.actor_slots.actor_slot.ActorSlot.{ActorSlot}
 use Rattle.controller_actors.specs.declared.changes.SoFar.{SoFar}
 use Rattle.controller_actors.specs.declared.plant.Plant.{Plant}
 use Rattle.controller_actors.specs.declared.actors.Actors.{Actors}
 use Rattle.controller_actors.specs.declared.duties.Service.TheVariants as services
 use Rattle.controller_actors.specs.Served.{links_in}
-use Rattle.controller_actors.specs.actor_seats.Stands.{HasTables, IsOf}
-use Rattle.controller_actors.specs.actor_seats.Seats.{SeatFits}
+use Rattle.controller_actors.specs.actor_slots.Occupants.{HasTables, IsOf}
+use Rattle.controller_actors.specs.actor_slots.Slots.{SlotFits}
 use Rattle.controller_actors.specs.Plants.{model_of}
-use Rattle.controller_actors.specs.Stands.{AreEmpty, IsSeated, IsWell, body_of, done_of, is_in, lives_of, seat_at}
+use Rattle.controller_actors.specs.Bodies.{AreEmpty, HasSlots, IsWell, body_of, done_of, is_in, lives_of, slot_at}
 use Rattle.controller_actors.specs.Steps.{Closes, IsLast, Moves, doing_of}
 use Rattle.controller_actors.specs.Duties.{Finishes, HasDuty, finishing, service_of}
 use Rattle.controller_actors.proofs.DutyFacts.{Facts, facts}
@@ -50,19 +50,19 @@ module _ (p : Plant) (me : ℕ) where
   closed a x y None kept h =
       same x y h.messages h.back h.notes
     where
-      same : (x y : SoFar) → y.said.messages ≡ x.said.messages → y.back ≡ x.back → y.said.notes ≡ x.said.notes → doing_of p me a x kept ≡ doing_of p me a y kept
+      same : (x y : SoFar) → y.output.messages ≡ x.output.messages → y.back ≡ x.back → y.output.notes ≡ x.output.notes → doing_of p me a x kept ≡ doing_of p me a y kept
       same x y e f g = cc
   closed a x y (Some m) kept h = same x y h.messages h.back h.notes
     where
-      same : (x y : SoFar) → y.said.messages ≡ x.said.messages ++ m ∷ [] → y.back ≡ x.back → y.said.notes ≡ x.said.notes
+      same : (x y : SoFar) → y.output.messages ≡ x.output.messages ++ m ∷ [] → y.back ≡ x.back → y.output.notes ≡ x.output.notes
           → closing (doing_of p me a x kept) (Some m) ≡ doing_of p me a y kept
       same x y e f g = cc
 
-  pub finishes : (left : DutyDone) (sent : List Msg) (old mid new : Actors) (first one two last : SoFar) (done : Treatment)
-      → first.said.messages ≡ sent → first.said.notes ≡ [] → first.back ≡ []
+  pub finishes : (left : DutyDone) (sent : List Msg) (old mid new : Actors) (first one two last : SoFar) (done : TurnResult)
+      → first.output.messages ≡ sent → first.output.notes ≡ [] → first.back ≡ []
       → Moves (all_begun (model_of p) p.wiring me left.made) p me old first mid one → Moves (all_gone p.wiring me left.ended) p me mid one new two
       → Closes two last left.last
-      → done ≡ record { sent = last.said.messages; back = last.back; did = did.Duty; notes = last.said.notes }
+      → done ≡ record { sent = last.output.messages; back = last.back; did = did.Duty; notes = last.output.notes }
       → AreEmpty [] new → Finishes p me left sent old new done
   finishes left sent old mid new first one two last done is told back h k c d empty =
       let both = then_moves p me (all_begun (model_of p) p.wiring me left.made) (all_gone p.wiring me left.ended) old mid new first one two h k in
@@ -73,28 +73,28 @@ module _ (p : Plant) (me : ℕ) where
             ap (λ (w : Doing Actor). treated (closing (all_gone p.wiring me left.ended (all_begun (model_of p) p.wiring me left.made w)) left.last) did.Duty) start
             ∙ ap (λ (w : Doing Actor). treated (closing w left.last) did.Duty) (both.on false).1
             ∙ ap (λ (w : Doing Actor). treated w did.Duty) (closed new two last left.last kept c)
-            ∙ ap (λ (x : Treatment). with_body (done_of x) (body_of p me new)) (sym d);
-        well = record { seated = both.seated; empty = empty };
+            ∙ ap (λ (x : TurnResult). with_body (done_of x) (body_of p me new)) (sym d);
+        well = record { slots = both.slots; empty = empty };
         back =
-            subst (λ (x : Treatment). All HasPriority x.back) (sym d)
+            subst (λ (x : TurnResult). All HasPriority x.back) (sym d)
             (subst (λ (ms : List Msg). All HasPriority ms) (sym c.back) (both.back (subst (λ (ms : List Msg). All HasPriority ms) (sym back) (All-nil HasPriority))));
       }
     where
-      begins : first.said.messages ≡ sent → first.said.notes ≡ [] → first.back ≡ [] → record (doing (body_of p me old)) { sent = sent } ≡ doing_of p me old first false
+      begins : first.output.messages ≡ sent → first.output.notes ≡ [] → first.back ≡ [] → record (doing (body_of p me old)) { sent = sent } ≡ doing_of p me old first false
       begins e f g = cc
 
 -- ---- after a duty of the frame service
 
 -- nobody fits everywhere
-nobody_fits : (x : Incarnation) (o : Option ChartTables) (seat : Seat) → seat.stand ≡ stands.Nobody → All HasPriority seat.deferred → SeatFits x o seat
-nobody_fits x o seat e kept = record {
-  of = subst (λ (s : Stand). IsOf x s) (sym e) tt;
-  tables = subst (λ (s : Stand). HasTables o s) (sym e) tt;
+nobody_fits : (x : Incarnation) (o : Option ChartTables) (actor_slot : ActorSlot) → actor_slot.occupant ≡ occupants.Nobody → All HasPriority actor_slot.deferred → SlotFits x o actor_slot
+nobody_fits x o actor_slot e kept = record {
+  of = subst (λ (s : Occupant). IsOf x s) (sym e) tt;
+  tables = subst (λ (s : Occupant). HasTables o s) (sym e) tt;
   kept = kept;
 }
 
 module _ (p : Plant) (me : ℕ) (m : Msg) (kind : SysKind) (old mid : Actors) (sent : List Msg) (left : DutyDone) (well : IsWell p me old)
-    (seats : mid.seats ≡ old.seats) (links : mid.services.links ≡ old.services.links) (table : mid.table ≡ old.table)
+    (slots : mid.slots ≡ old.slots) (links : mid.services.links ≡ old.services.links) (table : mid.table ≡ old.table)
     (h : IsDone p.wiring old.services.frame mid.services.frame (frame_duty p.wiring me (frame_in old.services.frame) kind m) [] sent left) where
   abbrev row : FrameDone
   row = frame_duty p.wiring me (frame_in old.services.frame) kind m
@@ -105,29 +105,29 @@ module _ (p : Plant) (me : ℕ) (m : Msg) (kind : SysKind) (old mid : Actors) (s
   lives : lives_of mid ≡ row.frame.lives
   lives = ap (λ (f : Frame). f.lives) h.frame
 
-  left_seats : (s : ℕ) → seat_at mid.seats.items s ≡ seat_at old.seats.items s
-  left_seats s = ap (λ v. seat_at v.items s) seats
+  left_slots : (s : ℕ) → slot_at mid.slots.items s ≡ slot_at old.slots.items s
+  left_slots s = ap (λ v. slot_at v.items s) slots
 
-  fits_at : (s : ℕ) (b : Bool) → (lives_of old).lives s ≡ b → SeatFits (last_of row.frame.lives s) (tables_at p.wiring p.tables.items s) (seat_at old.seats.items s)
+  fits_at : (s : ℕ) (b : Bool) → (lives_of old).lives s ≡ b → SlotFits (last_of row.frame.lives s) (tables_at p.wiring p.tables.items s) (slot_at old.slots.items s)
   fits_at s true live =
-      subst (λ (g : ℕ). SeatFits (record { slot = record { 0 = s }; generation = record { 0 = g } }) (tables_at p.wiring p.tables.items s) (seat_at old.seats.items s))
-      (sym (known.living s live)) (well.seated.each s)
-  fits_at s false dead = nobody_fits _ _ _ (well.empty s dead refl) (well.seated.each s).kept
+      subst (λ (g : ℕ). SlotFits (record { slot = record { 0 = s }; generation = record { 0 = g } }) (tables_at p.wiring p.tables.items s) (slot_at old.slots.items s))
+      (sym (known.living s live)) (well.slots.each s)
+  fits_at s false dead = nobody_fits _ _ _ (well.empty s dead refl) (well.slots.each s).kept
 
-  pub duty_seated : IsSeated p me mid
-  duty_seated = record {
-    serves = record { fits = h.fits; owner = ap (λ c. c.0) h.me ∙ well.seated.serves.owner };
+  pub duty_slots : HasSlots p me mid
+  duty_slots = record {
+    serves = record { fits = h.fits; owner = ap (λ c. c.0) h.me ∙ well.slots.serves.owner };
     each = λ s.
-        subst (λ (l : Lives). SeatFits (last_of l s) (tables_at p.wiring p.tables.items s) (seat_at mid.seats.items s)) (sym lives)
-        (subst (λ (x : Seat). SeatFits (last_of row.frame.lives s) (tables_at p.wiring p.tables.items s) x) (sym (left_seats s)) (fits_at s ((lives_of old).lives s) refl));
-    count = ap (λ v. length v.items) seats ∙ well.seated.count;
+        subst (λ (l : Lives). SlotFits (last_of l s) (tables_at p.wiring p.tables.items s) (slot_at mid.slots.items s)) (sym lives)
+        (subst (λ (x : ActorSlot). SlotFits (last_of row.frame.lives s) (tables_at p.wiring p.tables.items s) x) (sym (left_slots s)) (fits_at s ((lives_of old).lives s) refl));
+    count = ap (λ v. length v.items) slots ∙ well.slots.count;
   }
 
   pub duty_empty : AreEmpty left.ended mid
   duty_empty = λ s dead out.
       let gone : row.frame.lives.lives s ≡ false = sym (ap (λ (l : Lives). l.lives s) lives) ∙ dead in
       let not_ended : list_any (is_in s) row.ended ≡ false = sym (ap (λ (d : DutyDone). list_any (is_in s) d.ended) h.done) ∙ out in
-      ap (λ (x : Seat). x.stand) (left_seats s) ∙ well.empty s (known.still s gone not_ended) refl
+      ap (λ (x : ActorSlot). x.occupant) (left_slots s) ∙ well.empty s (known.still s gone not_ended) refl
 
   pub duty_made : All (IsLast p.wiring (lives_of mid)) left.made
   duty_made =
@@ -167,9 +167,9 @@ module _ (p : Plant) (me : ℕ) (m : Msg) (kind : SysKind) (old mid : Actors) (s
       ∙ ap (λ (ms : List Msg). record (doing (body_of p me old)) { body = record (body_of p me old) { frame = frame_in mid.services.frame }; sent = ms }) (sym h.sent)
       ∙ ap (λ v. record (doing (body_of p me old)) { body = record (body_of p me old) { frame = frame_in mid.services.frame; links = links_of v }; sent = sent }) (sym links)
       ∙ ap (λ (v : NameTable). record (doing (body_of p me old)) { body = record (body_of p me old) { frame = frame_in mid.services.frame; links = links_in mid.services; table = v }; sent = sent }) (sym table)
-      ∙ ap (λ v. record (doing (body_of p me old)) { body = body_of p me (record mid { seats = v }); sent = sent }) (sym seats)
+      ∙ ap (λ v. record (doing (body_of p me old)) { body = body_of p me (record mid { slots = v }); sent = sent }) (sym slots)
 
-  pub has_duty : (new : Actors) (done : Treatment) → service_of kind ≡ services.Frame → Finishes p me left sent mid new done → HasDuty p me m kind old new done
+  pub has_duty : (new : Actors) (done : TurnResult) → service_of kind ≡ services.Frame → Finishes p me left sent mid new done → HasDuty p me m kind old new done
   unfolding body_of
   has_duty new done e f = record {
     turn =
@@ -218,10 +218,10 @@ module _ (p : Plant) (me : ℕ) (m : Msg) (old : Actors) (prio : m.prio.0 ≡ 0)
       treat_duty (model_of p) p.wiring me (body_of p me old) m prio_test
       ∙ ap (λ (k : Option SysKind). treated (system_done (model_of p) p.wiring me (body_of p me old) m k) did.Duty) (sym is)
 
-  pub treats_none : (done : Treatment) → None ≡ kind_at m.signal → done ≡ record { sent = []; back = []; did = did.Duty; notes = [] }
+  pub treats_none : (done : TurnResult) → None ≡ kind_at m.signal → done ≡ record { sent = []; back = []; did = did.Duty; notes = [] }
       → treat (model_of p) p.wiring me (body_of p me old) m ≡ with_body (done_of done) (body_of p me old)
-  treats_none done none is = at_kind None none ∙ ap (λ (d : Treatment). with_body (done_of d) (body_of p me old)) (sym is)
+  treats_none done none is = at_kind None none ∙ ap (λ (d : TurnResult). with_body (done_of d) (body_of p me old)) (sym is)
 
-  pub treats_duty : (new : Actors) (done : Treatment) (kind : SysKind) → Some kind ≡ kind_at m.signal → HasDuty p me m kind old new done
+  pub treats_duty : (new : Actors) (done : TurnResult) (kind : SysKind) → Some kind ≡ kind_at m.signal → HasDuty p me m kind old new done
       → treat (model_of p) p.wiring me (body_of p me old) m ≡ with_body (done_of done) (body_of p me new)
   treats_duty new done kind is h = at_kind (Some kind) is ∙ h.turn

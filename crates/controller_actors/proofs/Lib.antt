@@ -6,5 +6,5 @@ pub mod DutyFacts
 pub mod Finishing
 pub mod Naming
 pub mod Beginnings
-pub mod SeatReads
+pub mod SlotReads
 pub mod Occupants

@@ -14,16 +14,16 @@ use Rattle.chart_behaviour.specs.ModelCharts.{Actor, begins, tables_at}
 use Rattle.controller_mail.specs.MailState.{HasPriority}
 use Rattle.frame_service.specs.declared.state.FrameState.{FrameState}
 use Rattle.frame_service.specs.State.{IsFrameOf, frame_in}
-use Rattle.controller_actors.specs.declared.actor_seats.seat.Seat.{Seat}
+use Rattle.controller_actors.specs.declared.actor_slots.actor_slot.ActorSlot.{ActorSlot}
 use Rattle.controller_actors.specs.declared.changes.SoFar.{SoFar}
-use Rattle.controller_actors.specs.actor_seats.Seats.{SeatComesUp, SeatFits, seat_body, risen}
+use Rattle.controller_actors.specs.actor_slots.Slots.{SlotComesUp, SlotFits, slot_body, risen}
 use Rattle.controller_actors.specs.declared.plant.Plant.{Plant}
 use Rattle.controller_actors.specs.declared.actors.Actors.{Actors}
 use Rattle.controller_actors.specs.Served.{Serves, links_in}
 use Rattle.controller_actors.specs.Plants.{model_of}
-use Rattle.controller_actors.specs.Stands.{IsSeated, body_of, lives_of, seat_at, vacant}
+use Rattle.controller_actors.specs.Bodies.{HasSlots, body_of, lives_of, slot_at, vacant}
 use Rattle.controller_actors.specs.Steps.{IsLast, Moves, doing_of}
-use Rattle.controller_actors.proofs.Bodies.{body_same, body_set, seated_set}
+use Rattle.controller_actors.proofs.Bodies.{body_same, body_set, slots_set}
 
 -- equal parts make equal states
 same_doing : {b c : Body Actor} {sent sent' back back' : List Msg} {told told' : List Note} → b ≡ c → sent ≡ sent' → back ≡ back' → told ≡ told' → (kept : Bool)
@@ -36,15 +36,15 @@ module _ (p : Plant) (me : ℕ) where
   -- ---- steps one after another
 
   -- nothing is done
-  pub stays : (a : Actors) (s : SoFar) → IsSeated p me a → Moves (λ d. d) p me a s a s
-  stays a s seated = record { on = λ held. (held, refl); seated = seated; lives = refl; back = λ all. all }
+  pub stays : (a : Actors) (s : SoFar) → HasSlots p me a → Moves (λ d. d) p me a s a s
+  stays a s slots = record { on = λ held. (held, refl); slots = slots; lives = refl; back = λ all. all }
 
   -- one step after another
   pub then_moves : (first second : Doing Actor → Doing Actor) (a b c : Actors) (x y z : SoFar)
       → Moves first p me a x b y → Moves second p me b y c z → Moves (λ d. second (first d)) p me a x c z
   then_moves first second a b c x y z h k = record {
     on = λ held. ((k.on (h.on held).0).0, ap second (h.on held).1 ∙ (k.on (h.on held).0).1);
-    seated = k.seated;
+    slots = k.slots;
     lives = k.lives ∙ h.lives;
     back = λ all. k.back (h.back all);
   }
@@ -54,7 +54,7 @@ module _ (p : Plant) (me : ℕ) where
       → Moves first p me a x b y → Moves second p me a x b y
   same_moves first second a b x y e h = record {
     on = λ held. ((h.on held).0, e (doing_of p me a x held) ∙ (h.on held).1);
-    seated = h.seated;
+    slots = h.slots;
     lives = h.lives;
     back = h.back;
   }
@@ -64,11 +64,11 @@ module _ (p : Plant) (me : ℕ) where
   begun_is : (x : Incarnation) (d : Doing Actor) → begun (model_of p) p.wiring me x d ≡ risen p.wiring me x (begins x (tables_at p.wiring p.tables.items x.slot.0)) d
   begun_is x d = refl
 
-  pub comes_up : (old new : Actors) (x : Incarnation) (before after : Seat) (first last : SoFar) → x.slot.0 < length old.seats.items
-      → before ≡ seat_at old.seats.items x.slot.0 → new.table ≡ old.table → new.seats.items ≡ set old.seats.items x.slot.0 after → Serves p.wiring me new.services
-      → SeatComesUp p.wiring me (frame_in old.services.frame) (links_in old.services) (frame_in new.services.frame) (links_in new.services) x (tables_at p.wiring p.tables.items x.slot.0) before after first.said first.back last.said last.back
-      → IsSeated p me old → IsLast p.wiring (lives_of old) x → Moves (begun (model_of p) p.wiring me x) p me old first new last
-  comes_up old new x before after first last l is table seats serves h seated here =
+  pub comes_up : (old new : Actors) (x : Incarnation) (before after : ActorSlot) (first last : SoFar) → x.slot.0 < length old.slots.items
+      → before ≡ slot_at old.slots.items x.slot.0 → new.table ≡ old.table → new.slots.items ≡ set old.slots.items x.slot.0 after → Serves p.wiring me new.services
+      → SlotComesUp p.wiring me (frame_in old.services.frame) (links_in old.services) (frame_in new.services.frame) (links_in new.services) x (tables_at p.wiring p.tables.items x.slot.0) before after first.output first.back last.output last.back
+      → HasSlots p me old → IsLast p.wiring (lives_of old) x → Moves (begun (model_of p) p.wiring me x) p me old first new last
+  comes_up old new x before after first last l is table slots serves h slots here =
       let s = x.slot.0 in
       let o = tables_at p.wiring p.tables.items s in
       let f = frame_in old.services.frame in
@@ -77,13 +77,13 @@ module _ (p : Plant) (me : ℕ) where
         on = λ held. (
           h.kept,
           begun_is x (doing_of p me old first held)
-              ∙ ap (λ (c : Body Actor). risen p.wiring me x (begins x o) (record { body = c; sent = first.said.messages; back = first.back; notes = first.said.notes; kept = held }))
-              (body_same p me old s ∙ ap (seat_body f (links_in old.services) b s) (sym is))
+              ∙ ap (λ (c : Body Actor). risen p.wiring me x (begins x o) (record { body = c; sent = first.output.messages; back = first.back; notes = first.output.notes; kept = held }))
+              (body_same p me old s ∙ ap (slot_body f (links_in old.services) b s) (sym is))
               ∙ h.doing b held
-              ∙ ap (λ (c : Body Actor). record { body = c; sent = last.said.messages; back = last.back; notes = last.said.notes; kept = h.kept })
-              (sym (body_set p me old new s after l table seats)),
+              ∙ ap (λ (c : Body Actor). record { body = c; sent = last.output.messages; back = last.back; notes = last.output.notes; kept = h.kept })
+              (sym (body_set p me old new s after l table slots)),
         );
-        seated = seated_set p me old new s after l h.lives seats serves seated (subst (λ y. SeatFits y o after) (sym here.last) h.fits);
+        slots = slots_set p me old new s after l h.lives slots serves slots (subst (λ y. SlotFits y o after) (sym here.last) h.fits);
         lives = h.lives;
         back = h.back;
       }
@@ -103,29 +103,29 @@ module _ (p : Plant) (me : ℕ) where
 
   -- ---- an actor is gone
 
-  pub goes_down : (old new : Actors) (x : Incarnation) (first last : SoFar) → x.slot.0 < length old.seats.items
+  pub goes_down : (old new : Actors) (x : Incarnation) (first last : SoFar) → x.slot.0 < length old.slots.items
       → new.services.frame ≡ old.services.frame → links_in new.services ≡ (end_of p.wiring me (links_in old.services) x).now
-      → new.table ≡ old.table → new.seats.items ≡ set old.seats.items x.slot.0 vacant
-      → last.said.messages ≡ first.said.messages ++ (end_of p.wiring me (links_in old.services) x).sent → last.back ≡ first.back
-      → last.said.notes ≡ first.said.notes ++ notes.Down x (length (seat_at old.seats.items x.slot.0).deferred) ∷ []
-      → IsSeated p me old → Moves (gone p.wiring me x) p me old first new last
+      → new.table ≡ old.table → new.slots.items ≡ set old.slots.items x.slot.0 vacant
+      → last.output.messages ≡ first.output.messages ++ (end_of p.wiring me (links_in old.services) x).sent → last.back ≡ first.back
+      → last.output.notes ≡ first.output.notes ++ notes.Down x (length (slot_at old.slots.items x.slot.0).deferred) ∷ []
+      → HasSlots p me old → Moves (gone p.wiring me x) p me old first new last
   unfolding body_of
-  goes_down old new x first last l frame links table seats sent back told seated =
+  goes_down old new x first last l frame links table slots sent back told slots =
       let s = x.slot.0 in
       let b = body_of p me old in
       let r = end_of p.wiring me (links_in old.services) x in
       let lives : lives_of new ≡ lives_of old = ap (λ (f : FrameState). (frame_in f).lives) frame in
-      let body : seat_body (frame_in old.services.frame) r.now b s vacant ≡ body_of p me new =
-      ap (λ (f : FrameState). seat_body (frame_in f) r.now b s vacant) (sym frame)
-      ∙ ap (λ (k : Links). seat_body (frame_in new.services.frame) k b s vacant) (sym links)
-      ∙ sym (body_set p me old new s vacant l table seats) in
+      let body : slot_body (frame_in old.services.frame) r.now b s vacant ≡ body_of p me new =
+      ap (λ (f : FrameState). slot_body (frame_in f) r.now b s vacant) (sym frame)
+      ∙ ap (λ (k : Links). slot_body (frame_in new.services.frame) k b s vacant) (sym links)
+      ∙ sym (body_set p me old new s vacant l table slots) in
       let serves : Serves p.wiring me new.services = record {
-        fits = subst (IsFrameOf p.wiring) (sym frame) seated.serves.fits;
-        owner = ap (λ (f : FrameState). f.me.0) frame ∙ seated.serves.owner;
+        fits = subst (IsFrameOf p.wiring) (sym frame) slots.serves.fits;
+        owner = ap (λ (f : FrameState). f.me.0) frame ∙ slots.serves.owner;
       } in
       record {
         on = λ held. (held, same_doing body (sym sent) (sym back) (sym told) held);
-        seated = seated_set p me old new s vacant l lives seats serves seated (record { of = tt; tables = tt; kept = All-nil HasPriority });
+        slots = slots_set p me old new s vacant l lives slots serves slots (record { of = tt; tables = tt; kept = All-nil HasPriority });
         lives = lives;
         back = λ all. subst (λ (ms : List Msg). All HasPriority ms) (sym back) all;
       }

@@ -19,13 +19,13 @@ use Rattle.actor_world.specs.Turns.{duty, links_done, treated, with_links, with_
 use Rattle.chart_behaviour.specs.ModelCharts.{Actor}
 use Rattle.layer_service.specs.layer_links.Kept.{PointState, links_of}
 use Rattle.controller_mail.specs.MailState.{HasPriority, with_body}
-use Rattle.controller_mail.specs.declared.controller_mail.Treatment.{Treatment}
+use Rattle.controller_mail.specs.declared.controller_mail.TurnResult.{TurnResult}
 use Rattle.controller_actors.specs.declared.plant.Plant.{Plant}
 use Rattle.controller_actors.specs.declared.actors.Actors.{Actors}
 use Rattle.controller_actors.specs.declared.duties.Service.TheVariants as services
 use Rattle.controller_actors.specs.Served.{links_in}
 use Rattle.controller_actors.specs.Plants.{model_of}
-use Rattle.controller_actors.specs.Stands.{IsWell, body_of, done_of, lives_of}
+use Rattle.controller_actors.specs.Bodies.{IsWell, body_of, done_of, lives_of}
 use Rattle.controller_actors.specs.Steps.{IsLast}
 use Rattle.controller_actors.specs.Duties.{HasDuty, service_of}
 
@@ -81,7 +81,7 @@ module _ (model : Behaviour Actor) (t : Tables) (me : ℕ) (b : Body Actor) (m :
   is_links kinds.PartMake e = absurd cc
   is_links kinds.PartEnd e = absurd cc
 
-module _ (p : Plant) (me : ℕ) (m : Msg) (kind : SysKind) (old : Actors) (done : Treatment) (well : IsWell p me old) where
+module _ (p : Plant) (me : ℕ) (m : Msg) (kind : SysKind) (old : Actors) (done : TurnResult) (well : IsWell p me old) where
   -- nothing comes back
   none_back : (sent : List Msg) → done ≡ record { sent = sent; back = []; did = did.Duty; notes = [] } → All HasPriority done.back
   none_back sent is = rw is (All-nil HasPriority)
@@ -98,9 +98,9 @@ module _ (p : Plant) (me : ℕ) (m : Msg) (kind : SysKind) (old : Actors) (done 
         turn =
             ap (λ (d : Doing Actor). treated d did.Duty) (is_table (model_of p) p.wiring me b m kind service)
             ∙ ap (λ (r : Done NameTable). treated (with_table b r) did.Duty) (done_is (table_duty p.wiring me old.table kind m) now sent table out)
-            ∙ ap (λ (d : Treatment). with_body (done_of d) (body_of p me (record old { table = now }))) (sym is);
+            ∙ ap (λ (d : TurnResult). with_body (done_of d) (body_of p me (record old { table = now }))) (sym is);
         well = record {
-          seated = record { serves = well.seated.serves; each = well.seated.each; count = well.seated.count };
+          slots = record { serves = well.slots.serves; each = well.slots.each; count = well.slots.count };
           empty = well.empty;
         };
         back = none_back sent is;
@@ -120,12 +120,12 @@ module _ (p : Plant) (me : ℕ) (m : Msg) (kind : SysKind) (old : Actors) (done 
             ap (λ (d : Doing Actor). treated d did.Duty) (is_links (model_of p) p.wiring me b m kind service)
             ∙ ap (λ (a : Bool). treated (with_links b (links_duty p.wiring me (links_in old.services) a kind m)) did.Duty) (sym lives)
             ∙ ap (λ (r : Done Links). treated (with_links b r) did.Duty) (done_is (links_duty p.wiring me (links_in old.services) live kind m) (links_of now) sent links out)
-            ∙ ap (λ (d : Treatment). with_body (done_of d) (body_of p me (record old { services = record old.services { links = now } }))) (sym is);
+            ∙ ap (λ (d : TurnResult). with_body (done_of d) (body_of p me (record old { services = record old.services { links = now } }))) (sym is);
         well = record {
-          seated = record {
-            serves = record { fits = well.seated.serves.fits; owner = well.seated.serves.owner };
-            each = well.seated.each;
-            count = well.seated.count;
+          slots = record {
+            serves = record { fits = well.slots.serves.fits; owner = well.slots.serves.owner };
+            each = well.slots.each;
+            count = well.slots.count;
           };
           empty = well.empty;
         };

@@ -15,17 +15,17 @@ use Rattle.actor_world.specs.Turns.{doing, treated, is_meant, nobody_there, hand
 use Rattle.frame_service.specs.State.{frame_in}
 use Rattle.chart_behaviour.specs.ModelCharts.{Actor, tables_at, handles}
 use Rattle.controller_mail.specs.MailState.{HasPriority, with_body}
-use Rattle.controller_mail.specs.declared.controller_mail.Treatment.{Treatment}
+use Rattle.controller_mail.specs.declared.controller_mail.TurnResult.{TurnResult}
 use Rattle.controller_actors.specs.Served.{Serves, links_in}
-use Rattle.controller_actors.specs.declared.actor_seats.seat.Seat.{Seat}
-use Rattle.controller_actors.specs.actor_seats.Stands.{actor_in, actor_of}
-use Rattle.controller_actors.specs.actor_seats.Seats.{SeatTurns, seat_body, turned, treated_on}
+use Rattle.controller_actors.specs.declared.actor_slots.actor_slot.ActorSlot.{ActorSlot}
+use Rattle.controller_actors.specs.actor_slots.Occupants.{actor_in, actor_of}
+use Rattle.controller_actors.specs.actor_slots.Slots.{SlotTurns, slot_body, turned, treated_on}
 use Rattle.controller_actors.specs.declared.plant.Plant.{Plant}
 use Rattle.controller_actors.specs.declared.actors.Actors.{Actors}
 use Rattle.controller_actors.specs.Plants.{model_of}
-use Rattle.controller_actors.specs.Stands.{IsWell, body_of, done_of, lives_of, seat_at}
+use Rattle.controller_actors.specs.Bodies.{IsWell, body_of, done_of, lives_of, slot_at}
 use Rattle.controller_actors.specs.Steps.{Dispatches, IsLast}
-use Rattle.controller_actors.proofs.Bodies.{body_same, body_set, seated_set, empty_set}
+use Rattle.controller_actors.proofs.Bodies.{body_same, body_set, slots_set, empty_set}
 
 -- ---- the cases of a dispatch, over any behaviour
 
@@ -68,16 +68,16 @@ module _ (p : Plant) (me : ℕ) (m : Msg) (old : Actors) where
   unfolding body_of
   frame_is = refl
 
-  machine_is : (s : ℕ) → (body_of p me old).machines s ≡ actor_in (seat_at old.seats.items s).stand
+  machine_is : (s : ℕ) → (body_of p me old).machines s ≡ actor_in (slot_at old.slots.items s).occupant
   unfolding body_of
   machine_is s = refl
 
-  pub sends_nobody : (done : Treatment) → is_here p.wiring me m old ≡ false → done ≡ record { sent = []; back = []; did = did.Empty (whose m.target); notes = [] }
+  pub sends_nobody : (done : TurnResult) → is_here p.wiring me m old ≡ false → done ≡ record { sent = []; back = []; did = did.Empty (whose m.target); notes = [] }
       → dispatch (model_of p) p.wiring me (body_of p me old) m ≡ with_body (done_of done) (body_of p me old)
   unfolding body_of
   sends_nobody done e is =
       dispatch_nobody (model_of p) p.wiring me (body_of p me old) m e
-      ∙ ap (λ (d : Treatment). with_body (done_of d) (body_of p me old)) (sym is)
+      ∙ ap (λ (d : TurnResult). with_body (done_of d) (body_of p me old)) (sym is)
 
   -- an actor that lives in the message's slot
   module _ (who : Incarnation) (slot : who.slot ≡ m.target.slot) (last : IsLast p.wiring (lives_of old) who) (own : is_own p.wiring me m.target.slot.0 ≡ true) where
@@ -90,28 +90,28 @@ module _ (p : Plant) (me : ℕ) (m : Msg) (old : Actors) where
         ap (λ g. (m.target.generation.0 == 0) || (m.target.generation.0 == g))
         (ap (λ (s : SlotId). (lives_of old).generation s.0) (sym slot) ∙ ap (λ (x : Incarnation). x.generation.0) last.last)
 
-    pub sends_stale : (done : Treatment) → ((m.target.generation.0 == 0) || (m.target.generation.0 == who.generation.0)) ≡ false
+    pub sends_stale : (done : TurnResult) → ((m.target.generation.0 == 0) || (m.target.generation.0 == who.generation.0)) ≡ false
         → done ≡ record { sent = []; back = []; did = did.Stale (whose m.target); notes = [] }
         → dispatch (model_of p) p.wiring me (body_of p me old) m ≡ with_body (done_of done) (body_of p me old)
     unfolding body_of
     sends_stale done h is =
         dispatch_stale (model_of p) p.wiring me (body_of p me old) m here (meant ∙ h)
-        ∙ ap (λ (d : Treatment). with_body (done_of d) (body_of p me old)) (sym is)
+        ∙ ap (λ (d : TurnResult). with_body (done_of d) (body_of p me old)) (sym is)
 
-    pub sends_handled : (new : Actors) (done : Treatment) → ((m.target.generation.0 == 0) || (m.target.generation.0 == who.generation.0)) ≡ true → Dispatches p me m old new done
+    pub sends_handled : (new : Actors) (done : TurnResult) → ((m.target.generation.0 == 0) || (m.target.generation.0 == who.generation.0)) ≡ true → Dispatches p me m old new done
         → dispatch (model_of p) p.wiring me (body_of p me old) m ≡ with_body (done_of done) (body_of p me new)
     unfolding body_of
     sends_handled new done h d = dispatch_handled (model_of p) p.wiring me (body_of p me old) m here (meant ∙ h) ∙ d.turn
 
   -- nobody stands in the slot
-  pub dispatches_nobody : (done : Treatment) → actor_in (seat_at old.seats.items m.target.slot.0).stand ≡ None → done ≡ record { sent = []; back = []; did = did.Empty (whose m.target); notes = [] }
+  pub dispatches_nobody : (done : TurnResult) → actor_in (slot_at old.slots.items m.target.slot.0).occupant ≡ None → done ≡ record { sent = []; back = []; did = did.Empty (whose m.target); notes = [] }
       → IsWell p me old → Dispatches p me m old old done
   dispatches_nobody done e is well = record {
     turn =
         ap (dispatched (model_of p) p.wiring me (body_of p me old) m) (machine_is m.target.slot.0 ∙ e)
-        ∙ ap (λ (d : Treatment). with_body (done_of d) (body_of p me old)) (sym is);
+        ∙ ap (λ (d : TurnResult). with_body (done_of d) (body_of p me old)) (sym is);
     well = well;
-    back = subst (λ (d : Treatment). All HasPriority d.back) (sym is) (All-nil HasPriority);
+    back = subst (λ (d : TurnResult). All HasPriority d.back) (sym is) (All-nil HasPriority);
   }
 
   -- the machine of a behaviour handles the message
@@ -126,27 +126,27 @@ module _ (p : Plant) (me : ℕ) (m : Msg) (old : Actors) where
   dispatched_is actor = refl
 
   -- an actor stands in the slot
-  pub dispatches_actor : (new : Actors) (before after : Seat) (done : Treatment) → m.target.slot.0 < length old.seats.items
-      → before ≡ seat_at old.seats.items m.target.slot.0 → new.table ≡ old.table → new.seats.items ≡ set old.seats.items m.target.slot.0 after → Serves p.wiring me new.services
-      → SeatTurns p.wiring me (frame_in old.services.frame) (links_in old.services) (frame_in new.services.frame) (links_in new.services) (last_of (lives_of old) m.target.slot.0) m (tables_at p.wiring p.tables.items m.target.slot.0) before after done
+  pub dispatches_actor : (new : Actors) (before after : ActorSlot) (done : TurnResult) → m.target.slot.0 < length old.slots.items
+      → before ≡ slot_at old.slots.items m.target.slot.0 → new.table ≡ old.table → new.slots.items ≡ set old.slots.items m.target.slot.0 after → Serves p.wiring me new.services
+      → SlotTurns p.wiring me (frame_in old.services.frame) (links_in old.services) (frame_in new.services.frame) (links_in new.services) (last_of (lives_of old) m.target.slot.0) m (tables_at p.wiring p.tables.items m.target.slot.0) before after done
       → (lives_of old).lives m.target.slot.0 ≡ true → IsWell p me old → Dispatches p me m old new done
-  dispatches_actor new before after done l is table seats serves h live well =
+  dispatches_actor new before after done l is table slots serves h live well =
       let s = m.target.slot.0 in
       let x = last_of (lives_of old) s in
       let f = frame_in old.services.frame in
       let b = body_of p me old in
-      let r = handles x m (tables_at p.wiring p.tables.items s) (actor_of before.stand) in
+      let r = handles x m (tables_at p.wiring p.tables.items s) (actor_of before.occupant) in
       record {
         turn =
-            ap (dispatched (model_of p) p.wiring me b m) (machine_is s ∙ ap (λ (y : Seat). actor_in y.stand) (sym is) ∙ h.stood)
-            ∙ dispatched_is (actor_of before.stand)
-            ∙ handled_is (actor_of before.stand)
-            ∙ ap (λ (c : Body Actor). turned p.wiring me c x m r) (body_same p me old s ∙ ap (seat_body f (links_in old.services) b s) (sym is))
+            ap (dispatched (model_of p) p.wiring me b m) (machine_is s ∙ ap (λ (y : ActorSlot). actor_in y.occupant) (sym is) ∙ h.stood)
+            ∙ dispatched_is (actor_of before.occupant)
+            ∙ handled_is (actor_of before.occupant)
+            ∙ ap (λ (c : Body Actor). turned p.wiring me c x m r) (body_same p me old s ∙ ap (slot_body f (links_in old.services) b s) (sym is))
             ∙ h.turn b
-            ∙ ap (treated_on done) (sym (body_set p me old new s after l table seats));
+            ∙ ap (treated_on done) (sym (body_set p me old new s after l table slots));
         well = record {
-          seated = seated_set p me old new s after l h.lives seats serves well.seated h.fits;
-          empty = empty_set old new s after h.lives seats live [] well.empty;
+          slots = slots_set p me old new s after l h.lives slots serves well.slots h.fits;
+          empty = empty_set old new s after h.lives slots live [] well.empty;
         };
         back = h.back;
       }

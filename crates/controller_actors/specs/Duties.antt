@@ -9,13 +9,13 @@ use Rattle.actor_world.specs.Turns.{all_begun, all_gone, closing, doing, duty, t
 use Rattle.chart_behaviour.specs.ModelCharts.{Actor}
 use Rattle.frame_lives.specs.declared.done.DutyDone.{DutyDone}
 use Rattle.controller_mail.specs.MailState.{HasPriority, with_body}
-use Rattle.controller_mail.specs.declared.controller_mail.Treatment.{Treatment}
+use Rattle.controller_mail.specs.declared.controller_mail.TurnResult.{TurnResult}
 use Rattle.controller_actors.specs.declared.plant.Plant.{Plant}
 use Rattle.controller_actors.specs.declared.actors.Actors.{Actors}
 use Rattle.controller_actors.specs.declared.duties.Service.{Service}
 use Rattle.controller_actors.specs.declared.duties.Service.TheVariants as services
 use Rattle.controller_actors.specs.Plants.{model_of}
-use Rattle.controller_actors.specs.Stands.{IsWell, body_of, done_of}
+use Rattle.controller_actors.specs.Bodies.{IsWell, body_of, done_of}
 
 -- whose duty a system message of this kind is
 abbrev pub service_of : SysKind → Service
@@ -40,7 +40,7 @@ service_of kinds.PartMake = services.Frame
 service_of kinds.PartEnd = services.Frame
 
 -- a duty of this kind was done
-pub record HasDuty (plant : Plant) (me : ℕ) (m : Msg) (kind : SysKind) (old new : Actors) (done : Treatment) : Type 0 where
+pub record HasDuty (plant : Plant) (me : ℕ) (m : Msg) (kind : SysKind) (old new : Actors) (done : TurnResult) : Type 0 where
   pub turn : treated (duty (model_of plant) plant.wiring me (body_of plant me old) m kind) did.Duty ≡ with_body (done_of done) (body_of plant me new)
   pub well : IsWell plant me new
   pub back : All HasPriority done.back
@@ -52,7 +52,7 @@ finishing plant me left d =
     closing (all_gone plant.wiring me left.ended (all_begun (model_of plant) plant.wiring me left.made d)) left.last
 
 -- that was done
-pub record Finishes (plant : Plant) (me : ℕ) (left : DutyDone) (sent : List Msg) (old new : Actors) (done : Treatment) : Type 0 where
+pub record Finishes (plant : Plant) (me : ℕ) (left : DutyDone) (sent : List Msg) (old new : Actors) (done : TurnResult) : Type 0 where
   pub turn : treated (finishing plant me left (record (doing (body_of plant me old)) { sent = sent })) did.Duty ≡ with_body (done_of done) (body_of plant me new)
   pub well : IsWell plant me new
   pub back : All HasPriority done.back

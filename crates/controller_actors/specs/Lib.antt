@@ -1,6 +1,6 @@
 pub mod Duties
 pub mod Plants
 pub mod Served
-pub mod Stands
+pub mod Bodies
 pub mod Steps
-pub mod actor_seats
+pub mod actor_slots

@@ -14,18 +14,18 @@ use Rattle.actor_world.specs.Body.{Doing}
 use Rattle.actor_world.specs.Turns.{dispatched, doing}
 use Rattle.chart_behaviour.specs.ModelCharts.{Actor, begins, state_number, tables_at}
 use Rattle.controller_mail.specs.MailState.{HasPriority, with_body}
-use Rattle.controller_mail.specs.declared.controller_mail.Treatment.{Treatment}
-use Rattle.controller_actors.specs.declared.actor_seats.seat.Entrance.{Entrance}
-use Rattle.controller_actors.specs.actor_seats.Seats.{entered}
+use Rattle.controller_mail.specs.declared.controller_mail.TurnResult.{TurnResult}
+use Rattle.controller_actors.specs.declared.actor_slots.actor_slot.Entrance.{Entrance}
+use Rattle.controller_actors.specs.actor_slots.Slots.{entered}
 use Rattle.controller_actors.specs.declared.plant.Plant.{Plant}
 use Rattle.controller_actors.specs.declared.actors.Actors.{Actors}
 use Rattle.controller_actors.specs.declared.changes.SoFar.{SoFar}
 use Rattle.controller_actors.specs.declared.start.Starting.{Starting}
 use Rattle.controller_actors.specs.Plants.{model_of}
-use Rattle.controller_actors.specs.Stands.{AreEmpty, IsSeated, IsWell, body_of, done_of, lives_of}
+use Rattle.controller_actors.specs.Bodies.{AreEmpty, HasSlots, IsWell, body_of, done_of, lives_of}
 
 -- the actor of the message's slot handled it, or nobody stands there
-pub record Dispatches (plant : Plant) (me : ℕ) (m : Msg) (old new : Actors) (done : Treatment) : Type 0 where
+pub record Dispatches (plant : Plant) (me : ℕ) (m : Msg) (old new : Actors) (done : TurnResult) : Type 0 where
   pub turn : dispatched (model_of plant) plant.wiring me (body_of plant me old) m ((body_of plant me old).machines m.target.slot.0) ≡ with_body (done_of done) (body_of plant me new)
   pub well : IsWell plant me new
   pub back : All HasPriority done.back
@@ -36,9 +36,9 @@ pub record ActorsBegin (plant : Plant) (me slot : ℕ) (old new : Actors) (sent 
   pub doing : (notes : List Note) (held : Bool)
       → let x = last_of (lives_of old) slot in
       entered plant.wiring me x (begins x (tables_at plant.wiring plant.tables.items slot)) (record { body = body_of plant me old; sent = sent; back = before; notes = notes; kept = held })
-      ≡ record { body = body_of plant me new; sent = e.said.messages; back = e.back; notes = e.said.notes; kept = kept }
+      ≡ record { body = body_of plant me new; sent = e.output.messages; back = e.back; notes = e.output.notes; kept = kept }
   pub state : e.state ≡ state_number (begins (last_of (lives_of old) slot) (tables_at plant.wiring plant.tables.items slot)).machine
-  pub seated : IsSeated plant me new
+  pub slots : HasSlots plant me new
   pub lives : lives_of new ≡ lives_of old
   pub empty : (gone : List Incarnation) → AreEmpty gone old → AreEmpty gone new
 
@@ -50,19 +50,19 @@ pub record IsLast (t : Wiring) (l : Lives) (x : Incarnation) : Type 0 where
 
 -- what is done by actors, with the messages, notes and recalled messages so far
 abbrev pub doing_of : Plant → ℕ → Actors → SoFar → Bool → Doing Actor
-doing_of p me a s kept = record { body = body_of p me a; sent = s.said.messages; back = s.back; notes = s.said.notes; kept = kept }
+doing_of p me a s kept = record { body = body_of p me a; sent = s.output.messages; back = s.back; notes = s.output.notes; kept = kept }
 
 -- a step of the definitions, done by actors: no incarnation is made or ends in it
 pub record Moves (step : Doing Actor → Doing Actor) (plant : Plant) (me : ℕ) (old : Actors) (before : SoFar) (new : Actors) (after : SoFar) : Type 0 where
   pub on : (held : Bool) → (kept : Bool) × (step (doing_of plant me old before held) ≡ doing_of plant me new after kept)
-  pub seated : IsSeated plant me new
+  pub slots : HasSlots plant me new
   pub lives : lives_of new ≡ lives_of old
   pub back : All HasPriority before.back → All HasPriority after.back
 
 -- the last message is sent, if there is one
 pub record Closes (before after : SoFar) (last : Option Msg) : Type 0 where
-  pub messages : after.said.messages ≡ option_map_or (λ (m : Msg). before.said.messages ++ m ∷ []) last before.said.messages
-  pub notes : after.said.notes ≡ before.said.notes
+  pub messages : after.output.messages ≡ option_map_or (λ (m : Msg). before.output.messages ++ m ∷ []) last before.output.messages
+  pub notes : after.output.notes ≡ before.output.notes
   pub back : after.back ≡ before.back
 
 -- before any actor of a controller has started

@@ -5,15 +5,15 @@ ghost use Rattle.actor_world.specs.Start.{first_state, start_entries};
 ghost use Rattle.actor_world.specs.Turns.{dispatch, treat};
 ghost use Rattle.controller_mail.specs.MailState.{HasPriority, with_body};
 ghost use Rattle.controller_actors.specs.Plants.{IsPlant, model_of};
-ghost use Rattle.controller_actors.specs.Stands.{IsSeated, IsWell, body_of, done_of, lives_of};
+ghost use Rattle.controller_actors.specs.Bodies.{HasSlots, IsWell, body_of, done_of, lives_of};
 ghost use Rattle.controller_actors.specs.Steps.{ActorsBegin, Dispatches, IsLast};
 
-use crate::actor_seats::{Entrance, Seat};
+use crate::actor_slots::{ActorSlot, Entrance};
 use crate::plant::Plant;
 use crate::services::ActorServices;
 use crate::start::start;
 use actor_commands::{Recalled, Speaker};
-use controller_mail::Treatment;
+use controller_mail::TurnResult;
 use journal::{Did, Journal};
 use layer_service::NameService;
 use room_kinds::{ControllerId, Incarnation, Msg, Notes, Outbox, Sequence, SlotId};
@@ -27,7 +27,7 @@ pub struct Actors {
     pub(crate) alloc: Global,
     pub(crate) services: ActorServices,
     pub(crate) table: NameService,
-    pub(crate) seats: Vec<Seat>,
+    pub(crate) slots: Vec<ActorSlot>,
 }
 
 /// The actors of a controller that has started, what they sent, and the entries of their starts.
@@ -39,10 +39,10 @@ pub struct Begun {
 }
 
 /// A message that is discarded.
-fn discarded(alloc: Global, did: Did) -> Treatment
+fn discarded(alloc: Global, did: Did) -> TurnResult
     ensures { result ≡ record { sent = []; back = []; did = did; notes = [] } }
 {
-    Treatment {
+    TurnResult {
         sent: Outbox::new(alloc),
         back: Sequence::new(alloc),
         did,
@@ -51,7 +51,7 @@ fn discarded(alloc: Global, did: Did) -> Treatment
 }
 
 /// A message that nobody stands there for.
-fn nobody_there(alloc: Global, m: &Msg) -> Treatment
+fn nobody_there(alloc: Global, m: &Msg) -> TurnResult
     ensures { result ≡ record { sent = []; back = []; did = Did.Empty (whose m.now.target); notes = [] } }
 {
     let target = whose(m.target);
@@ -90,7 +90,7 @@ impl Actors {
         back: Recalled,
     ) -> Result<Entrance, AllocError>
         requires plant { IsPlant plant.now }
-        requires seated { IsSeated plant.now me.0 self.old }
+        requires slots { HasSlots plant.now me.0 self.old }
         requires last { IsLast plant.now.wiring (lives_of self.old) who }
         ensures { IfOk result (λ e. ActorsBegin plant.now me.0 who.slot.0 self.old self.new sent back e) }
     {
@@ -101,8 +101,8 @@ impl Actors {
             who,
         };
         let tables = plant.tables_of(who.slot);
-        let seat = &mut self.seats[usize::from(who.slot.0)];
-        let entrance = seat.begin(alloc, &speaker, &mut self.services, tables, sent, back)?;
+        let actor_slot = &mut self.slots[usize::from(who.slot.0)];
+        let entrance = actor_slot.begin(alloc, &speaker, &mut self.services, tables, sent, back)?;
         Ok(entrance)
     }
 
@@ -113,7 +113,7 @@ impl Actors {
         me: ControllerId,
         who: Incarnation,
         m: &Msg,
-    ) -> Result<Treatment, AllocError>
+    ) -> Result<TurnResult, AllocError>
         requires plant { IsPlant plant.now }
         requires well { IsWell plant.now me.0 self.old }
         requires last { IsLast plant.now.wiring (lives_of self.old) who }
@@ -128,8 +128,8 @@ impl Actors {
             who,
         };
         let tables = plant.tables_of(who.slot);
-        let seat = &mut self.seats[usize::from(who.slot.0)];
-        let handled = seat.handle(alloc, &speaker, &mut self.services, tables, m)?;
+        let actor_slot = &mut self.slots[usize::from(who.slot.0)];
+        let handled = actor_slot.handle(alloc, &speaker, &mut self.services, tables, m)?;
         match handled {
             Some(done) => Ok(done),
             None => Ok(nobody_there(alloc, m)),
@@ -160,7 +160,7 @@ impl Actors {
         plant: &Plant,
         me: ControllerId,
         m: &Msg,
-    ) -> Result<Treatment, AllocError>
+    ) -> Result<TurnResult, AllocError>
         requires plant { IsPlant plant.now }
         requires well { IsWell plant.now me.0 self.old }
         requires prio { HasPriority m.now }
@@ -186,7 +186,7 @@ impl Actors {
         plant: &Plant,
         me: ControllerId,
         m: &Msg,
-    ) -> Result<Treatment, AllocError>
+    ) -> Result<TurnResult, AllocError>
         requires plant { IsPlant plant.now }
         requires well { IsWell plant.now me.0 self.old }
         requires prio { HasPriority m.now }

@@ -3,20 +3,20 @@ ghost use Rattle.std.specs.Prelude.{◌<◌, ◌∷◌, List, [], length, All, I
 ghost use Rattle.room_kinds.specs.declared.numbers.Incarnation.{Incarnation as Actor};
 ghost use Rattle.actor_world.specs.Turns.{begun, all_begun, gone, all_gone};
 ghost use Rattle.controller_actors.specs.Plants.{IsPlant, model_of};
-ghost use Rattle.controller_actors.specs.Stands.{AreEmpty, IsSeated, lives_of};
+ghost use Rattle.controller_actors.specs.Bodies.{AreEmpty, HasSlots, lives_of};
 ghost use Rattle.controller_actors.specs.Steps.{IsLast, Moves};
 
-use crate::actor_seats::Seat;
+use crate::actor_slots::ActorSlot;
 use crate::actors::Actors;
 use crate::plant::Plant;
-use actor_commands::{Recalled, Said, Speaker};
+use actor_commands::{Output, Recalled, Speaker};
 use room_kinds::{ControllerId, Incarnation, Note};
 use std::alloc::AllocError;
 
 /// What a turn has done so far: the messages and notes, and the deferred messages that came back.
 #[derive(Drop)]
 pub(crate) struct SoFar {
-    pub said: Said,
+    pub output: Output,
     pub back: Recalled,
 }
 
@@ -30,7 +30,7 @@ impl Actors {
         so_far: SoFar,
     ) -> Result<SoFar, AllocError>
         requires plant { IsPlant plant.now }
-        requires seated { IsSeated plant.now me.0 self.old }
+        requires slots { HasSlots plant.now me.0 self.old }
         requires last { IsLast plant.now.wiring (lives_of self.old) who }
         ensures moves { IfOk result (λ s. Moves (begun (model_of plant.now) plant.now.wiring me.0 who) plant.now me.0 self.old so_far self.new s) }
         ensures empty { OnOk result ((gone : List Actor) → AreEmpty gone self.old → AreEmpty gone self.new) }
@@ -42,10 +42,17 @@ impl Actors {
             who,
         };
         let tables = plant.tables_of(who.slot);
-        let SoFar { said, back } = so_far;
-        let seat = &mut self.seats[usize::from(who.slot.0)];
-        let (said, back) = seat.come_up(alloc, &speaker, &mut self.services, tables, said, back)?;
-        Ok(SoFar { said, back })
+        let SoFar { output, back } = so_far;
+        let actor_slot = &mut self.slots[usize::from(who.slot.0)];
+        let (output, back) = actor_slot.come_up(
+            alloc,
+            &speaker,
+            &mut self.services,
+            tables,
+            output,
+            back,
+        )?;
+        Ok(SoFar { output, back })
     }
 
     /// Actors that were made come up, one after another.
@@ -57,7 +64,7 @@ impl Actors {
         so_far: SoFar,
     ) -> Result<SoFar, AllocError>
         requires plant { IsPlant plant.now }
-        requires seated { IsSeated plant.now me.0 self.old }
+        requires slots { HasSlots plant.now me.0 self.old }
         requires last { All (IsLast plant.now.wiring (lives_of self.old)) made.now }
         ensures moves { IfOk result (λ s. Moves (all_begun (model_of plant.now) plant.now.wiring me.0 made.now) plant.now me.0 self.old so_far self.new s) }
         ensures empty { OnOk result ((gone : List Actor) → AreEmpty gone self.old → AreEmpty gone self.new) }
@@ -78,16 +85,16 @@ impl Actors {
         who: Incarnation,
         so_far: &mut SoFar,
     ) -> Result<(), AllocError>
-        requires seated { IsSeated plant.now me.0 self.old }
+        requires slots { HasSlots plant.now me.0 self.old }
         requires there { who.slot.0 < length plant.now.wiring.slots }
         ensures moves { OnOk result (Moves (gone plant.now.wiring me.0 who) plant.now me.0 self.old so_far.old self.new so_far.new) }
         ensures empty { OnOk result ((rest : List Actor) → AreEmpty (who ∷ rest) self.old → AreEmpty rest self.new) }
     {
-        let seat = &mut self.seats[usize::from(who.slot.0)];
-        let lost = seat.deferred.len() as u64;
-        so_far.said.notes.push(Note::Down { who, lost })?;
-        *seat = Seat::vacant(self.alloc);
-        let out = &mut so_far.said.messages;
+        let actor_slot = &mut self.slots[usize::from(who.slot.0)];
+        let lost = actor_slot.deferred.len() as u64;
+        so_far.output.notes.push(Note::Down { who, lost })?;
+        *actor_slot = ActorSlot::vacant(self.alloc);
+        let out = &mut so_far.output.messages;
         self.services.links.end_of(&plant.wiring, me, who, out)?;
         Ok(())
     }
@@ -100,7 +107,7 @@ impl Actors {
         ended: &[Incarnation],
         so_far: &mut SoFar,
     ) -> Result<(), AllocError>
-        requires seated { IsSeated plant.now me.0 self.old }
+        requires slots { HasSlots plant.now me.0 self.old }
         requires there { All (λ (x : Actor). x.slot.0 < length plant.now.wiring.slots) ended.now }
         ensures moves { OnOk result (Moves (all_gone plant.now.wiring me.0 ended.now) plant.now me.0 self.old so_far.old self.new so_far.new) }
         ensures empty { OnOk result (AreEmpty ended.now self.old → AreEmpty [] self.new) }

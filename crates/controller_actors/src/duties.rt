@@ -7,15 +7,15 @@ ghost use Rattle.actor_duties.specs.Lives.{is_live};
 ghost use Rattle.actor_world.specs.Turns.{treat};
 ghost use Rattle.controller_mail.specs.MailState.{HasPriority, with_body};
 ghost use Rattle.controller_actors.specs.Plants.{IsPlant, model_of};
-ghost use Rattle.controller_actors.specs.Stands.{AreEmpty, IsSeated, IsWell, body_of, done_of, lives_of};
+ghost use Rattle.controller_actors.specs.Bodies.{AreEmpty, HasSlots, IsWell, body_of, done_of, lives_of};
 ghost use Rattle.controller_actors.specs.Steps.{Closes, IsLast};
 ghost use Rattle.controller_actors.specs.Duties.{Finishes, HasDuty, service_of};
 
 use crate::actors::Actors;
 use crate::changes::SoFar;
 use crate::plant::Plant;
-use actor_commands::{Recalled, Said};
-use controller_mail::Treatment;
+use actor_commands::{Output, Recalled};
+use controller_mail::TurnResult;
 use frame_lives::DutyDone;
 use journal::Did;
 use room_kinds::{ControllerId, Incarnation, Msg, Notes, Outbox, Sequence, SysKind};
@@ -55,10 +55,10 @@ fn service_of(kind: SysKind) -> Service
 }
 
 /// A duty by which messages are sent, and nothing else comes of it.
-fn only_sends(alloc: Global, sent: Outbox) -> Treatment
+fn only_sends(alloc: Global, sent: Outbox) -> TurnResult
     ensures { result ≡ record { sent = sent; back = []; did = Did.Duty; notes = [] } }
 {
-    Treatment {
+    TurnResult {
         sent,
         back: Sequence::new(alloc),
         did: Did::Duty,
@@ -67,22 +67,22 @@ fn only_sends(alloc: Global, sent: Outbox) -> Treatment
 }
 
 /// A message that is passed over.
-fn passed_over(alloc: Global) -> Treatment
+fn passed_over(alloc: Global) -> TurnResult
     ensures { result ≡ record { sent = []; back = []; did = Did.Duty; notes = [] } }
 {
     only_sends(alloc, Outbox::new(alloc))
 }
 
 /// What a duty made of its message.
-fn done(so_far: SoFar) -> Treatment
-    ensures { result ≡ record { sent = so_far.said.messages; back = so_far.back; did = Did.Duty; notes = so_far.said.notes } }
+fn done(so_far: SoFar) -> TurnResult
+    ensures { result ≡ record { sent = so_far.output.messages; back = so_far.back; did = Did.Duty; notes = so_far.output.notes } }
 {
-    let SoFar { said, back } = so_far;
-    Treatment {
-        sent: said.messages,
+    let SoFar { output, back } = so_far;
+    TurnResult {
+        sent: output.messages,
         back: back.into_sequence(),
         did: Did::Duty,
-        notes: said.notes,
+        notes: output.notes,
     }
 }
 
@@ -91,7 +91,7 @@ fn close(so_far: &mut SoFar, last: Option<Msg>) -> Result<(), AllocError>
     ensures { OnOk result (Closes so_far.old so_far.new last) }
 {
     if let Some(m) = last {
-        so_far.said.messages.push(m)?;
+        so_far.output.messages.push(m)?;
     }
     Ok(())
 }
@@ -106,9 +106,9 @@ impl Actors {
         me: ControllerId,
         left: DutyDone,
         sent: Outbox,
-    ) -> Result<Treatment, AllocError>
+    ) -> Result<TurnResult, AllocError>
         requires plant { IsPlant plant.now }
-        requires seated { IsSeated plant.now me.0 self.old }
+        requires slots { HasSlots plant.now me.0 self.old }
         requires empty { AreEmpty left.ended self.old }
         requires made { All (IsLast plant.now.wiring (lives_of self.old)) left.made }
         requires ended { All (λ (x : Actor). x.slot.0 < length plant.now.wiring.slots) left.ended }
@@ -117,7 +117,7 @@ impl Actors {
         let alloc = self.alloc;
         let DutyDone { made, ended, last } = left;
         let first = SoFar {
-            said: Said {
+            output: Output {
                 messages: sent,
                 notes: Notes::new(alloc),
             },
@@ -136,7 +136,7 @@ impl Actors {
         me: ControllerId,
         kind: SysKind,
         m: &Msg,
-    ) -> Result<Treatment, AllocError>
+    ) -> Result<TurnResult, AllocError>
         requires plant { IsPlant plant.now }
         requires well { IsWell plant.now me.0 self.old }
         requires kind { number_of kind ≡ m.now.signal }
@@ -157,7 +157,7 @@ impl Actors {
         me: ControllerId,
         kind: SysKind,
         m: &Msg,
-    ) -> Result<Treatment, AllocError>
+    ) -> Result<TurnResult, AllocError>
         requires well { IsWell plant.now me.0 self.old }
         requires table { service_of kind ≡ Service.NameTable }
         ensures { IfOk result (λ done. HasDuty plant.now me.0 m.now kind self.old self.new done) }
@@ -184,7 +184,7 @@ impl Actors {
         me: ControllerId,
         kind: SysKind,
         m: &Msg,
-    ) -> Result<Treatment, AllocError>
+    ) -> Result<TurnResult, AllocError>
         requires well { IsWell plant.now me.0 self.old }
         requires links { service_of kind ≡ Service.Links }
         ensures { IfOk result (λ done. HasDuty plant.now me.0 m.now kind self.old self.new done) }
@@ -202,7 +202,7 @@ impl Actors {
         plant: &Plant,
         me: ControllerId,
         m: &Msg,
-    ) -> Result<Treatment, AllocError>
+    ) -> Result<TurnResult, AllocError>
         requires plant { IsPlant plant.now }
         requires well { IsWell plant.now me.0 self.old }
         requires prio { m.now.prio.0 ≡ 0 }

@@ -7,7 +7,7 @@
 //! `actor_world`.
 #![tactic(auto)]
 
-pub mod actor_seats;
+pub mod actor_slots;
 mod actors;
 mod changes;
 mod duties;

@@ -2,14 +2,14 @@
 ghost use Rattle.std.specs.Prelude.{◌≡◌, ◌<◌, ◌++◌, [], length, replicate, IfOk, OnOk};
 ghost use Rattle.actor_world.specs.Start.{first_state, start_entries};
 ghost use Rattle.controller_actors.specs.Plants.{IsPlant, model_of};
-ghost use Rattle.controller_actors.specs.Stands.{IsSeated, IsWell, body_of, vacant, lives_of};
+ghost use Rattle.controller_actors.specs.Bodies.{HasSlots, IsWell, body_of, vacant, lives_of};
 ghost use Rattle.controller_actors.specs.Steps.{IsLast, Starts, StartsIn, first_below, first_in};
 
-use crate::actor_seats::{Entrance, Seat};
+use crate::actor_slots::{ActorSlot, Entrance};
 use crate::actors::{Actors, Begun};
 use crate::plant::Plant;
 use crate::services::ActorServices;
-use actor_commands::{Recalled, Said};
+use actor_commands::{Output, Recalled};
 use frame_service::FrameState;
 use journal::{Entry, Journal};
 use layer_service::{Links, NameService};
@@ -26,14 +26,14 @@ pub(crate) struct Starting {
     entries: Journal,
 }
 
-fn vacant_seats(alloc: Global, count: u32) -> Result<Vec<Seat>, AllocError>
-    ensures { IfOk result (λ seats. seats.items ≡ replicate count vacant) }
+fn vacant_slots(alloc: Global, count: u32) -> Result<Vec<ActorSlot>, AllocError>
+    ensures { IfOk result (λ slots. slots.items ≡ replicate count vacant) }
 {
-    let mut seats = Vec::with_capacity(alloc, count as usize)?;
+    let mut slots = Vec::with_capacity(alloc, count as usize)?;
     for _slot in 0..count {
-        seats.push(Seat::vacant(alloc))?;
+        slots.push(ActorSlot::vacant(alloc))?;
     }
-    Ok(seats)
+    Ok(slots)
 }
 
 impl Starting {
@@ -45,7 +45,7 @@ impl Starting {
         who: Incarnation,
     ) -> Result<(), AllocError>
         requires plant { IsPlant plant.now }
-        requires seated { IsSeated plant.now me.0 self.old.actors }
+        requires slots { HasSlots plant.now me.0 self.old.actors }
         requires last { IsLast plant.now.wiring (lives_of self.old.actors) who }
         ensures { OnOk result (StartsIn plant.now me.0 who.slot.0 self.old self.new) }
     {
@@ -53,8 +53,12 @@ impl Starting {
         let sent = mem::replace(&mut self.sent, Outbox::new(alloc));
         let back = mem::replace(&mut self.back, Recalled::new(alloc));
         let entrance = self.actors.begin(plant, me, who, sent, back)?;
-        let Entrance { said, back, state } = entrance;
-        let Said { messages, notes } = said;
+        let Entrance {
+            output,
+            back,
+            state,
+        } = entrance;
+        let Output { messages, notes } = output;
         self.sent = messages;
         self.back = back;
         self.entries.push(Entry::Start { who, state, notes })?;
@@ -97,7 +101,7 @@ pub(crate) fn start(alloc: Global, plant: &Plant, me: ControllerId) -> Result<Be
     ensures well { IfOk result (λ b. IsWell plant.now me.0 b.actors) }
 {
     let frame = FrameState::start(alloc, &plant.wiring, me)?;
-    let seats = vacant_seats(alloc, plant.wiring.slot_count())?;
+    let slots = vacant_slots(alloc, plant.wiring.slot_count())?;
     let mut starting = Starting {
         actors: Actors {
             alloc,
@@ -106,7 +110,7 @@ pub(crate) fn start(alloc: Global, plant: &Plant, me: ControllerId) -> Result<Be
                 links: Links::new(alloc),
             },
             table: NameService::new(alloc),
-            seats,
+            slots,
         },
         sent: Outbox::new(alloc),
         back: Recalled::new(alloc),

@@ -16,7 +16,7 @@ use std::marker::Model;
 
 /// What a turn made of its message.
 #[derive(Drop)]
-pub struct Treatment {
+pub struct TurnResult {
     /// The messages for the outbox, in order.
     pub sent: Outbox,
     /// The deferred messages that come back, first the one that will be in front.
@@ -105,7 +105,7 @@ impl ControllerMail {
         &mut self,
         from: ControllerId,
         sent: Stamp,
-        done: Treatment,
+        done: TurnResult,
     ) -> Result<(), AllocError>
         requires { All HasPriority done.back }
         ensures { OnOk result (EndsTurn self.old self.new from sent (record { sent = done.sent; back = done.back; did = done.did; notes = done.notes })) }

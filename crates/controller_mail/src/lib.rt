@@ -14,7 +14,7 @@ mod laws;
 mod pending;
 mod queue;
 
-pub use controller_mail::{ControllerMail, Treatment};
+pub use controller_mail::{ControllerMail, TurnResult};
 pub use controller_moves::{fetch_all, poll_boxes, post_outbox};
 pub use environment::EnvironmentMail;
 pub use laws::{environment_leaves, mail_leaves};

@@ -1,6 +1,6 @@
 //! A controller's mail, and that of the environment.
 use crate::messages::own_message;
-use controller_mail::{ControllerMail, EnvironmentMail, Treatment};
+use controller_mail::{ControllerMail, EnvironmentMail, TurnResult};
 use journal::{Did, Journal};
 use room_kinds::{ControllerId, Notes, Outbox, Sequence, Stamp};
 use std::test::Fail;
@@ -16,7 +16,7 @@ fn the_lowest_priority_has_its_turn_first(rt: HostRuntime) -> Result<(), Fail> {
     assert_eq!(rt; first.signal, 8);
     let mut sent = Outbox::new(alloc);
     sent.push(own_message(alloc, 3, 0, 9))?;
-    let done = Treatment {
+    let done = TurnResult {
         sent,
         back: Sequence::new(alloc),
         did: Did::Duty,

@@ -10,18 +10,18 @@ use Rattle.room_wiring.specs.Places.{place_count}
 use Rattle.actor_duties.specs.Words.{is_spp, places_of}
 use Rattle.actor_duties.specs.State.{Frame, Links, Link}
 use Rattle.actor_duties.specs.Commands.{Content, Sent, send, broadcast_places, send_each, broadcast}
-use Rattle.actor_commands.specs.declared.command_sends.said.Said.{Said}
+use Rattle.actor_commands.specs.declared.command_sends.output.Output.{Output}
 use Rattle.actor_commands.specs.command_sends.Adding.{Adds}
 
 -- nothing is said
-pub Adds-none : (x : Said) → Adds (record { messages = []; notes = [] }) x x
+pub Adds-none : (x : Output) → Adds (record { messages = []; notes = [] }) x x
 Adds-none x = record { messages = sym (append-nil x.messages); notes = sym (append-nil x.notes) }
 
 -- one thing after another
 abbrev joined : Sent → Sent → Sent
 joined a b = record { messages = a.messages ++ b.messages; notes = a.notes ++ b.notes }
 
-Adds-joined : (a b : Sent) (x y z : Said) → Adds a x y → Adds b y z → Adds (joined a b) x z
+Adds-joined : (a b : Sent) (x y z : Output) → Adds a x y → Adds b y z → Adds (joined a b) x z
 Adds-joined a b x y z p q = record {
   messages = q.messages ∙ ap (λ m. m ++ b.messages) p.messages ∙ append_assoc x.messages a.messages b.messages;
   notes = q.notes ∙ ap (λ m. m ++ b.notes) p.notes ∙ append_assoc x.notes a.notes b.notes;
@@ -39,20 +39,20 @@ module _ (t : Tables) (me : ℕ) (f : Frame) (l : Links) (x : Incarnation) (p : 
       ∙ ap (λ m. record { messages = m; notes = first.notes ++ (a.notes ++ b.notes) }) (sym (append_assoc first.messages a.messages b.messages))
       ∙ ap (λ m. record { messages = (first.messages ++ a.messages) ++ b.messages; notes = m }) (sym (append_assoc first.notes a.notes b.notes))
 
-  pub Adds-append : (js ks : List ℕ) (u v w : Said) → Adds (send_each t me f l x p c js) u v → Adds (send_each t me f l x p c ks) v w → Adds (send_each t me f l x p c (js ++ ks)) u w
+  pub Adds-append : (js ks : List ℕ) (u v w : Output) → Adds (send_each t me f l x p c js) u v → Adds (send_each t me f l x p c ks) v w → Adds (send_each t me f l x p c (js ++ ks)) u w
   Adds-append js ks u v w a b = subst (λ s. Adds s u w) (sym (send_each-append js ks)) (Adds-joined _ _ u v w a b)
 
-  pub Adds-one : (k : ℕ) (u v : Said) → Adds (send t me f l x p (pos k) c) u v → Adds (send_each t me f l x p c (k ∷ [])) u v
+  pub Adds-one : (k : ℕ) (u v : Output) → Adds (send t me f l x p (pos k) c) u v → Adds (send_each t me f l x p c (k ∷ [])) u v
   Adds-one k u v a =
       let s = send t me f l x p (pos k) c in
       record { messages = a.messages ∙ ap (λ m. u.messages ++ m) (sym (append-nil s.messages)); notes = a.notes ∙ ap (λ m. u.notes ++ m) (sym (append-nil s.notes)) }
 
   -- a send at a linked place: before the first one nothing is sent
-  pub link_passed : (first k : ℕ) (u : Said) → k < first → Adds (send_each t me f l x p c (filter (nat_le first) (k ∷ []))) u u
+  pub link_passed : (first k : ℕ) (u : Output) → k < first → Adds (send_each t me f l x p c (filter (nat_le first) (k ∷ []))) u u
   link_passed first k u h =
       subst (λ ks. Adds (send_each t me f l x p c ks) u u) (sym (cond-false (nat_le first k) (k ∷ []) [] (lt-leb first k h))) (Adds-none u)
 
-  pub link_sent : (first k at : ℕ) (u v : Said) → first ≤ k → at ≡ k → Adds (send t me f l x p (pos at) c) u v → Adds (send_each t me f l x p c (filter (nat_le first) (k ∷ []))) u v
+  pub link_sent : (first k at : ℕ) (u v : Output) → first ≤ k → at ≡ k → Adds (send t me f l x p (pos at) c) u v → Adds (send_each t me f l x p c (filter (nat_le first) (k ∷ []))) u v
   link_sent first k at u v h e a =
       subst (λ ks. Adds (send_each t me f l x p c ks) u v) (sym (cond-true (nat_le first k) (k ∷ []) [] (le-leb first k h)))
       (Adds-one k u v (subst (λ n. Adds (send t me f l x p (pos n) c) u v) e a))
@@ -88,12 +88,12 @@ unfolding broadcast_places
 places_and_links t l s p e =
     ap (λ ks. places_of t s p ++ ks) (cond-true (is_spp t s p) (filter (nat_le (place_count t s p)) (map (λ (x : Link). x.place) (l.linked s p))) [] e)
 
-pub broadcast_alone : (t : Tables) (me : ℕ) (f : Frame) (l : Links) (x : Incarnation) (p : ℕ) (c : Content) (u v : Said) → is_spp t x.slot.0 p ≡ false
+pub broadcast_alone : (t : Tables) (me : ℕ) (f : Frame) (l : Links) (x : Incarnation) (p : ℕ) (c : Content) (u v : Output) → is_spp t x.slot.0 p ≡ false
     → Adds (send_each t me f l x p c (places_of t x.slot.0 p)) u v → Adds (broadcast t me f l x p c) u v
 unfolding broadcast
 broadcast_alone t me f l x p c u v e a = subst (λ ks. Adds (send_each t me f l x p c ks) u v) (sym (places_alone t l x.slot.0 p e)) a
 
-pub broadcast_linked : (t : Tables) (me : ℕ) (f : Frame) (l : Links) (x : Incarnation) (p : ℕ) (c : Content) (first : ℕ) (u v w : Said) → is_spp t x.slot.0 p ≡ true
+pub broadcast_linked : (t : Tables) (me : ℕ) (f : Frame) (l : Links) (x : Incarnation) (p : ℕ) (c : Content) (first : ℕ) (u v w : Output) → is_spp t x.slot.0 p ≡ true
     → first ≡ place_count t x.slot.0 p
     → Adds (send_each t me f l x p c (places_of t x.slot.0 p)) u v
     → Adds (send_each t me f l x p c (filter (nat_le first) (map (λ (y : Link). y.place) (l.linked x.slot.0 p)))) v w

@@ -1,11 +1,11 @@
--- What a send adds to what was said so far.
+-- What a send adds to what was put out so far.
 use Rattle.std.specs.Prelude.{◌≡◌, ◌++◌}
-use Rattle.actor_commands.specs.declared.command_sends.said.Said.{Said}
-use Rattle.actor_commands.specs.declared.command_sends.said.Content.{Content as CodeContent}
+use Rattle.actor_commands.specs.declared.command_sends.output.Output.{Output}
+use Rattle.actor_commands.specs.declared.command_sends.output.Content.{Content as CodeContent}
 use Rattle.actor_duties.specs.Commands.{Content, Sent}
 
--- the messages of a send follow those that were said so far, and its notes follow theirs
-pub record Adds (s : Sent) (old new : Said) : Type 0 where
+-- the messages of a send follow those that were sent so far, and its notes follow theirs
+pub record Adds (s : Sent) (old new : Output) : Type 0 where
   pub messages : new.messages ≡ old.messages ++ s.messages
   pub notes : new.notes ≡ old.notes ++ s.notes
 

@@ -10,14 +10,14 @@ use Rattle.actor_duties.specs.State.{Frame, Links}
 use Rattle.actor_duties.specs.Frame.{frame_request}
 use Rattle.actor_duties.specs.Links.{name_request}
 
--- the frame service did what x asked, its messages follow those that were said before, and the
+-- the frame service did what x asked, its messages follow those that were sent before, and the
 -- links stay
 pub record FrameAsked (t : Tables) (me : ℕ) (x : Incarnation) (c : FrameCommand) (f : Frame) (l : Links) (f' : Frame) (l' : Links) (before out : List Msg) : Type 0 where
   pub frame : f' ≡ (frame_request t me f x c).now
   pub links : l' ≡ l
   pub sent : out ≡ before ++ (frame_request t me f x c).sent
 
--- the registrations and links are those after what x asked, its messages follow those that were said
+-- the registrations and links are those after what x asked, its messages follow those that were sent
 -- before, and the frame service stays
 pub record NameAsked (t : Tables) (me : ℕ) (x : Incarnation) (c : NameCommand) (f : Frame) (l : Links) (f' : Frame) (l' : Links) (before out : List Msg) : Type 0 where
   pub frame : f' ≡ f

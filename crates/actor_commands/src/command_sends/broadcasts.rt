@@ -7,7 +7,7 @@ ghost use Rattle.actor_duties.specs.Words.{places_of};
 ghost use Rattle.actor_duties.specs.Commands.{send_each, broadcast};
 ghost use Rattle.actor_commands.specs.command_sends.Adding.{Adds, content_of};
 
-use crate::command_sends::said::{Content, Said, Speaker};
+use crate::command_sends::output::{Content, Output, Speaker};
 use crate::command_sends::sends::send_at;
 use crate::command_sends::services::Services;
 use service_messages::is_spp;
@@ -20,12 +20,12 @@ fn send_to_places<S: Services>(
     services: &S,
     port: u16,
     content: &Content<'_>,
-    said: &mut Said,
+    output: &mut Output,
 ) -> Result<(), AllocError>
     requires serves { S.serves speaker.now.wiring.now speaker.now.me.0 services.now }
     requires slot { speaker.now.who.slot.0 < length speaker.now.wiring.now.slots }
     requires port { port < port_count speaker.now.wiring.now speaker.now.who.slot.0 }
-    ensures { OnOk result (Adds (send_each speaker.now.wiring.now speaker.now.me.0 (S.frame_of services.now) (S.links_of services.now) speaker.now.who port (content_of content.now) (places_of speaker.now.wiring.now speaker.now.who.slot.0 port)) said.old said.new) }
+    ensures { OnOk result (Adds (send_each speaker.now.wiring.now speaker.now.me.0 (S.frame_of services.now) (S.links_of services.now) speaker.now.who port (content_of content.now) (places_of speaker.now.wiring.now speaker.now.who.slot.0 port)) output.old output.new) }
 {
     for place in 0..speaker.wiring.places(speaker.who.slot, port) {
         send_at(
@@ -36,7 +36,7 @@ fn send_to_places<S: Services>(
             i64::from(place),
             u64::from(place),
             content,
-            said,
+            output,
         )?;
     }
     Ok(())
@@ -51,10 +51,10 @@ fn send_to_link<S: Services>(
     first: u32,
     place: u32,
     content: &Content<'_>,
-    said: &mut Said,
+    output: &mut Output,
 ) -> Result<(), AllocError>
     requires serves { S.serves speaker.now.wiring.now speaker.now.me.0 services.now }
-    ensures { OnOk result (Adds (send_each speaker.now.wiring.now speaker.now.me.0 (S.frame_of services.now) (S.links_of services.now) speaker.now.who port (content_of content.now) (filter (nat_le first) (place ∷ []))) said.old said.new) }
+    ensures { OnOk result (Adds (send_each speaker.now.wiring.now speaker.now.me.0 (S.frame_of services.now) (S.links_of services.now) speaker.now.who port (content_of content.now) (filter (nat_le first) (place ∷ []))) output.old output.new) }
 {
     if place < first {
         return Ok(());
@@ -67,7 +67,7 @@ fn send_to_link<S: Services>(
         i64::from(place),
         u64::from(place),
         content,
-        said,
+        output,
     )
 }
 
@@ -79,20 +79,22 @@ fn send_to_links<S: Services>(
     port: u16,
     first: u32,
     content: &Content<'_>,
-    said: &mut Said,
+    output: &mut Output,
 ) -> Result<(), AllocError>
     requires serves { S.serves speaker.now.wiring.now speaker.now.me.0 services.now }
-    ensures { OnOk result (Adds (send_each speaker.now.wiring.now speaker.now.me.0 (S.frame_of services.now) (S.links_of services.now) speaker.now.who port (content_of content.now) (filter (nat_le first) (map (λ (x : Link). x.place) ((S.links_of services.now).linked speaker.now.who.slot.0 port)))) said.old said.new) }
+    ensures { OnOk result (Adds (send_each speaker.now.wiring.now speaker.now.me.0 (S.frame_of services.now) (S.links_of services.now) speaker.now.who port (content_of content.now) (filter (nat_le first) (map (λ (x : Link). x.place) ((S.links_of services.now).linked speaker.now.who.slot.0 port)))) output.old output.new) }
 {
     for index in 0..services.link_count(speaker.who.slot, port) {
         let place = services.linked_place(speaker.who.slot, port, index);
-        send_to_link(alloc, speaker, services, port, first, place, content, said)?;
+        send_to_link(
+            alloc, speaker, services, port, first, place, content, output,
+        )?;
     }
     Ok(())
 }
 
 /// Sends at each place of a port of the speaker, ascending: at those of the model, and at a service
-/// provision point then at those that are linked by name. After want of memory what was said is
+/// provision point then at those that are linked by name. After want of memory what was put out is
 /// unspecified: the controller has failed.
 pub fn broadcast<S: Services>(
     alloc: Global,
@@ -100,17 +102,17 @@ pub fn broadcast<S: Services>(
     services: &S,
     port: u16,
     content: &Content<'_>,
-    said: &mut Said,
+    output: &mut Output,
 ) -> Result<(), AllocError>
     requires serves { S.serves speaker.now.wiring.now speaker.now.me.0 services.now }
     requires slot { speaker.now.who.slot.0 < length speaker.now.wiring.now.slots }
     requires port { port < port_count speaker.now.wiring.now speaker.now.who.slot.0 }
-    ensures { OnOk result (Adds (broadcast speaker.now.wiring.now speaker.now.me.0 (S.frame_of services.now) (S.links_of services.now) speaker.now.who port (content_of content.now)) said.old said.new) }
+    ensures { OnOk result (Adds (broadcast speaker.now.wiring.now speaker.now.me.0 (S.frame_of services.now) (S.links_of services.now) speaker.now.who port (content_of content.now)) output.old output.new) }
 {
-    send_to_places(alloc, speaker, services, port, content, said)?;
+    send_to_places(alloc, speaker, services, port, content, output)?;
     if !is_spp(speaker.wiring, speaker.who.slot, port) {
         return Ok(());
     }
     let first = speaker.wiring.places(speaker.who.slot, port);
-    send_to_links(alloc, speaker, services, port, first, content, said)
+    send_to_links(alloc, speaker, services, port, first, content, output)
 }

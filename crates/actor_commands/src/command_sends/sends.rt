@@ -4,7 +4,7 @@ ghost use Rattle.actor_duties.specs.Words.{endpoint};
 ghost use Rattle.actor_duties.specs.Commands.{message, send};
 ghost use Rattle.actor_commands.specs.command_sends.Adding.{Adds, content_of};
 
-use crate::command_sends::said::{Content, Said, Speaker};
+use crate::command_sends::output::{Content, Output, Speaker};
 use crate::command_sends::services::Services;
 use room_kinds::{Endpoint, Msg, Note, Stamp};
 use service_messages::owner_of;
@@ -55,27 +55,27 @@ pub(crate) fn send_at<S: Services>(
     place: i64,
     at: u64,
     content: &Content<'_>,
-    said: &mut Said,
+    output: &mut Output,
 ) -> Result<(), AllocError>
     requires serves { S.serves speaker.now.wiring.now speaker.now.me.0 services.now }
     requires place { place ≡ pos at }
-    ensures { OnOk result (Adds (send speaker.now.wiring.now speaker.now.me.0 (S.frame_of services.now) (S.links_of services.now) speaker.now.who port (pos at) (content_of content.now)) said.old said.new) }
+    ensures { OnOk result (Adds (send speaker.now.wiring.now speaker.now.me.0 (S.frame_of services.now) (S.links_of services.now) speaker.now.who port (pos at) (content_of content.now)) output.old output.new) }
 {
     match services.peer(speaker.wiring, speaker.me, speaker.who, port, at) {
         Some(target) => {
             let m = message(alloc, speaker, port, at as u32, target, content)?;
-            said.messages.push(m)?;
+            output.messages.push(m)?;
             Ok(())
         }
         None => {
-            said.notes.push(Note::Unbound { port, place })?;
+            output.notes.push(Note::Unbound { port, place })?;
             Ok(())
         }
     }
 }
 
 /// Sends at a place of a port of the speaker: a message goes to the peer, and without a peer, or with a
-/// place out of range, the note `unbound` is made. After want of memory what was said is unspecified: the
+/// place out of range, the note `unbound` is made. After want of memory what was put out is unspecified: the
 /// controller has failed.
 pub fn send<S: Services>(
     alloc: Global,
@@ -84,15 +84,15 @@ pub fn send<S: Services>(
     port: u16,
     place: i64,
     content: &Content<'_>,
-    said: &mut Said,
+    output: &mut Output,
 ) -> Result<(), AllocError>
     requires serves { S.serves speaker.now.wiring.now speaker.now.me.0 services.now }
-    ensures { OnOk result (Adds (send speaker.now.wiring.now speaker.now.me.0 (S.frame_of services.now) (S.links_of services.now) speaker.now.who port place (content_of content.now)) said.old said.new) }
+    ensures { OnOk result (Adds (send speaker.now.wiring.now speaker.now.me.0 (S.frame_of services.now) (S.links_of services.now) speaker.now.who port place (content_of content.now)) output.old output.new) }
 {
     match natural(place) {
-        Some(at) => send_at(alloc, speaker, services, port, place, at, content, said),
+        Some(at) => send_at(alloc, speaker, services, port, place, at, content, output),
         None => {
-            said.notes.push(Note::Unbound { port, place })?;
+            output.notes.push(Note::Unbound { port, place })?;
             Ok(())
         }
     }

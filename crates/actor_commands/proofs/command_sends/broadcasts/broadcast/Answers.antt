@@ -10,7 +10,7 @@ returns-then-not-is_spp g c =
     let s = c.args.speaker.now in
     let none : is_spp s.wiring.now s.who.slot.0 c.args.port ≡ false = grind (arith, common_steps, c.if-not-is_spp.true, c.is_spp.ensures) in
     broadcast_alone s.wiring.now s.me.0 (g.S.Services.frame_of c.args.services.now) (g.S.Services.links_of c.args.services.now) s.who c.args.port (content_of c.args.content.now)
-    c.args.said.now c.send_to_places.new.said none c.in_ok-send_to_places.ensures
+    c.args.output.now c.send_to_places.new.output none c.in_ok-send_to_places.ensures
 
 pub returns : goal.returns
 returns g c =
@@ -18,5 +18,5 @@ returns g c =
     let some : is_spp s.wiring.now s.who.slot.0 c.args.port ≡ true = grind (arith, common_steps, c.if-not-is_spp.false, c.is_spp.ensures) in
     OnOk-from c.send_to_links.result
     (broadcast_linked s.wiring.now s.me.0 (g.S.Services.frame_of c.args.services.now) (g.S.Services.links_of c.args.services.now) s.who c.args.port (content_of c.args.content.now)
-    c.places-first.result c.args.said.now c.send_to_places.new.said c.send_to_links.new.said some c.places-first.ensures c.in_ok-send_to_places.ensures)
+    c.places-first.result c.args.output.now c.send_to_places.new.output c.send_to_links.new.output some c.places-first.ensures c.in_ok-send_to_places.ensures)
     c.send_to_links.ensures

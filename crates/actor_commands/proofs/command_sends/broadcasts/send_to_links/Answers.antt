@@ -17,8 +17,8 @@ loop-index-preserved g c =
     let first = c.args.first in
     let at = c.loop-index.index in
     let places = map (λ (x : Link). x.place) (l.linked s.who.slot.0 p) in
-    let new = c.send_to_link.new.said in
+    let new = c.send_to_link.new.output in
     let within : at < length places = omega (arith, c.loop-index-test.true, c.link_count-index-end.ensures, length-map (l.linked s.who.slot.0 p) (λ (x : Link). x.place)) in
-    subst (λ (ks : List ℕ). Adds (send_each t s.me.0 f l s.who p content ks) c.args.said.now new) (sym (filter-more first places at within))
-    (Adds-append t s.me.0 f l s.who p content (filter (nat_le first) (take at places)) (filter (nat_le first) (get_or places at 0 ∷ [])) c.args.said.now c.loop-index.said new c.loop-index.invariant
-    (subst (λ (k : ℕ). Adds (send_each t s.me.0 f l s.who p content (filter (nat_le first) (k ∷ []))) c.loop-index.said new) (c.linked_place-place.ensures (omega (arith, c.loop-index-test.true, c.link_count-index-end.ensures))) c.in_ok-send_to_link.ensures))
+    subst (λ (ks : List ℕ). Adds (send_each t s.me.0 f l s.who p content ks) c.args.output.now new) (sym (filter-more first places at within))
+    (Adds-append t s.me.0 f l s.who p content (filter (nat_le first) (take at places)) (filter (nat_le first) (get_or places at 0 ∷ [])) c.args.output.now c.loop-index.output new c.loop-index.invariant
+    (subst (λ (k : ℕ). Adds (send_each t s.me.0 f l s.who p content (filter (nat_le first) (k ∷ []))) c.loop-index.output new) (c.linked_place-place.ensures (omega (arith, c.loop-index-test.true, c.link_count-index-end.ensures))) c.in_ok-send_to_link.ensures))

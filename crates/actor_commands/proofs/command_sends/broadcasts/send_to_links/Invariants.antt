@@ -9,4 +9,4 @@ invariant-loop-index g l =
     let s = l.speaker in
     let links = g.S.Services.links_of l.services in
     let places = map (λ (x : Link). x.place) (links.linked s.who.slot.0 l.port) in
-    Adds (send_each s.wiring.now s.me.0 (g.S.Services.frame_of l.services) links s.who l.port (content_of l.content) (filter (nat_le l.first) (take l.index places))) l.fn.said l.said
+    Adds (send_each s.wiring.now s.me.0 (g.S.Services.frame_of l.services) links s.who l.port (content_of l.content) (filter (nat_le l.first) (take l.index places))) l.fn.output l.output

@@ -14,8 +14,8 @@ loop-place-preserved g c =
     let p = c.args.port in
     let content = content_of c.args.content.now in
     let at = c.loop-place.place in
-    let new = c.send_at.new.said in
-    subst (λ (ks : List ℕ). Adds (send_each t s.me.0 f l s.who p content ks) c.args.said.now new) (sym (range-more at))
-    (Adds-append t s.me.0 f l s.who p content (range_with_len 0 at) (at ∷ []) c.args.said.now c.loop-place.said new c.loop-place.invariant
-    (Adds-one t s.me.0 f l s.who p content at c.loop-place.said new
-    (subst (λ (n : ℕ). Adds (send t s.me.0 f l s.who p (pos n) content) c.loop-place.said new) c.from-in-loop-place.ensures c.in_ok-send_at.ensures)))
+    let new = c.send_at.new.output in
+    subst (λ (ks : List ℕ). Adds (send_each t s.me.0 f l s.who p content ks) c.args.output.now new) (sym (range-more at))
+    (Adds-append t s.me.0 f l s.who p content (range_with_len 0 at) (at ∷ []) c.args.output.now c.loop-place.output new c.loop-place.invariant
+    (Adds-one t s.me.0 f l s.who p content at c.loop-place.output new
+    (subst (λ (n : ℕ). Adds (send t s.me.0 f l s.who p (pos n) content) c.loop-place.output new) c.from-in-loop-place.ensures c.in_ok-send_at.ensures)))

@@ -6,4 +6,4 @@ use Rattle.actor_commands.proofs.command_sends.broadcasts.send_to_places.Given a
 abbrev pub invariant-loop-place : goal.invariant-loop-place
 invariant-loop-place g l =
     let s = l.speaker in
-    Adds (send_each s.wiring.now s.me.0 (g.S.Services.frame_of l.services) (g.S.Services.links_of l.services) s.who l.port (content_of l.content) (range_with_len 0 l.place)) l.fn.said l.said
+    Adds (send_each s.wiring.now s.me.0 (g.S.Services.frame_of l.services) (g.S.Services.links_of l.services) s.who l.port (content_of l.content) (range_with_len 0 l.place)) l.fn.output l.output

@@ -8,16 +8,16 @@ use Rattle.actor_commands.proofs.command_sends.sends.send_at.Goals as goal
 pub returns-in_ok-push-in-Some : goal.returns-in_ok-push-in-Some
 returns-in_ok-push-in-Some g c =
     let s = c.args.speaker.now in
-    let said = c.args.said.now in
+    let output = c.args.output.now in
     adds_message s.wiring.now s.me.0 (g.S.Services.frame_of c.args.services.now) (g.S.Services.links_of c.args.services.now) s.who c.args.port c.args.at (content_of c.args.content.now)
-    c.in-Some.target c.in_ok-m-in-Some.m said (record { messages = c.push.new.self; notes = said.notes })
+    c.in-Some.target c.in_ok-m-in-Some.m output (record { messages = c.push.new.self; notes = output.notes })
     (sym c.peer.ensures.peer ∙ c.in-Some.is) c.in_ok-m-in-Some.ensures c.in_ok-push-in-Some.ensures.ok refl
 
 pub returns-in_ok-push-in-None : goal.returns-in_ok-push-in-None
 returns-in_ok-push-in-None g c =
     let s = c.args.speaker.now in
-    let said = c.args.said.now in
+    let output = c.args.output.now in
     adds_note s.wiring.now s.me.0 (g.S.Services.frame_of c.args.services.now) (g.S.Services.links_of c.args.services.now) s.who c.args.port c.args.at c.args.place (content_of c.args.content.now)
-    said (record { messages = said.messages; notes = c.push-in-None.new.self })
+    output (record { messages = output.messages; notes = c.push-in-None.new.self })
     c.requires.place (sym c.peer.ensures.peer ∙ c.in-None.is) refl
-    (c.in_ok-push-in-None.ensures.ok ∙ ap (λ (z : ℤ). said.notes ++ notes.Unbound c.args.port z ∷ []) (to_z-of_z w64 c.args.place c.ranges.place))
+    (c.in_ok-push-in-None.ensures.ok ∙ ap (λ (z : ℤ). output.notes ++ notes.Unbound c.args.port z ∷ []) (to_z-of_z w64 c.args.place c.ranges.place))

@@ -1,5 +1,5 @@
 use Rattle.std.proofs.Common.{false, refl}
-use Rattle.controller_actors.specs.Stands.{done_of}
+use Rattle.controller_actors.specs.Bodies.{done_of}
 use Rattle.controller.proofs.Doing.{turn_taken}
 use Rattle.controller.proofs.controller.Controller.turn.Goals as goal
 

@@ -5,7 +5,7 @@ use Rattle.room_kinds.specs.declared.numbers.Incarnation.{Incarnation}
 use Rattle.actor_duties.specs.State.{Lives}
 use Rattle.actor_world.specs.Turns.{all_begun}
 use Rattle.controller_actors.specs.Plants.{model_of}
-use Rattle.controller_actors.specs.Stands.{lives_of}
+use Rattle.controller_actors.specs.Bodies.{lives_of}
 use Rattle.controller_actors.specs.Steps.{IsLast, Moves}
 use Rattle.controller_actors.proofs.Moving.{stays, more_begun}
 use Rattle.controller_actors.proofs.actors.Actors.all_come_up.Goals as goal
@@ -14,10 +14,10 @@ abbrev no_one : Incarnation
 no_one = record { slot = record { 0 = 0 }; generation = record { 0 = 0 } }
 
 pub loop-who-init : goal.loop-who-init
-loop-who-init c = (stays c.args.plant.now c.args.me.0 c.args.self.now c.args.so_far c.requires.seated, λ gone h. h)
+loop-who-init c = (stays c.args.plant.now c.args.me.0 c.args.self.now c.args.so_far c.requires.slots, λ gone h. h)
 
-pub come_up-requires-clause-seated : goal.come_up-requires-clause-seated
-come_up-requires-clause-seated c = c.loop-who.invariant.0.seated
+pub come_up-requires-clause-slots : goal.come_up-requires-clause-slots
+come_up-requires-clause-slots c = c.loop-who.invariant.0.slots
 
 pub come_up-requires-clause-last : goal.come_up-requires-clause-last
 come_up-requires-clause-last c =

@@ -2,7 +2,7 @@ use Rattle.std.proofs.Common.{take, List}
 use Rattle.room_kinds.specs.declared.numbers.Incarnation.{Incarnation}
 use Rattle.actor_world.specs.Turns.{all_begun}
 use Rattle.controller_actors.specs.Plants.{model_of}
-use Rattle.controller_actors.specs.Stands.{AreEmpty}
+use Rattle.controller_actors.specs.Bodies.{AreEmpty}
 use Rattle.controller_actors.specs.Steps.{Moves}
 use Rattle.controller_actors.proofs.actors.Actors.all_come_up.Given as goal
 

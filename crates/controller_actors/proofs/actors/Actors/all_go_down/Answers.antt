@@ -3,7 +3,7 @@ use Rattle.std.proofs.lemmas.List.{take_more, drop_more, take_all, drop_all}
 use Rattle.std.proofs.lemmas.List.Elements.{All-get_or}
 use Rattle.room_kinds.specs.declared.numbers.Incarnation.{Incarnation}
 use Rattle.actor_world.specs.Turns.{all_gone}
-use Rattle.controller_actors.specs.Stands.{AreEmpty}
+use Rattle.controller_actors.specs.Bodies.{AreEmpty}
 use Rattle.controller_actors.specs.Steps.{Moves}
 use Rattle.controller_actors.proofs.Moving.{stays, more_gone}
 use Rattle.controller_actors.proofs.actors.Actors.all_go_down.Goals as goal
@@ -12,10 +12,10 @@ abbrev no_one : Incarnation
 no_one = record { slot = record { 0 = 0 }; generation = record { 0 = 0 } }
 
 pub loop-who-init : goal.loop-who-init
-loop-who-init c = (stays c.args.plant.now c.args.me.0 c.args.self.now c.args.so_far.now c.requires.seated, λ h. h)
+loop-who-init c = (stays c.args.plant.now c.args.me.0 c.args.self.now c.args.so_far.now c.requires.slots, λ h. h)
 
-pub go_down-requires-clause-seated : goal.go_down-requires-clause-seated
-go_down-requires-clause-seated c = c.loop-who.invariant.0.seated
+pub go_down-requires-clause-slots : goal.go_down-requires-clause-slots
+go_down-requires-clause-slots c = c.loop-who.invariant.0.slots
 
 pub go_down-requires-clause-there : goal.go_down-requires-clause-there
 go_down-requires-clause-there c =

@@ -1,6 +1,6 @@
 use Rattle.std.proofs.Common.{take, drop}
 use Rattle.actor_world.specs.Turns.{all_gone}
-use Rattle.controller_actors.specs.Stands.{AreEmpty}
+use Rattle.controller_actors.specs.Bodies.{AreEmpty}
 use Rattle.controller_actors.specs.Steps.{Moves}
 use Rattle.controller_actors.proofs.actors.Actors.all_go_down.Given as goal
 

@@ -6,8 +6,8 @@ use Rattle.std.specs.Vec.{with_item}
 use Rattle.controller_actors.specs.Served.{links_in}
 use Rattle.controller_actors.specs.declared.actors.Actors.{Actors}
 use Rattle.controller_actors.specs.declared.changes.SoFar.{SoFar}
-use Rattle.controller_actors.specs.actor_seats.Seats.{SeatComesUp}
-use Rattle.controller_actors.proofs.SeatReads.{seat_read, read_sound}
+use Rattle.controller_actors.specs.actor_slots.Slots.{SlotComesUp}
+use Rattle.controller_actors.proofs.SlotReads.{slot_read, read_sound}
 use Rattle.controller_actors.proofs.Moving.{comes_up}
 use Rattle.controller_actors.proofs.Bodies.{empty_set}
 use Rattle.controller_actors.proofs.actors.Actors.come_up.Goals as goal
@@ -24,21 +24,21 @@ returns-clause-moves c =
     let g = frame_in c.come_up.new.services.frame in
     let l = links_in old.services in
     let k = links_in c.come_up.new.services in
-    let before = c.index_mut-seat.result.now in
+    let before = c.index_mut-actor_slot.result.now in
     let after = c.come_up.new.self in
     let first = c.args.so_far in
-    let last : SoFar = record { said = c.in_ok-said.said; back = c.in_ok-said.back } in
-    let there : x.slot.0 < length old.seats.items = omega (arith, c.requires.last.there, c.requires.seated.count) in
-    let within : c.from.result < length old.seats.items = omega (arith, c.from.ensures, there) in
+    let last : SoFar = record { output = c.in_ok-output.output; back = c.in_ok-output.back } in
+    let there : x.slot.0 < length old.slots.items = omega (arith, c.requires.last.there, c.requires.slots.count) in
+    let within : c.from.result < length old.slots.items = omega (arith, c.from.ensures, there) in
     comes_up p c.args.me.0 old _ x before after first last there
-    (seat_read old.seats.items x.slot.0 c.from.result before c.from.ensures within c.index_mut-seat.ensures.value) refl
-    (ap (λ i. set old.seats.items i after) c.from.ensures) c.in_ok-said.ensures.serves
-    (subst (λ (o : Option Tables). SeatComesUp p.wiring c.args.me.0 f l g k x o before after first.said first.back last.said last.back) c.tables_of-tables.ensures c.in_ok-said.ensures.up)
-    c.requires.seated c.requires.last
+    (slot_read old.slots.items x.slot.0 c.from.result before c.from.ensures within c.index_mut-actor_slot.ensures.value) refl
+    (ap (λ i. set old.slots.items i after) c.from.ensures) c.in_ok-output.ensures.serves
+    (subst (λ (o : Option Tables). SlotComesUp p.wiring c.args.me.0 f l g k x o before after first.output first.back last.output last.back) c.tables_of-tables.ensures c.in_ok-output.ensures.up)
+    c.requires.slots c.requires.last
 
 pub returns-clause-empty : goal.returns-clause-empty
 returns-clause-empty c =
     let old = c.args.self.now in
     let after = c.come_up.new.self in
-    let new : Actors = record { alloc = old.alloc; services = c.come_up.new.services; table = old.table; seats = with_item old.seats c.from.result after } in
-    empty_set old new c.args.who.slot.0 after c.in_ok-said.ensures.up.lives (ap (λ i. set old.seats.items i after) c.from.ensures) c.requires.last.live
+    let new : Actors = record { alloc = old.alloc; services = c.come_up.new.services; table = old.table; slots = with_item old.slots c.from.result after } in
+    empty_set old new c.args.who.slot.0 after c.in_ok-output.ensures.up.lives (ap (λ i. set old.slots.items i after) c.from.ensures) c.requires.last.live

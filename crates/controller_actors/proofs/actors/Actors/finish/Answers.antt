@@ -3,7 +3,7 @@ use Rattle.room_kinds.specs.declared.numbers.Incarnation.{Incarnation}
 use Rattle.actor_world.specs.Turns.{all_begun, all_gone}
 use Rattle.controller_actors.specs.declared.changes.SoFar.{SoFar}
 use Rattle.controller_actors.specs.Plants.{model_of}
-use Rattle.controller_actors.specs.Stands.{AreEmpty}
+use Rattle.controller_actors.specs.Bodies.{AreEmpty}
 use Rattle.controller_actors.specs.Steps.{Moves}
 use Rattle.controller_actors.proofs.Finishing.{finishes}
 use Rattle.controller_actors.proofs.actors.Actors.finish.Goals as goal
@@ -16,7 +16,7 @@ returns c =
     let old = c.args.self.now in
     let mid = c.all_come_up.new.self in
     let new = c.all_go_down.new.self in
-    let first : SoFar = record { said = record { messages = c.args.sent; notes = c.new.result }; back = c.new-2.result } in
+    let first : SoFar = record { output = record { messages = c.args.sent; notes = c.new.result }; back = c.new-2.result } in
     let one = c.in_ok-so_far.so_far in
     let two = c.all_go_down.new.so_far in
     let h : Moves (all_begun (model_of p) p.wiring me left.made) p me old first mid one =

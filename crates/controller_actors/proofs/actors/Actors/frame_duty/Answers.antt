@@ -1,18 +1,18 @@
 use Rattle.std.proofs.Common.{refl}
 use Rattle.controller_actors.specs.declared.actors.Actors.{Actors}
-use Rattle.controller_actors.proofs.Finishing.{own_done, duty_seated, duty_empty, duty_made, duty_ended, has_duty}
+use Rattle.controller_actors.proofs.Finishing.{own_done, duty_slots, duty_empty, duty_made, duty_ended, has_duty}
 use Rattle.controller_actors.proofs.actors.Actors.frame_duty.Goals as goal
 
-pub finish-requires-clause-seated : goal.finish-requires-clause-seated
-finish-requires-clause-seated c =
+pub finish-requires-clause-slots : goal.finish-requires-clause-slots
+finish-requires-clause-slots c =
     let p = c.args.plant.now in
     let me = c.args.me.0 in
     let m = c.args.m.now in
     let old = c.args.self.now in
-    let mid : Actors = record { alloc = old.alloc; services = record { frame = c.duty.new.self; links = old.services.links }; table = old.table; seats = old.seats } in
+    let mid : Actors = record { alloc = old.alloc; services = record { frame = c.duty.new.self; links = old.services.links }; table = old.table; slots = old.slots } in
     let left = c.in_ok-left.left in
-    let h = own_done p me m c.args.kind old.services.frame c.duty.new.self c.new-sent.result c.duty.new.out left c.requires.well.seated.serves.owner c.new-sent.ensures (c.in_ok-left.ensures.done c.args.kind c.requires.kind) in
-    duty_seated p me m c.args.kind old mid c.duty.new.out left c.requires.well refl refl refl h
+    let h = own_done p me m c.args.kind old.services.frame c.duty.new.self c.new-sent.result c.duty.new.out left c.requires.well.slots.serves.owner c.new-sent.ensures (c.in_ok-left.ensures.done c.args.kind c.requires.kind) in
+    duty_slots p me m c.args.kind old mid c.duty.new.out left c.requires.well refl refl refl h
 
 pub finish-requires-clause-empty : goal.finish-requires-clause-empty
 finish-requires-clause-empty c =
@@ -20,9 +20,9 @@ finish-requires-clause-empty c =
     let me = c.args.me.0 in
     let m = c.args.m.now in
     let old = c.args.self.now in
-    let mid : Actors = record { alloc = old.alloc; services = record { frame = c.duty.new.self; links = old.services.links }; table = old.table; seats = old.seats } in
+    let mid : Actors = record { alloc = old.alloc; services = record { frame = c.duty.new.self; links = old.services.links }; table = old.table; slots = old.slots } in
     let left = c.in_ok-left.left in
-    let h = own_done p me m c.args.kind old.services.frame c.duty.new.self c.new-sent.result c.duty.new.out left c.requires.well.seated.serves.owner c.new-sent.ensures (c.in_ok-left.ensures.done c.args.kind c.requires.kind) in
+    let h = own_done p me m c.args.kind old.services.frame c.duty.new.self c.new-sent.result c.duty.new.out left c.requires.well.slots.serves.owner c.new-sent.ensures (c.in_ok-left.ensures.done c.args.kind c.requires.kind) in
     duty_empty p me m c.args.kind old mid c.duty.new.out left c.requires.well refl refl refl h
 
 pub finish-requires-clause-made : goal.finish-requires-clause-made
@@ -31,9 +31,9 @@ finish-requires-clause-made c =
     let me = c.args.me.0 in
     let m = c.args.m.now in
     let old = c.args.self.now in
-    let mid : Actors = record { alloc = old.alloc; services = record { frame = c.duty.new.self; links = old.services.links }; table = old.table; seats = old.seats } in
+    let mid : Actors = record { alloc = old.alloc; services = record { frame = c.duty.new.self; links = old.services.links }; table = old.table; slots = old.slots } in
     let left = c.in_ok-left.left in
-    let h = own_done p me m c.args.kind old.services.frame c.duty.new.self c.new-sent.result c.duty.new.out left c.requires.well.seated.serves.owner c.new-sent.ensures (c.in_ok-left.ensures.done c.args.kind c.requires.kind) in
+    let h = own_done p me m c.args.kind old.services.frame c.duty.new.self c.new-sent.result c.duty.new.out left c.requires.well.slots.serves.owner c.new-sent.ensures (c.in_ok-left.ensures.done c.args.kind c.requires.kind) in
     duty_made p me m c.args.kind old mid c.duty.new.out left c.requires.well refl refl refl h
 
 pub finish-requires-clause-ended : goal.finish-requires-clause-ended
@@ -42,9 +42,9 @@ finish-requires-clause-ended c =
     let me = c.args.me.0 in
     let m = c.args.m.now in
     let old = c.args.self.now in
-    let mid : Actors = record { alloc = old.alloc; services = record { frame = c.duty.new.self; links = old.services.links }; table = old.table; seats = old.seats } in
+    let mid : Actors = record { alloc = old.alloc; services = record { frame = c.duty.new.self; links = old.services.links }; table = old.table; slots = old.slots } in
     let left = c.in_ok-left.left in
-    let h = own_done p me m c.args.kind old.services.frame c.duty.new.self c.new-sent.result c.duty.new.out left c.requires.well.seated.serves.owner c.new-sent.ensures (c.in_ok-left.ensures.done c.args.kind c.requires.kind) in
+    let h = own_done p me m c.args.kind old.services.frame c.duty.new.self c.new-sent.result c.duty.new.out left c.requires.well.slots.serves.owner c.new-sent.ensures (c.in_ok-left.ensures.done c.args.kind c.requires.kind) in
     duty_ended p me m c.args.kind old mid c.duty.new.out left c.requires.well refl refl refl h
 
 pub returns : goal.returns
@@ -53,7 +53,7 @@ returns c =
     let me = c.args.me.0 in
     let m = c.args.m.now in
     let old = c.args.self.now in
-    let mid : Actors = record { alloc = old.alloc; services = record { frame = c.duty.new.self; links = old.services.links }; table = old.table; seats = old.seats } in
+    let mid : Actors = record { alloc = old.alloc; services = record { frame = c.duty.new.self; links = old.services.links }; table = old.table; slots = old.slots } in
     let left = c.in_ok-left.left in
-    let h = own_done p me m c.args.kind old.services.frame c.duty.new.self c.new-sent.result c.duty.new.out left c.requires.well.seated.serves.owner c.new-sent.ensures (c.in_ok-left.ensures.done c.args.kind c.requires.kind) in
+    let h = own_done p me m c.args.kind old.services.frame c.duty.new.self c.new-sent.result c.duty.new.out left c.requires.well.slots.serves.owner c.new-sent.ensures (c.in_ok-left.ensures.done c.args.kind c.requires.kind) in
     has_duty p me m c.args.kind old mid c.duty.new.out left c.requires.well refl refl refl h c.finish.new.self c.in_ok-done.done c.requires.frame c.in_ok-done.ensures

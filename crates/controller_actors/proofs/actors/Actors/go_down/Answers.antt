@@ -2,9 +2,9 @@ use Rattle.std.proofs.Common.{◌<◌, ◌≡◌, ℕ, [], ◌∷◌, ◌++◌, 
 use Rattle.room_kinds.specs.declared.note.Note.TheVariants as notes
 use Rattle.std.specs.Vec.{with_item}
 use Rattle.controller_actors.specs.declared.actors.Actors.{Actors}
-use Rattle.controller_actors.specs.declared.actor_seats.seat.Seat.{Seat}
-use Rattle.controller_actors.specs.Stands.{seat_at}
-use Rattle.controller_actors.proofs.SeatReads.{seat_read}
+use Rattle.controller_actors.specs.declared.actor_slots.actor_slot.ActorSlot.{ActorSlot}
+use Rattle.controller_actors.specs.Bodies.{slot_at}
+use Rattle.controller_actors.proofs.SlotReads.{slot_read}
 use Rattle.controller_actors.proofs.Moving.{goes_down}
 use Rattle.controller_actors.proofs.Bodies.{empty_vacated}
 use Rattle.controller_actors.proofs.actors.Actors.go_down.Goals as goal
@@ -13,20 +13,20 @@ pub returns-clause-moves : goal.returns-clause-moves
 returns-clause-moves c =
     let old = c.args.self.now in
     let x = c.args.who in
-    let there : x.slot.0 < length old.seats.items = omega (arith, c.requires.there, c.requires.seated.count) in
-    let within : c.from.result < length old.seats.items = omega (arith, c.from.ensures, there) in
-    let read : c.index_mut-seat.result.now ≡ seat_at old.seats.items x.slot.0 = seat_read old.seats.items x.slot.0 c.from.result c.index_mut-seat.result.now c.from.ensures within c.index_mut-seat.ensures.value in
+    let there : x.slot.0 < length old.slots.items = omega (arith, c.requires.there, c.requires.slots.count) in
+    let within : c.from.result < length old.slots.items = omega (arith, c.from.ensures, there) in
+    let read : c.index_mut-actor_slot.result.now ≡ slot_at old.slots.items x.slot.0 = slot_read old.slots.items x.slot.0 c.from.result c.index_mut-actor_slot.result.now c.from.ensures within c.index_mut-actor_slot.ensures.value in
     goes_down c.args.plant.now c.args.me.0 old _ x c.args.so_far.now _ there refl c.in_ok-end_of.ensures.now refl
-    (ap (λ i. set old.seats.items i c.vacant.result) c.from.ensures ∙ ap (set old.seats.items x.slot.0) c.vacant.ensures)
+    (ap (λ i. set old.slots.items i c.vacant.result) c.from.ensures ∙ ap (set old.slots.items x.slot.0) c.vacant.ensures)
     c.in_ok-end_of.ensures.sent refl
-    (c.in_ok-push.ensures.ok ∙ ap (λ (n : ℕ). c.args.so_far.now.said.notes ++ notes.Down x n ∷ []) (c.len-lost.ensures ∙ ap (λ (y : Seat). length y.deferred) read))
-    c.requires.seated
+    (c.in_ok-push.ensures.ok ∙ ap (λ (n : ℕ). c.args.so_far.now.output.notes ++ notes.Down x n ∷ []) (c.len-lost.ensures ∙ ap (λ (y : ActorSlot). length y.deferred) read))
+    c.requires.slots
 
 pub returns-clause-empty : goal.returns-clause-empty
 returns-clause-empty c =
     let old = c.args.self.now in
     let x = c.args.who in
-    let there : x.slot.0 < length old.seats.items = omega (arith, c.requires.there, c.requires.seated.count) in
-    let new : Actors = record { alloc = old.alloc; services = record { frame = old.services.frame; links = c.end_of.new.self }; table = old.table; seats = with_item old.seats c.from.result c.vacant.result } in
+    let there : x.slot.0 < length old.slots.items = omega (arith, c.requires.there, c.requires.slots.count) in
+    let new : Actors = record { alloc = old.alloc; services = record { frame = old.services.frame; links = c.end_of.new.self }; table = old.table; slots = with_item old.slots c.from.result c.vacant.result } in
     empty_vacated old new x there refl
-    (ap (λ i. set old.seats.items i c.vacant.result) c.from.ensures ∙ ap (set old.seats.items x.slot.0) c.vacant.ensures)
+    (ap (λ i. set old.slots.items i c.vacant.result) c.from.ensures ∙ ap (set old.slots.items x.slot.0) c.vacant.ensures)

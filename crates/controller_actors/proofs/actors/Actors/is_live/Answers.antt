@@ -1,5 +1,5 @@
 use Rattle.std.proofs.Common.{◌∙◌}
-use Rattle.controller_actors.specs.Stands.{lives_of}
+use Rattle.controller_actors.specs.Bodies.{lives_of}
 use Rattle.controller_actors.proofs.Naming.{nobody_lives, occupant_lives}
 use Rattle.controller_actors.proofs.actors.Actors.is_live.Goals as goal
 

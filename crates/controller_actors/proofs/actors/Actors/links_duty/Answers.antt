@@ -5,7 +5,7 @@ use Rattle.actor_duties.specs.Words.{is_own}
 use Rattle.actor_duties.specs.Lives.{is_live}
 use Rattle.actor_duties.specs.Links.{links_duty}
 use Rattle.controller_actors.specs.Served.{links_in}
-use Rattle.controller_actors.specs.Stands.{lives_of}
+use Rattle.controller_actors.specs.Bodies.{lives_of}
 use Rattle.controller_actors.proofs.Naming.{has_links}
 use Rattle.controller_actors.proofs.actors.Actors.links_duty.Goals as goal
 

@@ -1,6 +1,6 @@
 use Rattle.std.proofs.Common.{refl, sym, ◌∙◌}
 use Rattle.actor_world.proofs.Slots.{own_in_range}
-use Rattle.controller_actors.specs.Stands.{lives_of}
+use Rattle.controller_actors.specs.Bodies.{lives_of}
 use Rattle.controller_actors.proofs.Occupants.{found_last}
 use Rattle.controller_actors.proofs.actors.Actors.occupant.Goals as goal
 

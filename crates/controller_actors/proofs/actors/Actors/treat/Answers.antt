@@ -1,7 +1,7 @@
 use Rattle.std.proofs.Common.{◌∙◌}
 use Rattle.std.proofs.lemmas.Bool.{ne_eqb}
 use Rattle.controller_actors.specs.Plants.{model_of}
-use Rattle.controller_actors.specs.Stands.{body_of}
+use Rattle.controller_actors.specs.Bodies.{body_of}
 use Rattle.controller_actors.proofs.Turning.{treat_dispatch}
 use Rattle.controller_actors.proofs.actors.Actors.treat.Goals as goal
 

@@ -1,7 +1,7 @@
 use Rattle.std.proofs.Common.{◌≡◌, true, false, List, ◌++◌, sym, ap, ◌∙◌, subst}
 use Rattle.std.proofs.lemmas.List.{append-nil}
 use Rattle.room_kinds.specs.declared.numbers.Incarnation.{Incarnation}
-use Rattle.controller_actors.specs.Stands.{lives_of}
+use Rattle.controller_actors.specs.Bodies.{lives_of}
 use Rattle.controller_actors.specs.Steps.{Starts, first_below}
 use Rattle.controller_actors.proofs.Beginnings.{first_nobody, first_there}
 use Rattle.controller_actors.proofs.Occupants.{found, lost, found_last}
@@ -22,7 +22,7 @@ pub start_in-requires : goal.start_in-requires
 start_in-requires c =
     record {
       plant = c.requires.plant;
-      seated = c.requires.started.well.seated;
+      slots = c.requires.started.well.slots;
       last = found_last c.args.plant.now.wiring (lives_of c.args.self.now.actors) c.args.slot c.in-Some.generation c.requires.there (sym c.live.ensures ∙ c.in-Some.is);
     }
 

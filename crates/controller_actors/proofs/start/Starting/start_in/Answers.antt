@@ -17,4 +17,4 @@ returns c =
     (subst (λ (ms : List Msg). ActorsBegin p me s old.actors c.begin.new.self ms old.back e) c.replace-sent.ensures.value
     (subst (λ (ms : List Msg). ActorsBegin p me s old.actors c.begin.new.self c.replace-sent.result ms e) c.replace-back.ensures.value c.in_ok-entrance.ensures))
     refl refl
-    (c.in_ok-push.ensures.ok ∙ ap (λ (x : Incarnation). old.entries ++ entry.Start x e.state e.said.notes ∷ []) (sym c.requires.last.last))
+    (c.in_ok-push.ensures.ok ∙ ap (λ (x : Incarnation). old.entries ++ entry.Start x e.state e.output.notes ∷ []) (sym c.requires.last.last))

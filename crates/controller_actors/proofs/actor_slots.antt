@@ -1,0 +1,3 @@
+pub mod Occupying
+pub mod Priorities
+pub mod Working

@@ -1,0 +1,179 @@
+-- A turn and a start of the actor of a slot: what its machine did, and then its commands.
+use Rattle.std.proofs.Common.{◌≡◌, ℕ, Bool, false, List, [], ◌∷◌, ◌++◌, All, Option, Some, None, sym, ap, ◌∙◌, subst}
+use Rattle.std.proofs.lemmas.List.Elements.{All-nil}
+use Rattle.room_kinds.specs.declared.message.Msg.{Msg}
+use Rattle.room_kinds.specs.declared.note.Note.{Note}
+use Rattle.room_kinds.specs.declared.note.Note.TheVariants as notes
+use Rattle.room_kinds.specs.declared.command.Command.{Command}
+use Rattle.room_kinds.specs.declared.numbers.Incarnation.{Incarnation}
+use Rattle.room_wiring.specs.declared.tables.Tables.{Tables as Wiring}
+use Rattle.journal.specs.declared.entry.Did.{Did}
+use Rattle.actor_duties.specs.Words.{updated}
+use Rattle.actor_duties.specs.State.{Frame, Links}
+use Rattle.actor_world.specs.Behaviour.{Begun}
+use Rattle.actor_world.specs.Body.{Body, Doing as WorldDoing, apply_all}
+use Rattle.actor_world.specs.Turns.{said, treated}
+use Rattle.chart_run.specs.declared.chart_tables.tables.Tables.{Tables}
+use Rattle.chart_run.specs.Machines.{result_view}
+use Rattle.chart_behaviour.specs.ModelCharts.{Actor, begins, handles, handling_of, state_number}
+use Rattle.actor_commands.specs.declared.command_sends.output.Output.{Output}
+use Rattle.controller_mail.specs.MailState.{HasPriority}
+use Rattle.controller_mail.specs.declared.controller_mail.TurnResult.{TurnResult}
+use Rattle.actor_commands.specs.declared.doing.Doing.{Doing}
+use Rattle.actor_commands.specs.Doings.{doing_on}
+use Rattle.actor_commands.proofs.Steps.{updated_twice}
+use Rattle.controller_actors.specs.declared.actor_slots.occupant.Occupant.{Occupant}
+use Rattle.controller_actors.specs.declared.actor_slots.occupant.Reaction.{Reaction}
+use Rattle.controller_actors.specs.declared.actor_slots.occupant.Beginning.{Beginning}
+use Rattle.controller_actors.specs.declared.actor_slots.actor_slot.ActorSlot.{ActorSlot}
+use Rattle.controller_actors.specs.declared.actor_slots.actor_slot.Entrance.{Entrance}
+use Rattle.controller_actors.specs.actor_slots.Occupants.{HasTables, IsOf, Reacts, Begins, actor_of, actor_in}
+use Rattle.controller_actors.specs.actor_slots.Slots.{SlotFits, SlotTurns, SlotBegins, SlotComesUp, Works, slot_body, treated_on, turned, entered, risen}
+use Rattle.controller_actors.proofs.actor_slots.Priorities.{kept_ranks, back_ranks, lives_stay}
+
+module _ (t : Wiring) (me : ℕ) (f : Frame) (l : Links) (f' : Frame) (l' : Links) (x : Incarnation) where
+  -- another function for the machines of a body
+  machines_on : (b : Body Actor) (old : ActorSlot) (now : Option Actor) (machines : ℕ → Option Actor) → machines ≡ updated b.machines x.slot.0 now
+      → (sent back : List Msg) (notes : List Note) (kept : Bool)
+      → ◌≡◌ {A = WorldDoing Actor}
+      (record { body = record (slot_body f l b x.slot.0 old) { machines = machines }; sent = sent; back = back; notes = notes; kept = kept })
+      (doing_on f l (record b { machines = updated b.machines x.slot.0 now }) x.slot.0 (record { deferred = old.deferred; output = record { messages = sent; notes = notes }; back = back; kept = kept }))
+  machines_on b old now machines e sent back notes kept =
+      ap (λ (g : ℕ → Option Actor). record { body = record (slot_body f l b x.slot.0 old) { machines = g }; sent = sent; back = back; notes = notes; kept = kept }) e
+
+  -- the machine of a slot, and then the actor's commands
+  applied_on : (b : Body Actor) (m : Option Msg) (cs : List Command) (old mid new : ActorSlot) (actor : Actor) (first : Output) (before : List Msg) (last : Output) (after : List Msg)
+      → actor_in mid.occupant ≡ Some actor → mid.deferred ≡ old.deferred → (w : Works t me f l f' l' x m cs mid new first before last after)
+      → apply_all t me x m cs (record {
+        body = record (slot_body f l b x.slot.0 old) { machines = updated (updated b.machines x.slot.0 (actor_in old.occupant)) x.slot.0 (Some actor) };
+        sent = first.messages;
+        back = before;
+        notes = first.notes;
+        kept = false;
+      })
+      ≡ record { body = slot_body f' l' b x.slot.0 new; sent = last.messages; back = after; notes = last.notes; kept = w.kept }
+  applied_on b m cs old mid new actor first before last after stands same w =
+      let now = actor_in mid.occupant in
+      ap (apply_all t me x m cs)
+      (machines_on b old now _ (updated_twice b.machines x.slot.0 (actor_in old.occupant) (Some actor) ∙ ap (updated b.machines x.slot.0) (sym stands)) first.messages before first.notes false)
+      ∙ ap (λ (ds : List Msg). apply_all t me x m cs (doing_on f l (record b { machines = updated b.machines x.slot.0 now }) x.slot.0 (record { deferred = ds; output = first; back = before; kept = false }))) (sym same)
+      ∙ w.applied.on (record b { machines = updated b.machines x.slot.0 now })
+      ∙ ap (λ (s : Occupant). record {
+        body = record b { frame = f'; links = l'; machines = updated b.machines x.slot.0 (actor_in s); deferred = updated b.deferred x.slot.0 new.deferred };
+        sent = last.messages;
+        back = after;
+        notes = last.notes;
+        kept = w.kept;
+      }) (sym w.occupant)
+
+  -- a message
+  module _ (m : Msg) (o : Option Tables) (old mid new : ActorSlot) (r : Reaction) (done : TurnResult) (h : Reacts m o old.occupant mid.occupant r) (same : mid.deferred ≡ old.deferred)
+      (w : Works t me f l f' l' x (Some m) r.commands mid new (record { messages = []; notes = r.notes }) [] (record { messages = done.sent; notes = done.notes }) done.back)
+      (did : done.did ≡ said (handling_of (result_view r.came_to)) x r.state) where
+    turn_on : IsOf x old.occupant → (b : Body Actor)
+        → turned t me (slot_body f l b x.slot.0 old) x m (handles x m o (actor_of old.occupant)) ≡ treated_on done (slot_body f' l' b x.slot.0 new)
+    turn_on of b =
+        let result = handling_of (result_view r.came_to) in
+        ap (turned t me (slot_body f l b x.slot.0 old) x m) (h.handled x of)
+        ∙ ap (λ (d : WorldDoing Actor). treated d (output result x (state_number (actor_of mid.occupant))))
+        (applied_on b (Some m) r.commands old mid new (actor_of mid.occupant) (record { messages = []; notes = r.notes }) [] (record { messages = done.sent; notes = done.notes }) done.back h.stands same w)
+        ∙ ap (λ (d : Did). record { body = slot_body f' l' b x.slot.0 new; sent = done.sent; back = done.back; did = d; notes = done.notes })
+        (ap (output result x) (sym h.state) ∙ sym did)
+
+    pub turns : SlotFits x o old → HasPriority m → SlotTurns t me f l f' l' x m o old new done
+    turns fits prio =
+        let first : Doing = record { deferred = mid.deferred; output = record { messages = []; notes = r.notes }; back = []; kept = false } in
+        let last : Doing = record { deferred = new.deferred; output = record { messages = done.sent; notes = done.notes }; back = done.back; kept = w.kept } in
+        let kept : All HasPriority mid.deferred = subst (λ (ms : List Msg). All HasPriority ms) (sym same) fits.kept in
+        record {
+          stood = h.stood;
+          turn = turn_on fits.of;
+          lives = lives_stay t me x (Some m) prio f l f' l' r.commands first last w.applied;
+          fits = record {
+            of = subst (λ (s : Occupant). IsOf x s) (sym w.occupant) (h.me x fits.of);
+            tables = subst (λ (s : Occupant). HasTables o s) (sym w.occupant) h.fits;
+            kept = kept_ranks t me x (Some m) prio f l f' l' r.commands first last w.applied kept;
+          };
+          back = back_ranks t me x (Some m) prio f l f' l' r.commands first last w.applied kept (All-nil HasPriority);
+        }
+
+  -- a start
+  module _ (o : Option Tables) (old mid new : ActorSlot) (r : Beginning) (sent before : List Msg) (e : Entrance) (h : Begins x o r) (occupant : mid.occupant ≡ r.occupant) (same : mid.deferred ≡ old.deferred)
+      (w : Works t me f l f' l' x None r.commands mid new (record { messages = sent; notes = r.notes }) before e.output e.back) (state : e.state ≡ r.state) where
+    start_on : (b : Body Actor) (notes : List Note) (held : Bool)
+        → entered t me x (begins x o) (record { body = slot_body f l b x.slot.0 old; sent = sent; back = before; notes = notes; kept = held })
+        ≡ record { body = slot_body f' l' b x.slot.0 new; sent = e.output.messages; back = e.back; notes = e.output.notes; kept = w.kept }
+    start_on b notes held =
+        ap (λ (a : Begun Actor). entered t me x a (record { body = slot_body f l b x.slot.0 old; sent = sent; back = before; notes = notes; kept = held })) h.began
+        ∙ applied_on b None r.commands old mid new (actor_of r.occupant) (record { messages = sent; notes = r.notes }) before e.output e.back
+        (ap actor_in stand ∙ h.stands) same w
+
+    pub starts : All HasPriority old.deferred → SlotBegins t me f l f' l' x o old new sent before e
+    starts kept =
+        let first : Doing = record { deferred = mid.deferred; output = record { messages = sent; notes = r.notes }; back = before; kept = false } in
+        let last : Doing = record { deferred = new.deferred; output = e.output; back = e.back; kept = w.kept } in
+        let now : new.occupant ≡ r.occupant = w.occupant ∙ stand in
+        record {
+          kept = w.kept;
+          doing = start_on;
+          lives = lives_stay t me x None tt f l f' l' r.commands first last w.applied;
+          state = state ∙ h.state ∙ ap (λ (a : Begun Actor). state_number a.machine) (sym h.began);
+          fits = record {
+            of = subst (λ (s : Occupant). IsOf x s) (sym now) h.me;
+            tables = subst (λ (s : Occupant). HasTables o s) (sym now) h.fits;
+            kept = kept_ranks t me x None tt f l f' l' r.commands first last w.applied (subst (λ (ms : List Msg). All HasPriority ms) (sym same) kept);
+          };
+        }
+
+  -- an actor that comes up
+  module _ (o : Option Tables) (old mid new : ActorSlot) (r : Beginning) (first : Output) (before : List Msg) (last : Output) (after : List Msg) (h : Begins x o r) (occupant : mid.occupant ≡ r.occupant) (none : mid.deferred ≡ [])
+      (told : List Note) (w : Works t me f l f' l' x None r.commands mid new (record { messages = first.messages; notes = told }) before last after)
+      (up : told ≡ first.notes ++ notes.Up x r.state ∷ r.notes) where
+    -- a slot where another actor stands, and nothing is kept
+    over : (b : Body Actor) (actor : Option Actor)
+        → ◌≡◌ {A = Body Actor}
+        (record (slot_body f l b x.slot.0 old) { machines = updated (updated b.machines x.slot.0 (actor_in old.occupant)) x.slot.0 actor; deferred = updated (updated b.deferred x.slot.0 old.deferred) x.slot.0 [] })
+        (record b { frame = f; links = l; machines = updated b.machines x.slot.0 actor; deferred = updated b.deferred x.slot.0 [] })
+    over b actor =
+        ap (λ (g : ℕ → Option Actor). record (slot_body f l b x.slot.0 old) { machines = g; deferred = updated (updated b.deferred x.slot.0 old.deferred) x.slot.0 [] }) (updated_twice b.machines x.slot.0 (actor_in old.occupant) actor)
+        ∙ ap (λ (g : ℕ → List Msg). record (slot_body f l b x.slot.0 old) { machines = updated b.machines x.slot.0 actor; deferred = g }) (updated_twice b.deferred x.slot.0 old.deferred [])
+
+    up_on : (b : Body Actor) (held : Bool)
+        → risen t me x (begins x o) (record { body = slot_body f l b x.slot.0 old; sent = first.messages; back = before; notes = first.notes; kept = held })
+        ≡ record { body = slot_body f' l' b x.slot.0 new; sent = last.messages; back = after; notes = last.notes; kept = w.kept }
+    up_on b held =
+        let state : notes.Up x (state_number (actor_of r.occupant)) ≡ notes.Up x r.state = ap (notes.Up x) (sym h.state) in
+        ap (λ (a : Begun Actor). risen t me x a (record { body = slot_body f l b x.slot.0 old; sent = first.messages; back = before; notes = first.notes; kept = held })) h.began
+        ∙ ap (λ (c : Body Actor). apply_all t me x None r.commands (record { body = c; sent = first.messages; back = before; notes = first.notes ++ (notes.Up x (state_number (actor_of r.occupant)) ∷ r.notes); kept = false }))
+        (over b (Some (actor_of r.occupant)))
+        ∙ ap (λ (n : Note). apply_all t me x None r.commands (record { body = record b { frame = f; links = l; machines = updated b.machines x.slot.0 (Some (actor_of r.occupant)); deferred = updated b.deferred x.slot.0 [] }; sent = first.messages; back = before; notes = first.notes ++ (n ∷ r.notes); kept = false })) state
+        ∙ ap (λ (ns : List Note). apply_all t me x None r.commands (record { body = record b { frame = f; links = l; machines = updated b.machines x.slot.0 (Some (actor_of r.occupant)); deferred = updated b.deferred x.slot.0 [] }; sent = first.messages; back = before; notes = ns; kept = false })) (sym up)
+        ∙ ap (λ (a : Option Actor). apply_all t me x None r.commands (record { body = record b { frame = f; links = l; machines = updated b.machines x.slot.0 a; deferred = updated b.deferred x.slot.0 [] }; sent = first.messages; back = before; notes = told; kept = false }))
+        (sym (ap actor_in stand ∙ h.stands))
+        ∙ ap (λ (ds : List Msg). apply_all t me x None r.commands (record { body = record b { frame = f; links = l; machines = updated b.machines x.slot.0 (actor_in mid.occupant); deferred = updated b.deferred x.slot.0 ds }; sent = first.messages; back = before; notes = told; kept = false })) (sym none)
+        ∙ w.applied.on (record b { machines = updated b.machines x.slot.0 (actor_in mid.occupant) })
+        ∙ ap (λ (s : Occupant). record {
+          body = record b { frame = f'; links = l'; machines = updated b.machines x.slot.0 (actor_in s); deferred = updated b.deferred x.slot.0 new.deferred };
+          sent = last.messages;
+          back = after;
+          notes = last.notes;
+          kept = w.kept;
+        }) (sym w.occupant)
+
+    pub comes_up : SlotComesUp t me f l f' l' x o old new first before last after
+    comes_up =
+        let from : Doing = record { deferred = mid.deferred; output = record { messages = first.messages; notes = told }; back = before; kept = false } in
+        let to : Doing = record { deferred = new.deferred; output = last; back = after; kept = w.kept } in
+        let now : new.occupant ≡ r.occupant = w.occupant ∙ stand in
+        let kept : All HasPriority mid.deferred = subst (λ (ms : List Msg). All HasPriority ms) (sym none) (All-nil HasPriority) in
+        record {
+          kept = w.kept;
+          doing = up_on;
+          lives = lives_stay t me x None tt f l f' l' r.commands from to w.applied;
+          fits = record {
+            of = subst (λ (s : Occupant). IsOf x s) (sym now) h.me;
+            tables = subst (λ (s : Occupant). HasTables o s) (sym now) h.fits;
+            kept = kept_ranks t me x None tt f l f' l' r.commands from to w.applied kept;
+          };
+          back = λ all. back_ranks t me x None tt f l f' l' r.commands from to w.applied kept all;
+        }

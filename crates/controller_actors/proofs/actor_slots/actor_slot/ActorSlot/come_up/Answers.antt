@@ -1,0 +1,23 @@
+use Rattle.std.proofs.Common.{List, None, refl, subst}
+use Rattle.std.specs.Option.{option_copied}
+use Rattle.room_kinds.specs.declared.command.Command.{Command}
+use Rattle.controller_actors.specs.declared.actor_slots.actor_slot.ActorSlot.{ActorSlot}
+use Rattle.controller_actors.specs.actor_slots.Slots.{Works}
+use Rattle.controller_actors.proofs.actor_slots.Working.{comes_up}
+use Rattle.controller_actors.proofs.actor_slots.actor_slot.ActorSlot.come_up.Goals as goal
+
+pub returns-clause-up : goal.returns-clause-up
+returns-clause-up g c =
+    let s = c.args.speaker.now in
+    let t = s.wiring.now in
+    let f = g.S.Services.frame_of c.args.services.now in
+    let l = g.S.Services.links_of c.args.services.now in
+    let f2 = g.S.Services.frame_of c.work.new.services in
+    let l2 = g.S.Services.links_of c.work.new.services in
+    let r = c.in_ok-beginning.beginning in
+    let mid : ActorSlot = record { occupant = r.occupant; deferred = c.new.result } in
+    let last = c.in_ok-output.output in
+    let after = c.in_ok-output.all_back in
+    comes_up t s.me.0 f l f2 l2 s.who (option_copied c.args.tables) c.args.self.now mid c.work.new.self r c.args.output c.args.back last after c.in_ok-beginning.ensures refl c.new.ensures c.in_ok-notes.notes
+    (subst (λ (cs : List Command). Works t s.me.0 f l f2 l2 s.who None cs mid c.work.new.self (record { messages = c.args.output.messages; notes = c.in_ok-notes.notes }) c.args.back last after) c.as_slice.ensures c.in_ok-output.ensures.works)
+    c.in_ok-notes.ensures

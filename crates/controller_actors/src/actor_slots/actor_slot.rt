@@ -1,0 +1,242 @@
+//! A slot with what stands in it and what that keeps.
+ghost use Rattle.std.specs.Prelude.{◌≡◌, ◌<◌, [], ◌∷◌, ◌++◌, length, All, IfOk, OnOk, MatchOption};
+ghost use Rattle.std.specs.Option.{option_copied};
+ghost use Rattle.room_kinds.specs.declared.note.Note.TheVariants.{Up};
+ghost use Rattle.controller_mail.specs.MailState.{HasPriority};
+ghost use Rattle.chart_run.specs.Machines.{result_view};
+ghost use Rattle.chart_behaviour.specs.ModelCharts.{handling_of};
+ghost use Rattle.actor_world.specs.Turns.{said};
+ghost use Rattle.controller_actors.specs.actor_slots.Occupants.{AreSound, actor_in};
+ghost use Rattle.controller_actors.specs.actor_slots.Slots.{SlotComesUp, SlotFits, SlotTurns, SlotBegins, Works};
+
+use crate::actor_slots::occupant::{Beginning, Occupant, Reaction};
+use actor_commands::{DeferredMessages, Doing, Output, Recalled, Services, Speaker, apply_all};
+use chart_run::{Handling, Tables};
+use controller_mail::TurnResult;
+use journal::Did;
+use room_kinds::{Command, Incarnation, Msg, Note, Notes, Outbox, Sequence};
+use std::alloc::{AllocError, Global};
+use std::mem;
+
+/// What stands in a slot, and the messages that it keeps for later.
+#[derive(Drop)]
+pub struct ActorSlot {
+    pub occupant: Occupant,
+    pub deferred: DeferredMessages,
+}
+
+/// What came of an actor's start: what was sent so far, with the notes of this start alone, what came back
+/// so far, and the number of the actor's state.
+#[derive(Drop)]
+pub struct Entrance {
+    pub output: Output,
+    pub back: Recalled,
+    pub state: u16,
+}
+
+/// What a journal says of a message that an actor handled.
+fn did_of(came_to: Handling, who: Incarnation, state: u16) -> Did
+    ensures { result ≡ said (handling_of (result_view came_to)) who state }
+{
+    match came_to {
+        Handling::Handled => Did::Handled { who, state },
+        Handling::Deferred => Did::Deferred { who, state },
+        Handling::Unhandled => Did::Unhandled { who, state },
+    }
+}
+
+/// Notes, then that an actor came up in a state, then the notes of its initial transition.
+fn with_up(before: Notes, who: Incarnation, state: u16, told: Notes) -> Result<Notes, AllocError>
+    ensures { IfOk result (λ notes. notes ≡ before ++ Up who state ∷ told) }
+{
+    let mut notes = before.into_vec();
+    notes.push(Note::Up { who, state })?;
+    notes.append(&mut told.into_vec())?;
+    Ok(Sequence::from(notes))
+}
+
+impl ActorSlot {
+    /// Nobody stands there. It takes no memory.
+    pub fn vacant(alloc: Global) -> ActorSlot
+        ensures { result ≡ record { occupant = Occupant.Nobody; deferred = [] } }
+    {
+        ActorSlot {
+            occupant: Occupant::Nobody,
+            deferred: DeferredMessages::new(alloc),
+        }
+    }
+
+    /// The commands of the actor are applied in order, with what was put out and what came back before.
+    fn work<S: Services>(
+        &mut self,
+        alloc: Global,
+        speaker: &Speaker<'_>,
+        services: &mut S,
+        message: Option<&Msg>,
+        commands: &[Command],
+        output: Output,
+        back: Recalled,
+    ) -> Result<(Output, Recalled), AllocError>
+        requires serves { S.serves speaker.now.wiring.now speaker.now.me.0 services.old }
+        requires there { speaker.now.who.slot.0 < length speaker.now.wiring.now.slots }
+        ensures serves { OnOk result (S.serves speaker.now.wiring.now speaker.now.me.0 services.new) }
+        ensures works { IfOk result (λ r. Works speaker.now.wiring.now speaker.now.me.0 (S.frame_of services.old) (S.links_of services.old) (S.frame_of services.new) (S.links_of services.new) speaker.now.who (option_copied message.entry) commands.now self.old self.new output back r.0 r.1) }
+    {
+        let kept = mem::replace(&mut self.deferred, DeferredMessages::new(alloc));
+        let mut doing = Doing {
+            deferred: kept,
+            output,
+            back,
+            kept: false,
+        };
+        apply_all(alloc, speaker, services, message, commands, &mut doing)?;
+        let Doing {
+            deferred,
+            output: told,
+            back: all_back,
+            kept: _,
+        } = doing;
+        self.deferred = deferred;
+        Ok((told, all_back))
+    }
+
+    /// The actor handles a message, and its commands are applied; `None` where nobody stands there. After
+    /// want of memory the slot is unspecified: the controller has failed.
+    pub fn handle<S: Services>(
+        &mut self,
+        alloc: Global,
+        speaker: &Speaker<'_>,
+        services: &mut S,
+        tables: Option<&Tables>,
+        m: &Msg,
+    ) -> Result<Option<TurnResult>, AllocError>
+        requires sound { AreSound (option_copied tables) }
+        requires fits { SlotFits speaker.now.who (option_copied tables) self.old }
+        requires prio { HasPriority m.now }
+        requires serves { S.serves speaker.now.wiring.now speaker.now.me.0 services.old }
+        requires there { speaker.now.who.slot.0 < length speaker.now.wiring.now.slots }
+        ensures serves { OnOk result (S.serves speaker.now.wiring.now speaker.now.me.0 services.new) }
+        ensures turns { IfOk result (λ o. MatchOption o ((actor_in self.old.occupant ≡ None) × (self.new ≡ self.old) × (services.new ≡ services.old)) (λ done. SlotTurns speaker.now.wiring.now speaker.now.me.0 (S.frame_of services.old) (S.links_of services.old) (S.frame_of services.new) (S.links_of services.new) speaker.now.who m.now (option_copied tables.entry) self.old self.new done)) }
+    {
+        let Some(reaction) = self.occupant.react(alloc, tables, m)? else {
+            return Ok(None);
+        };
+        let Reaction {
+            came_to,
+            state,
+            notes,
+            commands,
+        } = reaction;
+        let first = Output {
+            messages: Outbox::new(alloc),
+            notes,
+        };
+        let none = Recalled::new(alloc);
+        let (output, back) = self.work(
+            alloc,
+            speaker,
+            services,
+            Some(m),
+            commands.as_slice(),
+            first,
+            none,
+        )?;
+        Ok(Some(TurnResult {
+            sent: output.messages,
+            back: back.into_sequence(),
+            did: did_of(came_to, speaker.who, state),
+            notes: output.notes,
+        }))
+    }
+
+    /// The actor of a slot begins, and its commands are applied, where so much was sent and came back
+    /// before. After want of memory the slot is unspecified: the controller has failed.
+    pub fn begin<S: Services>(
+        &mut self,
+        alloc: Global,
+        speaker: &Speaker<'_>,
+        services: &mut S,
+        tables: Option<&Tables>,
+        sent: Outbox,
+        back: Recalled,
+    ) -> Result<Entrance, AllocError>
+        requires sound { AreSound (option_copied tables) }
+        requires kept { All HasPriority self.old.deferred }
+        requires serves { S.serves speaker.now.wiring.now speaker.now.me.0 services.old }
+        requires there { speaker.now.who.slot.0 < length speaker.now.wiring.now.slots }
+        ensures serves { OnOk result (S.serves speaker.now.wiring.now speaker.now.me.0 services.new) }
+        ensures begins { IfOk result (λ e. SlotBegins speaker.now.wiring.now speaker.now.me.0 (S.frame_of services.old) (S.links_of services.old) (S.frame_of services.new) (S.links_of services.new) speaker.now.who (option_copied tables.entry) self.old self.new sent back e) }
+    {
+        let beginning = Occupant::begin(alloc, tables, speaker.who)?;
+        let Beginning {
+            occupant,
+            state,
+            notes,
+            commands,
+        } = beginning;
+        self.occupant = occupant;
+        let first = Output {
+            messages: sent,
+            notes,
+        };
+        let (output, all_back) = self.work(
+            alloc,
+            speaker,
+            services,
+            None,
+            commands.as_slice(),
+            first,
+            back,
+        )?;
+        Ok(Entrance {
+            output,
+            back: all_back,
+            state,
+        })
+    }
+
+    /// The actor of a slot comes up: it begins with nothing kept for later, its note `up` tells its
+    /// state, and its commands are applied; with what was put out and what came back before. After want of
+    /// memory the slot is unspecified: the controller has failed.
+    pub fn come_up<S: Services>(
+        &mut self,
+        alloc: Global,
+        speaker: &Speaker<'_>,
+        services: &mut S,
+        tables: Option<&Tables>,
+        output: Output,
+        back: Recalled,
+    ) -> Result<(Output, Recalled), AllocError>
+        requires sound { AreSound (option_copied tables) }
+        requires serves { S.serves speaker.now.wiring.now speaker.now.me.0 services.old }
+        requires there { speaker.now.who.slot.0 < length speaker.now.wiring.now.slots }
+        ensures serves { OnOk result (S.serves speaker.now.wiring.now speaker.now.me.0 services.new) }
+        ensures up { IfOk result (λ r. SlotComesUp speaker.now.wiring.now speaker.now.me.0 (S.frame_of services.old) (S.links_of services.old) (S.frame_of services.new) (S.links_of services.new) speaker.now.who (option_copied tables.entry) self.old self.new output back r.0 r.1) }
+    {
+        let beginning = Occupant::begin(alloc, tables, speaker.who)?;
+        let Beginning {
+            occupant,
+            state,
+            notes,
+            commands,
+        } = beginning;
+        self.occupant = occupant;
+        self.deferred = DeferredMessages::new(alloc);
+        let Output {
+            messages,
+            notes: before,
+        } = output;
+        let notes = with_up(before, speaker.who, state, notes)?;
+        let first = Output { messages, notes };
+        let (output, all_back) = self.work(
+            alloc,
+            speaker,
+            services,
+            None,
+            commands.as_slice(),
+            first,
+            back,
+        )?;
+        Ok((output, all_back))
+    }
+}

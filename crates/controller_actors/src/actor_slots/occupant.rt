@@ -1,0 +1,133 @@
+//! What stands in a slot.
+ghost use Rattle.std.specs.Prelude.{◌≡◌, [], IfOk, MatchOption};
+ghost use Rattle.std.specs.Option.{option_copied};
+ghost use Rattle.controller_actors.specs.actor_slots.Occupants.{AreSound, HasTables, MachineFits, MachineReacts, Reacts, Begins, actor_in};
+
+use action_program::Effects;
+use chart_run::{Handling, Machine, Outcome, Tables};
+use room_kinds::{Commands, Incarnation, Msg, Notes};
+use std::alloc::{AllocError, Global};
+
+/// The number of the state of an actor whose class has no chart.
+const NO_STATE: u16 = 65535;
+
+/// What stands in a slot: nobody, an actor whose class has no chart, or one with its machine.
+#[derive(Drop)]
+pub enum Occupant {
+    Nobody,
+    Chartless,
+    Charted(Machine),
+}
+
+/// What came of a message: whether it was handled, the number of the actor's state then, and what the
+/// actions that ran told and asked for.
+#[derive(Drop)]
+pub struct Reaction {
+    pub came_to: Handling,
+    pub state: u16,
+    pub notes: Notes,
+    pub commands: Commands,
+}
+
+/// An actor that has begun, the number of its state, and what its first actions told and asked for.
+#[derive(Drop)]
+pub struct Beginning {
+    pub occupant: Occupant,
+    pub state: u16,
+    pub notes: Notes,
+    pub commands: Commands,
+}
+
+/// An actor that doesn't handle a message.
+fn passed_over(alloc: Global, state: u16) -> Reaction
+    ensures { result ≡ record { came_to = Handling.Unhandled; state = state; notes = []; commands = [] } }
+{
+    Reaction {
+        came_to: Handling::Unhandled,
+        state,
+        notes: Notes::new(alloc),
+        commands: Commands::new(alloc),
+    }
+}
+
+/// A machine handles a message by the tables of its class.
+#[tactic(auto, using(crate::proofs::actor_slots::Occupying::machine_reacts, crate::proofs::actor_slots::Occupying::machine_passes))]
+fn react_by(
+    alloc: Global,
+    machine: &mut Machine,
+    tables: Option<&Tables>,
+    m: &Msg,
+) -> Result<Reaction, AllocError>
+    requires sound { AreSound (option_copied tables) }
+    requires fits { MachineFits (option_copied tables) machine.old }
+    ensures { IfOk result (λ r. MachineReacts m.now (option_copied tables.entry) machine.old machine.new r) }
+{
+    match tables {
+        Some(tables) => {
+            let outcome = machine.handle(alloc, tables, m)?;
+            let Outcome { result, effects } = outcome;
+            let Effects { notes, commands } = effects;
+            Ok(Reaction {
+                came_to: result,
+                state: machine.state(),
+                notes,
+                commands,
+            })
+        }
+        None => Ok(passed_over(alloc, machine.state())),
+    }
+}
+
+impl Occupant {
+    /// The actor handles a message by the tables of its class, where there is an actor. After want of
+    /// memory its machine gives no other answer.
+    #[tactic(auto, using(crate::proofs::actor_slots::Occupying::chartless_reacts, crate::proofs::actor_slots::Occupying::charted_reacts))]
+    pub(crate) fn react(
+        &mut self,
+        alloc: Global,
+        tables: Option<&Tables>,
+        m: &Msg,
+    ) -> Result<Option<Reaction>, AllocError>
+        requires sound { AreSound (option_copied tables) }
+        requires fits { HasTables (option_copied tables) self.old }
+        ensures { IfOk result (λ o. MatchOption o ((actor_in self.old ≡ None) × (self.new ≡ self.old)) (λ r. Reacts m.now (option_copied tables.entry) self.old self.new r)) }
+    {
+        match self {
+            Occupant::Nobody => Ok(None),
+            Occupant::Chartless => Ok(Some(passed_over(alloc, NO_STATE))),
+            Occupant::Charted(machine) => {
+                let reaction = react_by(alloc, machine, tables, m)?;
+                Ok(Some(reaction))
+            }
+        }
+    }
+
+    /// An actor begins by the tables of its class.
+    #[tactic(auto, using(crate::proofs::actor_slots::Occupying::chartless_begins, crate::proofs::actor_slots::Occupying::charted_begins))]
+    pub(crate) fn begin(
+        alloc: Global,
+        tables: Option<&Tables>,
+        who: Incarnation,
+    ) -> Result<Beginning, AllocError>
+        requires sound { AreSound (option_copied tables) }
+        ensures { IfOk result (λ r. Begins who (option_copied tables.entry) r) }
+    {
+        let Some(tables) = tables else {
+            return Ok(Beginning {
+                occupant: Occupant::Chartless,
+                state: NO_STATE,
+                notes: Notes::new(alloc),
+                commands: Commands::new(alloc),
+            });
+        };
+        let (machine, effects) = Machine::start(alloc, tables, who)?;
+        let state = machine.state();
+        let Effects { notes, commands } = effects;
+        Ok(Beginning {
+            occupant: Occupant::Charted(machine),
+            state,
+            notes,
+            commands,
+        })
+    }
+}
