@@ -32,9 +32,19 @@ fn without_memory(rt: HostRuntime) -> Status {
     }
 }
 
-/// How large a stack the work takes that words ask for. The word behind the command names the model.
+/// The file that holds the model, which the word behind the command names. A made model stands in no file; it
+/// opens few braces, and none of a graph in a graph.
+fn model_file(words: &[String]) -> Option<&str> {
+    match words {
+        [command, ..] if command.as_str() == "made" => None,
+        [_, name, ..] => Some(name.as_str()),
+        _ => None,
+    }
+}
+
+/// How large a stack the work takes that words ask for.
 fn stack_of_words(rt: HostRuntime, words: &[String]) -> usize {
-    let Some(name) = words.get(1) else {
+    let Some(name) = model_file(words) else {
         return LEAST;
     };
     match read_whole(rt.alloc(), &mut FileShelf::new(rt), name) {

@@ -11,11 +11,15 @@ use Rattle.chart_model.specs.Chart.{Chart}
 use Rattle.model_run.specs.run_ends.Runs.{IsRun}
 use Rattle.named_runs.specs.Charts.{IsRunByCharts}
 use Rattle.named_runs.proofs.ByCharts.{by_charts}
-use Rattle.room_run.specs.Words.{Files}
+use Rattle.run_promises.proofs.PromisesLaw.{promises}
+use Rattle.made_model.specs.Summaries.{summary_text}
+use Rattle.made_model.specs.declared.summary.Summary.{Summary}
+use Rattle.room_run.specs.Words.{Files, Made, asked_by, usual_fuel}
+use Rattle.room_run.specs.MadeShelf.{made_files, made_shelf}
 use Rattle.room_run.specs.Models.{IsModel, IsSoundText}
 use Rattle.room_run.specs.Causes.{AreOf, Causes}
-use Rattle.room_run.specs.Finished.{Finishes}
-use Rattle.room_run.specs.Outcome.{Answers, IsByCharts, Outcome, Prints, written, cut, Tells, told, broken, whole, cut_short, refused, refused_unheard}
+use Rattle.room_run.specs.Finished.{Finishes, Summarizes}
+use Rattle.room_run.specs.Outcome.{Answers, says_made, IsByCharts, IsRunOfFiles, status_of_run, Outcome, Prints, written, cut, Tells, told, broken, whole, cut_short, refused, refused_unheard}
 use Rattle.room_run.specs.declared.prepare.Finished.{Finished}
 use Rattle.room_run.specs.declared.refusal.Refusal.{Refusal}
 use Rattle.room_run.specs.declared.status.Status.{Status}
@@ -30,8 +34,18 @@ by_model : (o : Option (List ℕ)) (p : Plant) (lines : List Line) (fuel : ℕ) 
 by_model None p lines fuel j h run = tt
 by_model (Some text) p lines fuel j h run = (h.charts, h.is, by_charts p h.charts lines fuel j h.tables run)
 
-pub is_by_charts : (shelf : Shown) (files : Files) (p : Plant) (lines : List Line) (fuel : ℕ) (j : Journals) → AreOf shelf files p lines → IsRun p lines fuel j → IsByCharts shelf files p lines fuel j
+is_by_charts : (shelf : Shown) (files : Files) (p : Plant) (lines : List Line) (fuel : ℕ) (j : Journals) → AreOf shelf files p lines → IsRun p lines fuel j → IsByCharts shelf files p lines fuel j
 is_by_charts shelf files p lines fuel j h run = by_model (shelf.text files.model) p lines fuel j h.model_accepted run
+
+-- what a run of a plant is of the texts that it comes from
+pub run_of : (shelf : Shown) (files : Files) (fuel : ℕ) (p : Plant) (lines : List Line) (j : Journals) → AreOf shelf files p lines → IsRun p lines fuel j → IsRunOfFiles shelf files fuel p lines j
+run_of shelf files fuel p lines j texts run = record { texts = texts; run = run; promises = promises p lines fuel j run; by_charts = is_by_charts shelf files p lines fuel j texts run }
+
+-- what is told of a run of a made model
+pub sum_answers : (shelf : Shown) (words : List (List ℕ)) (actors : ℕ) (s : Summary) → asked_by words ≡ Some (Made actors) → Summarizes actors s → Answers shelf words (summary_text s) (status_of_run s.done)
+sum_answers shelf words actors s asked h =
+    says_made actors h.plant h.lines h.journals asked (run_of (made_shelf actors) made_files usual_fuel h.plant h.lines h.journals h.texts h.run)
+    (ap summary_text h.is) (ap (λ (x : Summary). status_of_run x.done) h.is)
 
 -- the answer was written
 pub printed_outcome : (before after : Shown) (words : List (List ℕ)) (out_before out_after notes : Written) (text : List ℕ) (wanted status : Status) → Answers before words text wanted → Prints out_before out_after text wanted status

@@ -13,7 +13,8 @@ use Rattle.inject_reader.specs.declared.inject_lines.accepted.Line.{Line}
 use Rattle.inject_reader.specs.Answer.{answer}
 use Rattle.inject_reader.specs.declared.fault.InjectFault.{InjectFault}
 use Rattle.inject_reader.specs.declared.fault.InjectFault.TheVariants as inject_faults
-use Rattle.room_run.specs.Words.{Files, Check, Tree, Run, asked_by}
+use Rattle.room_run.specs.Words.{Files, Check, Tree, Run, Made, asked_by}
+use Rattle.room_run.specs.MadeShelf.{made_files, made_shelf}
 use Rattle.room_run.specs.Models.{IsModel, SoundCauses, TextCauses, most_bytes}
 use Rattle.room_run.specs.declared.model_fault.ModelFault.{ModelFault}
 use Rattle.room_run.specs.declared.model_fault.ModelFault.TheVariants as faults
@@ -80,12 +81,23 @@ pub data RunCauses (before after : Shown) (files : Files) (why : Refusal) : Type
   of_injections : (plant : Plant) → TextIs before files.model (λ text. IsModel text plant) → InjectionsCauses before after files.injections plant.wiring why → RunCauses before after files why
   run_no_memory : why ≡ refusals.Memory → RunCauses before after files why
 
--- why a call may be refused: for its words, or by what they ask for
+-- why a text that stands in memory may be refused as that of a model which runs
+pub data PlantCauses (text : List ℕ) : Refusal → Type 0 where
+  long_model : most_bytes < length text → PlantCauses text refusals.ModelTooLong
+  unfit_model : (fault : ModelFault) → TextCauses text fault → PlantCauses text (refusals.Model fault)
+
+-- why a text that stands in memory may be refused as that of injections
+pub data InjectedCauses (wiring : Tables) (text : List ℕ) (why : Refusal) : Type 0 where
+  long_injections : most_bytes < length text → why ≡ refusals.InjectionsTooLong → InjectedCauses wiring text why
+  unfit_lines : LinesCauses wiring text why → InjectedCauses wiring text why
+
+-- why a call may be refused: for its words, or by what they ask for; a made model is refused as if its texts stood on a shelf
 pub data Causes (before after : Shown) (words : List (List ℕ)) (why : Refusal) : Type 0 where
   no_such_words : asked_by words ≡ None → why ≡ refusals.Words → Causes before after words why
   of_check : (name : List ℕ) → asked_by words ≡ Some (Check name) → ModelCauses SoundCauses before after name why → Causes before after words why
   of_tree : (name : List ℕ) → asked_by words ≡ Some (Tree name) → ModelCauses SoundCauses before after name why → Causes before after words why
   of_run : (files : Files) (fuel : ℕ) → asked_by words ≡ Some (Run files fuel) → RunCauses before after files why → Causes before after words why
+  of_made : (actors : ℕ) → asked_by words ≡ Some (Made actors) → RunCauses (made_shelf actors) (made_shelf actors) made_files why → Causes before after words why
 
 -- the status of a refusal of a model's text
 abbrev pub status_of_fault : ModelFault → Status

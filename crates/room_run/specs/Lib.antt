@@ -5,5 +5,6 @@ pub mod Reading
 pub mod Causes
 pub mod Outcome
 pub mod Finished
+pub mod MadeShelf
 pub mod model_plants
 pub mod service_words

@@ -5,8 +5,8 @@
 -- shelf doesn't tell a text, nothing is said of that text; the words and the causes of faults are
 -- spoken of over every shelf and sink.
 -- The answer is `ok` of a model that keeps all rules and whose wiring and charts have no fault,
--- the text of its wiring, or the text of journals that are a run of the model over the lines, with
--- status done or spent as the run ended.
+-- the text of its wiring, the text of journals that are a run of the model over the lines, or the
+-- summary of such journals of a made model, with status done or spent as the run ended.
 use Rattle.std.specs.Prelude.{◌≡◌, ℕ, List, [], ◌∷◌, Bool, Option, Some, codes, if◌then◌else◌}
 use Rattle.room_outside.specs.Shown.{Shown}
 use Rattle.room_outside.specs.Written.{Written, Appends, BreaksOff}
@@ -21,7 +21,9 @@ use Rattle.named_runs.specs.Charts.{IsRunByCharts}
 use Rattle.run_promises.specs.Promises.{RunPromises}
 use Rattle.room_wiring.specs.declared.tables.Tables.{Tables}
 use Rattle.binding_expand.specs.tree_text.Text.{tree_text}
-use Rattle.room_run.specs.Words.{Files, Check, Tree, Run, asked_by}
+use Rattle.made_model.specs.Summaries.{summary_of, summary_text}
+use Rattle.room_run.specs.Words.{Files, Check, Tree, Run, Made, asked_by, usual_fuel}
+use Rattle.room_run.specs.MadeShelf.{made_files, made_shelf}
 use Rattle.room_run.specs.Models.{IsSound, IsSoundText}
 use Rattle.room_run.specs.Causes.{Causes, AreOf, TextIs, status_of, note_of}
 use Rattle.room_run.specs.declared.prepare.Answer.{Answer}
@@ -39,29 +41,39 @@ abbrev pub IsByCharts : Shown → Files → Plant → List Line → ℕ → Jour
 IsByCharts shelf files plant lines fuel j =
     TextIs shelf files.model (λ text. (charts : List (Option Chart)) × IsSoundText text plant.wiring charts × IsRunByCharts plant.wiring charts lines fuel j)
 
+-- Plant, lines and journals are those of a run of the model of two files over the injections of the other, with so much fuel: the texts are those of a model which runs as this plant, and of injections with these lines; and the journals, one for each controller and one for the environment, are those of a run of the plant over the lines (`IsRun`: each controller's journal is the replay of its own fetches, run to completion; merged by stamp they are one run of the world; what is taken in each lane is a prefix of what was sent, and all of it where the run is done). What a reader may rely on is said sentence by sentence (`RunPromises`), and the run is one of the model's charts (`IsByCharts`).
+pub record IsRunOfFiles (shelf : Shown) (files : Files) (fuel : ℕ) (plant : Plant) (lines : List Line) (journals : Journals) : Type 0 where
+  pub texts : AreOf shelf files plant lines
+  pub run : IsRun plant lines fuel journals
+  pub promises : RunPromises plant lines fuel journals
+  pub by_charts : IsByCharts shelf files plant lines fuel journals
+
 -- how a run ended: done, or by its fuel
 abbrev pub status_of_run : Bool → Status
 status_of_run done = if done then statuses.Done else statuses.Spent
 
--- THE HEADLINE. What the words ask for, as a text with the status of a call that writes it whole: `ok` of a model that keeps all rules and whose wiring and charts have no fault; the slots and joined places of such a model; or the text of one journal for each controller and one for the environment, which are those of a run of the model over the lines (`IsRun`: each controller's journal is the replay of its own fetches, run to completion; merged by stamp they are one run of the world; what is taken in each lane is a prefix of what was sent, and all of it where the run is done). What a reader may rely on is said sentence by sentence (`RunPromises`), and the run is one of the model's charts (`IsByCharts`).
+-- THE HEADLINE. What the words ask for, as a text with the status of a call that writes it whole: `ok` of a model that keeps all rules and whose wiring and charts have no fault; the slots and joined places of such a model; the text of the journals of a run of the model over the lines (`IsRunOfFiles`); or the summary of the journals of a run of the made model of so many actors over its injections, of which all is said that is said of the run of two files with these texts.
 pub data Answers (shelf : Shown) (words : List (List ℕ)) (text : List ℕ) (status : Status) : Type 0 where
   says_ok : (name : List ℕ) → asked_by words ≡ Some (Check name) → TextIs shelf name (λ bytes. (wiring : Tables) × IsSound bytes wiring) → text ≡ accepted → status ≡ statuses.Done → Answers shelf words text status
   says_tree : (name : List ℕ) (wiring : Tables) → asked_by words ≡ Some (Tree name) → TextIs shelf name (λ bytes. IsSound bytes wiring) → text ≡ tree_text wiring → status ≡ statuses.Done → Answers shelf words text status
-  says_run : (files : Files) (fuel : ℕ) (plant : Plant) (lines : List Line) (journals : Journals) → asked_by words ≡ Some (Run files fuel) → AreOf shelf files plant lines → IsRun plant lines fuel journals
-      → RunPromises plant lines fuel journals → IsByCharts shelf files plant lines fuel journals
+  says_run : (files : Files) (fuel : ℕ) (plant : Plant) (lines : List Line) (journals : Journals) → asked_by words ≡ Some (Run files fuel) → IsRunOfFiles shelf files fuel plant lines journals
       → text ≡ text_of plant.wiring journals → status ≡ status_of_run journals.done → Answers shelf words text status
+  says_made : (actors : ℕ) (plant : Plant) (lines : List Line) (journals : Journals) → asked_by words ≡ Some (Made actors) → IsRunOfFiles (made_shelf actors) made_files usual_fuel plant lines journals
+      → text ≡ summary_text (summary_of actors journals) → status ≡ status_of_run journals.done → Answers shelf words text status
 
 -- the text of what the program has found out
 abbrev pub answer_text : Answer → List ℕ
 answer_text answers.Accepted = accepted
 answer_text (answers.Wired wiring) = tree_text wiring
 answer_text (answers.Ran run) = text_of run.wiring run.journals
+answer_text (answers.Summed summary) = summary_text summary
 
 -- the status where that text is written whole
 abbrev pub answer_status : Answer → Status
 answer_status answers.Accepted = statuses.Done
 answer_status (answers.Wired wiring) = statuses.Done
 answer_status (answers.Ran run) = status_of_run run.journals.done
+answer_status (answers.Summed summary) = status_of_run summary.done
 
 -- a text was written, which has this status, or writing it broke off
 pub data Prints (before after : Written) (text : List ℕ) (wanted status : Status) : Type 0 where

@@ -11,35 +11,45 @@ pub record Files : Type 0 where
   pub model : List ℕ
   pub injections : List ℕ
 
--- what is asked for, of the files of these names
+-- what is asked for, of the files of these names, or of a made model of so many actors
 pub data Asked : Type 0 where
   Check : (model : List ℕ) → Asked
   Tree : (model : List ℕ) → Asked
   Run : (files : Files) (fuel : ℕ) → Asked
+  Made : (actors : ℕ) → Asked
 
 -- whether a word is this one
 abbrev pub is_word : List ℕ → List ℕ → Bool
 is_word = pointwise nat_eq
 
--- what a word asks for of a model
-abbrev pub asked_of : List ℕ → List ℕ → Option Asked
-asked_of command model =
-    if is_word command (codes "check") then Some (Check model)
-    else if is_word command (codes "tree") then Some (Tree model)
-    else None
-
 -- the fuel of a run whose words name none
 abbrev pub usual_fuel : ℕ
 usual_fuel = 10000
 
--- the number of digits, where it is at most 100,000
-abbrev pub fuel_in : List ℕ → Option ℕ
-fuel_in digits = if are_digits digits && nat_le (value_of digits) 100000 then Some (value_of digits) else None
+-- the number of digits, where it is at most so large
+abbrev pub number_in : ℕ → List ℕ → Option ℕ
+number_in most digits = if are_digits digits && nat_le (value_of digits) most then Some (value_of digits) else None
 
--- the fuel that a word names: digits without a leading zero, whose number is at most 100,000
-unfoldable pub fuel_of : List ℕ → Option ℕ
-fuel_of [] = None
-fuel_of (b ∷ bs) = if b == 48 then None else fuel_in (b ∷ bs)
+-- the number that a word names: digits without a leading zero, whose number is at most so large; so it isn't 0
+unfoldable pub number_of : ℕ → List ℕ → Option ℕ
+number_of most [] = None
+number_of most (b ∷ bs) = if b == 48 then None else number_in most (b ∷ bs)
+
+-- the fuel that a word names, from 1 to 100,000
+abbrev pub fuel_of : List ℕ → Option ℕ
+fuel_of word = number_of 100000 word
+
+-- how many actors a word names, from 1 to 4,000
+abbrev pub actors_of : List ℕ → Option ℕ
+actors_of word = number_of 4000 word
+
+-- what a word asks for of a model, or of so many actors
+abbrev pub asked_of : List ℕ → List ℕ → Option Asked
+asked_of command word =
+    if is_word command (codes "check") then Some (Check word)
+    else if is_word command (codes "tree") then Some (Tree word)
+    else if is_word command (codes "made") then option_map Made (actors_of word)
+    else None
 
 -- a run of these files
 abbrev pub run_asked : List ℕ → List ℕ → ℕ → Asked
@@ -54,9 +64,9 @@ abbrev pub asked_with : List ℕ → List ℕ → List ℕ → List ℕ → List
 asked_with command model injections flag fuel =
     if is_word command (codes "run") && is_word flag (codes "--fuel") then option_map (run_asked model injections) (fuel_of fuel) else None
 
--- `check MODEL` asks whether a model keeps all rules and its wiring and charts have no fault, `tree MODEL` for its slots and joined places, `run MODEL INJECT` for the run of a model over injections with the usual fuel, and `run MODEL INJECT --fuel N` for the same with this one; no other list of words asks for anything
+-- `check MODEL` asks whether a model keeps all rules and its wiring and charts have no fault, `tree MODEL` for its slots and joined places, `run MODEL INJECT` for the run of a model over injections with the usual fuel, `run MODEL INJECT --fuel N` for the same with this one, and `made N` for the summary of the run of a made model of N actors; no other list of words asks for anything
 abbrev pub asked_by : List (List ℕ) → Option Asked
-asked_by (command ∷ model ∷ []) = asked_of command model
+asked_by (command ∷ word ∷ []) = asked_of command word
 asked_by (command ∷ model ∷ injections ∷ []) = asked_of_files command model injections
 asked_by (command ∷ model ∷ injections ∷ flag ∷ fuel ∷ []) = asked_with command model injections flag fuel
 asked_by words = None
@@ -69,3 +79,4 @@ abbrev pub asked_view : CodeAsked → Asked
 asked_view (code.Check name) = Check name.now
 asked_view (code.Tree name) = Tree name.now
 asked_view (code.Run files fuel) = Run (files_view files) fuel
+asked_view (code.Made actors) = Made actors

@@ -1,15 +1,18 @@
 //! What the words of a call ask for.
 ghost use Rattle.std.specs.Prelude.{◌≡◌, option_map, map};
 ghost use Rattle.std.specs.String.{string_bytes};
-ghost use Rattle.room_run.specs.Words.{Run, asked_by, asked_of, asked_of_files, asked_view, asked_with, files_view, fuel_in, fuel_of};
+ghost use Rattle.room_run.specs.Words.{Made, Run, actors_of, asked_by, asked_of, asked_of_files, asked_view, asked_with, files_view, fuel_of, number_in, number_of};
 
 use text_reading::{are_digits, value};
 
 /// The fuel of a run whose words name none: the most turns that each controller takes.
-const USUAL_FUEL: u64 = 10_000;
+pub(crate) const USUAL_FUEL: u64 = 10_000;
 
 /// The most fuel that words may name.
-const MOST_FUEL: u64 = 100_000;
+const MOST_FUEL: u32 = 100_000;
+
+/// The most actors of a made model.
+const MOST_ACTORS: u32 = 4_000;
 
 /// The two files of a run.
 #[derive(Clone, Copy)]
@@ -27,28 +30,30 @@ pub(crate) enum Asked<'a> {
     Tree(&'a str),
     /// The run of a model over injections, in which each controller takes so many turns at most.
     Run(Files<'a>, u64),
+    /// The summary of the run of the made model of so many actors.
+    Made(u64),
 }
 
-/// The number of digits, where it is at most 100,000.
-fn fuel_in(digits: &[u8]) -> Option<u64>
-    ensures { result ≡ fuel_in digits.now }
+/// The number of digits, where it is at most so large.
+fn number_in(most: u32, digits: &[u8]) -> Option<u64>
+    ensures { result ≡ number_in most digits.now }
 {
-    let fuel = value(digits);
-    if are_digits(digits) && fuel <= MOST_FUEL {
-        Some(fuel)
+    let number = value(digits);
+    if are_digits(digits) && number <= u64::from(most) {
+        Some(number)
     } else {
         None
     }
 }
 
-/// The fuel that a word names: digits without a leading zero, whose number is at most 100,000.
-#[tactic(auto, unfolding(crate::specs::Words::fuel_of))]
-fn fuel_of(word: &[u8]) -> Option<u64>
-    ensures { result ≡ fuel_of word.now }
+/// The number that a word names: digits without a leading zero, whose number is at most so large.
+#[tactic(auto, unfolding(crate::specs::Words::number_of))]
+fn number_of(most: u32, word: &[u8]) -> Option<u64>
+    ensures { result ≡ number_of most word.now }
 {
     match word {
         [] => None,
-        [first, ..] => { if *first == b'0' { None } else { fuel_in(word) } }
+        [first, ..] => { if *first == b'0' { None } else { number_in(most, word) } }
     }
 }
 
@@ -66,20 +71,32 @@ fn files_of<'a>(model: &'a String, injections: &'a String) -> Files<'a>
 fn run_with<'a>(files: Files<'a>, word: &[u8]) -> Option<Asked<'a>>
     ensures { option_map asked_view result ≡ option_map (Run (files_view files.entry)) (fuel_of word.now) }
 {
-    match fuel_of(word) {
+    match number_of(MOST_FUEL, word) {
         Some(fuel) => Some(Asked::Run(files, fuel)),
         None => None,
     }
 }
 
+/// A made model of as many actors as a word names.
+fn made_of<'a>(word: &[u8]) -> Option<Asked<'a>>
+    ensures { option_map asked_view result ≡ option_map Made (actors_of word.now) }
+{
+    match number_of(MOST_ACTORS, word) {
+        Some(actors) => Some(Asked::Made(actors)),
+        None => None,
+    }
+}
+
 /// What two words ask for.
-fn asked_of<'a>(command: &str, model: &'a str) -> Option<Asked<'a>>
-    ensures { option_map asked_view result ≡ asked_of command.now model.entry.now }
+fn asked_of<'a>(command: &str, word: &'a str) -> Option<Asked<'a>>
+    ensures { option_map asked_view result ≡ asked_of command.now word.entry.now }
 {
     if command == "check" {
-        Some(Asked::Check(model))
+        Some(Asked::Check(word))
     } else if command == "tree" {
-        Some(Asked::Tree(model))
+        Some(Asked::Tree(word))
+    } else if command == "made" {
+        made_of(word.as_bytes())
     } else {
         None
     }
@@ -112,7 +129,7 @@ pub(crate) fn asked_by(words: &[String]) -> Option<Asked<'_>>
     ensures { option_map asked_view result ≡ asked_by (map string_bytes words.now) }
 {
     match words {
-        [command, model] => asked_of(command.as_str(), model.as_str()),
+        [command, word] => asked_of(command.as_str(), word.as_str()),
         [command, model, injections] => {
             asked_of_files(command.as_str(), files_of(model, injections))
         }

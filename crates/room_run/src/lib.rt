@@ -7,6 +7,7 @@
 
 mod asked;
 mod judge;
+mod made;
 mod model_fault;
 pub mod model_plants;
 mod note;

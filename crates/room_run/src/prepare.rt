@@ -13,11 +13,13 @@ ghost use Rattle.room_run.specs.Finished.{Finishes};
 
 use crate::asked::{Asked, Files, asked_by};
 use crate::judge::{read_plant, sound_model};
+use crate::made::run_made;
 use crate::refusal::Refusal;
 use controller::Plant;
 use inject_reader::InjectFault;
 use inject_reader::inject_lines::Line;
 use journal::Journals;
+use made_model::Summary;
 use mail_lanes::MailLanes;
 use model_run::run_model;
 use room_outside::{Gate, ReadRefused, Shelf, read_whole};
@@ -40,6 +42,8 @@ pub(crate) enum Answer {
     /// The wiring of such a model.
     Wired(Wiring),
     Ran(Finished),
+    /// What is told of the run of a made model.
+    Summed(Summary),
 }
 
 /// The text of a model under a name.
@@ -102,7 +106,7 @@ fn refusal_of_lines(fault: InjectFault) -> Refusal
 }
 
 /// The lines of a text of injections over the names of a wiring, where none is faulty.
-fn judge_lines(alloc: Global, text: &[u8], wiring: &Wiring) -> Result<Vec<Line>, Refusal>
+pub(crate) fn judge_lines(alloc: Global, text: &[u8], wiring: &Wiring) -> Result<Vec<Line>, Refusal>
     requires short { length text.now ≤ 1048576 }
     ensures ok { IfOk result (λ lines. IsInjections wiring.now text.now lines.items) }
     ensures err { IfErr result (λ why. LinesCauses wiring.now text.now why) }
@@ -203,6 +207,10 @@ pub(crate) fn prepare<S: Shelf, G: Gate + Sync, R: Threads + Sync>(
         },
         Some(Asked::Run(files, fuel)) => match run_files(rt, alloc, shelf, files, fuel, gate) {
             Ok(finished) => Ok(Answer::Ran(finished)),
+            Err(why) => Err(why),
+        },
+        Some(Asked::Made(actors)) => match run_made(rt, alloc, actors, gate) {
+            Ok(summary) => Ok(Answer::Summed(summary)),
             Err(why) => Err(why),
         },
     }

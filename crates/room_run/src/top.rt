@@ -9,6 +9,7 @@ use crate::refusal::Refusal;
 use crate::status::Status;
 use binding_expand::expand_text;
 use journal::text_to;
+use made_model::write_summary;
 use room_outside::{Gate, Shelf, Sink};
 use std::alloc::Global;
 use std::thread::Threads;
@@ -38,6 +39,7 @@ fn status_of(answer: &Answer) -> Status
         Answer::Accepted => Status::Done,
         Answer::Wired(_) => Status::Done,
         Answer::Ran(run) => status_of_run(run.journals.done),
+        Answer::Summed(summary) => status_of_run(summary.done),
     }
 }
 
@@ -49,6 +51,7 @@ fn print<K: Sink>(answer: &Answer, out: &mut K) -> Status
         Answer::Accepted => write_ok(out),
         Answer::Wired(wiring) => expand_text(wiring, out),
         Answer::Ran(run) => text_to(&run.journals, &run.wiring, out),
+        Answer::Summed(summary) => write_summary(summary, out),
     };
     match written {
         Ok(()) => status_of(answer),
@@ -59,9 +62,10 @@ fn print<K: Sink>(answer: &Answer, out: &mut K) -> Status
 /// The program over a shelf of texts, standard output and standard error.
 ///
 /// The words `check MODEL` ask whether a model keeps all rules and its wiring and charts have no fault,
-/// `tree MODEL` for the slots and the joined places of such a model, and `run MODEL INJECT` for the run
-/// of a model over injections, in which each controller takes 10,000 turns at most, or N with `--fuel N`
-/// behind it, 1 to 100,000; every other list of words is refused. The order is: the words, reading
+/// `tree MODEL` for the slots and the joined places of such a model, `run MODEL INJECT` for the run of a
+/// model over injections, in which each controller takes 10,000 turns at most, or N with `--fuel N` behind
+/// it, 1 to 100,000, and `made N` for the summary of the run of a made model of N actors, 1 to 4,000; every
+/// other list of words is refused. No file is read for a made model. The order is: the words, reading
 /// the model, the model (its text, its rules, its wiring, its charts), reading the injections, the
 /// injections, the run, writing. After a failed read nothing more is read, and want of memory never
 /// comes once something was written.

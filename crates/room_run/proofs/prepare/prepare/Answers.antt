@@ -1,12 +1,11 @@
 use Rattle.std.proofs.Common.{◌≡◌, Some, refl, sym, ap, ◌∙◌}
 use Rattle.room_run.specs.Words.{asked_view, files_view}
-use Rattle.room_run.specs.Causes.{of_check, of_tree, of_run}
+use Rattle.room_run.specs.Causes.{of_check, of_tree, of_run, of_made}
 use Rattle.room_run.specs.Outcome.{says_ok, says_tree, says_run}
 use Rattle.room_run.specs.declared.asked.Asked.{Asked}
 use Rattle.room_run.specs.declared.asked.Asked.TheVariants as code
 use Rattle.room_run.proofs.CauseLemmas.{model_sound}
-use Rattle.run_promises.proofs.PromisesLaw.{promises}
-use Rattle.room_run.proofs.OutcomeLemmas.{text_is, is_by_charts}
+use Rattle.room_run.proofs.OutcomeLemmas.{text_is, run_of, sum_answers}
 use Rattle.room_run.proofs.prepare.prepare.Goals as goal
 
 pub returns-in-Ok-clause-ok : goal.returns-in-Ok-clause-ok
@@ -32,10 +31,23 @@ returns-in-Err-read_wiring-clause-err g c =
 pub returns-in-Ok-run_files-clause-ok : goal.returns-in-Ok-run_files-clause-ok
 returns-in-Ok-run_files-clause-ok g c =
     let x = c.in-Ok-run_files.ensures.ok in
+    let journals = c.in-Ok-run_files.finished.journals in
     let is : c.in-Some-Run.field-0 ≡ code.Run c.in-Some-Run.files c.in-Some-Run.fuel = cc in
-    says_run (files_view c.in-Some-Run.files) c.in-Some-Run.fuel x.0 x.1 c.in-Ok-run_files.finished.journals (sym c.in-Some-Run.ensures ∙ ap (λ (a : Asked). Some (asked_view a)) is) x.2 x.3.run (promises x.0 x.1 c.in-Some-Run.fuel c.in-Ok-run_files.finished.journals x.3.run) (is_by_charts (g.S.Shelf.shown c.args.shelf.now) (files_view c.in-Some-Run.files) x.0 x.1 c.in-Some-Run.fuel c.in-Ok-run_files.finished.journals x.2 x.3.run) (text_is x.0 x.1 c.in-Some-Run.fuel c.in-Ok-run_files.finished x.3) refl
+    says_run (files_view c.in-Some-Run.files) c.in-Some-Run.fuel x.0 x.1 journals (sym c.in-Some-Run.ensures ∙ ap (λ (a : Asked). Some (asked_view a)) is)
+    (run_of (g.S.Shelf.shown c.args.shelf.now) (files_view c.in-Some-Run.files) c.in-Some-Run.fuel x.0 x.1 journals x.2 x.3.run)
+    (text_is x.0 x.1 c.in-Some-Run.fuel c.in-Ok-run_files.finished x.3) refl
 
 pub returns-in-Err-run_files-clause-err : goal.returns-in-Err-run_files-clause-err
 returns-in-Err-run_files-clause-err g c =
     let is : c.in-Some-Run.field-0 ≡ code.Run c.in-Some-Run.files c.in-Some-Run.fuel = cc in
     of_run (files_view c.in-Some-Run.files) c.in-Some-Run.fuel (sym c.in-Some-Run.ensures ∙ ap (λ (a : Asked). Some (asked_view a)) is) c.in-Err-run_files.ensures.err
+
+pub returns-in-Ok-run_made-clause-ok : goal.returns-in-Ok-run_made-clause-ok
+returns-in-Ok-run_made-clause-ok g c =
+    let is : c.in-Some-Made.field-0 ≡ code.Made c.in-Some-Made.actors = cc in
+    sum_answers (g.S.Shelf.shown c.args.shelf.now) _ c.in-Some-Made.actors c.in-Ok-run_made.summary (sym c.in-Some-Made.ensures ∙ ap (λ (a : Asked). Some (asked_view a)) is) c.in-Ok-run_made.ensures.ok
+
+pub returns-in-Err-run_made-clause-err : goal.returns-in-Err-run_made-clause-err
+returns-in-Err-run_made-clause-err g c =
+    let is : c.in-Some-Made.field-0 ≡ code.Made c.in-Some-Made.actors = cc in
+    of_made c.in-Some-Made.actors (sym c.in-Some-Made.ensures ∙ ap (λ (a : Asked). Some (asked_view a)) is) c.in-Err-run_made.ensures.err
