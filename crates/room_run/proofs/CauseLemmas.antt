@@ -7,7 +7,7 @@ use Rattle.room_outside.proofs.ShelfLemmas.{IfSome-before, Rose-before}
 use Rattle.controller_actors.specs.declared.plant.Plant.{Plant}
 use Rattle.room_run.specs.Words.{Files}
 use Rattle.room_wiring.specs.declared.tables.Tables.{Tables}
-use Rattle.room_run.specs.Models.{IsModel, IsSound, most_bytes}
+use Rattle.room_run.specs.Models.{IsModel, IsSound, SoundCauses, most_bytes}
 use Rattle.inject_reader.specs.declared.inject_lines.accepted.Line.{Line}
 use Rattle.inject_reader.specs.Answer.{answer}
 use Rattle.inject_reader.specs.Gives.{Fails}
@@ -34,8 +34,8 @@ pub model_sound : (shelf : Shown) (name : List ℕ) (w : Tables) → TextIs shel
 model_sound shelf name w h = some_wiring (shelf.text name) w h
 
 -- the text was read, and is refused
-pub cause_found : (Of : List ℕ → ModelFault → Type 0) (before after : Shown) (name bytes : List ℕ) (fault : ModelFault) → IfSome (before.text name) (λ text. bytes ≡ text) → Of bytes fault → ModelCauses Of before after name (refusals.Model fault)
-cause_found Of before after name bytes fault is h = model_refused fault (found_fact (λ text. Of text fault) (before.text name) bytes is h)
+pub cause_found : (before after : Shown) (name bytes : List ℕ) (fault : ModelFault) → IfSome (before.text name) (λ text. bytes ≡ text) → SoundCauses bytes fault → ModelCauses before after name (refusals.Model fault)
+cause_found before after name bytes fault is h = model_refused fault (found_fact (λ text. SoundCauses text fault) (before.text name) bytes is h)
 
 -- ---- the injections
 

@@ -1,5 +1,5 @@
 -- What was read from a text, and what it says of the text.
-use Rattle.std.proofs.Common.{◌≡◌, ℕ, ◌≤◌, List, [], length, true, false, Option, Some, None, Result, Ok, Err, refl, sym, ap, ◌∙◌, subst}
+use Rattle.std.proofs.Common.{◌≡◌, ℕ, ◌≤◌, List, [], length, Option, Some, None, Result, Ok, Err, refl, sym, ap, ◌∙◌, subst}
 use Rattle.std.specs.Global.{Vec}
 use Rattle.room_lexer.specs.Cut.{Piece, CutTo, placed, FailsAt}
 use Rattle.room_lexer.specs.declared.piece.Cause.{Cause}
@@ -14,7 +14,6 @@ use Rattle.room_ast.specs.Values.{TokenValue}
 use Rattle.room_parser.specs.Parsed.{HasNoModel, IsOnlyModel, IsParsed}
 use Rattle.room_parser.specs.declared.fault.ParseFault.{ParseFault}
 use Rattle.room_parser.specs.declared.fault.ParseFault.TheVariants as parsing
-use Rattle.room_run.specs.service_words.Asked.{asks_for_names}
 use Rattle.named_runs.specs.Charts.{ShowCharts}
 use Rattle.room_run.proofs.model_plants.Tabled.{all_sound}
 use Rattle.service_messages.specs.slot_runs.Runs.{IsDepthFirst}
@@ -38,7 +37,7 @@ use Rattle.binding_expand.specs.Answers.{Expands}
 use Rattle.binding_expand.specs.Faults.{number}
 use Rattle.binding_expand.specs.declared.fault.WiringFault.{WiringFault}
 use Rattle.binding_expand.specs.declared.fault.WiringFault.TheVariants as wiring_faults
-use Rattle.room_run.specs.Models.{most_bytes, HasTokens, HasTree, IsSoundTree, IsSoundText, IsModel, IsUncut, HasNoTree, BreaksRule, IsGoodWiring, NeedsServices, SoundCauses, uncut, no_tree, breaks_rule, bad_wiring, bad_chart, no_memory, TextCauses, needs_services}
+use Rattle.room_run.specs.Models.{most_bytes, HasTokens, HasTree, IsSoundTree, IsSoundText, IsModel, IsUncut, HasNoTree, BreaksRule, IsGoodWiring, SoundCauses, uncut, no_tree, breaks_rule, bad_wiring, bad_chart, no_memory}
 use Rattle.room_run.specs.Reading.{HasItsTokens, HasItsTree, ChartCauses, first_faulty, no_memory_for_charts, TreeCauses, breaks, miswired, faulty, no_memory_for_tree, fault_of}
 use Rattle.room_run.specs.declared.model_fault.ModelFault.{ModelFault}
 use Rattle.room_run.specs.declared.model_fault.ModelFault.TheVariants as faults
@@ -134,12 +133,9 @@ tree_cause text tree short h no_memory_for_tree = no_memory
 pub text_sound : (text : List ℕ) (tree : ModelTree) (wiring : Tables) (charts : List (Option Chart)) → length text ≤ most_bytes → HasItsTree text tree → IsSoundTree tree wiring charts → IsSoundText text wiring charts
 text_sound text tree wiring charts short h sound = record { short = short; tree = tree; read = h.has; sound = sound }
 
--- the plant of a text that asks for no services
-pub model_judged : (text : List ℕ) (wiring : Tables) (charts : List (Option Chart)) (p : Plant) → IsSoundText text wiring charts → asks_for_names charts ≡ false → p.wiring ≡ wiring → ShowCharts p.tables.items charts → IsModel text p
-model_judged text wiring charts p is plain wired shown = record { charts = charts; is = subst (λ w. IsSoundText text w charts) (sym wired) is; plain = plain; tables = shown }
-
-pub services_asked : (text : List ℕ) (wiring : Tables) (charts : List (Option Chart)) → IsSoundText text wiring charts → asks_for_names charts ≡ true → TextCauses text faults.Later
-services_asked text wiring charts is asks = needs_services (record { wiring = wiring; charts = charts; is = is; asks = asks })
+-- the plant of a text
+pub model_judged : (text : List ℕ) (wiring : Tables) (charts : List (Option Chart)) (p : Plant) → IsSoundText text wiring charts → p.wiring ≡ wiring → ShowCharts p.tables.items charts → IsModel text p
+model_judged text wiring charts p is wired shown = record { charts = charts; is = subst (λ w. IsSoundText text w charts) (sym wired) is; tables = shown }
 
 -- controllers run on a plant of a sound text
 pub plant_runs : (text : List ℕ) (wiring : Tables) (charts : List (Option Chart)) (p : Plant) → IsSoundText text wiring charts → p.wiring ≡ wiring → ShowCharts p.tables.items charts → IsPlant p

@@ -15,7 +15,7 @@ use Rattle.inject_reader.specs.declared.fault.InjectFault.{InjectFault}
 use Rattle.inject_reader.specs.declared.fault.InjectFault.TheVariants as inject_faults
 use Rattle.room_run.specs.Words.{Files, Check, Tree, Run, Made, asked_by}
 use Rattle.room_run.specs.MadeShelf.{made_files, made_shelf}
-use Rattle.room_run.specs.Models.{IsModel, SoundCauses, TextCauses, most_bytes}
+use Rattle.room_run.specs.Models.{IsModel, SoundCauses, most_bytes}
 use Rattle.room_run.specs.declared.model_fault.ModelFault.{ModelFault}
 use Rattle.room_run.specs.declared.model_fault.ModelFault.TheVariants as faults
 use Rattle.room_run.specs.declared.refusal.Refusal.{Refusal}
@@ -52,10 +52,10 @@ pub data UnreadCauses (before after : Shown) (name : List ℕ) : Refusal → Typ
   model_long : TextIs before name (λ text. most_bytes < length text) → UnreadCauses before after name refusals.ModelTooLong
   model_no_memory : UnreadCauses before after name refusals.Memory
 
--- why a model may be refused, whose text is looked for under a name, where these are the causes for which a text is refused
-pub data ModelCauses (Of : List ℕ → ModelFault → Type 0) (before after : Shown) (name : List ℕ) : Refusal → Type 0 where
-  no_text : {why : Refusal} → UnreadCauses before after name why → ModelCauses Of before after name why
-  model_refused : (fault : ModelFault) → TextIs before name (λ text. Of text fault) → ModelCauses Of before after name (refusals.Model fault)
+-- why a model may be refused, whose text is looked for under a name
+pub data ModelCauses (before after : Shown) (name : List ℕ) : Refusal → Type 0 where
+  no_text : {why : Refusal} → UnreadCauses before after name why → ModelCauses before after name why
+  model_refused : (fault : ModelFault) → TextIs before name (λ text. SoundCauses text fault) → ModelCauses before after name (refusals.Model fault)
 
 -- why injections are refused whose lines have this fault
 abbrev pub refusal_of_lines : InjectFault → Refusal
@@ -77,14 +77,14 @@ pub data InjectionsCauses (before after : Shown) (name : List ℕ) (wiring : Tab
 -- Why the run of two files may be refused. The order is: reading the model, the model, reading the
 -- injections, the injections, the run.
 pub data RunCauses (before after : Shown) (files : Files) (why : Refusal) : Type 0 where
-  of_model : ModelCauses TextCauses before after files.model why → RunCauses before after files why
+  of_model : ModelCauses before after files.model why → RunCauses before after files why
   of_injections : (plant : Plant) → TextIs before files.model (λ text. IsModel text plant) → InjectionsCauses before after files.injections plant.wiring why → RunCauses before after files why
   run_no_memory : why ≡ refusals.Memory → RunCauses before after files why
 
 -- why a text that stands in memory may be refused as that of a model which runs
 pub data PlantCauses (text : List ℕ) : Refusal → Type 0 where
   long_model : most_bytes < length text → PlantCauses text refusals.ModelTooLong
-  unfit_model : (fault : ModelFault) → TextCauses text fault → PlantCauses text (refusals.Model fault)
+  unfit_model : (fault : ModelFault) → SoundCauses text fault → PlantCauses text (refusals.Model fault)
 
 -- why a text that stands in memory may be refused as that of injections
 pub data InjectedCauses (wiring : Tables) (text : List ℕ) (why : Refusal) : Type 0 where
@@ -94,8 +94,8 @@ pub data InjectedCauses (wiring : Tables) (text : List ℕ) (why : Refusal) : Ty
 -- why a call may be refused: for its words, or by what they ask for; a made model is refused as if its texts stood on a shelf
 pub data Causes (before after : Shown) (words : List (List ℕ)) (why : Refusal) : Type 0 where
   no_such_words : asked_by words ≡ None → why ≡ refusals.Words → Causes before after words why
-  of_check : (name : List ℕ) → asked_by words ≡ Some (Check name) → ModelCauses SoundCauses before after name why → Causes before after words why
-  of_tree : (name : List ℕ) → asked_by words ≡ Some (Tree name) → ModelCauses SoundCauses before after name why → Causes before after words why
+  of_check : (name : List ℕ) → asked_by words ≡ Some (Check name) → ModelCauses before after name why → Causes before after words why
+  of_tree : (name : List ℕ) → asked_by words ≡ Some (Tree name) → ModelCauses before after name why → Causes before after words why
   of_run : (files : Files) (fuel : ℕ) → asked_by words ≡ Some (Run files fuel) → RunCauses before after files why → Causes before after words why
   of_made : (actors : ℕ) → asked_by words ≡ Some (Made actors) → RunCauses (made_shelf actors) (made_shelf actors) made_files why → Causes before after words why
 
@@ -106,7 +106,6 @@ status_of_fault (faults.Syntax number) = statuses.ModelRefused
 status_of_fault (faults.Rule number) = statuses.ModelRefused
 status_of_fault (faults.Wiring number) = statuses.ModelRefused
 status_of_fault (faults.Chart class number) = statuses.ModelRefused
-status_of_fault faults.Later = statuses.ModelRefused
 status_of_fault faults.Memory = statuses.Memory
 
 -- the status of a refusal
@@ -126,7 +125,6 @@ note_of_fault (faults.Syntax number) = line (codes "room: model refused: syntax 
 note_of_fault (faults.Rule number) = line (codes "room: model refused: rule " ∷ decimal number ∷ [])
 note_of_fault (faults.Wiring number) = line (codes "room: model refused: wiring " ∷ decimal number ∷ [])
 note_of_fault (faults.Chart class number) = line (codes "room: model refused: chart " ∷ class ∷ codes " " ∷ decimal number ∷ [])
-note_of_fault faults.Later = line (codes "room: model refused: later" ∷ [])
 note_of_fault faults.Memory = line (codes "room: memory" ∷ [])
 
 -- what is told of a refusal: one line, names as they stand and numbers in decimal digits

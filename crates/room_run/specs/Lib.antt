@@ -7,4 +7,3 @@ pub mod Outcome
 pub mod Finished
 pub mod MadeShelf
 pub mod model_plants
-pub mod service_words

@@ -1,9 +1,8 @@
--- Which texts are those of models that keep all rules and whose wiring and charts have no fault, which of them run, and why others don't.
+-- Which texts are those of models that keep all rules and whose wiring and charts have no fault, as what they run, and why others don't.
 -- `IsModel`: the text is that of a model which runs as this plant. It is short enough, it has
 -- tokens, a tree has their values, the tree keeps all rules, it has a wiring without a fault and
--- charts; no action of it registers or withdraws a name; and the plant
--- has its wiring, and for each actor class the tables that show its chart.
-use Rattle.std.specs.Prelude.{◌≡◌, ℕ, ◌≤◌, List, [], length, true, false, Option, Some, None}
+-- charts; and the plant has its wiring, and for each actor class the tables that show its chart.
+use Rattle.std.specs.Prelude.{◌≡◌, ℕ, ◌≤◌, List, [], length, Option, Some, None}
 use Rattle.room_lexer.specs.Cut.{Piece, CutTo, placed, FailsAt}
 use Rattle.room_lexer.specs.declared.piece.Cause.{Cause}
 use Rattle.room_lexer.specs.declared.token.Token.{Token}
@@ -19,7 +18,6 @@ use Rattle.room_wiring.specs.declared.tables.Tables.{Tables}
 use Rattle.binding_expand.specs.Wirings.{IsWiringOf}
 use Rattle.binding_expand.specs.Faults.{HasNoFault, IsLowestFault, number as number_of}
 use Rattle.binding_expand.specs.declared.fault.WiringFault.{WiringFault}
-use Rattle.room_run.specs.service_words.Asked.{asks_for_names}
 use Rattle.named_runs.specs.Charts.{ShowCharts}
 use Rattle.controller_actors.specs.declared.plant.Plant.{Plant}
 use Rattle.room_run.specs.declared.model_fault.ModelFault.{ModelFault}
@@ -64,11 +62,10 @@ pub record IsSound (text : List ℕ) (wiring : Tables) : Type 0 where
   pub charts : List (Option Chart)
   pub is : IsSoundText text wiring charts
 
--- the text is that of such a model, whose actions register and withdraw no name; the plant has its wiring, and for each actor class the tables that show its chart
+-- the text is that of such a model; the plant has its wiring, and for each actor class the tables that show its chart
 pub record IsModel (text : List ℕ) (plant : Plant) : Type 0 where
   pub charts : List (Option Chart)
   pub is : IsSoundText text plant.wiring charts
-  pub plain : asks_for_names charts ≡ false
   pub tables : ShowCharts plant.tables.items charts
 
 -- the text can't be cut at this byte, before which it can
@@ -111,13 +108,6 @@ pub record HasBadChart (text : List ℕ) (class : List ℕ) (number : ℕ) : Typ
   pub wired : IsGoodWiring tree wiring
   pub first : HasFaultyChart tree class number
 
--- the text is that of a model which keeps all rules and whose wiring and charts have no fault, and an action of which asks the frame service or the layer service for something
-pub record NeedsServices (text : List ℕ) : Type 0 where
-  pub wiring : Tables
-  pub charts : List (Option Chart)
-  pub is : IsSoundText text wiring charts
-  pub asks : asks_for_names charts ≡ true
-
 -- Why a text may be refused as that of a model which keeps all rules and whose wiring and charts have
 -- no fault. The order is: the cut, the tree, the rules in order of their numbers, the wiring,
 -- the charts of the actor classes in order of declaration.
@@ -128,9 +118,3 @@ pub data SoundCauses (text : List ℕ) : ModelFault → Type 0 where
   bad_wiring : (number : ℕ) → HasBadWiring text number → SoundCauses text (faults.Wiring number)
   bad_chart : (class : List ℕ) (number : ℕ) → HasBadChart text class number → SoundCauses text (faults.Chart class number)
   no_memory : SoundCauses text faults.Memory
-
--- why a text may be refused as that of a model which runs: for a cause that stands before, or because its actors need the services, which don't run yet
-pub data TextCauses (text : List ℕ) : ModelFault → Type 0 where
-  unsound : (why : ModelFault) → SoundCauses text why → TextCauses text why
-  needs_services : NeedsServices text → TextCauses text faults.Later
-  none_for_running : TextCauses text faults.Memory

@@ -7,12 +7,11 @@ ghost use Rattle.structure_check.specs.List.{all_rules};
 ghost use Rattle.chart_reading.specs.chart_graphs.Views.{chart_view};
 ghost use Rattle.chart_reader.specs.model_charts.Charts.{AreValid, HasCharts};
 ghost use Rattle.controller_actors.specs.Plants.{IsPlant};
-ghost use Rattle.room_run.specs.Models.{IsGoodWiring, IsModel, IsSoundText, IsSoundTree, SoundCauses, TextCauses};
+ghost use Rattle.room_run.specs.Models.{IsGoodWiring, IsModel, IsSoundText, IsSoundTree, SoundCauses};
 ghost use Rattle.room_run.specs.Reading.{ChartCauses, HasItsTokens, HasItsTree, IsCheckedFor, TreeCauses, fault_of};
 
 use crate::model_fault::ModelFault;
 use crate::model_plants::plant_of;
-use crate::service_words::asks_for_names;
 use binding_expand::{WiringFault, expand};
 use chart_reader::{ChartsFault, charts_of};
 use chart_reading::Chart;
@@ -154,21 +153,18 @@ pub(crate) fn sound_model(alloc: Global, text: &[u8]) -> Result<SoundModel, Mode
     }
 }
 
-/// The plant of a text, where it is that of a model which keeps all rules, whose wiring and charts have no
-/// fault, and whose actions ask for no name.
+/// The plant of a text, where it is that of a model which keeps all rules and whose wiring and charts have no
+/// fault.
 pub fn read_plant(alloc: Global, text: &[u8]) -> Result<Plant, ModelFault>
     requires { length text.now ≤ 1048576 }
     ensures ok { IfOk result (λ plant. IsModel text.now plant) }
     ensures plant { IfOk result (λ plant. IsPlant plant) }
-    ensures err { IfErr result (λ why. TextCauses text.now why) }
+    ensures err { IfErr result (λ why. SoundCauses text.now why) }
 {
     let sound = match sound_model(alloc, text) {
         Ok(sound) => sound,
         Err(why) => return Err(why),
     };
-    if asks_for_names(&sound.charts) {
-        return Err(ModelFault::Later);
-    }
     match plant_of(alloc, sound.wiring, &sound.charts) {
         Ok(plant) => Ok(plant),
         Err(AllocError) => Err(ModelFault::Memory),

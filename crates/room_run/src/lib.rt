@@ -1,8 +1,8 @@
 //! From the words of a command line to the bytes of the journals.
 //!
 //! `room_top` is the whole program over a shelf of texts and two sinks. Its contract is the
-//! headline of the project for the models that run today (all but those whose actions create, destroy,
-//! lend or register actors), and the exact answer of the check of a model and of the text of its wiring.
+//! headline of the project: every model that keeps the rules and has no fault runs, and what is printed is a
+//! run of it. It is the exact answer of the check of a model and of the text of its wiring, too.
 #![tactic(auto)]
 
 mod asked;
@@ -13,7 +13,6 @@ pub mod model_plants;
 mod note;
 mod prepare;
 mod refusal;
-pub mod service_words;
 mod status;
 mod top;
 
@@ -22,6 +21,5 @@ pub use model_fault::ModelFault;
 pub use model_plants::plant_of;
 pub use model_run::{run_local, run_model};
 pub use refusal::Refusal;
-pub use service_words::asks_for_names;
 pub use status::Status;
 pub use top::room_top;

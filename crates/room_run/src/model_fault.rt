@@ -21,9 +21,6 @@ pub enum ModelFault {
     /// The model keeps all rules, its wiring has no fault, and the actor class of this name is the
     /// first whose chart has a fault; the lowest one has this number, 1 to 8.
     Chart { class: Name, number: u8 },
-    /// The model keeps all rules, its wiring and its charts have no fault, and an action of it has
-    /// `register` or `withdraw`, which don't run yet.
-    Later,
     Memory,
 }
 
@@ -37,7 +34,6 @@ impl ModelFault {
             ModelFault::Rule(_) => Status::ModelRefused,
             ModelFault::Wiring(_) => Status::ModelRefused,
             ModelFault::Chart { .. } => Status::ModelRefused,
-            ModelFault::Later => Status::ModelRefused,
             ModelFault::Memory => Status::Memory,
         }
     }

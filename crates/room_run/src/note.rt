@@ -79,7 +79,6 @@ fn write_model_fault<K: Sink>(why: &ModelFault, notes: &mut K) -> Result<(), Wri
             class.as_bytes(),
             u64::from(*number),
         ),
-        ModelFault::Later => write_text(notes, b"room: model refused: later"),
         ModelFault::Memory => write_text(notes, b"room: memory"),
     }
 }

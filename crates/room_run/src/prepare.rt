@@ -6,7 +6,7 @@ ghost use Rattle.controller_actors.specs.Plants.{IsPlant};
 ghost use Rattle.controller_actors.specs.declared.plant.Plant.{Plant as RunPlant};
 ghost use Rattle.inject_reader.specs.declared.inject_lines.accepted.Line.{Line as InjectedLine};
 ghost use Rattle.room_run.specs.Words.{files_view};
-ghost use Rattle.room_run.specs.Models.{IsSound, IsModel, SoundCauses, TextCauses};
+ghost use Rattle.room_run.specs.Models.{IsSound, IsModel};
 ghost use Rattle.room_run.specs.Causes.{AreOf, Causes, InjectionsCauses, IsInjections, LinesCauses, ModelCauses, RunCauses, TextIs, UnreadCauses, refusal_of_lines};
 ghost use Rattle.room_run.specs.Outcome.{Answers, answer_status, answer_text};
 ghost use Rattle.room_run.specs.Finished.{Finishes};
@@ -65,7 +65,7 @@ fn read_text<S: Shelf>(alloc: Global, shelf: &mut S, name: &str) -> Result<Vec<u
 /// charts have no fault.
 fn read_wiring<S: Shelf>(alloc: Global, shelf: &mut S, name: &str) -> Result<Wiring, Refusal>
     ensures ok { IfOk result (λ w. TextIs (S.shown shelf.old) name.now (λ text. IsSound text w)) }
-    ensures err { IfErr result (λ why. ModelCauses SoundCauses (S.shown shelf.old) (S.shown shelf.new) name.now why) }
+    ensures err { IfErr result (λ why. ModelCauses (S.shown shelf.old) (S.shown shelf.new) name.now why) }
     ensures keeps { Keeps (S.shown shelf.old) (S.shown shelf.new) }
 {
     let text = match read_text(alloc, shelf, name) {
@@ -82,7 +82,7 @@ fn read_wiring<S: Shelf>(alloc: Global, shelf: &mut S, name: &str) -> Result<Wir
 fn read_model<S: Shelf>(alloc: Global, shelf: &mut S, name: &str) -> Result<Plant, Refusal>
     ensures ok { IfOk result (λ plant. TextIs (S.shown shelf.old) name.now (λ text. IsModel text plant)) }
     ensures plant { IfOk result (λ plant. IsPlant plant) }
-    ensures err { IfErr result (λ why. ModelCauses TextCauses (S.shown shelf.old) (S.shown shelf.new) name.now why) }
+    ensures err { IfErr result (λ why. ModelCauses (S.shown shelf.old) (S.shown shelf.new) name.now why) }
     ensures keeps { Keeps (S.shown shelf.old) (S.shown shelf.new) }
 {
     let text = match read_text(alloc, shelf, name) {

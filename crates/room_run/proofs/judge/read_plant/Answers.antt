@@ -1,18 +1,9 @@
-use Rattle.std.proofs.Common.{◌≡◌, map, option_map, true, subst}
+use Rattle.std.proofs.Common.{map, option_map, subst}
 use Rattle.chart_reading.specs.chart_graphs.Views.{chart_view}
-use Rattle.room_run.specs.service_words.Asked.{asks_for_names}
 use Rattle.named_runs.specs.Charts.{ShowCharts}
-use Rattle.room_run.specs.Models.{unsound, none_for_running}
-use Rattle.room_run.proofs.JudgeLemmas.{services_asked, plant_runs}
+use Rattle.room_run.specs.Models.{no_memory}
+use Rattle.room_run.proofs.JudgeLemmas.{plant_runs}
 use Rattle.room_run.proofs.judge.read_plant.Goals as goal
-
-pub returns-in-Err-clause-err : goal.returns-in-Err-clause-err
-returns-in-Err-clause-err c = unsound c.in-Err.why c.in-Err.ensures.err
-
-pub returns-then-asks_for_names-clause-err : goal.returns-then-asks_for_names-clause-err
-returns-then-asks_for_names-clause-err c =
-    let asks : asks_for_names (map (option_map chart_view) c.in-Ok.sound.charts.items) ≡ true = cc in
-    services_asked c.args.text.now c.in-Ok.sound.wiring (map (option_map chart_view) c.in-Ok.sound.charts.items) c.in-Ok.ensures.ok asks
 
 pub returns-in-Ok-plant_of-clause-plant : goal.returns-in-Ok-plant_of-clause-plant
 returns-in-Ok-plant_of-clause-plant c =
@@ -20,4 +11,4 @@ returns-in-Ok-plant_of-clause-plant c =
     plant_runs c.args.text.now c.in-Ok.sound.wiring (map (option_map chart_view) c.in-Ok.sound.charts.items) c.in-Ok-plant_of.plant c.in-Ok.ensures.ok c.in-Ok-plant_of.ensures.wiring shown
 
 pub returns-clause-err : goal.returns-clause-err
-returns-clause-err c = none_for_running
+returns-clause-err c = no_memory

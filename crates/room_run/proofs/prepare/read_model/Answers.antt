@@ -1,5 +1,5 @@
 use Rattle.std.proofs.Common.{subst, ℕ, List}
-use Rattle.room_run.specs.Models.{TextCauses}
+use Rattle.room_run.specs.Models.{SoundCauses}
 use Rattle.room_run.specs.Causes.{no_text}
 use Rattle.room_run.proofs.CauseLemmas.{cause_found}
 use Rattle.room_run.proofs.prepare.read_model.Goals as goal
@@ -10,5 +10,5 @@ returns-in-Err-clause-err g c = no_text c.in-Err.ensures.err
 pub returns-clause-err : goal.returns-clause-err
 returns-clause-err g c =
     let fault = c.in-Err-read_plant.fault in
-    cause_found TextCauses (g.S.Shelf.shown c.args.shelf.now) (g.S.Shelf.shown c.read_text.new.shelf) c.args.name.now c.in-Ok.text.items fault c.in-Ok.ensures.ok
-    (subst (λ (text : List ℕ). TextCauses text fault) c.as_slice.ensures.value c.in-Err-read_plant.ensures.err)
+    cause_found (g.S.Shelf.shown c.args.shelf.now) (g.S.Shelf.shown c.read_text.new.shelf) c.args.name.now c.in-Ok.text.items fault c.in-Ok.ensures.ok
+    (subst (λ (text : List ℕ). SoundCauses text fault) c.as_slice.ensures.value c.in-Err-read_plant.ensures.err)

@@ -10,5 +10,5 @@ returns-in-Err-clause-err g c = no_text c.in-Err.ensures.err
 pub returns-clause-err : goal.returns-clause-err
 returns-clause-err g c =
     let fault = c.in-Err-sound_model.fault in
-    cause_found SoundCauses (g.S.Shelf.shown c.args.shelf.now) (g.S.Shelf.shown c.read_text.new.shelf) c.args.name.now c.in-Ok.text.items fault c.in-Ok.ensures.ok
+    cause_found (g.S.Shelf.shown c.args.shelf.now) (g.S.Shelf.shown c.read_text.new.shelf) c.args.name.now c.in-Ok.text.items fault c.in-Ok.ensures.ok
     (subst (λ (text : List ℕ). SoundCauses text fault) c.as_slice.ensures.value c.in-Err-sound_model.ensures.err)
