@@ -1,20 +1,24 @@
 #!/usr/bin/env bash
 # How many messages a second each mailbox carries: from a controller to itself on one thread, and from
 # one controller to another, each in a thread. Beside them stands a plain Rust queue behind a lock, where
-# rustc is at hand. Words: how many messages; 2,000,000 without.
+# rustc is at hand. Times of whole programs, least of five. Words: how many messages; 2,000,000 without.
 set -eu
 . "$(dirname "${BASH_SOURCE[0]}")/timing.sh"
 count="${1:-2000000}"
-program="$(program_of room_bench)"
+mail="$top/crates/mail_bench/out/mail_bench"
+[ -x "$mail" ] || (cd "$top/crates/mail_bench" && rt run) >/dev/null 2>&1 </dev/null || true
 
-# The best of three runs, in millions a second.
-fastest() {
-    for _ in 1 2 3; do "$@"; done | awk -F': | in | us' '
-        { rate = ($3 > 0) ? $2 / $3 : 0; if (!($1 in most)) order[++n] = $1; if (rate > most[$1]) most[$1] = rate }
-        END { for (i = 1; i <= n; i++) printf "%-28s %7.2f million a second\n", order[i], most[order[i]] }'
+# Tells how fast a command carries the messages, under some name.
+measure() {
+    printf '%-28s %7s million a second\n' "$1" "$(ratio "$count" "$(best "${@:2}" "$count")")"
 }
 
-fastest "$program" mail "$count"
+tell_load
+measure 'MailLocal, to itself' "$mail" local self
+measure 'MailLanes, to itself' "$mail" lanes self
+measure 'MailSeg, to itself' "$mail" seg self
+measure 'MailLanes, to another' "$mail" lanes other
+measure 'MailSeg, to another' "$mail" seg other
 
 command -v rustc >/dev/null || exit 0
 cat >"$work/plain.rs" <<'RUST'
@@ -22,7 +26,6 @@ use std::collections::VecDeque;
 use std::hint::black_box;
 use std::sync::Mutex;
 use std::sync::atomic::{AtomicBool, Ordering};
-use std::time::Instant;
 
 #[allow(dead_code)]
 struct Msg {
@@ -40,41 +43,51 @@ fn message(number: u64) -> Msg {
     Msg { from: 0, to: 0, prio: 3, stamp: number, source: None, target: [1, 1, 0], signal: 3, payload: Vec::new() }
 }
 
-fn main() {
-    let count: u64 = std::env::args().nth(1).unwrap().parse().unwrap();
-    let queue = Mutex::new(VecDeque::new());
-    let start = Instant::now();
-    let mut found = 0u64;
+fn alone(queue: &Mutex<VecDeque<Msg>>, count: u64) -> u64 {
+    let mut found = 0;
     for number in 0..count {
         queue.lock().unwrap().push_back(black_box(message(number)));
         if black_box(queue.lock().unwrap().pop_front()).is_some() {
             found += 1;
         }
     }
-    println!("Mutex<VecDeque>, to itself: {found} in {} us", start.elapsed().as_micros());
+    found
+}
 
+fn receive(queue: &Mutex<VecDeque<Msg>>, done: &AtomicBool) -> u64 {
+    let mut found = 0;
+    loop {
+        let last = done.load(Ordering::SeqCst);
+        let some = black_box(queue.lock().unwrap().pop_front()).is_some();
+        if some {
+            found += 1;
+        } else if last {
+            return found;
+        }
+    }
+}
+
+fn two(queue: &Mutex<VecDeque<Msg>>, count: u64) -> u64 {
     let done = AtomicBool::new(false);
-    let start = Instant::now();
-    let found = std::thread::scope(|scope| {
+    std::thread::scope(|scope| {
         scope.spawn(|| {
             for number in 0..count {
                 queue.lock().unwrap().push_back(black_box(message(number)));
             }
             done.store(true, Ordering::SeqCst);
         });
-        let mut found = 0u64;
-        loop {
-            let last = done.load(Ordering::SeqCst);
-            let some = black_box(queue.lock().unwrap().pop_front()).is_some();
-            if some {
-                found += 1;
-            } else if last {
-                break found;
-            }
-        }
-    });
-    println!("Mutex<VecDeque>, to another: {found} in {} us", start.elapsed().as_micros());
+        receive(queue, &done)
+    })
+}
+
+fn main() {
+    let words: Vec<String> = std::env::args().collect();
+    let count = words[2].parse().unwrap();
+    let queue = Mutex::new(VecDeque::new());
+    let came = if words[1] == "self" { alone(&queue, count) } else { two(&queue, count) };
+    println!("{came} messages came");
 }
 RUST
 rustc -O -o "$work/plain" "$work/plain.rs"
-fastest "$work/plain" "$count"
+measure 'Mutex<VecDeque>, to itself' "$work/plain" self
+measure 'Mutex<VecDeque>, to another' "$work/plain" other

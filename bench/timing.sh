@@ -16,13 +16,6 @@ tell_load() {
     echo "processors $(nproc), load $(cut -d ' ' -f 1-3 /proc/loadavg)"
 }
 
-# The program of this name, built first where it isn't there.
-program_of() {
-    local program="$top/crates/$1/out/$1"
-    [ -x "$program" ] || (cd "$top/crates/$1" && rt run) >/dev/null 2>&1 </dev/null || true
-    echo "$program"
-}
-
 # The least of five times of a command in microseconds, whatever its status.
 best() {
     local least=999999999 begin took

@@ -1,2 +1,0 @@
-pub mod EndsOfThree
-pub mod FirstTables
