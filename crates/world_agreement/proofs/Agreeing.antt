@@ -1,6 +1,8 @@
 -- Over every run of the world: trails are queues, and what is told and on its way is what stands.
 use Rattle.std.proofs.Common.{◌≡◌, ℕ, ◌+◌, ◌<◌, ◌≤◌, ◌==◌, ◌&&◌, Bool, true, false, if◌then◌else◌, List, [], ◌∷◌, ◌++◌, get_or, filter, length, slice_get, Option, Some, None, refl, sym, ap, ◌∙◌, subst, eq-eqb, eqb-true, append-nil, arith, ◌⊎◌, inl, inr}
 use Rattle.std.specs.Option.{option_map_or}
+use Rattle.std.specs.List.{Contains}
+use Rattle.std.proofs.lemmas.List.Elements.{All-from_recursion, All-contains}
 use Rattle.std.proofs.lemmas.Bool.{cases_lt, ne_eqb, eqb-false}
 use Rattle.std.proofs.lemmas.Option.{slice_get_cases}
 use Rattle.room_kinds.specs.declared.message.Msg.{Msg}
@@ -26,6 +28,7 @@ use Rattle.actor_world.specs.Start.{lives_from_start, first_body, first_actors, 
 use Rattle.actor_world.specs.Directories.{IsOpen, AreOpen}
 use Rattle.actor_world.specs.Agreed.{DirectoriesAgree}
 use Rattle.world_agreement.specs.Trails.{contents, from_a, system_to, is_system_to, trail, leaves, comes, hear_all}
+use Rattle.world_agreement.specs.Senders.{about}
 use Rattle.world_agreement.specs.Announced.{heard, AreForetold}
 use Rattle.world_agreement.proofs.Lists.{all_append, all_later, all_filter, all_passed}
 use Rattle.world_agreement.proofs.Plain.{AllPlain}
@@ -282,6 +285,11 @@ module _ {M : Type 0} (model : Behaviour M) (clear : IsOpen model) (t : Tables) 
 
   pub runs_foretell : (xs : List Placed) (end : World (Body M)) → Runs (plant_of model t lines) (start (plant_of model t lines)) xs end → IsForetold t end
   runs_foretell xs end r = run_foretold xs (start (plant_of model t lines)) end start_foretold r
+
+  pub senders : (xs : List Placed) (end : World (Body M)) → Runs (plant_of model t lines) (start (plant_of model t lines)) xs end
+      → (a b : ℕ) (m : Msg) (x : Incarnation) → Contains (trail end a b) m → about m ≡ Some x → owner_of t x.slot.0 ≡ a
+  senders xs end r a b m x there h =
+      All-contains (IsOwned t a) (trail end a b) m (All-from_recursion (IsOwned t a) (trail end a b) ((runs_foretell xs end r).owned a b)) there x h
 
   -- in a quiet world nothing is on its way that tells of a life
   pub quiet_unread : {X : Type 0} (s d : ℕ) (hear : Msg → X → X) → IsHearing s hear → (end : World (Body M)) → IsForetold t end → IsQuiet (plant_of model t lines) end

@@ -19,7 +19,8 @@ use Rattle.actor_world.specs.Turns.{all_kinds}
 use Rattle.world_agreement.specs.Trails.{contents, from_a, is_from, system_to, is_system_to, hear_all}
 use Rattle.world_agreement.specs.Announced.{told_by, told_if, heard_of, heard}
 use Rattle.world_agreement.specs.Bodies.{part_if, part_heard_of, part_heard}
-use Rattle.world_agreement.proofs.Plain.{about, about_by, AllPlain}
+use Rattle.world_agreement.specs.Senders.{about, about_by}
+use Rattle.world_agreement.proofs.Plain.{AllPlain}
 use Rattle.world_agreement.proofs.Lists.{has, has_filter, has_range}
 
 -- a message doesn't tell of the life of what is in slot s

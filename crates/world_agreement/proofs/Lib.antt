@@ -11,3 +11,4 @@ pub mod Moving
 pub mod Reading
 pub mod Agreeing
 pub mod Parting
+pub mod Settling

@@ -36,7 +36,7 @@ use Rattle.world_agreement.proofs.Reading.{IsHearing, unread, TurnReads, step_re
 use Rattle.world_agreement.proofs.Agreeing.{own_there, put_own, fresh_trail, IsForetold, controller_foretold, world_then, environment_moves, environment_foretold, first_carries, first_plain, start_foretold, quiet_unread}
 
 -- an optional slot is there
-optional_there : (t : Tables) (o : ℕ) → is_optional t o ≡ true → o < length t.slots
+pub optional_there : (t : Tables) (o : ℕ) → is_optional t o ≡ true → o < length t.slots
 unfolding is_optional
 optional_there t o h = let x = held_true (λ (x : Slot). is_optional_kind x.kind) (slot_at t o) h in slice_get_within t.slots o x.0 x.1
 

@@ -1,6 +1,6 @@
 -- Of all that duties and commands send, only what makes or ends actors tells of it: by Announce, PartMake
 -- and PartEnd.
-use Rattle.std.proofs.Common.{◌≡◌, ℕ, ◌+◌, ◌==◌, Bool, true, false, not, ◌&&◌, ◌||◌, if◌then◌else◌, is_some, List, [], ◌∷◌, ◌++◌, map, filter, slice_get, Option, Some, None, ℤ, pos, negsuc, refl}
+use Rattle.std.proofs.Common.{◌≡◌, ℕ, ◌+◌, ◌==◌, Bool, true, false, not, ◌&&◌, ◌||◌, if◌then◌else◌, is_some, List, [], ◌∷◌, ◌++◌, map, filter, Option, Some, None, ℤ, pos, negsuc, refl}
 use Rattle.std.specs.Option.{option_map_or}
 use Rattle.room_kinds.specs.declared.message.Msg.{Msg}
 use Rattle.room_kinds.specs.declared.numbers.Incarnation.{Incarnation}
@@ -23,18 +23,7 @@ use Rattle.actor_duties.specs.Names.{same_table, Linking, linked_users, linked_f
 use Rattle.actor_duties.specs.Links.{same_links, name_reply, replied, links_duty_of, links_duty_from, links_duty, register_from, register_command, withdraw_from, withdraw_command, name_request, end_of, is_own_point}
 use Rattle.actor_duties.specs.Peers.{peer}
 use Rattle.actor_duties.specs.Commands.{Content, send, send_to, send_each, broadcast, broadcast_places}
-use Rattle.actor_world.specs.Turns.{all_kinds}
-
--- the actor whose life a message of this kind tells of
-abbrev pub about_by : Option SysKind → Option Endpoint → Option Incarnation
-about_by (Some kinds.Announce) (Some source) = Some (whose source)
-about_by (Some kinds.PartMake) (Some source) = Some (whose source)
-about_by (Some kinds.PartEnd) (Some source) = Some (whose source)
-about_by _ _ = None
-
--- the actor whose life a message tells of, if it does
-abbrev pub about : Msg → Option Incarnation
-about m = if m.prio.0 == 0 then about_by (slice_get all_kinds m.signal) m.source else None
+use Rattle.world_agreement.specs.Senders.{about}
 
 -- a message that tells of no life
 abbrev pub IsPlain : Msg → Type 0

@@ -22,7 +22,8 @@ use Rattle.service_messages.proofs.slot_runs.RunLemmas.{false_from, not_true_fal
 use Rattle.world_agreement.specs.Announced.{told_by, heard}
 use Rattle.world_agreement.specs.Bodies.{part_heard}
 use Rattle.world_agreement.proofs.Lists.{all_append, all_passed, all_reverse, all_flat, all_map, all_unit, flat_after_map, has, has_filter, has_range, has_reverse}
-use Rattle.world_agreement.proofs.Plain.{about, AllPlain, plain_append, plain_ended_plugs, plain_given_back}
+use Rattle.world_agreement.specs.Senders.{about}
+use Rattle.world_agreement.proofs.Plain.{AllPlain, plain_append, plain_ended_plugs, plain_given_back}
 use Rattle.world_agreement.proofs.Carrying.{IsPlainLast}
 use Rattle.world_agreement.proofs.Hearing.{and_true, IsMute, AllMute, after, after_append, after_mute, slots_after, heard_plain, announces_after, announces_mute, parts_unheard, part_plain, announces_unheard, parts_mute, HasOther, makes_after, ends_after}
 use Rattle.world_agreement.proofs.Below.{made_itself, made_once}

@@ -1,3 +1,5 @@
 pub mod Trails
+pub mod Senders
 pub mod Announced
 pub mod Bodies
+pub mod Settled

@@ -6,8 +6,10 @@
 #![tactic(auto)]
 
 ghost use Rattle.world_agreement.specs.Trails.{TrailsAreQueues, QuietTrailsAreEmpty};
+ghost use Rattle.world_agreement.specs.Senders.{OwnersTell};
 ghost use Rattle.world_agreement.specs.Announced.{RunsForetell, QuietDirectoriesAgree};
 ghost use Rattle.world_agreement.specs.Bodies.{RunsForetellParts, QuietBodiesAgree, ContainersLive};
+ghost use Rattle.world_agreement.specs.Settled.{DoneRunsAgree};
 
 /// The system messages on their way from one controller to another are a queue. `steps`: an event that is
 /// not a turn leaves every trail as it is; a turn takes the front of at most one, and appends what it sends.
@@ -15,6 +17,12 @@ ghost use Rattle.world_agreement.specs.Bodies.{RunsForetellParts, QuietBodiesAgr
 pub fn trails_are_queues<M>()
     ensures steps { TrailsAreQueues M }
     ensures quiet { QuietTrailsAreEmpty M }
+{}
+
+/// What is on its way from one controller to another and tells of an actor's life tells of a slot of the
+/// sender's own.
+pub fn owners_tell<M>()
+    ensures { OwnersTell M }
 {}
 
 /// Directories agree with the owners of the slots. `runs`: at every moment, what a directory tells of a
@@ -37,4 +45,11 @@ pub fn bodies_agree<M>()
 /// A live optional slot has a live container, at every moment.
 pub fn containers_live<M>()
     ensures { ContainersLive M }
+{}
+
+/// Where a whole run is done, all controllers agree on which actors live, in the world that its journals
+/// lead to: what directories tell, what lives of the body of an optional slot, and that a live optional slot
+/// has a live container.
+pub fn done_runs_agree<M>()
+    ensures { DoneRunsAgree M }
 {}
