@@ -20,9 +20,10 @@ use Rattle.world_agreement.proofs.Lists.{all_append}
 use Rattle.world_agreement.proofs.Plain.{AllPlain, plain_create_done, plain_create_refused, plain_destroy_done, plain_import, plain_import_done, plain_import_refused, plain_import_ended, plain_deport, plain_deport_done}
 use Rattle.world_agreement.proofs.Carrying.{IsPlainLast}
 use Rattle.world_agreement.proofs.Hearing.{swap_eqb, parts_unheard}
+use Rattle.world_agreement.proofs.Alternating.{to_off, all_plain_off}
 use Rattle.world_agreement.proofs.Below.{made_once, body_reached, not_reached}
 use Rattle.world_agreement.proofs.Living.{stays, makes, ends, not_own_dead, made_lives, made_stays, ended_dead, ended_stays}
-use Rattle.world_agreement.proofs.Telling.{IsOwned, plain_owned, Announces, announces_plain, announces_more, TellsParts, parts_plain, Tells, made_announced, made_owned, made_parts, part_made_parts, parts_owned, ended_announced, ended_owned, ended_parts, ended_parts_owned, ended_parts_unheard}
+use Rattle.world_agreement.proofs.Telling.{IsOwned, plain_owned, Announces, announces_plain, announces_more, TellsParts, parts_plain, Tells, made_announced, made_owned, made_parts, part_made_parts, parts_owned, ended_announced, ended_owned, ended_parts, ended_parts_owned, ended_parts_unheard, made_alternate, part_made_alternate, ended_alternate}
 
 -- what the forms of messages on an optional slot say
 pub request_parts : (t : Tables) (me : ℕ) (x o : Endpoint) → is_request t me x o ≡ true
@@ -80,6 +81,7 @@ module _ (t : Tables) (me : ℕ) (f : Frame) where
         owned = plain_owned t me r.sent h;
         announced = subst (λ (z : Lives). Announces t me f.lives z r.sent) (sym lives) (announces_plain t me f.lives r.sent h);
         parts = λ sound. subst (λ (z : Lives). TellsParts t me f.lives z r.sent) (sym lives) (parts_plain t me f.lives r.sent h);
+        alternate = λ sound o d own other. to_off t d o r.sent (f.lives.lives o) (all_plain_off t d o r.sent h);
         stepped = stays lives;
       }
 
@@ -94,6 +96,7 @@ module _ (t : Tables) (me : ℕ) (f : Frame) where
         owned = made_owned t me f.lives o;
         announced = made_announced t me f.lives o;
         parts = λ sound. part_made_parts t me f.lives o opt foreign;
+        alternate = λ sound. part_made_alternate t me f.lives o;
         stepped = makes o opt (λ c own is other. absurd (not_true_false (is_own t me o) own foreign)) refl;
       }
 
@@ -124,6 +127,7 @@ module _ (t : Tables) (me : ℕ) (f : Frame) where
             announced = announces_more t me f.lives (lives_made t me o f.lives) _ told (made_announced t me f.lives o)
                 (λ d s. (parts_unheard t d s me (last_of (lives_made t me o f.lives) o)).0);
             parts = λ sound. made_parts t me f.lives o opt own d;
+            alternate = λ sound. made_alternate t me f.lives o own d;
             stepped = makes o opt (container e) refl;
           }
 
@@ -137,6 +141,7 @@ module _ (t : Tables) (me : ℕ) (f : Frame) where
         announced = announces_more t me f.lives (lives_ended t me o f.lives) (flat_map (end_messages t me f) (ended_slots t me f.lives o)) (flat_map (part_ends t me f) (ended_slots t me f.lives o))
             (ended_announced t me f o) (λ d s. ended_parts_unheard t me f d s (ended_slots t me f.lives o));
         parts = λ sound. ended_parts t me f o sound;
+        alternate = λ sound. ended_alternate t me f o sound;
         stepped = ends o opt refl;
       }
 

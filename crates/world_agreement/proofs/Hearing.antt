@@ -210,7 +210,7 @@ module _ (t : Tables) (d s : ℕ) where
 
 -- what a part of the optional slot o hears
 module _ (t : Tables) (d o : ℕ) where
-  part_if_other : (fits : Bool) (x : Incarnation) (now : Bool) (numbers : List ℤ) (b : Bool) → (x.slot.0 == o) ≡ false → part_if fits o x now numbers b ≡ b
+  pub part_if_other : (fits : Bool) (x : Incarnation) (now : Bool) (numbers : List ℤ) (b : Bool) → (x.slot.0 == o) ≡ false → part_if fits o x now numbers b ≡ b
   part_if_other false x now numbers b e = refl
   part_if_other true x now [] b e = rw e refl
   part_if_other true x now (n ∷ ns) b e = refl
@@ -260,7 +260,7 @@ module _ (t : Tables) (d o : ℕ) where
     pub below : d < length t.controllers
     pub part : has_part t d o ≡ true
 
-  part_self : (me : ℕ) (x : Incarnation) → HasOther me → x.slot.0 ≡ o → (x.generation.0 == 0) ≡ false → is_part_told t d (frame_of x) (frame_of x) ≡ true
+  pub part_self : (me : ℕ) (x : Incarnation) → HasOther me → x.slot.0 ≡ o → (x.generation.0 == 0) ≡ false → is_part_told t d (frame_of x) (frame_of x) ≡ true
   part_self me x h same some =
       let optional : is_optional t x.slot.0 ≡ true = subst (λ z. is_optional t z ≡ true) (sym same) h.optional in
       let foreign : is_own t d x.slot.0 ≡ false = subst (λ z. is_own t d z ≡ false) (sym same) h.foreign in
@@ -273,7 +273,7 @@ module _ (t : Tables) (d o : ℕ) where
       has_filter (λ k. not (k == me) && has_part t k o) d (range_with_len 0 (length t.controllers))
       ∙ rw (h.other, h.part) (let below = h.below in has_range d 0 (length t.controllers) (omega arith) (omega arith))
 
-  told_now : (x : Incarnation) (now : Bool) (b : Bool) → x.slot.0 ≡ o → is_part_told t d (frame_of x) (frame_of x) ≡ true
+  pub told_now : (x : Incarnation) (now : Bool) (b : Bool) → x.slot.0 ≡ o → is_part_told t d (frame_of x) (frame_of x) ≡ true
       → part_if (is_part_told t d (frame_of x) (frame_of x)) o x now [] b ≡ now
   told_now x now b same form = ap (λ z. part_if z o x now [] b) form ∙ rw (eq-eqb x.slot.0 o same) refl
 

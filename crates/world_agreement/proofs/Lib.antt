@@ -2,6 +2,7 @@ pub mod Lists
 pub mod Plain
 pub mod Carrying
 pub mod Hearing
+pub mod Alternating
 pub mod Below
 pub mod Living
 pub mod Telling

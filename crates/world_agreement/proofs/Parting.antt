@@ -1,5 +1,5 @@
 -- Over every run of the world: parts live with their slots, and live optional slots in live containers.
-use Rattle.std.proofs.Common.{◌≡◌, ℕ, ◌<◌, ◌==◌, ◌&&◌, Bool, true, false, List, [], ◌∷◌, length, Some, refl, sym, ap, ◌∙◌, subst, eqb-true, arith, ⊎_elim}
+use Rattle.std.proofs.Common.{◌≡◌, ℕ, ◌<◌, ◌==◌, ◌&&◌, Bool, true, false, if◌then◌else◌, List, [], ◌∷◌, ◌++◌, length, Some, refl, sym, ap, ◌∙◌, subst, eqb-true, arith, ⊎_elim}
 use Rattle.std.specs.List.{list_any}
 use Rattle.std.proofs.lemmas.Bool.{and_from, or_cases, or_left, or_right}
 use Rattle.std.proofs.lemmas.Option.{slice_get_within}
@@ -10,7 +10,7 @@ use Rattle.room_wiring.specs.declared.tables.Tables.{Tables}
 use Rattle.room_wiring.specs.declared.slot.Slot.{Slot}
 use Rattle.room_wiring.specs.Slots.{slot_at}
 use Rattle.actor_merge.specs.Mail.{event_of}
-use Rattle.actor_merge.specs.Parties.{State, Environment, Line, next_of, fetch, turn, post, Does}
+use Rattle.actor_merge.specs.Parties.{State, Environment, Line, put, next_of, fetch, turn, post, Does}
 use Rattle.actor_merge.specs.World.{World, Placed, IsQuiet, start, Runs, controller_does, environment_does}
 use Rattle.actor_merge.proofs.Back.{Happened, controller, environment, happened, own_of}
 use Rattle.actor_duties.specs.Words.{slots_of, is_own, owner_of, is_optional, is_optional_kind, container_of}
@@ -22,17 +22,18 @@ use Rattle.actor_world.specs.Start.{lives_from_start, first_lives, first_state, 
 use Rattle.actor_world.specs.Directories.{IsOpen, AreOpen}
 use Rattle.service_messages.specs.slot_runs.Runs.{IsDepthFirst}
 use Rattle.service_messages.proofs.slot_runs.RunLemmas.{held_true, false_from, not_true_false, contained_there}
-use Rattle.world_agreement.specs.Trails.{hear_all}
-use Rattle.world_agreement.specs.Bodies.{part_heard, lives_at, IsInBody, OwnPartsLive, PartsAreForetold, OthersLiveFromStart}
+use Rattle.world_agreement.specs.Trails.{system_to, trail, leaves, comes, hear_all}
+use Rattle.world_agreement.specs.Bodies.{part_heard, Alternate, PartsAlternate, lives_at, IsInBody, OwnPartsLive, PartsAreForetold, OthersLiveFromStart}
 use Rattle.world_agreement.proofs.Lists.{has, has_range}
 use Rattle.world_agreement.proofs.Hearing.{part_apart, part_stamped, HasOther}
+use Rattle.world_agreement.proofs.Alternating.{AlternateTo, to_off, all_plain_off, alternate_append, alternate_later, alternate_system}
 use Rattle.world_agreement.proofs.Below.{made_itself, first_not_made}
 use Rattle.world_agreement.proofs.Living.{IsWhole, step_whole, first_whole}
 use Rattle.world_agreement.proofs.Telling.{other_owner}
 use Rattle.world_agreement.proofs.Duties.{IsFar}
 use Rattle.world_agreement.proofs.Turning.{TurnSays, treat_says}
-use Rattle.world_agreement.proofs.Moving.{IsSorted, post_from, turn_from, world_after}
-use Rattle.world_agreement.proofs.Reading.{IsHearing, unread, TurnReads, step_reads}
+use Rattle.world_agreement.proofs.Moving.{controller_moves, IsSorted, post_from, turn_from, world_after}
+use Rattle.world_agreement.proofs.Reading.{step_hears, IsHearing, unread, TurnReads, step_reads}
 use Rattle.world_agreement.proofs.Agreeing.{own_there, put_own, fresh_trail, IsForetold, controller_foretold, world_then, environment_moves, environment_foretold, first_carries, first_plain, start_foretold, quiet_unread}
 
 -- an optional slot is there
@@ -61,6 +62,7 @@ pub record IsWholeWorld {M : Type 0} (t : Tables) (w : World (Body M)) : Type 0 
   pub told : IsForetold t w
   pub whole : (c : ℕ) → IsWhole t c (w.controllers c).body.frame.lives
   pub parts : PartsAreForetold t w
+  pub alternate : PartsAlternate t w
 
 module _ {M : Type 0} (model : Behaviour M) (clear : IsOpen model) (t : Tables) (first : IsDepthFirst t) (lines : List Line) (clear_lines : AreOpen lines) where
   part_hearing : (d o : ℕ) → IsHearing o (part_heard t d o)
@@ -68,6 +70,17 @@ module _ {M : Type 0} (model : Behaviour M) (clear : IsOpen model) (t : Tables) 
 
   own_optional : (o : ℕ) → is_optional t o ≡ true → is_own t (owner_of t o) o ≡ true
   own_optional o h = own_there t o (optional_there t o h)
+
+  -- the owner of a slot of another's body has a part of it
+  body_other : (o s : ℕ) → IsInBody t o s → owner_of t s < length t.controllers → (owner_of t s == owner_of t o) ≡ false → HasOther t (owner_of t s) o (owner_of t o)
+  body_other o s body below other =
+      record {
+        optional = body.optional;
+        foreign = other_owner t (owner_of t o) (owner_of t s) o (own_optional o body.optional) other;
+        other = other;
+        below = below;
+        part = part_there t o s body.there body.made;
+      }
 
   -- in a turn a part hears its message, and what is told of an optional slot is what happens there
   part_reads : (w : World (Body M)) → IsWholeWorld t w → (o s : ℕ) → IsInBody t o s → owner_of t s < length t.controllers → (owner_of t s == owner_of t o) ≡ false
@@ -78,7 +91,7 @@ module _ {M : Type 0} (model : Behaviour M) (clear : IsOpen model) (t : Tables) 
       let a : ℕ = owner_of t o in
       let foreign : is_own t d o ≡ false = other_owner t a d o (own_optional o body.optional) other in
       let far : IsFar t d o s = record { optional = body.optional; foreign = foreign; own = own_there t s body.there; made = body.made } in
-      let has_other : HasOther t d o a = record { optional = body.optional; foreign = foreign; other = other; below = below; part = part_there t o s body.there body.made } in
+      let has_other : HasOther t d o a = body_other o s body below other in
       record {
         hears = λ m. (treat_says model clear t d (w.controllers d).body m (inv.told.sorted d).deferred).lives (inv.whole d).sound o s far;
         tells = λ m. (treat_says model clear t a (w.controllers a).body m (inv.told.sorted a).deferred).says.parts (inv.whole a).sound o d (own_optional o body.optional) has_other;
@@ -96,6 +109,34 @@ module _ {M : Type 0} (model : Behaviour M) (clear : IsOpen model) (t : Tables) 
       subst (λ (q : State (Body M) × Entry). IsWhole t c q.0.body.frame.lives) r.3
       (step_whole t first c s.body.frame.lives h (treat model t c s.body r.0.message).body.frame.lives z.says.stepped)
 
+  -- what comes into the trail from an optional slot's owner alternates
+  comes_alternate : (w : World (Body M)) → IsWholeWorld t w → (c : ℕ) (e : Entry) (next : State (Body M)) → controller_does (plant_of model t lines) w c (event_of e) ≡ Some (next, e)
+      → (o s : ℕ) → IsInBody t o s → owner_of t s < length t.controllers → (owner_of t s == owner_of t o) ≡ false
+      → Alternate t (owner_of t s) o (lives_at t w o) (comes (world_after model t lines w c e next) c e (owner_of t o) (owner_of t s))
+  unfolding turn put
+  comes_alternate w inv c (entry.Start who state ns) next h o s body near other = tt
+  comes_alternate w inv c (entry.Fetch stamp m) next h o s body near other = tt
+  comes_alternate w inv c (entry.Post stamp m) next h o s body near other = tt
+  comes_alternate w inv c (entry.Turn stamp from sent what ns) next h o s body near other = go (owner_of t o == c) refl
+    where
+      said : owner_of t o ≡ c → AlternateTo t (owner_of t s) o (lives_at t w o) next.outbox
+      said e =
+          let r = turn_from model t lines c (w.controllers c) next (entry.Turn stamp from sent what ns) (w.controllers c).outbox (next_of (w.controllers c).pending) h in
+          let z : TurnSays t c (w.controllers c).body r.0.message (treat model t c (w.controllers c).body r.0.message) =
+          treat_says model clear t c (w.controllers c).body r.0.message (inv.told.sorted c).deferred in
+          let own : is_own t c o ≡ true = subst (λ n. is_own t n o ≡ true) e (own_optional o body.optional) in
+          let has_other : HasOther t (owner_of t s) o c = subst (HasOther t (owner_of t s) o) e (body_other o s body near other) in
+          let now : AlternateTo t (owner_of t s) o ((w.controllers c).body.frame.lives.lives o) (treat model t c (w.controllers c).body r.0.message).sent =
+          z.says.alternate (inv.whole c).sound o (owner_of t s) own has_other in
+          let out : (treat model t c (w.controllers c).body r.0.message).sent ≡ next.outbox = ap (λ (q : State (Body M) × Entry). q.0.outbox) r.3 in
+          subst (λ n. AlternateTo t (owner_of t s) o ((w.controllers n).body.frame.lives.lives o) next.outbox) (sym e)
+          (subst (AlternateTo t (owner_of t s) o ((w.controllers c).body.frame.lives.lives o)) out now)
+
+      go : (x : Bool) → (owner_of t o == c) ≡ x
+          → Alternate t (owner_of t s) o (lives_at t w o) (if x then system_to (owner_of t o) (owner_of t s) (if x then next else w.controllers (owner_of t o)).outbox else [])
+      go true e = alternate_system t (owner_of t s) o (owner_of t o) next.outbox (lives_at t w o) (said (eqb-true (owner_of t o) c e))
+      go false e = tt
+
   controller_whole : (w : World (Body M)) → IsWholeWorld t w → (c : ℕ) → c < length t.controllers → (e : Entry) (next : State (Body M))
       → controller_does (plant_of model t lines) w c (event_of e) ≡ Some (next, e) → IsWholeWorld t (world_after model t lines w c e next)
   controller_whole w inv c below e next h =
@@ -107,6 +148,20 @@ module _ {M : Type 0} (model : Behaviour M) (clear : IsOpen model) (t : Tables) 
             step_reads model clear t lines o (owner_of t s) (part_heard t (owner_of t s) o) (part_hearing (owner_of t s) o)
             (λ (b : Body M). b.frame.lives.lives s) (λ (b : Body M). b.frame.lives.lives o)
             w inv.told.sorted inv.told.owned (part_reads w inv o s body near other) c e next h (inv.parts o s body near other);
+        alternate = λ o s body near other.
+            let a : ℕ = owner_of t o in
+            let d : ℕ = owner_of t s in
+            let after_all : World (Body M) = world_after model t lines w c e next in
+            let x : Bool = lives_at t w s in
+            let whole : Alternate t d o x (trail w a d ++ comes after_all c e a d) =
+            alternate_append t d o (trail w a d) (comes after_all c e a d) x (inv.alternate o s body near other)
+            (subst (λ z. Alternate t d o z (comes after_all c e a d)) (sym (inv.parts o s body near other)) (comes_alternate w inv c e next h o s body near other)) in
+            let moved : Alternate t d o x (leaves w c e a d ++ trail after_all a d) =
+            subst (Alternate t d o x) (sym (controller_moves model t lines clear w c e next (inv.told.sorted c) h a d)) whole in
+            subst (λ z. Alternate t d o z (trail after_all a d))
+            (step_hears model clear t lines o d (part_heard t d o) (part_hearing d o) (λ (b : Body M). b.frame.lives.lives s) (λ (b : Body M). b.frame.lives.lives o)
+            w inv.told.sorted inv.told.owned (part_reads w inv o s body near other) c e next h)
+            (alternate_later t d o (leaves w c e a d) (trail after_all a d) x moved);
       }
 
   environment_whole : (w : World (Body M)) (c : ℕ) (e : Entry) (v : Environment) → IsWholeWorld t w
@@ -118,6 +173,8 @@ module _ {M : Type 0} (model : Behaviour M) (clear : IsOpen model) (t : Tables) 
         parts = λ o s body near other.
             ap (λ (z : List Msg). hear_all (part_heard t (owner_of t s) o) z (lives_at t w s)) (environment_moves model clear t lines clear_lines w c e v h (owner_of t o) (owner_of t s))
             ∙ inv.parts o s body near other;
+        alternate = λ o s body near other.
+            subst (Alternate t (owner_of t s) o (lives_at t w s)) (sym (environment_moves model clear t lines clear_lines w c e v h (owner_of t o) (owner_of t s))) (inv.alternate o s body near other);
       }
 
   step_world : (w : World (Body M)) (x : Placed) (next : World (Body M)) → IsWholeWorld t w → Happened (plant_of model t lines) w x next → IsWholeWorld t next
@@ -155,6 +212,13 @@ module _ {M : Type 0} (model : Behaviour M) (clear : IsOpen model) (t : Tables) 
             ∙ unread o (part_heard t d o) (part_hearing d o) a d (first_state model t a).outbox (first_plain model clear t lines clear_lines a) ((first_state model t d).body.frame.lives.lives s)
             ∙ first_dead o s body.optional body.made d
             ∙ sym (first_dead o o body.optional (made_itself t o) a);
+        alternate = λ o s body near other.
+            let a : ℕ = owner_of t o in
+            let d : ℕ = owner_of t s in
+            let x : Bool = (first_state model t d).body.frame.lives.lives s in
+            let box : List Msg = (first_state model t a).outbox in
+            subst (Alternate t d o x) (sym (fresh_trail a d box))
+            (alternate_system t d o a box x (to_off t d o box x (all_plain_off t d o box (first_plain model clear t lines clear_lines a))));
       }
 
   pub runs_whole : (xs : List Placed) (end : World (Body M)) → Runs (plant_of model t lines) (start (plant_of model t lines)) xs end → IsWholeWorld t end

@@ -146,7 +146,7 @@ module _ {M X : Type 0} (model : Behaviour M) (clear : IsOpen model) (t : Tables
         go false e = refl
 
     -- each event: d hears what leaves, and what comes tells what was done
-    step_hears : (e : Entry) (next : State (Body M)) → controller_does (plant_of model t lines) w c (event_of e) ≡ Some (next, e)
+    pub step_hears : (e : Entry) (next : State (Body M)) → controller_does (plant_of model t lines) w c (event_of e) ≡ Some (next, e)
         → hear_all hear (leaves w c e (owner_of t s) d) (here (w.controllers d).body) ≡ here (put w.controllers c next d).body
     unfolding turn post fetch
     step_hears (entry.Start who state ns) next h = absurd cc

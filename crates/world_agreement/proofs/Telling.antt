@@ -26,6 +26,7 @@ use Rattle.world_agreement.specs.Senders.{about}
 use Rattle.world_agreement.proofs.Plain.{AllPlain, plain_append, plain_ended_plugs, plain_given_back}
 use Rattle.world_agreement.proofs.Carrying.{IsPlainLast}
 use Rattle.world_agreement.proofs.Hearing.{and_true, IsMute, AllMute, after, after_append, after_mute, slots_after, heard_plain, announces_after, announces_mute, parts_unheard, part_plain, announces_unheard, parts_mute, HasOther, makes_after, ends_after}
+use Rattle.world_agreement.proofs.Alternating.{often_reverse, often_filter, often_range, IsOff, AllOff, all_plain_off, announces_off, parts_off, AlternateTo, to_off, off_append, blocks_alternate, makes_alternate, ends_alternate}
 use Rattle.world_agreement.proofs.Below.{made_itself, made_once}
 use Rattle.world_agreement.proofs.Living.{Stepped, made_lives, made_stays}
 
@@ -80,12 +81,17 @@ pub parts_more : (t : Tables) (me : ℕ) (l next : Lives) (a b : List Msg) → T
 parts_more t me l next a b h k o d own other =
     after_append (part_heard t d o) d a b (l.lives o) ∙ after_mute (part_heard t d o) d b (after (part_heard t d o) d a (l.lives o)) (part_plain t d o b k) ∙ h o d own other
 
+-- and what it is told of the slot's parts alternates
+abbrev pub AlternatesParts : Tables → ℕ → Lives → List Msg → Type 0
+AlternatesParts t me l ms = (o d : ℕ) → is_own t me o ≡ true → HasOther t d o me → AlternateTo t d o (l.lives o) ms
+
 -- a duty of the frame service tells what it does
 pub record Tells (t : Tables) (me : ℕ) (l : Lives) (r : FrameDone) : Type 0 where
   pub last : IsPlainLast r.last
   pub owned : AllOwned t me r.sent
   pub announced : Announces t me l r.frame.lives r.sent
   pub parts : IsSound t me l → TellsParts t me l r.frame.lives r.sent
+  pub alternate : IsSound t me l → AlternatesParts t me l r.sent
   pub stepped : Stepped t me l r.frame.lives
 
 module _ (t : Tables) (me : ℕ) where
@@ -304,3 +310,64 @@ module _ (t : Tables) (me : ℕ) where
       let differ : (p == o) ≡ false = ne_eqb p o (λ e. not_true_false (is_own t me o) mine (subst (λ z. is_own t me z ≡ false) e foreign)) in
       after_mute (part_heard t d o) d (flat_map (λ (i : Incarnation). announces t me i (pos 1)) new) (l.lives o) (made_unheard d o new)
       ∙ sym (made_stays t me l p o (made_once t p o o opt other.optional differ (made_itself t o)))
+
+  -- what duties tell of parts alternates
+  made_off : (d o : ℕ) (is : List Incarnation) → AllOff t d o (flat_map (λ (i : Incarnation). announces t me i (pos 1)) is)
+  made_off d o [] = tt
+  made_off d o (i ∷ is) = all_append (IsOff t d o) (announces t me i (pos 1)) _ (announces_off t d o me i (pos 1)) (made_off d o is)
+
+  pub made_alternate : (l : Lives) (p : ℕ) → is_own t me p ≡ true → l.lives p ≡ false
+      → AlternatesParts t me l (flat_map (λ (i : Incarnation). announces t me i (pos 1)) (map (last_of (lives_made t me p l)) (made_slots t me l p)) ++ parts_told t me kinds.PartMake (last_of (lives_made t me p l) p))
+  made_alternate l p own dead o d mine other =
+      off_append t d o (flat_map (λ (i : Incarnation). announces t me i (pos 1)) (map (last_of (lives_made t me p l)) (made_slots t me l p)))
+      (parts_told t me kinds.PartMake (last_of (lives_made t me p l) p)) (l.lives o) (made_off d o (map (last_of (lives_made t me p l)) (made_slots t me l p)))
+      (go (p == o) refl)
+    where
+      go : (b : Bool) → (p == o) ≡ b → AlternateTo t d o (l.lives o) (parts_told t me kinds.PartMake (last_of (lives_made t me p l) p))
+      go true e =
+          let same : p ≡ o = eqb-true p o e in
+          subst (λ z. AlternateTo t d o z (parts_told t me kinds.PartMake (last_of (lives_made t me p l) p))) (sym (ap l.lives (sym same) ∙ dead))
+          (makes_alternate t d o me (last_of (lives_made t me p l) p) other same (made_some l p own dead))
+      go false e = to_off t d o (parts_told t me kinds.PartMake (last_of (lives_made t me p l) p)) (l.lives o) (parts_off t d o me (last_of (lives_made t me p l) p) e).0
+
+  pub part_made_alternate : (l : Lives) (p : ℕ)
+      → AlternatesParts t me l (flat_map (λ (i : Incarnation). announces t me i (pos 1)) (map (last_of (lives_made t me p l)) (made_slots t me l p)))
+  part_made_alternate l p o d mine other =
+      to_off t d o (flat_map (λ (i : Incarnation). announces t me i (pos 1)) (map (last_of (lives_made t me p l)) (made_slots t me l p))) (l.lives o)
+      (made_off d o (map (last_of (lives_made t me p l)) (made_slots t me l p)))
+
+  end_off : (f : Frame) (d o k : ℕ) → AllOff t d o (end_messages t me f k)
+  end_off f d o k =
+      let e = end_parts f k in
+      subst (AllOff t d o) (sym e.2)
+      (all_append (IsOff t d o) e.0 (announces t me (last_of f.lives k) (pos 0)) (all_plain_off t d o e.0 e.1) (announces_off t d o me (last_of f.lives k) (pos 0)))
+
+  part_ends_off : (f : Frame) (d o k : ℕ) → (k == o) ≡ false → AllOff t d o (part_ends t me f k)
+  unfolding part_ends
+  part_ends_off f d o k h = go (is_optional t k)
+    where
+      go : (b : Bool) → AllOff t d o (if b then parts_told t me kinds.PartEnd (last_of f.lives k) else [])
+      go true = (parts_off t d o me (last_of f.lives k) h).1
+      go false = tt
+
+  part_ends_alternate : (f : Frame) (d o : ℕ) → HasOther t d o me → (f.lives.generation o == 0) ≡ false → f.lives.lives o ≡ true → AlternateTo t d o (f.lives.lives o) (part_ends t me f o)
+  unfolding part_ends
+  part_ends_alternate f d o other some live =
+      subst (λ z. AlternateTo t d o z (if is_optional t o then parts_told t me kinds.PartEnd (last_of f.lives o) else [])) (sym live)
+      (subst (λ (z : Bool). AlternateTo t d o true (if z then parts_told t me kinds.PartEnd (last_of f.lives o) else [])) (sym other.optional)
+      (ends_alternate t d o me (last_of f.lives o) other refl some))
+
+  pub ended_alternate : (f : Frame) (p : ℕ) → IsSound t me f.lives
+      → AlternatesParts t me f.lives (flat_map (end_messages t me f) (ended_slots t me f.lives p) ++ flat_map (part_ends t me f) (ended_slots t me f.lives p))
+  unfolding ended_slots
+  ended_alternate f p sound o d own other =
+      let ks : List ℕ = filter (goes_down t me f.lives p) (slots_of t) in
+      let down : List ℕ = reverse ks in
+      let there : has o down ≡ goes_down t me f.lives p o = has_reverse o ks ∙ has_slot (goes_down t me f.lives p) o own in
+      let a = often_reverse o ks in
+      let b = often_filter o (goes_down t me f.lives p) (slots_of t) in
+      let c = often_range o 0 (length t.slots) in
+      off_append t d o (flat_map (end_messages t me f) down) (flat_map (part_ends t me f) down) (f.lives.lives o)
+      (all_flat (IsOff t d o) (λ k. Unit {0}) (end_messages t me f) (λ k e. end_off f d o k) down (all_unit down))
+      (blocks_alternate t d o (part_ends t me f) (λ k e. part_ends_off f d o k e) (f.lives.lives o) down (omega (arith, a, b, c))
+      (λ h. part_ends_alternate f d o other (down_some f.lives p o sound (sym there ∙ h)) (down_parts t me f.lives p o (sym there ∙ h)).1))

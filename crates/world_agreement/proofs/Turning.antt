@@ -23,8 +23,9 @@ use Rattle.world_agreement.proofs.Lists.{all_append}
 use Rattle.world_agreement.proofs.Plain.{AllPlain, plain_table, plain_links}
 use Rattle.world_agreement.proofs.Carrying.{NotSystem, KeepsOpen, apply_all_carries, frame_carries}
 use Rattle.world_agreement.proofs.Hearing.{heard_plain}
+use Rattle.world_agreement.proofs.Alternating.{AlternateTo, to_off, to_append, all_plain_off}
 use Rattle.world_agreement.proofs.Living.{Stepped, stays}
-use Rattle.world_agreement.proofs.Telling.{IsOwned, AllOwned, plain_owned, Announces, announces_plain, announces_more, TellsParts, parts_plain, parts_more, Tells}
+use Rattle.world_agreement.proofs.Telling.{IsOwned, AllOwned, plain_owned, Announces, announces_plain, announces_more, TellsParts, parts_plain, parts_more, Tells, AlternatesParts}
 use Rattle.world_agreement.proofs.Duties.{IsFar, frame_duty_tells, frame_duty_told, frame_duty_lives}
 
 -- in the middle of a turn: what was sent so far tells what was done to lives
@@ -32,6 +33,7 @@ pub record Says {M : Type 0} (t : Tables) (me : ℕ) (b : Body M) (sent : List M
   pub owned : AllOwned t me sent
   pub announced : Announces t me b.frame.lives next.frame.lives sent
   pub parts : IsSound t me b.frame.lives → TellsParts t me b.frame.lives next.frame.lives sent
+  pub alternate : IsSound t me b.frame.lives → AlternatesParts t me b.frame.lives sent
   pub stepped : Stepped t me b.frame.lives next.frame.lives
   pub back : NotSystem came
   pub deferred : (n : ℕ) → NotSystem (next.deferred n)
@@ -52,6 +54,7 @@ module _ {M : Type 0} (model : Behaviour M) (clear : IsOpen model) (t : Tables) 
         owned = plain_owned t me sent plain;
         announced = subst (λ (z : Lives). Announces t me b.frame.lives z sent) (sym lives) (announces_plain t me b.frame.lives sent plain);
         parts = λ sound. subst (λ (z : Lives). TellsParts t me b.frame.lives z sent) (sym lives) (parts_plain t me b.frame.lives sent plain);
+        alternate = λ sound o d own other. to_off t d o sent (b.frame.lives.lives o) (all_plain_off t d o sent plain);
         stepped = stays lives;
         back = back;
         deferred = deferred;
@@ -71,6 +74,9 @@ module _ {M : Type 0} (model : Behaviour M) (clear : IsOpen model) (t : Tables) 
             subst (λ (z : Lives). TellsParts t me b.frame.lives z (with_frame model t me b r).sent) (sym c.lives)
             (subst (TellsParts t me b.frame.lives r.frame.lives) (sym c.sent)
             (parts_more t me b.frame.lives r.frame.lives r.sent c.more (k.parts sound) c.plain));
+        alternate = λ sound o d own other.
+            subst (AlternateTo t d o (b.frame.lives.lives o)) (sym c.sent)
+            (to_append t d o r.sent c.more (b.frame.lives.lives o) (k.alternate sound o d own other) (all_plain_off t d o c.more c.plain));
         stepped = subst (Stepped t me b.frame.lives) (sym c.lives) k.stepped;
         back = open_then.0;
         deferred = open_then.1;

@@ -6,11 +6,11 @@
 -- lives, at its owner, exactly where the optional slot lives at its own. It follows from what holds
 -- at every moment: at the slot's owner the body lives with the slot (`OwnPartsLive`), and at every
 -- other controller what lives there, changed by what is on the trail from the slot's owner
--- (`PartsAreForetold`).
+-- (`PartsAreForetold`), where PartMake and PartEnd of it alternate (`PartsAlternate`).
 -- The law `containers_live`: at every moment a live optional slot has a live container.
 -- Premises beside those of `directories_agree`: slots are numbered depth first; and for containers
 -- that another controller owns, such a container lives from the start.
-use Rattle.std.specs.Prelude.{◌≡◌, ℕ, ℤ, ◌<◌, ◌==◌, Bool, true, false, List, [], length, slice_get, Option, Some, if◌then◌else◌}
+use Rattle.std.specs.Prelude.{◌≡◌, ℕ, ℤ, ◌<◌, ◌==◌, Bool, true, false, not, List, [], ◌∷◌, length, slice_get, Option, Some, if◌then◌else◌}
 use Rattle.room_kinds.specs.declared.message.Msg.{Msg}
 use Rattle.room_kinds.specs.declared.numbers.Incarnation.{Incarnation}
 use Rattle.room_kinds.specs.declared.numbers.Endpoint.{Endpoint}
@@ -52,6 +52,24 @@ part_heard t d o m lives =
     then part_heard_of t d o (slice_get all_kinds m.signal) m.source m.target m.payload lives
     else lives
 
+-- whether a message of a kind from a source makes or ends parts of slot o
+abbrev pub is_on : ℕ → Option SysKind → Option Endpoint → Bool
+is_on o (Some kinds.PartMake) (Some x) = x.slot.0 == o
+is_on o (Some kinds.PartEnd) (Some x) = x.slot.0 == o
+is_on o kind source = false
+
+-- whether a message is a PartMake or a PartEnd of slot o
+abbrev pub is_on_part : ℕ → Msg → Bool
+is_on_part o m = if m.prio.0 == 0 then is_on o (slice_get all_kinds m.signal) m.source else false
+
+-- PartMake and PartEnd of slot o alternate among these messages: each changes whether the part at
+-- controller d lives, which it does or doesn't before them
+abbrev pub Alternate : Tables → ℕ → ℕ → Bool → List Msg → Type 0
+Alternate t d o lives [] = Unit {0}
+Alternate t d o lives (m ∷ ms) =
+    (is_on_part o m ≡ true → part_heard t d o m lives ≡ not lives)
+    × Alternate t d o (part_heard t d o m lives) ms
+
 -- whether an actor lives in a slot, at the slot's owner
 abbrev pub lives_at : {M : Type 0} → Tables → World (Body M) → ℕ → Bool
 lives_at t w s = (frame_at t w s).lives.lives s
@@ -73,12 +91,20 @@ PartsAreForetold t w =
     (o s : ℕ) → IsInBody t o s → owner_of t s < length t.controllers → (owner_of t s == owner_of t o) ≡ false
     → hear_all (part_heard t (owner_of t s) o) (trail w (owner_of t o) (owner_of t s)) (lives_at t w s) ≡ lives_at t w o
 
--- over every run of the world: parts live with their slots, where what is on its way counts
+-- on the trail to it PartMake and PartEnd of the optional slot alternate, the first is a PartMake exactly
+-- where the part doesn't live
+abbrev pub PartsAlternate : {M : Type 0} → Tables → World (Body M) → Type 0
+PartsAlternate t w =
+    (o s : ℕ) → IsInBody t o s → owner_of t s < length t.controllers → (owner_of t s == owner_of t o) ≡ false
+    → Alternate t (owner_of t s) o (lives_at t w s) (trail w (owner_of t o) (owner_of t s))
+
+-- over every run of the world: parts live with their slots, where what is on its way counts, and that
+-- alternates
 abbrev pub RunsForetellParts : Type 0 → Type 0
 RunsForetellParts M =
     (model : Behaviour M) (t : Tables) (lines : List Line) → IsOpen model → AreOpen lines → IsDepthFirst t
     → (xs : List Placed) (end : World (Body M)) → Runs (plant_of model t lines) (start (plant_of model t lines)) xs end
-    → OwnPartsLive t end × PartsAreForetold t end
+    → OwnPartsLive t end × PartsAreForetold t end × PartsAlternate t end
 
 -- over every run of the world that is quiet at its end: each slot of a body lives exactly where the
 -- optional slot does
