@@ -136,6 +136,21 @@ module _ (t : Tables) (d o : ℕ) where
   alternate_later [] b x h = h
   alternate_later (m ∷ a) b x h = alternate_later a b (part_heard t d o m x) h.1
 
+  -- messages on a part that alternate tell whether it lived before, by whether it lives after
+  pub one_life : (ms : List Msg) (a b : Bool) → Alternate t d o a ms → Alternate t d o b ms → hear_all (part_heard t d o) ms a ≡ hear_all (part_heard t d o) ms b → a ≡ b
+  one_life [] a b h k e = e
+  one_life (m ∷ ms) a b h k e = go (is_on_part o m) refl (one_life ms (part_heard t d o m a) (part_heard t d o m b) h.1 k.1 e)
+    where
+      not_same : (x y : Bool) → not x ≡ not y → x ≡ y
+      not_same true true q = refl
+      not_same false false q = refl
+      not_same true false q = sym q
+      not_same false true q = sym q
+
+      go : (c : Bool) → is_on_part o m ≡ c → part_heard t d o m a ≡ part_heard t d o m b → a ≡ b
+      go true q same = not_same a b (sym (h.0 q) ∙ same ∙ k.0 q)
+      go false q same = sym (off_same m a q) ∙ same ∙ off_same m b q
+
   -- what a list sends to controller d
   abbrev pub AlternateTo : Bool → List Msg → Type 0
   AlternateTo b ms = Alternate t d o b (filter (is_system_to d) ms)

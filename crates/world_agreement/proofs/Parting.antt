@@ -23,10 +23,10 @@ use Rattle.actor_world.specs.Directories.{IsOpen, AreOpen}
 use Rattle.service_messages.specs.slot_runs.Runs.{IsDepthFirst}
 use Rattle.service_messages.proofs.slot_runs.RunLemmas.{held_true, false_from, not_true_false, contained_there}
 use Rattle.world_agreement.specs.Trails.{system_to, trail, leaves, comes, hear_all}
-use Rattle.world_agreement.specs.Bodies.{part_heard, Alternate, PartsAlternate, lives_at, IsInBody, OwnPartsLive, PartsAreForetold, OthersLiveFromStart}
+use Rattle.world_agreement.specs.Bodies.{PartsAreWhole, part_heard, Alternate, PartsAlternate, lives_at, IsInBody, OwnPartsLive, PartsAreForetold, OthersLiveFromStart}
 use Rattle.world_agreement.proofs.Lists.{has, has_range}
 use Rattle.world_agreement.proofs.Hearing.{part_apart, part_stamped, HasOther}
-use Rattle.world_agreement.proofs.Alternating.{AlternateTo, to_off, all_plain_off, alternate_append, alternate_later, alternate_system}
+use Rattle.world_agreement.proofs.Alternating.{one_life, AlternateTo, to_off, all_plain_off, alternate_append, alternate_later, alternate_system}
 use Rattle.world_agreement.proofs.Below.{made_itself, first_not_made}
 use Rattle.world_agreement.proofs.Living.{IsWhole, step_whole, first_whole}
 use Rattle.world_agreement.proofs.Telling.{other_owner}
@@ -230,6 +230,24 @@ module _ {M : Type 0} (model : Behaviour M) (clear : IsOpen model) (t : Tables) 
       let own : is_own t (owner_of t o) s ≡ true = subst (λ z. is_own t z s ≡ true) same (own_there t s body.there) in
       ap (λ z. (w.controllers z).body.frame.lives.lives s) same
       ∙ (inv.whole (owner_of t o)).bodies o s body.optional (own_optional o body.optional) own body.made
+
+  -- a part lives as a whole or not at all
+  pub parts_whole : (w : World (Body M)) → IsWholeWorld t w → PartsAreWhole t w
+  parts_whole w inv o s u body next near same = go (owner_of t s == owner_of t o) refl
+    where
+      go : (b : Bool) → (owner_of t s == owner_of t o) ≡ b → lives_at t w s ≡ lives_at t w u
+      go true e =
+          let mine : owner_of t s ≡ owner_of t o = eqb-true (owner_of t s) (owner_of t o) e in
+          own_parts w inv o s body mine ∙ sym (own_parts w inv o u next (same ∙ mine))
+      go false e =
+          let d : ℕ = owner_of t s in
+          let near_too : owner_of t u < length t.controllers = subst (λ n. n < length t.controllers) (sym same) near in
+          let other : (owner_of t u == owner_of t o) ≡ false = subst (λ n. (n == owner_of t o) ≡ false) (sym same) e in
+          let told : hear_all (part_heard t d o) (trail w (owner_of t o) d) (lives_at t w u) ≡ lives_at t w o =
+          subst (λ n. hear_all (part_heard t n o) (trail w (owner_of t o) n) (lives_at t w u) ≡ lives_at t w o) same (inv.parts o u next near_too other) in
+          let turns : Alternate t d o (lives_at t w u) (trail w (owner_of t o) d) =
+          subst (λ n. Alternate t n o (lives_at t w u) (trail w (owner_of t o) n)) same (inv.alternate o u next near_too other) in
+          one_life t d o (trail w (owner_of t o) d) (lives_at t w s) (lives_at t w u) (inv.alternate o s body near e) turns (inv.parts o s body near e ∙ sym told)
 
   -- in a quiet world all parts live with their slots
   pub quiet_bodies : (end : World (Body M)) → IsWholeWorld t end → IsQuiet (plant_of model t lines) end

@@ -98,13 +98,19 @@ PartsAlternate t w =
     (o s : ℕ) → IsInBody t o s → owner_of t s < length t.controllers → (owner_of t s == owner_of t o) ≡ false
     → Alternate t (owner_of t s) o (lives_at t w s) (trail w (owner_of t o) (owner_of t s))
 
--- over every run of the world: parts live with their slots, where what is on its way counts, and that
+-- the part of a controller lives as a whole or not at all
+abbrev pub PartsAreWhole : {M : Type 0} → Tables → World (Body M) → Type 0
+PartsAreWhole t w =
+    (o s u : ℕ) → IsInBody t o s → IsInBody t o u → owner_of t s < length t.controllers
+    → owner_of t u ≡ owner_of t s → lives_at t w s ≡ lives_at t w u
+
+-- over every run of the world: parts are whole, and live with their slots, where what is on its way counts, and that
 -- alternates
 abbrev pub RunsForetellParts : Type 0 → Type 0
 RunsForetellParts M =
     (model : Behaviour M) (t : Tables) (lines : List Line) → IsOpen model → AreOpen lines → IsDepthFirst t
     → (xs : List Placed) (end : World (Body M)) → Runs (plant_of model t lines) (start (plant_of model t lines)) xs end
-    → OwnPartsLive t end × PartsAreForetold t end × PartsAlternate t end
+    → PartsAreWhole t end × OwnPartsLive t end × PartsAreForetold t end × PartsAlternate t end
 
 -- over every run of the world that is quiet at its end: each slot of a body lives exactly where the
 -- optional slot does

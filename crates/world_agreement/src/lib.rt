@@ -34,9 +34,9 @@ pub fn directories_agree<M>()
 {}
 
 /// The body of an optional slot, all that it reaches by fixed references, lives exactly where the slot
-/// does, whoever owns its parts. `runs`: at every moment, at the slot's owner as it is, and at every other
-/// controller where what is on its way counts. `quiet`: so in a quiet world it lives exactly where the slot
-/// does.
+/// does, whoever owns its parts. `runs`: at every moment each part lives as a whole or not at all: at the
+/// slot's owner as the slot does, and elsewhere where PartMake and PartEnd on their way count, which
+/// alternate. `quiet`: so in a quiet world the body lives exactly where the slot does.
 pub fn bodies_agree<M>()
     ensures runs { RunsForetellParts M }
     ensures quiet { QuietBodiesAgree M }
