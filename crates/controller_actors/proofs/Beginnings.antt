@@ -31,7 +31,7 @@ use Rattle.controller_actors.specs.declared.start.Starting.{Starting}
 use Rattle.controller_actors.specs.Plants.{model_of}
 use Rattle.controller_actors.specs.Bodies.{HasSlots, body_of, lives_of, slot_at, vacant}
 use Rattle.controller_actors.specs.Steps.{ActorsBegin, Starts, StartsIn, unstarted, is_first, first_below, first_in}
-use Rattle.controller_actors.proofs.Bodies.{body_same, body_set, slots_set, empty_set}
+use Rattle.controller_actors.proofs.Bodies.{body_same, body_set, has_slots_set, empty_set}
 
 -- ---- one actor
 
@@ -41,7 +41,7 @@ module _ (p : Plant) (me : ℕ) where
       → before ≡ slot_at old.slots.items s → new.table ≡ old.table → new.slots.items ≡ set old.slots.items s after → Serves p.wiring me new.services
       → SlotBegins p.wiring me (frame_in old.services.frame) (links_in old.services) (frame_in new.services.frame) (links_in new.services) (last_of (lives_of old) s) (tables_at p.wiring p.tables.items s) before after sent back e
       → (lives_of old).lives s ≡ true → HasSlots p me old → ActorsBegin p me s old new sent back e
-  actors_begin old new s before after sent back e l is table slots serves h live slots =
+  actors_begin old new s before after sent back e l is table slots serves h live has_slots =
       let x = last_of (lives_of old) s in
       let o = tables_at p.wiring p.tables.items s in
       let f = frame_in old.services.frame in
@@ -55,7 +55,7 @@ module _ (p : Plant) (me : ℕ) where
             ∙ ap (λ (c : Body Actor). record { body = c; sent = e.output.messages; back = e.back; notes = e.output.notes; kept = h.kept })
             (sym (body_set p me old new s after l table slots));
         state = h.state;
-        slots = slots_set p me old new s after l h.lives slots serves slots h.fits;
+        has_slots = has_slots_set p me old new s after l h.lives slots serves has_slots h.fits;
         lives = h.lives;
         empty = empty_set old new s after h.lives slots live;
       }
@@ -108,7 +108,7 @@ module _ (p : Plant) (me : ℕ) where
                 doing = record { body = body_of p me new.actors; sent = new.sent; back = new.back; notes = e.output.notes; kept = h.kept };
                 entries = es;
               }) (sym entries);
-          well = record { slots = h.slots; empty = h.empty [] s.well.empty };
+          well = record { has_slots = h.has_slots; empty = h.empty [] s.well.empty };
           lives = h.lives ∙ s.lives;
         };
   }
@@ -184,7 +184,7 @@ module _ (p : Plant) (me : ℕ) where
         kept = false;
         started = same_start (body_none s.actors frame links table slots) (sym sent) (sym back) (sym entries);
         well = record {
-          slots = record {
+          has_slots = record {
             serves = serves;
             each = λ n.
                 subst (λ (x : ActorSlot). SlotFits (last_of (lives_of s.actors) n) (tables_at p.wiring p.tables.items n) x)

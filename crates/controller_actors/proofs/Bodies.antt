@@ -57,9 +57,9 @@ module _ (p : Plant) (me : ℕ) where
       (ap (λ (xs : List ActorSlot). λ n. (slot_at xs n).deferred) slots ∙ slot_set (λ (x : ActorSlot). x.deferred) old.slots.items s actor_slot l)
 
   -- the actors are still those of the controller
-  pub slots_set : (old new : Actors) (s : ℕ) (actor_slot : ActorSlot) → s < length old.slots.items → lives_of new ≡ lives_of old → new.slots.items ≡ set old.slots.items s actor_slot
+  pub has_slots_set : (old new : Actors) (s : ℕ) (actor_slot : ActorSlot) → s < length old.slots.items → lives_of new ≡ lives_of old → new.slots.items ≡ set old.slots.items s actor_slot
       → Serves p.wiring me new.services → HasSlots p me old → SlotFits (last_of (lives_of old) s) (tables_at p.wiring p.tables.items s) actor_slot → HasSlots p me new
-  slots_set old new s actor_slot l lives slots serves slots fits = record {
+  has_slots_set old new s actor_slot l lives slots serves has_slots fits = record {
     serves = serves;
     each = λ n.
         subst (λ (v : Lives). SlotFits (last_of v n) (tables_at p.wiring p.tables.items n) (slot_at new.slots.items n)) (sym lives)
@@ -69,9 +69,9 @@ module _ (p : Plant) (me : ℕ) where
               subst (λ m. SlotFits (last_of (lives_of old) m) (tables_at p.wiring p.tables.items m) (slot_at (set old.slots.items s actor_slot) m)) (sym e)
               (subst (λ (x : ActorSlot). SlotFits (last_of (lives_of old) s) (tables_at p.wiring p.tables.items s) x) (sym (get_or-set_same old.slots.items s actor_slot vacant l)) fits)
           | inr other ↦
-              subst (λ (x : ActorSlot). SlotFits (last_of (lives_of old) n) (tables_at p.wiring p.tables.items n) x) (sym (get_or-set_other old.slots.items s n actor_slot vacant other)) (slots.each n)
+              subst (λ (x : ActorSlot). SlotFits (last_of (lives_of old) n) (tables_at p.wiring p.tables.items n) x) (sym (get_or-set_other old.slots.items s n actor_slot vacant other)) (has_slots.each n)
         ]));
-    count = ap length slots ∙ length-set old.slots.items s actor_slot ∙ slots.count;
+    count = ap length slots ∙ length-set old.slots.items s actor_slot ∙ has_slots.count;
   }
 
 -- a slot where an actor lives has changed

@@ -74,7 +74,7 @@ module _ (p : Plant) (me : ℕ) where
             ∙ ap (λ (w : Doing Actor). treated (closing w left.last) did.Duty) (both.on false).1
             ∙ ap (λ (w : Doing Actor). treated w did.Duty) (closed new two last left.last kept c)
             ∙ ap (λ (x : TurnResult). with_body (done_of x) (body_of p me new)) (sym d);
-        well = record { slots = both.slots; empty = empty };
+        well = record { has_slots = both.has_slots; empty = empty };
         back =
             subst (λ (x : TurnResult). All HasPriority x.back) (sym d)
             (subst (λ (ms : List Msg). All HasPriority ms) (sym c.back) (both.back (subst (λ (ms : List Msg). All HasPriority ms) (sym back) (All-nil HasPriority))));
@@ -111,16 +111,16 @@ module _ (p : Plant) (me : ℕ) (m : Msg) (kind : SysKind) (old mid : Actors) (s
   fits_at : (s : ℕ) (b : Bool) → (lives_of old).lives s ≡ b → SlotFits (last_of row.frame.lives s) (tables_at p.wiring p.tables.items s) (slot_at old.slots.items s)
   fits_at s true live =
       subst (λ (g : ℕ). SlotFits (record { slot = record { 0 = s }; generation = record { 0 = g } }) (tables_at p.wiring p.tables.items s) (slot_at old.slots.items s))
-      (sym (known.living s live)) (well.slots.each s)
-  fits_at s false dead = nobody_fits _ _ _ (well.empty s dead refl) (well.slots.each s).kept
+      (sym (known.living s live)) (well.has_slots.each s)
+  fits_at s false dead = nobody_fits _ _ _ (well.empty s dead refl) (well.has_slots.each s).kept
 
-  pub duty_slots : HasSlots p me mid
-  duty_slots = record {
-    serves = record { fits = h.fits; owner = ap (λ c. c.0) h.me ∙ well.slots.serves.owner };
+  pub duty_has_slots : HasSlots p me mid
+  duty_has_slots = record {
+    serves = record { fits = h.fits; owner = ap (λ c. c.0) h.me ∙ well.has_slots.serves.owner };
     each = λ s.
         subst (λ (l : Lives). SlotFits (last_of l s) (tables_at p.wiring p.tables.items s) (slot_at mid.slots.items s)) (sym lives)
         (subst (λ (x : ActorSlot). SlotFits (last_of row.frame.lives s) (tables_at p.wiring p.tables.items s) x) (sym (left_slots s)) (fits_at s ((lives_of old).lives s) refl));
-    count = ap (λ v. length v.items) slots ∙ well.slots.count;
+    count = ap (λ v. length v.items) slots ∙ well.has_slots.count;
   }
 
   pub duty_empty : AreEmpty left.ended mid

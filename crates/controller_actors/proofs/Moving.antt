@@ -23,7 +23,7 @@ use Rattle.controller_actors.specs.Served.{Serves, links_in}
 use Rattle.controller_actors.specs.Plants.{model_of}
 use Rattle.controller_actors.specs.Bodies.{HasSlots, body_of, lives_of, slot_at, vacant}
 use Rattle.controller_actors.specs.Steps.{IsLast, Moves, doing_of}
-use Rattle.controller_actors.proofs.Bodies.{body_same, body_set, slots_set}
+use Rattle.controller_actors.proofs.Bodies.{body_same, body_set, has_slots_set}
 
 -- equal parts make equal states
 same_doing : {b c : Body Actor} {sent sent' back back' : List Msg} {told told' : List Note} → b ≡ c → sent ≡ sent' → back ≡ back' → told ≡ told' → (kept : Bool)
@@ -37,14 +37,14 @@ module _ (p : Plant) (me : ℕ) where
 
   -- nothing is done
   pub stays : (a : Actors) (s : SoFar) → HasSlots p me a → Moves (λ d. d) p me a s a s
-  stays a s slots = record { on = λ held. (held, refl); slots = slots; lives = refl; back = λ all. all }
+  stays a s has_slots = record { on = λ held. (held, refl); has_slots = has_slots; lives = refl; back = λ all. all }
 
   -- one step after another
   pub then_moves : (first second : Doing Actor → Doing Actor) (a b c : Actors) (x y z : SoFar)
       → Moves first p me a x b y → Moves second p me b y c z → Moves (λ d. second (first d)) p me a x c z
   then_moves first second a b c x y z h k = record {
     on = λ held. ((k.on (h.on held).0).0, ap second (h.on held).1 ∙ (k.on (h.on held).0).1);
-    slots = k.slots;
+    has_slots = k.has_slots;
     lives = k.lives ∙ h.lives;
     back = λ all. k.back (h.back all);
   }
@@ -54,7 +54,7 @@ module _ (p : Plant) (me : ℕ) where
       → Moves first p me a x b y → Moves second p me a x b y
   same_moves first second a b x y e h = record {
     on = λ held. ((h.on held).0, e (doing_of p me a x held) ∙ (h.on held).1);
-    slots = h.slots;
+    has_slots = h.has_slots;
     lives = h.lives;
     back = h.back;
   }
@@ -68,7 +68,7 @@ module _ (p : Plant) (me : ℕ) where
       → before ≡ slot_at old.slots.items x.slot.0 → new.table ≡ old.table → new.slots.items ≡ set old.slots.items x.slot.0 after → Serves p.wiring me new.services
       → SlotComesUp p.wiring me (frame_in old.services.frame) (links_in old.services) (frame_in new.services.frame) (links_in new.services) x (tables_at p.wiring p.tables.items x.slot.0) before after first.output first.back last.output last.back
       → HasSlots p me old → IsLast p.wiring (lives_of old) x → Moves (begun (model_of p) p.wiring me x) p me old first new last
-  comes_up old new x before after first last l is table slots serves h slots here =
+  comes_up old new x before after first last l is table slots serves h has_slots here =
       let s = x.slot.0 in
       let o = tables_at p.wiring p.tables.items s in
       let f = frame_in old.services.frame in
@@ -83,7 +83,7 @@ module _ (p : Plant) (me : ℕ) where
               ∙ ap (λ (c : Body Actor). record { body = c; sent = last.output.messages; back = last.back; notes = last.output.notes; kept = h.kept })
               (sym (body_set p me old new s after l table slots)),
         );
-        slots = slots_set p me old new s after l h.lives slots serves slots (subst (λ y. SlotFits y o after) (sym here.last) h.fits);
+        has_slots = has_slots_set p me old new s after l h.lives slots serves has_slots (subst (λ y. SlotFits y o after) (sym here.last) h.fits);
         lives = h.lives;
         back = h.back;
       }
@@ -110,7 +110,7 @@ module _ (p : Plant) (me : ℕ) where
       → last.output.notes ≡ first.output.notes ++ notes.Down x (length (slot_at old.slots.items x.slot.0).deferred) ∷ []
       → HasSlots p me old → Moves (gone p.wiring me x) p me old first new last
   unfolding body_of
-  goes_down old new x first last l frame links table slots sent back told slots =
+  goes_down old new x first last l frame links table slots sent back told has_slots =
       let s = x.slot.0 in
       let b = body_of p me old in
       let r = end_of p.wiring me (links_in old.services) x in
@@ -120,12 +120,12 @@ module _ (p : Plant) (me : ℕ) where
       ∙ ap (λ (k : Links). slot_body (frame_in new.services.frame) k b s vacant) (sym links)
       ∙ sym (body_set p me old new s vacant l table slots) in
       let serves : Serves p.wiring me new.services = record {
-        fits = subst (IsFrameOf p.wiring) (sym frame) slots.serves.fits;
-        owner = ap (λ (f : FrameState). f.me.0) frame ∙ slots.serves.owner;
+        fits = subst (IsFrameOf p.wiring) (sym frame) has_slots.serves.fits;
+        owner = ap (λ (f : FrameState). f.me.0) frame ∙ has_slots.serves.owner;
       } in
       record {
         on = λ held. (held, same_doing body (sym sent) (sym back) (sym told) held);
-        slots = slots_set p me old new s vacant l lives slots serves slots (record { of = tt; tables = tt; kept = All-nil HasPriority });
+        has_slots = has_slots_set p me old new s vacant l lives slots serves has_slots (record { of = tt; tables = tt; kept = All-nil HasPriority });
         lives = lives;
         back = λ all. subst (λ (ms : List Msg). All HasPriority ms) (sym back) all;
       }

@@ -100,7 +100,7 @@ module _ (p : Plant) (me : ℕ) (m : Msg) (kind : SysKind) (old : Actors) (done 
             ∙ ap (λ (r : Done NameTable). treated (with_table b r) did.Duty) (done_is (table_duty p.wiring me old.table kind m) now sent table out)
             ∙ ap (λ (d : TurnResult). with_body (done_of d) (body_of p me (record old { table = now }))) (sym is);
         well = record {
-          slots = record { serves = well.slots.serves; each = well.slots.each; count = well.slots.count };
+          has_slots = record { serves = well.has_slots.serves; each = well.has_slots.each; count = well.has_slots.count };
           empty = well.empty;
         };
         back = none_back sent is;
@@ -122,10 +122,10 @@ module _ (p : Plant) (me : ℕ) (m : Msg) (kind : SysKind) (old : Actors) (done 
             ∙ ap (λ (r : Done Links). treated (with_links b r) did.Duty) (done_is (links_duty p.wiring me (links_in old.services) live kind m) (links_of now) sent links out)
             ∙ ap (λ (d : TurnResult). with_body (done_of d) (body_of p me (record old { services = record old.services { links = now } }))) (sym is);
         well = record {
-          slots = record {
-            serves = record { fits = well.slots.serves.fits; owner = well.slots.serves.owner };
-            each = well.slots.each;
-            count = well.slots.count;
+          has_slots = record {
+            serves = record { fits = well.has_slots.serves.fits; owner = well.has_slots.serves.owner };
+            each = well.has_slots.each;
+            count = well.has_slots.count;
           };
           empty = well.empty;
         };

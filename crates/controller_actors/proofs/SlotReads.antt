@@ -22,7 +22,7 @@ use Rattle.controller_actors.specs.Plants.{IsPlant}
 use Rattle.controller_actors.specs.Bodies.{HasSlots, IsWell, body_of, done_of, lives_of, slot_at, vacant}
 use Rattle.controller_actors.specs.Steps.{Dispatches}
 use Rattle.controller_actors.proofs.Tabled.{slot_sound}
-use Rattle.controller_actors.proofs.Bodies.{body_same, body_set, slots_set, empty_set}
+use Rattle.controller_actors.proofs.Bodies.{body_same, body_set, has_slots_set, empty_set}
 use Rattle.controller_actors.proofs.Turning.{dispatches_nobody}
 
 -- a slot that is read is the one of its slot
@@ -36,14 +36,14 @@ read_sound p h s o is = λ v e. slot_sound p h s v (sym is ∙ e)
 -- it fits
 pub read_fits : (p : Plant) (me : ℕ) (a : Actors) (s : ℕ) (x : Incarnation) (o : Option Tables) (actor_slot : ActorSlot) → HasSlots p me a
     → x ≡ last_of (lives_of a) s → o ≡ tables_at p.wiring p.tables.items s → actor_slot ≡ slot_at a.slots.items s → SlotFits x o actor_slot
-read_fits p me a s x o actor_slot slots who tables is =
+read_fits p me a s x o actor_slot has_slots who tables is =
     subst (λ y. SlotFits y o actor_slot) (sym who)
     (subst (λ (v : Option Tables). SlotFits (last_of (lives_of a) s) v actor_slot) (sym tables)
-    (subst (λ (y : ActorSlot). SlotFits (last_of (lives_of a) s) (tables_at p.wiring p.tables.items s) y) (sym is) (slots.each s)))
+    (subst (λ (y : ActorSlot). SlotFits (last_of (lives_of a) s) (tables_at p.wiring p.tables.items s) y) (sym is) (has_slots.each s)))
 
 -- what it keeps has priorities
 pub read_kept : (p : Plant) (me : ℕ) (a : Actors) (s : ℕ) (actor_slot : ActorSlot) → HasSlots p me a → actor_slot ≡ slot_at a.slots.items s → All HasPriority actor_slot.deferred
-read_kept p me a s actor_slot slots is = subst (λ (y : ActorSlot). All HasPriority y.deferred) (sym is) (slots.each s).kept
+read_kept p me a s actor_slot has_slots is = subst (λ (y : ActorSlot). All HasPriority y.deferred) (sym is) (has_slots.each s).kept
 
 -- nobody stands in the slot of a message, which stays as it was
 pub dispatches_none : (p : Plant) (me : ℕ) (m : Msg) (old new : Actors) (before after : ActorSlot) (done : TurnResult) → m.target.slot.0 < length old.slots.items
@@ -64,8 +64,8 @@ dispatches_none p me m old new before after done l read services table slots non
           ∙ ap (λ (x : ActorServices). slot_body (frame_in x.frame) (links_in x) b s after) (sym services)
           ∙ sym (body_set p me old new s after l table slots));
       well = record {
-        slots = slots_set p me old new s after l lives slots (subst (Serves p.wiring me) (sym services) well.slots.serves) well.slots
-            (subst (λ (y : ActorSlot). SlotFits (last_of (lives_of old) s) (tables_at p.wiring p.tables.items s) y) (sym same) (well.slots.each s));
+        has_slots = has_slots_set p me old new s after l lives slots (subst (Serves p.wiring me) (sym services) well.has_slots.serves) well.has_slots
+            (subst (λ (y : ActorSlot). SlotFits (last_of (lives_of old) s) (tables_at p.wiring p.tables.items s) y) (sym same) (well.has_slots.each s));
         empty = empty_set old new s after lives slots live [] well.empty;
       };
       back = there.back;

@@ -25,7 +25,7 @@ use Rattle.controller_actors.specs.declared.actors.Actors.{Actors}
 use Rattle.controller_actors.specs.Plants.{model_of}
 use Rattle.controller_actors.specs.Bodies.{IsWell, body_of, done_of, lives_of, slot_at}
 use Rattle.controller_actors.specs.Steps.{Dispatches, IsLast}
-use Rattle.controller_actors.proofs.Bodies.{body_same, body_set, slots_set, empty_set}
+use Rattle.controller_actors.proofs.Bodies.{body_same, body_set, has_slots_set, empty_set}
 
 -- ---- the cases of a dispatch, over any behaviour
 
@@ -145,7 +145,7 @@ module _ (p : Plant) (me : ℕ) (m : Msg) (old : Actors) where
             ∙ h.turn b
             ∙ ap (treated_on done) (sym (body_set p me old new s after l table slots));
         well = record {
-          slots = slots_set p me old new s after l h.lives slots serves well.slots h.fits;
+          has_slots = has_slots_set p me old new s after l h.lives slots serves well.has_slots h.fits;
           empty = empty_set old new s after h.lives slots live [] well.empty;
         };
         back = h.back;

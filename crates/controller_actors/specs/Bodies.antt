@@ -57,7 +57,7 @@ AreEmpty gone actors =
 
 -- the actors are those of controller me of this plant, and nobody stands where nobody lives
 pub record IsWell (plant : Plant) (me : ℕ) (actors : Actors) : Type 0 where
-  pub slots : HasSlots plant me actors
+  pub has_slots : HasSlots plant me actors
   pub empty : AreEmpty [] actors
 
 -- what a turn made of its message, but the body

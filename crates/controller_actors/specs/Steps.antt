@@ -38,7 +38,7 @@ pub record ActorsBegin (plant : Plant) (me slot : ℕ) (old new : Actors) (sent 
       entered plant.wiring me x (begins x (tables_at plant.wiring plant.tables.items slot)) (record { body = body_of plant me old; sent = sent; back = before; notes = notes; kept = held })
       ≡ record { body = body_of plant me new; sent = e.output.messages; back = e.back; notes = e.output.notes; kept = kept }
   pub state : e.state ≡ state_number (begins (last_of (lives_of old) slot) (tables_at plant.wiring plant.tables.items slot)).machine
-  pub slots : HasSlots plant me new
+  pub has_slots : HasSlots plant me new
   pub lives : lives_of new ≡ lives_of old
   pub empty : (gone : List Incarnation) → AreEmpty gone old → AreEmpty gone new
 
@@ -55,7 +55,7 @@ doing_of p me a s kept = record { body = body_of p me a; sent = s.output.message
 -- a step of the definitions, done by actors: no incarnation is made or ends in it
 pub record Moves (step : Doing Actor → Doing Actor) (plant : Plant) (me : ℕ) (old : Actors) (before : SoFar) (new : Actors) (after : SoFar) : Type 0 where
   pub on : (held : Bool) → (kept : Bool) × (step (doing_of plant me old before held) ≡ doing_of plant me new after kept)
-  pub slots : HasSlots plant me new
+  pub has_slots : HasSlots plant me new
   pub lives : lives_of new ≡ lives_of old
   pub back : All HasPriority before.back → All HasPriority after.back
 

@@ -90,7 +90,7 @@ impl Actors {
         back: Recalled,
     ) -> Result<Entrance, AllocError>
         requires plant { IsPlant plant.now }
-        requires slots { HasSlots plant.now me.0 self.old }
+        requires has_slots { HasSlots plant.now me.0 self.old }
         requires last { IsLast plant.now.wiring (lives_of self.old) who }
         ensures { IfOk result (λ e. ActorsBegin plant.now me.0 who.slot.0 self.old self.new sent back e) }
     {

@@ -30,7 +30,7 @@ impl Actors {
         so_far: SoFar,
     ) -> Result<SoFar, AllocError>
         requires plant { IsPlant plant.now }
-        requires slots { HasSlots plant.now me.0 self.old }
+        requires has_slots { HasSlots plant.now me.0 self.old }
         requires last { IsLast plant.now.wiring (lives_of self.old) who }
         ensures moves { IfOk result (λ s. Moves (begun (model_of plant.now) plant.now.wiring me.0 who) plant.now me.0 self.old so_far self.new s) }
         ensures empty { OnOk result ((gone : List Actor) → AreEmpty gone self.old → AreEmpty gone self.new) }
@@ -64,7 +64,7 @@ impl Actors {
         so_far: SoFar,
     ) -> Result<SoFar, AllocError>
         requires plant { IsPlant plant.now }
-        requires slots { HasSlots plant.now me.0 self.old }
+        requires has_slots { HasSlots plant.now me.0 self.old }
         requires last { All (IsLast plant.now.wiring (lives_of self.old)) made.now }
         ensures moves { IfOk result (λ s. Moves (all_begun (model_of plant.now) plant.now.wiring me.0 made.now) plant.now me.0 self.old so_far self.new s) }
         ensures empty { OnOk result ((gone : List Actor) → AreEmpty gone self.old → AreEmpty gone self.new) }
@@ -85,7 +85,7 @@ impl Actors {
         who: Incarnation,
         so_far: &mut SoFar,
     ) -> Result<(), AllocError>
-        requires slots { HasSlots plant.now me.0 self.old }
+        requires has_slots { HasSlots plant.now me.0 self.old }
         requires there { who.slot.0 < length plant.now.wiring.slots }
         ensures moves { OnOk result (Moves (gone plant.now.wiring me.0 who) plant.now me.0 self.old so_far.old self.new so_far.new) }
         ensures empty { OnOk result ((rest : List Actor) → AreEmpty (who ∷ rest) self.old → AreEmpty rest self.new) }
@@ -107,7 +107,7 @@ impl Actors {
         ended: &[Incarnation],
         so_far: &mut SoFar,
     ) -> Result<(), AllocError>
-        requires slots { HasSlots plant.now me.0 self.old }
+        requires has_slots { HasSlots plant.now me.0 self.old }
         requires there { All (λ (x : Actor). x.slot.0 < length plant.now.wiring.slots) ended.now }
         ensures moves { OnOk result (Moves (all_gone plant.now.wiring me.0 ended.now) plant.now me.0 self.old so_far.old self.new so_far.new) }
         ensures empty { OnOk result (AreEmpty ended.now self.old → AreEmpty [] self.new) }

@@ -108,7 +108,7 @@ impl Actors {
         sent: Outbox,
     ) -> Result<TurnResult, AllocError>
         requires plant { IsPlant plant.now }
-        requires slots { HasSlots plant.now me.0 self.old }
+        requires has_slots { HasSlots plant.now me.0 self.old }
         requires empty { AreEmpty left.ended self.old }
         requires made { All (IsLast plant.now.wiring (lives_of self.old)) left.made }
         requires ended { All (λ (x : Actor). x.slot.0 < length plant.now.wiring.slots) left.ended }

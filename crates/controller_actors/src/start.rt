@@ -45,7 +45,7 @@ impl Starting {
         who: Incarnation,
     ) -> Result<(), AllocError>
         requires plant { IsPlant plant.now }
-        requires slots { HasSlots plant.now me.0 self.old.actors }
+        requires has_slots { HasSlots plant.now me.0 self.old.actors }
         requires last { IsLast plant.now.wiring (lives_of self.old.actors) who }
         ensures { OnOk result (StartsIn plant.now me.0 who.slot.0 self.old self.new) }
     {

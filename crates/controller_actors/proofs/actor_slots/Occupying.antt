@@ -7,7 +7,7 @@ use Rattle.chart_run.specs.declared.chart_tables.tables.Tables.{Tables}
 use Rattle.chart_run.specs.declared.machine.Machine.{Machine}
 use Rattle.chart_run.specs.declared.outcome.Outcome.{Outcome}
 use Rattle.chart_run.specs.declared.outcome.Handling.TheVariants as handlings
-use Rattle.chart_run.specs.Machines.{Fits, Acts, Starts, occupant_of, result_view}
+use Rattle.chart_run.specs.Machines.{Fits, Acts, Starts, standing_of, result_view}
 use Rattle.chart_behaviour.specs.ModelCharts.{begins, handles, handling_of}
 use Rattle.chart_behaviour.proofs.Charts.{machines_begin, machines_handle}
 use Rattle.controller_actors.specs.declared.actor_slots.occupant.Occupant.TheVariants as occupants
@@ -49,7 +49,7 @@ pub charted_reacts : (m : Msg) (o : Option Tables) (old new : Machine) (r : Reac
 charted_reacts m o old new r h = record {
   stood = refl;
   stands = refl;
-  handled = λ x e. subst (λ y. handles y m o (Some (occupant_of old)) ≡ record { machine = Some (occupant_of new); result = handling_of (result_view r.came_to); notes = r.notes; commands = r.commands }) e h.handled;
+  handled = λ x e. subst (λ y. handles y m o (Some (standing_of old)) ≡ record { machine = Some (standing_of new); result = handling_of (result_view r.came_to); notes = r.notes; commands = r.commands }) e h.handled;
   state = h.state;
   me = λ x e. h.me ∙ e;
   fits = h.fits;

@@ -75,10 +75,10 @@ module _ (t : Wiring) (me : ℕ) (f : Frame) (l : Links) (f' : Frame) (l' : Link
     turn_on of b =
         let result = handling_of (result_view r.came_to) in
         ap (turned t me (slot_body f l b x.slot.0 old) x m) (h.handled x of)
-        ∙ ap (λ (d : WorldDoing Actor). treated d (output result x (state_number (actor_of mid.occupant))))
+        ∙ ap (λ (d : WorldDoing Actor). treated d (said result x (state_number (actor_of mid.occupant))))
         (applied_on b (Some m) r.commands old mid new (actor_of mid.occupant) (record { messages = []; notes = r.notes }) [] (record { messages = done.sent; notes = done.notes }) done.back h.stands same w)
         ∙ ap (λ (d : Did). record { body = slot_body f' l' b x.slot.0 new; sent = done.sent; back = done.back; did = d; notes = done.notes })
-        (ap (output result x) (sym h.state) ∙ sym did)
+        (ap (said result x) (sym h.state) ∙ sym did)
 
     pub turns : SlotFits x o old → HasPriority m → SlotTurns t me f l f' l' x m o old new done
     turns fits prio =
@@ -106,13 +106,13 @@ module _ (t : Wiring) (me : ℕ) (f : Frame) (l : Links) (f' : Frame) (l' : Link
     start_on b notes held =
         ap (λ (a : Begun Actor). entered t me x a (record { body = slot_body f l b x.slot.0 old; sent = sent; back = before; notes = notes; kept = held })) h.began
         ∙ applied_on b None r.commands old mid new (actor_of r.occupant) (record { messages = sent; notes = r.notes }) before e.output e.back
-        (ap actor_in stand ∙ h.stands) same w
+        (ap actor_in occupant ∙ h.stands) same w
 
     pub starts : All HasPriority old.deferred → SlotBegins t me f l f' l' x o old new sent before e
     starts kept =
         let first : Doing = record { deferred = mid.deferred; output = record { messages = sent; notes = r.notes }; back = before; kept = false } in
         let last : Doing = record { deferred = new.deferred; output = e.output; back = e.back; kept = w.kept } in
-        let now : new.occupant ≡ r.occupant = w.occupant ∙ stand in
+        let now : new.occupant ≡ r.occupant = w.occupant ∙ occupant in
         record {
           kept = w.kept;
           doing = start_on;
@@ -149,7 +149,7 @@ module _ (t : Wiring) (me : ℕ) (f : Frame) (l : Links) (f' : Frame) (l' : Link
         ∙ ap (λ (n : Note). apply_all t me x None r.commands (record { body = record b { frame = f; links = l; machines = updated b.machines x.slot.0 (Some (actor_of r.occupant)); deferred = updated b.deferred x.slot.0 [] }; sent = first.messages; back = before; notes = first.notes ++ (n ∷ r.notes); kept = false })) state
         ∙ ap (λ (ns : List Note). apply_all t me x None r.commands (record { body = record b { frame = f; links = l; machines = updated b.machines x.slot.0 (Some (actor_of r.occupant)); deferred = updated b.deferred x.slot.0 [] }; sent = first.messages; back = before; notes = ns; kept = false })) (sym up)
         ∙ ap (λ (a : Option Actor). apply_all t me x None r.commands (record { body = record b { frame = f; links = l; machines = updated b.machines x.slot.0 a; deferred = updated b.deferred x.slot.0 [] }; sent = first.messages; back = before; notes = told; kept = false }))
-        (sym (ap actor_in stand ∙ h.stands))
+        (sym (ap actor_in occupant ∙ h.stands))
         ∙ ap (λ (ds : List Msg). apply_all t me x None r.commands (record { body = record b { frame = f; links = l; machines = updated b.machines x.slot.0 (actor_in mid.occupant); deferred = updated b.deferred x.slot.0 ds }; sent = first.messages; back = before; notes = told; kept = false })) (sym none)
         ∙ w.applied.on (record b { machines = updated b.machines x.slot.0 (actor_in mid.occupant) })
         ∙ ap (λ (s : Occupant). record {
@@ -164,7 +164,7 @@ module _ (t : Wiring) (me : ℕ) (f : Frame) (l : Links) (f' : Frame) (l' : Link
     comes_up =
         let from : Doing = record { deferred = mid.deferred; output = record { messages = first.messages; notes = told }; back = before; kept = false } in
         let to : Doing = record { deferred = new.deferred; output = last; back = after; kept = w.kept } in
-        let now : new.occupant ≡ r.occupant = w.occupant ∙ stand in
+        let now : new.occupant ≡ r.occupant = w.occupant ∙ occupant in
         let kept : All HasPriority mid.deferred = subst (λ (ms : List Msg). All HasPriority ms) (sym none) (All-nil HasPriority) in
         record {
           kept = w.kept;

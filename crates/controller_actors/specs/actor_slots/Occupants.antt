@@ -5,7 +5,7 @@ use Rattle.room_kinds.specs.declared.numbers.Incarnation.{Incarnation}
 use Rattle.chart_run.specs.chart_tables.Tables.{IsSound}
 use Rattle.chart_run.specs.declared.chart_tables.tables.Tables.{Tables}
 use Rattle.chart_run.specs.declared.machine.Machine.{Machine}
-use Rattle.chart_run.specs.Machines.{Fits, occupant_of, result_view}
+use Rattle.chart_run.specs.Machines.{Fits, standing_of, result_view}
 use Rattle.chart_behaviour.specs.ModelCharts.{Actor, begins, handles, handling_of, state_number}
 use Rattle.controller_actors.specs.declared.actor_slots.occupant.Occupant.{Occupant}
 use Rattle.controller_actors.specs.declared.actor_slots.occupant.Occupant.TheVariants as occupants
@@ -16,13 +16,13 @@ use Rattle.controller_actors.specs.declared.actor_slots.occupant.Beginning.{Begi
 abbrev pub actor_of : Occupant → Actor
 actor_of occupants.Nobody = None
 actor_of occupants.Chartless = None
-actor_of (occupants.Charted m) = Some (occupant_of m)
+actor_of (occupants.Charted m) = Some (standing_of m)
 
 -- the same, if anybody stands there
 abbrev pub actor_in : Occupant → Option Actor
 actor_in occupants.Nobody = None
 actor_in occupants.Chartless = Some None
-actor_in (occupants.Charted m) = Some (Some (occupant_of m))
+actor_in (occupants.Charted m) = Some (Some (standing_of m))
 
 -- the tables of a class are sound, if it has any
 abbrev pub AreSound : Option Tables → Type 0
@@ -46,8 +46,8 @@ IsOf x (occupants.Charted m) = m.me ≡ x
 
 -- a machine handled a message, as an actor of its class does
 pub record MachineReacts (m : Msg) (o : Option Tables) (old new : Machine) (r : Reaction) : Type 0 where
-  pub handled : handles old.me m o (Some (occupant_of old))
-      ≡ record { machine = Some (occupant_of new); result = handling_of (result_view r.came_to); notes = r.notes; commands = r.commands }
+  pub handled : handles old.me m o (Some (standing_of old))
+      ≡ record { machine = Some (standing_of new); result = handling_of (result_view r.came_to); notes = r.notes; commands = r.commands }
   pub state : r.state ≡ new.leaf
   pub me : new.me ≡ old.me
   pub fits : MachineFits o new

@@ -14,10 +14,10 @@ abbrev no_one : Incarnation
 no_one = record { slot = record { 0 = 0 }; generation = record { 0 = 0 } }
 
 pub loop-who-init : goal.loop-who-init
-loop-who-init c = (stays c.args.plant.now c.args.me.0 c.args.self.now c.args.so_far c.requires.slots, λ gone h. h)
+loop-who-init c = (stays c.args.plant.now c.args.me.0 c.args.self.now c.args.so_far c.requires.has_slots, λ gone h. h)
 
-pub come_up-requires-clause-slots : goal.come_up-requires-clause-slots
-come_up-requires-clause-slots c = c.loop-who.invariant.0.slots
+pub come_up-requires-clause-has_slots : goal.come_up-requires-clause-has_slots
+come_up-requires-clause-has_slots c = c.loop-who.invariant.0.has_slots
 
 pub come_up-requires-clause-last : goal.come_up-requires-clause-last
 come_up-requires-clause-last c =

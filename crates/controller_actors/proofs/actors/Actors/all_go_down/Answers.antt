@@ -12,10 +12,10 @@ abbrev no_one : Incarnation
 no_one = record { slot = record { 0 = 0 }; generation = record { 0 = 0 } }
 
 pub loop-who-init : goal.loop-who-init
-loop-who-init c = (stays c.args.plant.now c.args.me.0 c.args.self.now c.args.so_far.now c.requires.slots, λ h. h)
+loop-who-init c = (stays c.args.plant.now c.args.me.0 c.args.self.now c.args.so_far.now c.requires.has_slots, λ h. h)
 
-pub go_down-requires-clause-slots : goal.go_down-requires-clause-slots
-go_down-requires-clause-slots c = c.loop-who.invariant.0.slots
+pub go_down-requires-clause-has_slots : goal.go_down-requires-clause-has_slots
+go_down-requires-clause-has_slots c = c.loop-who.invariant.0.has_slots
 
 pub go_down-requires-clause-there : goal.go_down-requires-clause-there
 go_down-requires-clause-there c =

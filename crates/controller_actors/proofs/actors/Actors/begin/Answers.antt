@@ -26,11 +26,11 @@ returns c =
     let before = c.index_mut-actor_slot.result.now in
     let after = c.begin.new.self in
     let e = c.in_ok-entrance.entrance in
-    let there : s < length old.slots.items = omega (arith, c.requires.last.there, c.requires.slots.count) in
+    let there : s < length old.slots.items = omega (arith, c.requires.last.there, c.requires.has_slots.count) in
     let within : c.from.result < length old.slots.items = omega (arith, c.from.ensures, there) in
     actors_begin p c.args.me.0 old _ s before after c.args.sent c.args.back e there
     (slot_read old.slots.items s c.from.result before c.from.ensures within c.index_mut-actor_slot.ensures.value) refl
     (ap (λ i. set old.slots.items i after) c.from.ensures) c.in_ok-entrance.ensures.serves
     (subst (λ (o : Option Tables). SlotBegins p.wiring c.args.me.0 f l g k (last_of (lives_of old) s) o before after c.args.sent c.args.back e) c.tables_of-tables.ensures
     (subst (λ (x : Incarnation). SlotBegins p.wiring c.args.me.0 f l g k x (option_copied c.tables_of-tables.result) before after c.args.sent c.args.back e) (sym c.requires.last.last) c.in_ok-entrance.ensures.begins))
-    c.requires.last.live c.requires.slots
+    c.requires.last.live c.requires.has_slots
