@@ -59,9 +59,6 @@ kept_by f states c s h n = go (n == c) refl
     go true e = h ∙ ap (λ k. f (states k)) (sym (eqb-true n c e))
     go false e = refl
 
-none_first : (priority : ℕ) → (0 == priority) ≡ false → (priority == 0) ≡ false
-none_first priority e = ne_eqb priority 0 (λ q. eqb-false 0 priority e (sym q))
-
 -- a trail's three parts, of which the first loses something, the second passes it on, and the last gains
 parts_move : (out first first2 middle middle2 last last2 more : List Msg) → out ++ first2 ≡ first → middle2 ≡ middle → last2 ≡ last ++ more
     → out ++ (first2 ++ (middle2 ++ last2)) ≡ (first ++ (middle ++ last)) ++ more
