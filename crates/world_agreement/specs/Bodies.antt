@@ -18,7 +18,7 @@ use Rattle.room_kinds.specs.declared.system.SysKind.{SysKind}
 use Rattle.room_kinds.specs.declared.system.SysKind.TheVariants as kinds
 use Rattle.room_wiring.specs.declared.tables.Tables.{Tables}
 use Rattle.actor_merge.specs.Parties.{Line}
-use Rattle.actor_merge.specs.World.{World, Placed, IsQuiet, start, Runs}
+use Rattle.actor_merge.specs.World.{World, Placed, IsQuiet}
 use Rattle.actor_duties.specs.Words.{whose, owner_of, is_optional, container_of}
 use Rattle.actor_duties.specs.Lives.{is_made_with}
 use Rattle.actor_duties.specs.Frame.{is_part_told}
@@ -29,7 +29,7 @@ use Rattle.actor_world.specs.Start.{lives_from_start, plant_of}
 use Rattle.actor_world.specs.Directories.{IsOpen, AreOpen}
 use Rattle.actor_world.specs.Agreed.{frame_at}
 use Rattle.service_messages.specs.slot_runs.Runs.{IsDepthFirst}
-use Rattle.world_agreement.specs.Trails.{trail, hear_all}
+use Rattle.world_agreement.specs.Trails.{RunsTo, trail, hear_all}
 
 -- whether a part of slot o lives after a message on x without numbers that makes or ends it, where the
 -- message is of its form
@@ -82,20 +82,24 @@ pub record IsInBody (t : Tables) (o s : ℕ) : Type 0 where
 
 -- at the owner of an optional slot what it owns of the slot's body lives exactly where the slot does
 abbrev pub OwnPartsLive : {M : Type 0} → Tables → World (Body M) → Type 0
-OwnPartsLive t w = (o s : ℕ) → IsInBody t o s → owner_of t s ≡ owner_of t o → lives_at t w s ≡ lives_at t w o
+OwnPartsLive t w =
+    (o s : ℕ) → IsInBody t o s → owner_of t s ≡ owner_of t o → lives_at t w s ≡ lives_at t w o
 
 -- at every other controller: what lives of the body, changed by what is on the trail from the optional
 -- slot's owner, is whether the slot lives there
 abbrev pub PartsAreForetold : {M : Type 0} → Tables → World (Body M) → Type 0
 PartsAreForetold t w =
-    (o s : ℕ) → IsInBody t o s → owner_of t s < length t.controllers → (owner_of t s == owner_of t o) ≡ false
-    → hear_all (part_heard t (owner_of t s) o) (trail w (owner_of t o) (owner_of t s)) (lives_at t w s) ≡ lives_at t w o
+    (o s : ℕ) → IsInBody t o s → owner_of t s < length t.controllers
+    → (owner_of t s == owner_of t o) ≡ false
+    → hear_all (part_heard t (owner_of t s) o) (trail w (owner_of t o) (owner_of t s)) (lives_at t w s)
+    ≡ lives_at t w o
 
 -- on the trail to it PartMake and PartEnd of the optional slot alternate, the first is a PartMake exactly
 -- where the part doesn't live
 abbrev pub PartsAlternate : {M : Type 0} → Tables → World (Body M) → Type 0
 PartsAlternate t w =
-    (o s : ℕ) → IsInBody t o s → owner_of t s < length t.controllers → (owner_of t s == owner_of t o) ≡ false
+    (o s : ℕ) → IsInBody t o s → owner_of t s < length t.controllers
+    → (owner_of t s == owner_of t o) ≡ false
     → Alternate t (owner_of t s) o (lives_at t w s) (trail w (owner_of t o) (owner_of t s))
 
 -- the part of a controller lives as a whole or not at all
@@ -104,32 +108,38 @@ PartsAreWhole t w =
     (o s u : ℕ) → IsInBody t o s → IsInBody t o u → owner_of t s < length t.controllers
     → owner_of t u ≡ owner_of t s → lives_at t w s ≡ lives_at t w u
 
--- over every run of the world: parts are whole, and live with their slots, where what is on its way counts, and that
--- alternates
+-- over every run of the world: parts are whole, and live with their slots, where what is on its way
+-- counts, and that alternates
 abbrev pub RunsForetellParts : Type 0 → Type 0
 RunsForetellParts M =
-    (model : Behaviour M) (t : Tables) (lines : List Line) → IsOpen model → AreOpen lines → IsDepthFirst t
-    → (xs : List Placed) (end : World (Body M)) → Runs (plant_of model t lines) (start (plant_of model t lines)) xs end
+    (model : Behaviour M) (t : Tables) (lines : List Line) → IsOpen model → AreOpen lines
+    → IsDepthFirst t
+    → (xs : List Placed) (end : World (Body M)) → RunsTo model t lines xs end
     → PartsAreWhole t end × OwnPartsLive t end × PartsAreForetold t end × PartsAlternate t end
 
 -- over every run of the world that is quiet at its end: each slot of a body lives exactly where the
 -- optional slot does
 abbrev pub QuietBodiesAgree : Type 0 → Type 0
 QuietBodiesAgree M =
-    (model : Behaviour M) (t : Tables) (lines : List Line) → IsOpen model → AreOpen lines → IsDepthFirst t
-    → (xs : List Placed) (end : World (Body M)) → Runs (plant_of model t lines) (start (plant_of model t lines)) xs end
+    (model : Behaviour M) (t : Tables) (lines : List Line) → IsOpen model → AreOpen lines
+    → IsDepthFirst t
+    → (xs : List Placed) (end : World (Body M)) → RunsTo model t lines xs end
     → IsQuiet (plant_of model t lines) end
-    → (o s : ℕ) → IsInBody t o s → owner_of t s < length t.controllers → lives_at t end s ≡ lives_at t end o
+    → (o s : ℕ) → IsInBody t o s → owner_of t s < length t.controllers
+    → lives_at t end s ≡ lives_at t end o
 
 -- the container of an optional slot, where another controller owns it, lives from the start
 abbrev pub OthersLiveFromStart : Tables → Type 0
 OthersLiveFromStart t =
-    (s c : ℕ) → is_optional t s ≡ true → container_of t s ≡ Some c → (owner_of t c == owner_of t s) ≡ false
+    (s c : ℕ) → is_optional t s ≡ true → container_of t s ≡ Some c
+    → (owner_of t c == owner_of t s) ≡ false
     → lives_from_start t c ≡ true
 
 -- over every run of the world: a live optional slot has a live container
 abbrev pub ContainersLive : Type 0 → Type 0
 ContainersLive M =
-    (model : Behaviour M) (t : Tables) (lines : List Line) → IsOpen model → AreOpen lines → IsDepthFirst t → OthersLiveFromStart t
-    → (xs : List Placed) (end : World (Body M)) → Runs (plant_of model t lines) (start (plant_of model t lines)) xs end
-    → (s c : ℕ) → is_optional t s ≡ true → container_of t s ≡ Some c → lives_at t end s ≡ true → lives_at t end c ≡ true
+    (model : Behaviour M) (t : Tables) (lines : List Line) → IsOpen model → AreOpen lines
+    → IsDepthFirst t → OthersLiveFromStart t
+    → (xs : List Placed) (end : World (Body M)) → RunsTo model t lines xs end
+    → (s c : ℕ) → is_optional t s ≡ true → container_of t s ≡ Some c
+    → lives_at t end s ≡ true → lives_at t end c ≡ true

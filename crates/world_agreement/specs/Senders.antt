@@ -11,14 +11,13 @@ use Rattle.room_kinds.specs.declared.system.SysKind.{SysKind}
 use Rattle.room_kinds.specs.declared.system.SysKind.TheVariants as kinds
 use Rattle.room_wiring.specs.declared.tables.Tables.{Tables}
 use Rattle.actor_merge.specs.Parties.{Line}
-use Rattle.actor_merge.specs.World.{World, Placed, start, Runs}
+use Rattle.actor_merge.specs.World.{World, Placed}
 use Rattle.actor_duties.specs.Words.{whose, owner_of}
 use Rattle.actor_world.specs.Behaviour.{Behaviour}
 use Rattle.actor_world.specs.Body.{Body}
 use Rattle.actor_world.specs.Turns.{all_kinds}
-use Rattle.actor_world.specs.Start.{plant_of}
 use Rattle.actor_world.specs.Directories.{IsOpen, AreOpen}
-use Rattle.world_agreement.specs.Trails.{trail}
+use Rattle.world_agreement.specs.Trails.{RunsTo, trail}
 
 -- the actor whose life a message of this kind tells of
 abbrev pub about_by : Option SysKind → Option Endpoint → Option Incarnation
@@ -35,5 +34,6 @@ about m = if m.prio.0 == 0 then about_by (slice_get all_kinds m.signal) m.source
 abbrev pub OwnersTell : Type 0 → Type 0
 OwnersTell M =
     (model : Behaviour M) (t : Tables) (lines : List Line) → IsOpen model → AreOpen lines
-    → (xs : List Placed) (end : World (Body M)) → Runs (plant_of model t lines) (start (plant_of model t lines)) xs end
-    → (a b : ℕ) (m : Msg) (x : Incarnation) → Contains (trail end a b) m → about m ≡ Some x → owner_of t x.slot.0 ≡ a
+    → (xs : List Placed) (end : World (Body M)) → RunsTo model t lines xs end
+    → (a b : ℕ) (m : Msg) (x : Incarnation) → Contains (trail end a b) m → about m ≡ Some x
+    → owner_of t x.slot.0 ≡ a

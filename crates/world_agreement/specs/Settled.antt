@@ -35,6 +35,7 @@ abbrev pub DoneRunsAgree : Type 0 → Type 0
 DoneRunsAgree M =
     (model : Behaviour M) (t : Tables) (lines : List Line) → IsOpen model → AreOpen lines
     → IsConsistent t → IsDepthFirst t → OthersLiveFromStart t
-    → (fuel : ℕ) (journals : ℕ → List Entry) (left_over : List Left) (unposted : List ℕ) (w : World (Body M))
+    → (fuel : ℕ) (journals : ℕ → List Entry) (left_over : List Left) (unposted : List ℕ)
+    → (w : World (Body M))
     → IsLawfulRun model t lines fuel journals left_over w
     → IsDone (plant_of model t lines) w left_over unposted → LivesAgree t w

@@ -58,28 +58,36 @@ taken_from a (Some k) = if 0 == k.priority then from_a a (k.message ∷ []) else
 
 -- what leaves the trail from a to b by an entry of this party, in the world before it
 abbrev pub leaves : {B : Type 0} → World B → ℕ → Entry → ℕ → ℕ → List Msg
-leaves w party (entry.Turn stamp from sent did notes) a b = if b == party then taken_from a (next_of (w.controllers b).pending) else []
+leaves w party (entry.Turn stamp from sent did notes) a b =
+    if b == party then taken_from a (next_of (w.controllers b).pending) else []
 leaves w party (entry.Start who state notes) a b = []
 leaves w party (entry.Fetch stamp m) a b = []
 leaves w party (entry.Post stamp m) a b = []
 
 -- what comes into the trail from a to b by an entry of this party, in the world after it
 abbrev pub comes : {B : Type 0} → World B → ℕ → Entry → ℕ → ℕ → List Msg
-comes next party (entry.Turn stamp from sent did notes) a b = if a == party then system_to a b (next.controllers a).outbox else []
+comes next party (entry.Turn stamp from sent did notes) a b =
+    if a == party then system_to a b (next.controllers a).outbox else []
 comes next party (entry.Start who state notes) a b = []
 comes next party (entry.Fetch stamp m) a b = []
 comes next party (entry.Post stamp m) a b = []
+
+-- a run of a model's world over these lines, from its start to this world
+abbrev pub RunsTo : {M : Type 0} → Behaviour M → Tables → List Line → List Placed → World (Body M) → Type 0
+RunsTo model t lines xs end = Runs (plant_of model t lines) (start (plant_of model t lines)) xs end
 
 -- over every run of the world and the entry after it: each trail is a queue
 abbrev pub TrailsAreQueues : Type 0 → Type 0
 TrailsAreQueues M =
     (model : Behaviour M) (t : Tables) (lines : List Line) → IsOpen model → AreOpen lines
-    → (xs : List Placed) (w : World (Body M)) → Runs (plant_of model t lines) (start (plant_of model t lines)) xs w
+    → (xs : List Placed) (w : World (Body M)) → RunsTo model t lines xs w
     → (x : Placed) (next : World (Body M)) → Runs (plant_of model t lines) w (x ∷ []) next
-    → (a b : ℕ) → leaves w x.party x.entry a b ++ trail next a b ≡ trail w a b ++ comes next x.party x.entry a b
+    → (a b : ℕ)
+    → leaves w x.party x.entry a b ++ trail next a b ≡ trail w a b ++ comes next x.party x.entry a b
 
 -- in a quiet world all trails between controllers are empty
 abbrev pub QuietTrailsAreEmpty : Type 0 → Type 0
 QuietTrailsAreEmpty M =
-    (model : Behaviour M) (t : Tables) (lines : List Line) (w : World (Body M)) → IsQuiet (plant_of model t lines) w
+    (model : Behaviour M) (t : Tables) (lines : List Line) (w : World (Body M))
+    → IsQuiet (plant_of model t lines) w
     → (a b : ℕ) → a < length t.controllers → b < length t.controllers → trail w a b ≡ []
