@@ -1,7 +1,6 @@
 -- What the events of a world do to trails.
 use Rattle.std.proofs.Common.{◌≡◌, ℕ, zero, suc, ◌+◌, ◌==◌, ◌&&◌, Bool, true, false, cond, if◌then◌else◌, List, [], ◌∷◌, ◌++◌, drop, map, filter, Option, Some, None, refl, sym, ap, ◌∙◌, subst, eqb-true, append-nil, append_assoc}
 use Rattle.std.specs.List.{AllByRecursion}
-use Rattle.std.proofs.lemmas.Bool.{ne_eqb, eqb-false}
 use Rattle.room_kinds.specs.declared.message.Msg.{Msg}
 use Rattle.room_kinds.specs.declared.numbers.Stamp.{Stamp}
 use Rattle.journal.specs.declared.entry.Entry.{Entry}
