@@ -1,23 +1,49 @@
 -- A made model's texts, as those of files.
-use Rattle.std.proofs.Common.{◌≡◌, ℕ, List}
+use Rattle.std.proofs.Common.{◌≡◌, ℕ, List, ap, subst}
+use Rattle.journal.specs.declared.entry.Journals.{Journals}
 use Rattle.inject_reader.specs.declared.inject_lines.accepted.Line.{Line}
 use Rattle.controller_actors.specs.declared.plant.Plant.{Plant}
+use Rattle.model_run.specs.run_ends.Runs.{IsRun}
 use Rattle.made_model.specs.Texts.{model_text, injections_text}
+use Rattle.made_model.specs.Counts.{counts_of}
+use Rattle.made_model.specs.declared.counts.Counts.{Counts}
+use Rattle.made_model.specs.declared.summary.Summary.{Summary}
+use Rattle.room_run.specs.Words.{usual_fuel}
 use Rattle.room_run.specs.MadeShelf.{made_files, made_shelf}
 use Rattle.room_run.specs.Models.{IsModel}
-use Rattle.room_run.specs.Causes.{IsInjections, AreOf, no_text, model_long, model_refused, injections_long, injections_refused, RunCauses, of_model, of_injections, PlantCauses, long_model, unfit_model, InjectedCauses, long_injections, unfit_lines}
+use Rattle.room_run.specs.Finished.{Summarizes}
+use Rattle.room_run.specs.Causes.{IsInjections, no_text, model_long, model_refused, injections_long, injections_refused, RunCauses, of_model, of_injections, PlantCauses, long_model, unfit_model, InjectedCauses, long_injections, unfit_lines}
 use Rattle.room_run.specs.declared.refusal.Refusal.{Refusal}
 
--- both were accepted
-pub made_texts : (actors : ℕ) (p : Plant) (lines : List Line) → IsModel (model_text actors) p → IsInjections p.wiring (injections_text actors) lines → AreOf (made_shelf actors) made_files p lines
-made_texts actors p lines model injections = record { model_accepted = model; lines_accepted = injections }
+model_cause : (actors : ℕ) (why : Refusal) → PlantCauses (model_text actors) why → RunCauses (made_shelf actors) (made_shelf actors) made_files why
+model_cause actors why (long_model h) = of_model (no_text (model_long h))
+model_cause actors why (unfit_model fault h) = of_model (model_refused fault h)
 
--- the model is refused
-pub made_refused : (actors : ℕ) (why : Refusal) → PlantCauses (model_text actors) why → RunCauses (made_shelf actors) (made_shelf actors) made_files why
-made_refused actors why (long_model h) = of_model (no_text (model_long h))
-made_refused actors why (unfit_model fault h) = of_model (model_refused fault h)
+lines_cause : (actors : ℕ) (p : Plant) (why : Refusal) → IsModel (model_text actors) p → InjectedCauses p.wiring (injections_text actors) why → RunCauses (made_shelf actors) (made_shelf actors) made_files why
+lines_cause actors p why model (long_injections h is) = of_injections p model (injections_long h is)
+lines_cause actors p why model (unfit_lines h) = of_injections p model (injections_refused h)
 
--- the injections are refused
-pub made_lines_refused : (actors : ℕ) (p : Plant) (why : Refusal) → IsModel (model_text actors) p → InjectedCauses p.wiring (injections_text actors) why → RunCauses (made_shelf actors) (made_shelf actors) made_files why
-made_lines_refused actors p why model (long_injections h is) = of_injections p model (injections_long h is)
-made_lines_refused actors p why model (unfit_lines h) = of_injections p model (injections_refused h)
+-- the text of the model is refused
+pub made_refused : (actors : ℕ) (model : List ℕ) (why : Refusal) → model ≡ model_text actors → PlantCauses model why → RunCauses (made_shelf actors) (made_shelf actors) made_files why
+made_refused actors model why is h = model_cause actors why (subst (λ text. PlantCauses text why) is h)
+
+-- the text of the injections is refused
+pub made_lines_refused : (actors : ℕ) (model injections : List ℕ) (p : Plant) (why : Refusal) → model ≡ model_text actors → injections ≡ injections_text actors → IsModel model p → InjectedCauses p.wiring injections why
+    → RunCauses (made_shelf actors) (made_shelf actors) made_files why
+made_lines_refused actors model injections p why is are h causes =
+    lines_cause actors p why (subst (λ text. IsModel text p) is h) (subst (λ text. InjectedCauses p.wiring text why) are causes)
+
+-- both were accepted, and the run has ended
+pub summarized : (actors : ℕ) (model injections : List ℕ) (p : Plant) (handed lines : List Line) (j : Journals) (counts : Counts) → model ≡ model_text actors → injections ≡ injections_text actors → handed ≡ lines
+    → IsModel model p → IsInjections p.wiring injections lines → IsRun p handed usual_fuel j → counts ≡ counts_of j → Summarizes actors (record { actors = actors; counts = counts; done = j.done })
+summarized actors model injections p handed lines j counts is are same h read run counted = record {
+  plant = p;
+  lines = lines;
+  journals = j;
+  texts = record { model_accepted = subst (λ text. IsModel text p) is h; lines_accepted = subst (λ text. IsInjections p.wiring text lines) are read };
+  run = subst (λ ls. IsRun p ls usual_fuel j) same run;
+  is = ap (summary actors j) counted;
+}
+  where
+    summary : ℕ → Journals → Counts → Summary
+    summary n js c = record { actors = n; counts = c; done = js.done }
