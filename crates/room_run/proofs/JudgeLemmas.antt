@@ -37,7 +37,7 @@ use Rattle.binding_expand.specs.Answers.{Expands}
 use Rattle.binding_expand.specs.Faults.{number}
 use Rattle.binding_expand.specs.declared.fault.WiringFault.{WiringFault}
 use Rattle.binding_expand.specs.declared.fault.WiringFault.TheVariants as wiring_faults
-use Rattle.room_run.specs.Models.{most_bytes, HasTokens, HasTree, IsSoundTree, IsSoundText, IsModel, IsUncut, HasNoTree, BreaksRule, IsGoodWiring, SoundCauses, uncut, no_tree, breaks_rule, bad_wiring, bad_chart, no_memory}
+use Rattle.room_run.specs.Models.{most_bytes, HasTokens, HasTree, IsSoundTree, IsSoundText, IsUncut, HasNoTree, BreaksRule, IsGoodWiring, SoundCauses, uncut, no_tree, breaks_rule, bad_wiring, bad_chart, no_memory}
 use Rattle.room_run.specs.Reading.{HasItsTokens, HasItsTree, ChartCauses, first_faulty, no_memory_for_charts, TreeCauses, breaks, miswired, faulty, no_memory_for_tree, fault_of}
 use Rattle.room_run.specs.declared.model_fault.ModelFault.{ModelFault}
 use Rattle.room_run.specs.declared.model_fault.ModelFault.TheVariants as faults
@@ -132,10 +132,6 @@ tree_cause text tree short h no_memory_for_tree = no_memory
 
 pub text_sound : (text : List ℕ) (tree : ModelTree) (wiring : Tables) (charts : List (Option Chart)) → length text ≤ most_bytes → HasItsTree text tree → IsSoundTree tree wiring charts → IsSoundText text wiring charts
 text_sound text tree wiring charts short h sound = record { short = short; tree = tree; read = h.has; sound = sound }
-
--- the plant of a text
-pub model_judged : (text : List ℕ) (wiring : Tables) (charts : List (Option Chart)) (p : Plant) → IsSoundText text wiring charts → p.wiring ≡ wiring → ShowCharts p.tables.items charts → IsModel text p
-model_judged text wiring charts p is wired shown = record { charts = charts; is = subst (λ w. IsSoundText text w charts) (sym wired) is; tables = shown }
 
 -- controllers run on a plant of a sound text
 pub plant_runs : (text : List ℕ) (wiring : Tables) (charts : List (Option Chart)) (p : Plant) → IsSoundText text wiring charts → p.wiring ≡ wiring → ShowCharts p.tables.items charts → IsPlant p
