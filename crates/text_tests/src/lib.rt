@@ -1,14 +1,12 @@
-//! What callers can do with texts and names, and the program doesn't show: shelves and sinks whose
-//! calls fail, files, streams and gates; tokens; look-ups of names; copies of messages.
+//! What callers can do with texts, and the program doesn't show: shelves and sinks whose calls fail,
+//! files, streams and gates; what is told of texts that are no journals; copies of messages.
 #![tactic(auto)]
 
 #[cfg(test)]
 mod copy_tests;
 #[cfg(test)]
-mod name_tests;
+mod offset_tests;
 #[cfg(test)]
 mod one_actor;
 #[cfg(test)]
 mod outside_tests;
-#[cfg(test)]
-mod token_tests;
