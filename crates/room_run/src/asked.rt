@@ -53,7 +53,13 @@ fn number_of(most: u32, word: &[u8]) -> Option<u64>
 {
     match word {
         [] => None,
-        [first, ..] => { if *first == b'0' { None } else { number_in(most, word) } }
+        [first, ..] => {
+            if *first == b'0' {
+                None
+            } else {
+                number_in(most, word)
+            }
+        }
     }
 }
 
