@@ -1,0 +1,10 @@
+mod Types
+mod Paths
+mod Trails
+mod Mapped
+mod Kept
+mod Programs
+mod Charts
+mod Plans
+mod Models
+mod Wired

@@ -1,0 +1,16 @@
+-- The programs of a model send at the priorities that have words, 1 to 5, alone; so an actor with tables
+-- that are compiled from a chart of the model sends nothing at priority 0, which is the system's.
+use Rattle.std.specs.Prelude.{◌≡◌, ℕ, List, Option, Some, slice_get}
+use Rattle.room_ast.specs.Trees.{ModelTree}
+use Rattle.chart_model.specs.Chart.{Chart}
+use Rattle.chart_run.specs.declared.chart_tables.tables.Tables.{Tables}
+use Rattle.chart_behaviour.specs.Asked.{is_open}
+use Rattle.chart_behaviour.specs.chart_asks.Asking.{TablesAsk}
+use Rattle.chart_reader.specs.model_charts.Charts.{HasCharts}
+use Rattle.chart_compile.specs.chart_parts.Compiled.{Compiles}
+
+-- over every model, each of its charts and tables that are compiled from it
+abbrev pub ChartsAreOpen : Type 0
+ChartsAreOpen =
+    (m : ModelTree) (charts : List (Option Chart)) → HasCharts m charts
+    → (c : ℕ) (chart : Chart) (v : Tables) → slice_get charts c ≡ Some (Some chart) → Compiles v chart → TablesAsk is_open v

@@ -1,0 +1,29 @@
+//! What a done run settles needs of a model: of its wiring, and of what its actors may ask for.
+//!
+//! `world_agreement` says that all controllers agree on who lives where a run is done, under premises on
+//! the wiring and on the actors. Models that keep all rules and whose charts have no fault meet them.
+//! No code: the laws.
+#![tactic(auto)]
+
+ghost use Rattle.settled_models.specs.Agreeing.{ModelRunsAgree};
+ghost use Rattle.settled_models.specs.Living.{OthersLive};
+ghost use Rattle.settled_models.specs.Open.{ChartsAreOpen};
+
+/// In the wiring of a model that keeps all rules the container of an optional slot, where another controller
+/// owns it, lives from the start.
+pub fn others_live_from_start()
+    ensures { OthersLive }
+{}
+
+/// No program of a model's chart sends at priority 0, which is the system's, and so neither do the tables
+/// that are compiled from the chart.
+pub fn charts_are_open()
+    ensures { ChartsAreOpen }
+{}
+
+/// In the world that the journals of a done run of a model lead to, all controllers agree on which actors
+/// live: directories tell what lives, the parts of an optional slot live with it, and a live optional slot
+/// has a live container.
+pub fn done_runs_agree()
+    ensures { ModelRunsAgree }
+{}
