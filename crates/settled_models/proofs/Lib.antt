@@ -8,3 +8,4 @@ mod Charts
 mod Plans
 mod Models
 mod Wired
+pub mod Runs

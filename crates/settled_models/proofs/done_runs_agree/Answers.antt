@@ -1,13 +1,5 @@
-use Rattle.chart_behaviour.proofs.Charts.{are_open}
-use Rattle.chart_behaviour.specs.ModelCharts.{behaviour_of}
-use Rattle.wiring_laws.proofs.wiring_order.Ordered.{model_depth_first}
-use Rattle.world_agreement.proofs.Settling.{lives_agree}
-use Rattle.settled_models.proofs.Kept.{model_others_live}
-use Rattle.settled_models.proofs.Models.{models_open}
-use Rattle.settled_models.proofs.Wired.{wiring_consistent}
+use Rattle.settled_models.proofs.Runs.{model_agrees}
 use Rattle.settled_models.proofs.done_runs_agree.Goals as goal
 
 pub returns : goal.returns
-returns c = λ m t charts classes lines keeps wiring flawless has compiled clear fuel journals left_over unposted w run done.
-    lives_agree (behaviour_of t classes) (are_open t classes (λ k v e. let shown = compiled k v e in models_open m charts has k shown.0 v shown.1 shown.2)) t
-    (model_depth_first m t wiring.slots) lines clear (wiring_consistent m t wiring keeps flawless) (model_others_live m t keeps wiring.slots) run.events w run.run done.quiet
+returns c = model_agrees
