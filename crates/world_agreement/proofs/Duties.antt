@@ -55,18 +55,18 @@ pub record IsFar (t : Tables) (me o s : ℕ) : Type 0 where
 
 module _ (t : Tables) (me : ℕ) (f : Frame) where
   -- a fact of a duty at a message of its form, and of one that does nothing
-  by_plainly : (P : FrameDone → Type 0) → P (nothing f) → (fits : Bool) (payload : List ℤ) (r : FrameDone) → (fits ≡ true → P r) → P (plainly f fits payload r)
+  pub by_plainly : (P : FrameDone → Type 0) → P (nothing f) → (fits : Bool) (payload : List ℤ) (r : FrameDone) → (fits ≡ true → P r) → P (plainly f fits payload r)
   by_plainly P none true [] r h = h refl
   by_plainly P none false [] r h = none
   by_plainly P none fits (n ∷ ns) r h = none
 
-  by_number : (P : FrameDone → Type 0) → P (nothing f) → (fits : Bool) (payload : List ℤ) (r : ℤ → FrameDone) → ((n : ℤ) → P (r n)) → P (with_number f fits payload r)
+  pub by_number : (P : FrameDone → Type 0) → P (nothing f) → (fits : Bool) (payload : List ℤ) (r : ℤ → FrameDone) → ((n : ℤ) → P (r n)) → P (with_number f fits payload r)
   by_number P none fits [] r h = none
   by_number P none true (n ∷ []) r h = h n
   by_number P none false (n ∷ []) r h = none
   by_number P none fits (n ∷ (k ∷ ns)) r h = none
 
-  by_natural : (P : FrameDone → Type 0) → P (nothing f) → (n : ℤ) (r : ℕ → FrameDone) → ((n : ℕ) → P (r n)) → P (of_natural f n r)
+  pub by_natural : (P : FrameDone → Type 0) → P (nothing f) → (n : ℤ) (r : ℕ → FrameDone) → ((n : ℕ) → P (r n)) → P (of_natural f n r)
   by_natural P none (pos n) r h = h n
   by_natural P none (negsuc n) r h = none
 

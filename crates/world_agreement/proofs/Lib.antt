@@ -13,3 +13,8 @@ pub mod Reading
 pub mod Agreeing
 pub mod Parting
 pub mod Settling
+pub mod OffLoan
+pub mod Walking
+pub mod Routing
+pub mod Lending
+pub mod Keeping

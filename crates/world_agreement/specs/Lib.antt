@@ -3,3 +3,4 @@ pub mod Senders
 pub mod Announced
 pub mod Bodies
 pub mod Settled
+pub mod Imports

@@ -10,6 +10,7 @@ ghost use Rattle.world_agreement.specs.Senders.{OwnersTell};
 ghost use Rattle.world_agreement.specs.Announced.{RunsForetell, QuietDirectoriesAgree};
 ghost use Rattle.world_agreement.specs.Bodies.{RunsForetellParts, QuietBodiesAgree, ContainersLive};
 ghost use Rattle.world_agreement.specs.Settled.{DoneRunsAgree};
+ghost use Rattle.world_agreement.specs.Imports.{RunsRouteLoans, RunsLendToTheLiving};
 
 /// The system messages on their way from one controller to another are a queue. `steps`: an event that is
 /// not a turn leaves every trail as it is; a turn takes the front of at most one, and appends what it sends.
@@ -52,4 +53,17 @@ pub fn containers_live<M>()
 /// has a live container.
 pub fn done_runs_agree<M>()
     ensures { DoneRunsAgree M }
+{}
+
+/// An Import or a Deport on its way comes from the controller of its import place and goes to the controller
+/// of the home that it names; and what is answered goes from the home's controller to the place's. Premise:
+/// an imported slot is its container's owner's.
+pub fn loans_are_routed<M>()
+    ensures { RunsRouteLoans M }
+{}
+
+/// At every moment only a live container has import places that ask for, hold or give back a home, which is
+/// an actor of a fixed or optional slot; and only live actors have plugs, each of which is an import place.
+pub fn loans_are_of_the_living<M>()
+    ensures { RunsLendToTheLiving M }
 {}
