@@ -27,7 +27,7 @@ use Rattle.actor_duties.specs.Frame.{FrameDone, with_lives, end_set_ended, frame
 use Rattle.actor_world.specs.Behaviour.{Behaviour}
 use Rattle.actor_world.specs.Body.{Body}
 use Rattle.actor_world.specs.Turns.{treat}
-use Rattle.actor_world.specs.Start.{first_state, plant_of}
+use Rattle.actor_world.specs.Start.{first_frame, first_state, plant_of}
 use Rattle.actor_world.specs.Directories.{IsOpen}
 use Rattle.service_messages.proofs.slot_runs.RunLemmas.{not_true_false}
 use Rattle.world_agreement.specs.Imports.{home_of, LendsToTheLiving}
@@ -55,6 +55,14 @@ pub record ArePlugged (t : Tables) (l : Lives) (plugs : ℕ → List Incarnation
 pub record LendsSo (t : Tables) (f : Frame) : Type 0 where
   pub tied : AreTied t f.lives f.places
   pub plugged : ArePlugged t f.lives f.plugs
+
+-- at the start nothing is lent
+pub first_lends : (t : Tables) (me : ℕ) → LendsSo t (first_frame t me)
+first_lends t me =
+    record {
+      tied = record { empty = λ i c imported part dead. refl; homes = λ i h e. absurd cc };
+      plugged = record { none = λ s dead. refl; places = λ s. tt };
+    }
 
 module _ (t : Tables) (me : ℕ) where
   -- what lives goes on to live
@@ -406,16 +414,11 @@ module _ (t : Tables) (me : ℕ) where
 
     pub start_lends : LendsSo t (first_state model t me).body.frame
     unfolding Lends
-    start_lends =
-        start_walks t me Lends lending model clear
-        (record {
-          tied = record { empty = λ i c imported part dead. refl; homes = λ i h e. absurd cc };
-          plugged = record { none = λ s dead. refl; places = λ s. tt };
-        })
+    start_lends = start_walks t me Lends lending model clear (first_lends t me)
 
 module _ {M : Type 0} (model : Behaviour M) (clear : IsOpen model) (t : Tables) (lines : List Line) where
   -- an event of a controller
-  does_lends : (c : ℕ) (s next : State (Body M)) (e : Entry) → LendsSo t s.body.frame → Does (plant_of model t lines) c s e next → LendsSo t next.body.frame
+  pub does_lends : (c : ℕ) (s next : State (Body M)) (e : Entry) → LendsSo t s.body.frame → Does (plant_of model t lines) c s e next → LendsSo t next.body.frame
   unfolding turn post fetch
   does_lends c s next (entry.Start who state ns) h d = absurd d
   does_lends c s next (entry.Fetch stamp m) h d = subst (λ (z : State (Body M) × Entry). LendsSo t z.0.body.frame) d h
@@ -430,7 +433,7 @@ module _ {M : Type 0} (model : Behaviour M) (clear : IsOpen model) (t : Tables) 
   abbrev pub AllLend : World (Body M) → Type 0
   AllLend w = (c : ℕ) → LendsSo t (w.controllers c).body.frame
 
-  step_lends : (w : World (Body M)) (x : Placed) (next : World (Body M)) → AllLend w → Happened (plant_of model t lines) w x next → AllLend next
+  pub step_lends : (w : World (Body M)) (x : Placed) (next : World (Body M)) → AllLend w → Happened (plant_of model t lines) w x next → AllLend next
   step_lends w x next h (controller below s does same) =
       subst AllLend (sym same)
       (put_each (λ (z : State (Body M)). LendsSo t z.body.frame) w.controllers x.party s h

@@ -18,3 +18,4 @@ pub mod Walking
 pub mod Routing
 pub mod Lending
 pub mod Keeping
+pub mod Waiting

@@ -7,7 +7,10 @@
 -- nothing at priority 0, which is the system's; and an imported slot is its container's owner's.
 -- The law `loans_are_of_the_living`: at every moment an import place that isn't empty is of a live container
 -- and names a fixed or optional slot, and only live actors of such slots have plugs, which are import places.
-use Rattle.std.specs.Prelude.{◌≡◌, ℕ, ◌==◌, true, false, List, [], slice_get, Contains, Option, Some, None, if◌then◌else◌}
+-- The law `places_settle`: in every run of the world that is quiet at its end each import place is empty or
+-- holds a home. For while a place asks for a home, or gives it back, its message is on the trail forth, or
+-- the home's answer on the trail back.
+use Rattle.std.specs.Prelude.{◌≡◌, ℕ, ◌<◌, ◌⊎◌, length, ◌==◌, true, false, List, [], slice_get, Contains, Option, Some, None, if◌then◌else◌}
 use Rattle.room_kinds.specs.declared.message.Msg.{Msg}
 use Rattle.room_kinds.specs.declared.numbers.Incarnation.{Incarnation}
 use Rattle.room_kinds.specs.declared.numbers.Endpoint.{Endpoint}
@@ -15,12 +18,14 @@ use Rattle.room_kinds.specs.declared.system.SysKind.{SysKind}
 use Rattle.room_kinds.specs.declared.system.SysKind.TheVariants as kinds
 use Rattle.room_wiring.specs.declared.tables.Tables.{Tables}
 use Rattle.actor_merge.specs.Parties.{Line}
-use Rattle.actor_merge.specs.World.{World, Placed}
+use Rattle.actor_merge.specs.World.{World, Placed, IsQuiet}
 use Rattle.actor_duties.specs.Words.{whose, owner_of, is_imported, is_home, container_of}
 use Rattle.actor_duties.specs.State.{Frame, ImportPlace, Empty, Asking, Held, Leaving}
 use Rattle.actor_world.specs.Behaviour.{Behaviour}
 use Rattle.actor_world.specs.Body.{Body}
 use Rattle.actor_world.specs.Turns.{all_kinds}
+use Rattle.actor_world.specs.Start.{plant_of}
+use Rattle.actor_world.specs.Agreed.{place_of}
 use Rattle.actor_world.specs.Directories.{IsOpen, AreOpen}
 use Rattle.world_agreement.specs.Trails.{RunsTo, trail}
 
@@ -98,3 +103,21 @@ RunsLendToTheLiving M =
     (model : Behaviour M) (t : Tables) (lines : List Line) → IsOpen model → AreOpen lines
     → (xs : List Placed) (end : World (Body M)) → RunsTo model t lines xs end
     → (c : ℕ) → LendsToTheLiving t (end.controllers c).body.frame
+
+-- each slot's owner is a controller
+abbrev pub OwnersAreThere : Tables → Type 0
+OwnersAreThere t = (s : ℕ) → owner_of t s < length t.controllers
+
+-- each import place is empty or holds a home: none asks for one, or gives one back
+abbrev pub PlacesSettle : {M : Type 0} → Tables → World (Body M) → Type 0
+PlacesSettle t w =
+    (i c : ℕ) → is_imported t i ≡ true → container_of t i ≡ Some c
+    → (place_of t w i ≡ Empty) ⊎ ((h : Incarnation) × (place_of t w i ≡ Held h))
+
+-- over every run of the world that is quiet at its end: import places are settled
+abbrev pub QuietPlacesSettle : Type 0 → Type 0
+QuietPlacesSettle M =
+    (model : Behaviour M) (t : Tables) (lines : List Line) → IsOpen model → AreOpen lines
+    → OwnersAreThere t
+    → (xs : List Placed) (end : World (Body M)) → RunsTo model t lines xs end
+    → IsQuiet (plant_of model t lines) end → PlacesSettle t end

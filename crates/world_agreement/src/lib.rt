@@ -10,7 +10,7 @@ ghost use Rattle.world_agreement.specs.Senders.{OwnersTell};
 ghost use Rattle.world_agreement.specs.Announced.{RunsForetell, QuietDirectoriesAgree};
 ghost use Rattle.world_agreement.specs.Bodies.{RunsForetellParts, QuietBodiesAgree, ContainersLive};
 ghost use Rattle.world_agreement.specs.Settled.{DoneRunsAgree};
-ghost use Rattle.world_agreement.specs.Imports.{RunsRouteLoans, RunsLendToTheLiving};
+ghost use Rattle.world_agreement.specs.Imports.{RunsRouteLoans, RunsLendToTheLiving, QuietPlacesSettle};
 
 /// The system messages on their way from one controller to another are a queue. `steps`: an event that is
 /// not a turn leaves every trail as it is; a turn takes the front of at most one, and appends what it sends.
@@ -66,4 +66,10 @@ pub fn loans_are_routed<M>()
 /// an actor of a fixed or optional slot; and only live actors have plugs, each of which is an import place.
 pub fn loans_are_of_the_living<M>()
     ensures { RunsLendToTheLiving M }
+{}
+
+/// Where a run of the world is quiet at its end, each import place is empty or holds a home: none still asks
+/// for one, or gives one back. Premise: each slot's owner is a controller.
+pub fn places_settle<M>()
+    ensures { QuietPlacesSettle M }
 {}

@@ -1,0 +1,5 @@
+use Rattle.world_agreement.proofs.Waiting.{quiet_places}
+use Rattle.world_agreement.proofs.places_settle.Goals as goal
+
+pub returns : goal.returns
+returns g c = λ model t lines clear clear_lines there xs end r quiet. quiet_places model clear t lines clear_lines there xs end r quiet
