@@ -1,8 +1,10 @@
 -- An import place that is on the way waits for an answer: what it asked for, or the answer, is on its way.
 -- So in a quiet world none waits.
-use Rattle.std.proofs.Common.{◌≡◌, ℕ, ◌+◌, ◌==◌, ◌&&◌, ◌||◌, Bool, true, false, not, map, if◌then◌else◌, cond, List, [], ◌∷◌, ◌++◌, filter, Option, Some, None, ℤ, pos, refl, sym, ap, ◌∙◌, subst, eqb-true, eq-eqb, append-nil, ◌⊎◌, inl, inr}
+use Rattle.std.proofs.Common.{◌≡◌, ℕ, ◌+◌, ◌==◌, ◌&&◌, ◌||◌, Bool, true, false, not, map, if◌then◌else◌, cond, List, [], ◌∷◌, ◌++◌, filter, Option, Some, None, ℤ, pos, refl, sym, ap, ◌∙◌, subst, eqb-true, eq-eqb, append-nil, arith, ◌⊎◌, inl, inr}
 use Rattle.std.specs.Option.{option_map_or}
+use Rattle.std.specs.List.{Contains}
 use Rattle.std.proofs.lemmas.Bool.{and_parts, eqb-false}
+use Rattle.std.proofs.lemmas.List.Elements.{Contains-append_right}
 use Rattle.room_kinds.specs.declared.message.Msg.{Msg}
 use Rattle.room_kinds.specs.declared.numbers.Incarnation.{Incarnation}
 use Rattle.room_kinds.specs.declared.numbers.Stamp.{Stamp}
@@ -33,7 +35,7 @@ use Rattle.actor_world.specs.Start.{first_frame, first_state, plant_of}
 use Rattle.actor_world.specs.Directories.{IsOpen, AreOpen}
 use Rattle.service_messages.proofs.slot_runs.RunLemmas.{not_true_false}
 use Rattle.world_agreement.specs.Trails.{from_a, system_to, is_system_to, contents, trail, taken_from, leaves, comes}
-use Rattle.world_agreement.specs.Imports.{home_of, PlacesSettle, OwnersAreThere}
+use Rattle.world_agreement.specs.Imports.{home_of, Wait, Ask, Leave, place_for, kind_for, sent_for, answer, answers, IsAwaited, PlacesAwait, PlacesSettle, OwnersAreThere}
 use Rattle.world_agreement.proofs.Duties.{by_plainly, by_number, by_natural}
 use Rattle.world_agreement.proofs.Moving.{kept_by, from_one, post_from, turn_from, world_after, controller_moves}
 use Rattle.world_agreement.proofs.Agreeing.{IsForetold, start_foretold, controller_foretold, environment_foretold, environment_moves, world_then, fresh_trail, quiet_trail}
@@ -45,6 +47,12 @@ use Rattle.world_agreement.proofs.Keeping.{LendsSo, first_lends, duty_lent, requ
 abbrev pub Has : Msg → List Msg → Type 0
 Has m [] = ⊥
 Has m (n ∷ ns) = (n ≡ m) ⊎ Has m ns
+
+-- it is an element of it
+has_contains : (m : Msg) (ms : List Msg) → Has m ms → Contains ms m
+has_contains m [] h = absurd h
+has_contains m (n ∷ ns) (inl e) = (0, omega arith, e)
+has_contains m (n ∷ ns) (inr h) = Contains-append_right (n ∷ []) ns m (has_contains m ns h)
 
 has_left : (m : Msg) (a b : List Msg) → Has m a → Has m (a ++ b)
 has_left m [] b h = absurd h
@@ -76,32 +84,6 @@ has_system a b m (n ∷ ms) same to h = go (is_system_to b n) refl h (has_system
     go true e (inr k) rest = inr (rest k)
     go false e (inl k) rest = absurd (not_true_false (is_system_to b m) to (subst (λ (z : Msg). is_system_to b z ≡ false) k e))
     go false e (inr k) rest = rest k
-
--- what an import place waits for: a home that it asked for, or that a home be taken back
-data Wait : Type 0 where
-  Ask Leave : Wait
-
--- the place that waits
-abbrev place_for : Wait → Incarnation → ImportPlace
-place_for Ask h = Asking h
-place_for Leave h = Leaving h
-
--- what it sent
-abbrev kind_for : Wait → SysKind
-kind_for Ask = kinds.Import
-kind_for Leave = kinds.Deport
-
-abbrev sent_for : Tables → Wait → Incarnation → Incarnation → Msg
-sent_for t wait i h = system (owner_of t i.slot.0) (owner_of t h.slot.0) (kind_for wait) (frame_of i) (frame_of h) []
-
--- an answer of the home
-abbrev answer : Tables → Incarnation → Incarnation → SysKind → List ℤ → Msg
-answer t i h kind payload = system (owner_of t h.slot.0) (owner_of t i.slot.0) kind (frame_of h) (frame_of i) payload
-
-abbrev answers : Tables → Wait → Incarnation → Incarnation → List Msg
-answers t Ask i h =
-    answer t i h kinds.ImportDone [] ∷ answer t i h kinds.ImportRefused (coded StaleId) ∷ answer t i h kinds.ImportRefused (coded PortTaken) ∷ []
-answers t Leave i h = answer t i h kinds.DeportDone [] ∷ []
 
 -- one of the answers is among these messages
 abbrev Answered : Tables → Incarnation → Incarnation → Wait → List Msg → Type 0
@@ -783,6 +765,13 @@ module _ {M : Type 0} (model : Behaviour M) (clear : IsOpen model) (t : Tables) 
           inl (subst (Has (sent_for t wait (incarnation s ((first_state model t (owner_of t s)).body.frame.lives.generation c)) h))
           (sym (fresh_trail (owner_of t s) (owner_of t h.slot.0) (first_state model t (owner_of t s)).outbox))
           (has_system (owner_of t s) (owner_of t h.slot.0) _ (first_state model t (owner_of t s)).outbox refl (to_there (owner_of t h.slot.0)) r))
+
+  pub places_await : (xs : List Placed) (end : World (Body M)) → Runs (plant_of model t lines) (start (plant_of model t lines)) xs end → PlacesAwait t end
+  places_await xs end r s c imported part wait h q = go ((run_waits xs (start (plant_of model t lines)) end world_waits r).waits s c imported part wait h q)
+    where
+      go : OnItsWay end wait (incarnation s ((frame_there end s).lives.generation c)) h → IsAwaited t end wait (incarnation s ((frame_there end s).lives.generation c)) h
+      go (inl k) = inl (has_contains _ _ k)
+      go (inr k) = inr (k.0, has_contains k.0 _ k.1, has_contains k.0 _ k.2)
 
   pub quiet_places : OwnersAreThere t → (xs : List Placed) (end : World (Body M)) → Runs (plant_of model t lines) (start (plant_of model t lines)) xs end
       → IsQuiet (plant_of model t lines) end → PlacesSettle t end

@@ -8,9 +8,9 @@
 -- The law `loans_are_of_the_living`: at every moment an import place that isn't empty is of a live container
 -- and names a fixed or optional slot, and only live actors of such slots have plugs, which are import places.
 -- The law `places_settle`: in every run of the world that is quiet at its end each import place is empty or
--- holds a home. For while a place asks for a home, or gives it back, its message is on the trail forth, or
--- the home's answer on the trail back.
-use Rattle.std.specs.Prelude.{◌≡◌, ℕ, ◌<◌, ◌⊎◌, length, ◌==◌, true, false, List, [], slice_get, Contains, Option, Some, None, if◌then◌else◌}
+-- holds a home. For at every moment, while a place asks for a home or gives it back, its message is on the
+-- trail forth, or the home's answer on the trail back (`PlacesAwait`).
+use Rattle.std.specs.Prelude.{◌≡◌, ℕ, ℤ, ◌∷◌, ◌<◌, ◌⊎◌, length, ◌==◌, true, false, List, [], slice_get, Contains, Option, Some, None, if◌then◌else◌}
 use Rattle.room_kinds.specs.declared.message.Msg.{Msg}
 use Rattle.room_kinds.specs.declared.numbers.Incarnation.{Incarnation}
 use Rattle.room_kinds.specs.declared.numbers.Endpoint.{Endpoint}
@@ -19,13 +19,14 @@ use Rattle.room_kinds.specs.declared.system.SysKind.TheVariants as kinds
 use Rattle.room_wiring.specs.declared.tables.Tables.{Tables}
 use Rattle.actor_merge.specs.Parties.{Line}
 use Rattle.actor_merge.specs.World.{World, Placed, IsQuiet}
-use Rattle.actor_duties.specs.Words.{whose, owner_of, is_imported, is_home, container_of}
+use Rattle.actor_duties.specs.Words.{incarnation, frame_of, whose, owner_of, is_imported, is_home, container_of}
 use Rattle.actor_duties.specs.State.{Frame, ImportPlace, Empty, Asking, Held, Leaving}
+use Rattle.actor_duties.specs.Messages.{system, coded, StaleId, PortTaken}
 use Rattle.actor_world.specs.Behaviour.{Behaviour}
 use Rattle.actor_world.specs.Body.{Body}
 use Rattle.actor_world.specs.Turns.{all_kinds}
 use Rattle.actor_world.specs.Start.{plant_of}
-use Rattle.actor_world.specs.Agreed.{place_of}
+use Rattle.actor_world.specs.Agreed.{frame_at, place_of}
 use Rattle.actor_world.specs.Directories.{IsOpen, AreOpen}
 use Rattle.world_agreement.specs.Trails.{RunsTo, trail}
 
@@ -103,6 +104,54 @@ RunsLendToTheLiving M =
     (model : Behaviour M) (t : Tables) (lines : List Line) → IsOpen model → AreOpen lines
     → (xs : List Placed) (end : World (Body M)) → RunsTo model t lines xs end
     → (c : ℕ) → LendsToTheLiving t (end.controllers c).body.frame
+
+-- what an import place waits for: a home that it asked for, or that a home be taken back
+pub data Wait : Type 0 where
+  Ask Leave : Wait
+
+-- the place that waits
+abbrev pub place_for : Wait → Incarnation → ImportPlace
+place_for Ask h = Asking h
+place_for Leave h = Leaving h
+
+-- what it sent
+abbrev pub kind_for : Wait → SysKind
+kind_for Ask = kinds.Import
+kind_for Leave = kinds.Deport
+
+-- the message that it sent, to the home's owner
+abbrev pub sent_for : Tables → Wait → Incarnation → Incarnation → Msg
+sent_for t wait i h = system (owner_of t i.slot.0) (owner_of t h.slot.0) (kind_for wait) (frame_of i) (frame_of h) []
+
+-- an answer of the home
+abbrev pub answer : Tables → Incarnation → Incarnation → SysKind → List ℤ → Msg
+answer t i h kind payload = system (owner_of t h.slot.0) (owner_of t i.slot.0) kind (frame_of h) (frame_of i) payload
+
+-- all answers to it
+abbrev pub answers : Tables → Wait → Incarnation → Incarnation → List Msg
+answers t Ask i h =
+    answer t i h kinds.ImportDone [] ∷ answer t i h kinds.ImportRefused (coded StaleId) ∷ answer t i h kinds.ImportRefused (coded PortTaken) ∷ []
+answers t Leave i h = answer t i h kinds.DeportDone [] ∷ []
+
+-- what a place waits for is on the trail to the home's owner, or an answer is on the trail back
+abbrev pub IsAwaited : {M : Type 0} → Tables → World (Body M) → Wait → Incarnation → Incarnation → Type 0
+IsAwaited t w wait i h =
+    Contains (trail w (owner_of t i.slot.0) (owner_of t h.slot.0)) (sent_for t wait i h)
+    ⊎ ((m : Msg) × Contains (answers t wait i h) m × Contains (trail w (owner_of t h.slot.0) (owner_of t i.slot.0)) m)
+
+-- each import place that waits for a home awaits it, in the generation of its container
+abbrev pub PlacesAwait : {M : Type 0} → Tables → World (Body M) → Type 0
+PlacesAwait t w =
+    (i c : ℕ) → is_imported t i ≡ true → container_of t i ≡ Some c
+    → (wait : Wait) (h : Incarnation) → place_of t w i ≡ place_for wait h
+    → IsAwaited t w wait (incarnation i ((frame_at t w i).lives.generation c)) h
+
+-- over every run of the world: who waits awaits it
+abbrev pub RunsAwait : Type 0 → Type 0
+RunsAwait M =
+    (model : Behaviour M) (t : Tables) (lines : List Line) → IsOpen model → AreOpen lines
+    → (xs : List Placed) (end : World (Body M)) → RunsTo model t lines xs end
+    → PlacesAwait t end
 
 -- each slot's owner is a controller
 abbrev pub OwnersAreThere : Tables → Type 0

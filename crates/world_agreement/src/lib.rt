@@ -10,7 +10,7 @@ ghost use Rattle.world_agreement.specs.Senders.{OwnersTell};
 ghost use Rattle.world_agreement.specs.Announced.{RunsForetell, QuietDirectoriesAgree};
 ghost use Rattle.world_agreement.specs.Bodies.{RunsForetellParts, QuietBodiesAgree, ContainersLive};
 ghost use Rattle.world_agreement.specs.Settled.{DoneRunsAgree};
-ghost use Rattle.world_agreement.specs.Imports.{RunsRouteLoans, RunsLendToTheLiving, QuietPlacesSettle};
+ghost use Rattle.world_agreement.specs.Imports.{RunsRouteLoans, RunsLendToTheLiving, RunsAwait, QuietPlacesSettle};
 
 /// The system messages on their way from one controller to another are a queue. `steps`: an event that is
 /// not a turn leaves every trail as it is; a turn takes the front of at most one, and appends what it sends.
@@ -68,8 +68,10 @@ pub fn loans_are_of_the_living<M>()
     ensures { RunsLendToTheLiving M }
 {}
 
-/// Where a run of the world is quiet at its end, each import place is empty or holds a home: none still asks
-/// for one, or gives one back. Premise: each slot's owner is a controller.
+/// Import places settle. `runs`: at every moment, while a place asks for a home or gives it back, its message
+/// is on the trail to the home's owner, or an answer on the trail back. `quiet`: so where a run is quiet at
+/// its end, each import place is empty or holds a home. Premise there: each slot's owner is a controller.
 pub fn places_settle<M>()
-    ensures { QuietPlacesSettle M }
+    ensures runs { RunsAwait M }
+    ensures quiet { QuietPlacesSettle M }
 {}
