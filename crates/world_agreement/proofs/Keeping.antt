@@ -235,9 +235,6 @@ module _ (t : Tables) (me : ℕ) where
   unfolding deport
   deport_plugged l plugs m i h k = go (is_live l (whose h)) refl
     where
-      left : List Incarnation
-      left = filter (λ (q : Incarnation). not (is_incarnation q (whose i))) (plugs h.slot.0)
-
       go : (a : Bool) → is_live l (whose h) ≡ a
           → ArePlugged t l (if a then updated plugs h.slot.0 (filter (λ (q : Incarnation). not (is_incarnation q (whose i))) (plugs h.slot.0)) else plugs)
       go true e =

@@ -106,10 +106,6 @@ module _ (t : Tables) (local : PlacesAreLocal t) (me : ℕ) where
       go None e h = absurd cc
       go (Some p) e h = local i p imported e ∙ ap (owner_of t) (eqb-true p c h) ∙ own
 
-  -- the answer to a message on a loan goes back to where it came from
-  abbrev pub InHand : Msg → Type 0
-  InHand m = IsRouted t m.from.0 me m
-
   forth_parts : (i h : Endpoint) → is_forth t me i h ≡ true → (is_imported t i.slot.0 ≡ true) × (is_own t me h.slot.0 ≡ true)
   forth_parts i h e =
       let a = and_parts (is_frame i && is_frame h && is_imported t i.slot.0 && is_home t h.slot.0) (is_own t me h.slot.0) e in

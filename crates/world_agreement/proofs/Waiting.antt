@@ -93,6 +93,10 @@ Answered t i h w ms = (m : Msg) × Has m (answers t w i h) × Has m ms
 abbrev posted : Msg → ℕ → Stamp → Msg
 posted m a stamp = record m { from = record { 0 = a }; stamp = stamp }
 
+-- what lives stands in its generation
+live_generation : (l : Lives) (x : Incarnation) → is_live l x ≡ true → l.generation x.slot.0 ≡ x.generation.0
+live_generation l x e = eqb-true (l.generation x.slot.0) x.generation.0 (and_parts (l.lives x.slot.0) (l.generation x.slot.0 == x.generation.0) e).1
+
 -- what comes up was vacant
 vacant : (t : Tables) (me o c : ℕ) (l : Lives) → comes_up t me l o c ≡ true → l.lives c ≡ false
 unfolding comes_up
@@ -257,9 +261,6 @@ module _ (t : Tables) (wait : Wait) (s c : ℕ) (imported : is_imported t s ≡ 
     unfolding updated
     put_waits f x i w y own gen = go (s == i) refl
       where
-        sent : Wait → ℕ → ℕ → Incarnation → Msg
-        sent v n g z = system me (owner_of t z.slot.0) (kind_for v) (frame_at n g) (frame_of z) []
-
         there : s ≡ i → x.generation.0 ≡ f.lives.generation c
         there same =
             let one : Some x.slot.0 ≡ Some c = sym own ∙ ap (container_of t) (sym same) ∙ part in
@@ -312,23 +313,14 @@ module _ (t : Tables) (wait : Wait) (s c : ℕ) (imported : is_imported t s ≡ 
     request_waits f x (frames.Incarnate reference index) here = λ q. inl (q, refl)
     request_waits f x (frames.Destroy reference index) here = λ q. inl (q, refl)
     request_waits f x (frames.Import reference index id) here =
-        import_into_waits f x reference index (generation f x here.1) id (part_at t x.slot.0 reference index) (λ i e. part_of_at t x.slot.0 reference index i e)
-      where
-        generation : (f : Frame) (x : Incarnation) → is_live f.lives x ≡ true → f.lives.generation x.slot.0 ≡ x.generation.0
-        generation f x e = eqb-true (f.lives.generation x.slot.0) x.generation.0 (and_parts (f.lives.lives x.slot.0) (f.lives.generation x.slot.0 == x.generation.0) e).1
+        import_into_waits f x reference index (live_generation f.lives x here.1) id (part_at t x.slot.0 reference index) (λ i e. part_of_at t x.slot.0 reference index i e)
     request_waits f x (frames.Deport reference index) here =
-        deport_of_waits f x reference index (generation f x here.1) (part_at t x.slot.0 reference index) (λ i e. part_of_at t x.slot.0 reference index i e)
-      where
-        generation : (f : Frame) (x : Incarnation) → is_live f.lives x ≡ true → f.lives.generation x.slot.0 ≡ x.generation.0
-        generation f x e = eqb-true (f.lives.generation x.slot.0) x.generation.0 (and_parts (f.lives.lives x.slot.0) (f.lives.generation x.slot.0 == x.generation.0) e).1
+        deport_of_waits f x reference index (live_generation f.lives x here.1) (part_at t x.slot.0 reference index) (λ i e. part_of_at t x.slot.0 reference index i e)
 
     -- one after another
     both_wait : (f g k : Frame) (a b : List Msg) → Waits me f a g → Waits me g b k → Waits me f (a ++ b) k
     both_wait f g k a b p q e = later (q e)
       where
-        sent : ℕ → Msg
-        sent n = system me (owner_of t h.slot.0) (kind_for wait) (frame_at s n) (frame_of h) []
-
         earlier : k.lives.generation c ≡ g.lives.generation c
             → ((f.places s ≡ place_for wait h) × (g.lives.generation c ≡ f.lives.generation c)) ⊎ Has (system me (owner_of t h.slot.0) (kind_for wait) (frame_of (at g)) (frame_of h) []) a
             → ((f.places s ≡ place_for wait h) × (k.lives.generation c ≡ f.lives.generation c)) ⊎ Has (system me (owner_of t h.slot.0) (kind_for wait) (frame_of (at k)) (frame_of h) []) (a ++ b)

@@ -66,9 +66,6 @@ module _ (t : Tables) (me : ℕ) (f : Frame) where
       each (filter (comes_up t me f.lives o) (slots_of t))
       (all_passed (λ s. comes_up t me f.lives o s ≡ true) (comes_up t me f.lives o) (λ s e. e) (slots_of t))
     where
-      now : Lives
-      now = lives_made t me o f.lives
-
       lives : (s : ℕ) → comes_up t me f.lives o s ≡ true → IsHere t me (lives_made t me o f.lives) (last_of (lives_made t me o f.lives) s)
       lives s e =
           let own : is_own t me s ≡ true = (and_parts (is_own t me s) (not (f.lives.lives s)) (and_parts (is_made_with t o s) (is_own t me s && not (f.lives.lives s)) e).1).0 in
