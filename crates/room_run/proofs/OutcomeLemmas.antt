@@ -1,5 +1,5 @@
 -- How the parts of a call make its outcome.
-use Rattle.std.proofs.Common.{◌≡◌, ℕ, List, Option, Some, None, IfSome, sym, ap, subst}
+use Rattle.std.proofs.Common.{◌≡◌, ℕ, true, List, Option, Some, None, IfSome, sym, ap, subst}
 use Rattle.room_outside.specs.Shown.{Shown}
 use Rattle.room_outside.specs.Written.{Written}
 use Rattle.room_outside.proofs.SinkLemmas.{Appends-none}
@@ -12,12 +12,14 @@ use Rattle.model_run.specs.run_ends.Runs.{IsRun}
 use Rattle.named_runs.specs.Charts.{IsRunByCharts}
 use Rattle.named_runs.proofs.ByCharts.{by_charts}
 use Rattle.run_promises.proofs.PromisesLaw.{promises}
+use Rattle.world_agreement.specs.Settled.{LivesAgree}
+use Rattle.settled_runs.proofs.Runs.{runs_agree}
 use Rattle.made_model.specs.Summaries.{summary_text}
 use Rattle.made_model.specs.declared.summary.Summary.{Summary}
 use Rattle.room_run.specs.Words.{Files, Made, asked_by, usual_fuel}
 use Rattle.room_run.specs.MadeShelf.{made_files, made_shelf}
 use Rattle.room_run.specs.Models.{IsModel, IsSoundText}
-use Rattle.room_run.specs.Causes.{AreOf, Causes}
+use Rattle.room_run.specs.Causes.{AreOf, Causes, IsInjections}
 use Rattle.room_run.specs.Finished.{Finishes, Summarizes}
 use Rattle.room_run.specs.Outcome.{Answers, says_made, IsByCharts, IsRunOfFiles, status_of_run, Outcome, Prints, written, cut, Tells, told, broken, whole, cut_short, refused, refused_unheard}
 use Rattle.room_run.specs.declared.prepare.Finished.{Finished}
@@ -37,9 +39,24 @@ by_model (Some text) p lines fuel j h run = (h.charts, h.is, by_charts p h.chart
 is_by_charts : (shelf : Shown) (files : Files) (p : Plant) (lines : List Line) (fuel : ℕ) (j : Journals) → AreOf shelf files p lines → IsRun p lines fuel j → IsByCharts shelf files p lines fuel j
 is_by_charts shelf files p lines fuel j h run = by_model (shelf.text files.model) p lines fuel j h.model_accepted run
 
+-- where a run of a model is done, all controllers agree on who lives
+agreed_of : (model injections : Option (List ℕ)) (p : Plant) (lines : List Line) (fuel : ℕ) (j : Journals)
+    → IfSome model (λ text. IsModel text p) → IfSome injections (λ text. IsInjections p.wiring text lines) → (run : IsRun p lines fuel j)
+    → IfSome model (λ text. IfSome injections (λ injected. j.done ≡ true → LivesAgree p.wiring run.world))
+agreed_of None injections p lines fuel j h k run = tt
+agreed_of (Some text) None p lines fuel j h k run = tt
+agreed_of (Some text) (Some injected) p lines fuel j h k run = λ done.
+    runs_agree h.is.tree p h.charts lines fuel j h.is.sound.keeps h.is.sound.wired.wired h.is.sound.wired.flawless h.is.sound.faultless h.tables k.fit run done
+
 -- what a run of a plant is of the texts that it comes from
 pub run_of : (shelf : Shown) (files : Files) (fuel : ℕ) (p : Plant) (lines : List Line) (j : Journals) → AreOf shelf files p lines → IsRun p lines fuel j → IsRunOfFiles shelf files fuel p lines j
-run_of shelf files fuel p lines j texts run = record { texts = texts; run = run; promises = promises p lines fuel j run; by_charts = is_by_charts shelf files p lines fuel j texts run }
+run_of shelf files fuel p lines j texts run = record {
+  texts = texts;
+  run = run;
+  promises = promises p lines fuel j run;
+  by_charts = is_by_charts shelf files p lines fuel j texts run;
+  agreed = agreed_of (shelf.text files.model) (shelf.text files.injections) p lines fuel j texts.model_accepted texts.lines_accepted run;
+}
 
 -- what is told of a run of a made model
 pub sum_answers : (shelf : Shown) (words : List (List ℕ)) (actors : ℕ) (s : Summary) → asked_by words ≡ Some (Made actors) → Summarizes actors s → Answers shelf words (summary_text s) (status_of_run s.done)

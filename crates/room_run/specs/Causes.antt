@@ -9,6 +9,7 @@ use Rattle.room_outside.specs.Shown.{Shown}
 use Rattle.room_outside.specs.line_text.Lines.{line}
 use Rattle.room_wiring.specs.declared.tables.Tables.{Tables}
 use Rattle.controller_actors.specs.declared.plant.Plant.{Plant}
+use Rattle.inject_reader.specs.Fitting.{FitLines}
 use Rattle.inject_reader.specs.declared.inject_lines.accepted.Line.{Line}
 use Rattle.inject_reader.specs.Answer.{answer}
 use Rattle.inject_reader.specs.declared.fault.InjectFault.{InjectFault}
@@ -23,10 +24,11 @@ use Rattle.room_run.specs.declared.refusal.Refusal.TheVariants as refusals
 use Rattle.room_run.specs.declared.status.Status.{Status}
 use Rattle.room_run.specs.declared.status.Status.TheVariants as statuses
 
--- the text is that of injections, and these are its lines over the names of this wiring
+-- the text is that of injections, and these are its lines over the names of this wiring, which name what it has
 pub record IsInjections (wiring : Tables) (text : List ℕ) (lines : List Line) : Type 0 where
   pub short : length text ≤ most_bytes
   pub accepted : answer wiring text ≡ Ok lines
+  pub fit : FitLines wiring lines
 
 -- over the names of this wiring, the line of this number is the first faulty one of the text, and this is its lowest code
 pub record HasBadLine (wiring : Tables) (text : List ℕ) (number code : ℕ) : Type 0 where

@@ -7,7 +7,7 @@
 -- The answer is `ok` of a model that keeps all rules and whose wiring and charts have no fault,
 -- the text of its wiring, the text of journals that are a run of the model over the lines, or the
 -- summary of such journals of a made model, with status done or spent as the run ended.
-use Rattle.std.specs.Prelude.{◌≡◌, ℕ, List, [], ◌∷◌, Bool, Option, Some, codes, if◌then◌else◌}
+use Rattle.std.specs.Prelude.{◌≡◌, ℕ, List, [], ◌∷◌, Bool, true, Option, Some, codes, if◌then◌else◌}
 use Rattle.room_outside.specs.Shown.{Shown}
 use Rattle.room_outside.specs.Written.{Written, Appends, BreaksOff}
 use Rattle.room_outside.specs.line_text.Lines.{line}
@@ -19,6 +19,7 @@ use Rattle.model_run.specs.run_ends.Runs.{IsRun}
 use Rattle.chart_model.specs.Chart.{Chart}
 use Rattle.named_runs.specs.Charts.{IsRunByCharts}
 use Rattle.run_promises.specs.Promises.{RunPromises}
+use Rattle.world_agreement.specs.Settled.{LivesAgree}
 use Rattle.room_wiring.specs.declared.tables.Tables.{Tables}
 use Rattle.binding_expand.specs.tree_text.Text.{tree_text}
 use Rattle.made_model.specs.Summaries.{summary_of, summary_text}
@@ -41,12 +42,18 @@ abbrev pub IsByCharts : Shown → Files → Plant → List Line → ℕ → Jour
 IsByCharts shelf files plant lines fuel j =
     TextIs shelf files.model (λ text. (charts : List (Option Chart)) × IsSoundText text plant.wiring charts × IsRunByCharts plant.wiring charts lines fuel j)
 
--- Plant, lines and journals are those of a run of the model of two files over the injections of the other, with so much fuel: the texts are those of a model which runs as this plant, and of injections with these lines; and the journals, one for each controller and one for the environment, are those of a run of the plant over the lines (`IsRun`: each controller's journal is the replay of its own fetches, run to completion; merged by stamp they are one run of the world; what is taken in each lane is a prefix of what was sent, and all of it where the run is done). What a reader may rely on is said sentence by sentence (`RunPromises`), and the run is one of the model's charts (`IsByCharts`).
+-- where the run is done, all controllers agree on which actors live, in the world that its journals lead to
+abbrev pub AgreesWhenDone : (shelf : Shown) (files : Files) (plant : Plant) (lines : List Line) (fuel : ℕ) (j : Journals) → IsRun plant lines fuel j → Type 0
+AgreesWhenDone shelf files plant lines fuel j run =
+    TextIs shelf files.model (λ text. TextIs shelf files.injections (λ injected. j.done ≡ true → LivesAgree plant.wiring run.world))
+
+-- Plant, lines and journals are those of a run of the model of two files over the injections of the other, with so much fuel: the texts are those of a model which runs as this plant, and of injections with these lines; and the journals, one for each controller and one for the environment, are those of a run of the plant over the lines (`IsRun`: each controller's journal is the replay of its own fetches, run to completion; merged by stamp they are one run of the world; what is taken in each lane is a prefix of what was sent, and all of it where the run is done). What a reader may rely on is said sentence by sentence (`RunPromises`), the run is one of the model's charts (`IsByCharts`), and where it is done all controllers agree on who lives (`AgreesWhenDone`).
 pub record IsRunOfFiles (shelf : Shown) (files : Files) (fuel : ℕ) (plant : Plant) (lines : List Line) (journals : Journals) : Type 0 where
   pub texts : AreOf shelf files plant lines
   pub run : IsRun plant lines fuel journals
   pub promises : RunPromises plant lines fuel journals
   pub by_charts : IsByCharts shelf files plant lines fuel journals
+  pub agreed : AgreesWhenDone shelf files plant lines fuel journals run
 
 -- how a run ended: done, or by its fuel
 abbrev pub status_of_run : Bool → Status

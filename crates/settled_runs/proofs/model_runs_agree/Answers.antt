@@ -1,12 +1,5 @@
-use Rattle.actor_world.specs.Journals.{lines_of}
-use Rattle.model_run.specs.part_posts.Items.{items_of}
-use Rattle.model_run.specs.run_ends.Runs.{journal_of}
-use Rattle.settled_models.proofs.Runs.{model_agrees}
-use Rattle.settled_runs.proofs.Compiled.{all_compiled}
-use Rattle.settled_runs.proofs.Open.{lines_open}
+use Rattle.settled_runs.proofs.Runs.{runs_agree}
 use Rattle.settled_runs.proofs.model_runs_agree.Goals as goal
 
 pub returns : goal.returns
-returns c = λ m plant charts lines fuel j keeps wiring flawless has shown fit run done.
-    model_agrees m plant.wiring charts plant.tables.items (lines_of (items_of plant.wiring lines)) keeps wiring flawless has
-    (all_compiled plant.tables.items charts shown) (lines_open plant.wiring lines fit) fuel (journal_of j) j.left j.unposted run.world run.lawful (run.ended.is_done done)
+returns c = runs_agree
