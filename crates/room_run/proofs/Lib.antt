@@ -1,3 +1,4 @@
+pub mod settled
 pub mod JudgeLemmas
 pub mod CauseLemmas
 pub mod OutcomeLemmas

@@ -13,7 +13,7 @@ use Rattle.named_runs.specs.Charts.{IsRunByCharts}
 use Rattle.named_runs.proofs.ByCharts.{by_charts}
 use Rattle.run_promises.proofs.PromisesLaw.{promises}
 use Rattle.world_agreement.specs.Settled.{LivesAgree}
-use Rattle.settled_runs.proofs.Runs.{runs_agree}
+use Rattle.room_run.proofs.settled.Runs.{runs_agree}
 use Rattle.made_model.specs.Summaries.{summary_text}
 use Rattle.made_model.specs.declared.summary.Summary.{Summary}
 use Rattle.room_run.specs.Words.{Files, Made, asked_by, usual_fuel}

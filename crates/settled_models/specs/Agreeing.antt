@@ -1,7 +1,7 @@
 -- In the world that the journals of a done run of a model lead to, all controllers agree on which actors
 -- live (`LivesAgree`). The model keeps all rules, these are its wiring, which has no fault, its charts, and
--- the tables that are compiled from them; and the lines of the environment send nothing at priority 0, as
--- none that is accepted does.
+-- the tables that are compiled from them; the lines of the environment send nothing at priority 0, as none
+-- that is accepted does; and the slots are numbered depth first, as those of every model are.
 use Rattle.std.specs.Prelude.{◌≡◌, ℕ, List, Option, Some, None, slice_get}
 use Rattle.journal.specs.declared.entry.Entry.{Entry}
 use Rattle.journal.specs.declared.entry.Left.{Left}
@@ -15,6 +15,7 @@ use Rattle.chart_reader.specs.model_charts.Charts.{HasCharts}
 use Rattle.chart_compile.specs.chart_parts.Compiled.{Compiles}
 use Rattle.chart_behaviour.specs.ModelCharts.{Actor, behaviour_of}
 use Rattle.binding_expand.specs.Wirings.{IsWiringOf}
+use Rattle.service_messages.specs.slot_runs.Runs.{IsDepthFirst}
 use Rattle.binding_expand.specs.Faults.{HasNoFault}
 use Rattle.actor_merge.specs.Parties.{Line}
 use Rattle.actor_merge.specs.World.{World}
@@ -33,7 +34,7 @@ AreCompiled classes charts =
 abbrev pub ModelRunsAgree : Type 0
 ModelRunsAgree =
     (m : ModelTree) (t : Tables) (charts : List (Option Chart)) (classes : List (Option ChartTables)) (lines : List Line)
-    → first_broken all_rules m ≡ None → IsWiringOf m t → HasNoFault m → HasCharts m charts → AreCompiled classes charts → AreOpen lines
+    → first_broken all_rules m ≡ None → IsWiringOf m t → HasNoFault m → HasCharts m charts → AreCompiled classes charts → AreOpen lines → IsDepthFirst t
     → (fuel : ℕ) (journals : ℕ → List Entry) (left_over : List Left) (unposted : List ℕ) (w : World (Body Actor))
     → IsLawfulRun (behaviour_of t classes) t lines fuel journals left_over w
     → IsDone (plant_of (behaviour_of t classes) t lines) w left_over unposted → LivesAgree t w

@@ -1,0 +1,3 @@
+mod Compiled
+mod Open
+pub mod Runs

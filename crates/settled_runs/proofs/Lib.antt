@@ -1,3 +1,0 @@
-pub mod Compiled
-pub mod Open
-pub mod Runs
