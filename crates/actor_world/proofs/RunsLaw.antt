@@ -22,7 +22,7 @@ use Rattle.actor_duties.specs.Lives.{last_of}
 use Rattle.actor_duties.specs.State.{Lives}
 use Rattle.actor_world.specs.Behaviour.{Behaviour, Handling, Handled, Deferred, Unhandled}
 use Rattle.actor_world.specs.Body.{Body}
-use Rattle.actor_world.specs.Turns.{all_kinds, doing, treated, system_done, said, handled, nobody_there, dispatched, is_meant, dispatch, treat}
+use Rattle.actor_world.specs.Turns.{all_kinds, doing, treated, system_done, handled_as, handled, nobody_there, dispatched, is_meant, dispatch, treat}
 use Rattle.actor_world.specs.Start.{first_state, start_entries, plant_of}
 use Rattle.actor_world.specs.Life.{IsModest, created, destroyed, actor_of, dispatched_to, LivesOnce, TellsLives, IsFor}
 use Rattle.actor_world.proofs.LivesLaw.{once_each, tells_each}
@@ -78,7 +78,7 @@ is_for_last l m live h =
       lives = and_from (l.lives m.target.slot.0) (l.generation m.target.slot.0 == l.generation m.target.slot.0) live (eq-eqb _ _ refl);
     }
 
-said_for : (r : Handling) (x y : Incarnation) (state : ℕ) → actor_of (said r x state) ≡ Some y → x ≡ y
+said_for : (r : Handling) (x y : Incarnation) (state : ℕ) → actor_of (handled_as r x state) ≡ Some y → x ≡ y
 said_for Handled x y state h = cc
 said_for Deferred x y state h = cc
 said_for Unhandled x y state h = cc

@@ -27,7 +27,7 @@ use Rattle.actor_duties.specs.Links.{name_request, end_of}
 use Rattle.actor_duties.specs.Commands.{Content, Kept, defer, recall, recall_all}
 use Rattle.actor_world.specs.Behaviour.{Behaviour}
 use Rattle.actor_world.specs.Body.{Body, Doing, sent_at, apply_all}
-use Rattle.actor_world.specs.Turns.{all_kinds, doing, treated, begun, all_begun, gone, all_gone, closing, with_frame, duty, system_done, said, handled, nobody_there, dispatched, is_meant, dispatch, treat}
+use Rattle.actor_world.specs.Turns.{all_kinds, doing, treated, begun, all_begun, gone, all_gone, closing, with_frame, duty, system_done, handled_as, handled, nobody_there, dispatched, is_meant, dispatch, treat}
 use Rattle.actor_world.specs.Life.{IsModest}
 use Rattle.actor_world.specs.Directories.{SendsOpenly, IsOpen}
 use Rattle.actor_world.proofs.LifeSteps.{IsSound, up_parts, down_parts}
@@ -397,11 +397,11 @@ module _ {M : Type 0} (model : Behaviour M) (modest : IsModest model) (clear : I
   frame_fine : (b : Body M) (m : Msg) → IsSound t me b.frame.lives → (kind : SysKind) → ((s : ℕ) → AllTold g (b.deferred s)) → ((s : ℕ) → b.frame.told s ≤ g s)
       → ((x : Incarnation) → announced_by (Some kind) m.source ≡ Some x → x.generation.0 ≤ g x.slot.0)
       → OwnBelow t me g (with_frame model t me b (frame_duty t me b.frame kind m)).body.frame.lives → IsFine g (with_frame model t me b (frame_duty t me b.frame kind m))
-  frame_fine b m sound kind deferred told said own =
+  frame_fine b m sound kind deferred told handled_as own =
       let r : FrameDone = frame_duty t me b.frame kind m in
       let same = (frame_counts model modest t me b r).0 in
       with_frame_fine model clear t me g b r deferred
-      (frame_duty_fine t me g b.frame told sound m kind said (subst (OwnBelow t me g) same own))
+      (frame_duty_fine t me g b.frame told sound m kind handled_as (subst (OwnBelow t me g) same own))
 
   duty_fine : (b : Body M) (m : Msg) → IsSound t me b.frame.lives → (kind : SysKind) → ((s : ℕ) → AllTold g (b.deferred s)) → ((s : ℕ) → b.frame.told s ≤ g s)
       → ((x : Incarnation) → announced_by (Some kind) m.source ≡ Some x → x.generation.0 ≤ g x.slot.0)

@@ -18,7 +18,7 @@ use Rattle.actor_duties.specs.Lives.{answered, counts_as_live, create, made, par
 use Rattle.actor_duties.specs.Frame.{frame_ended, end_set_ended, FrameDone, plainly, with_number, of_natural, with_lives, destroy, part_end, is_request, frame_duty, frame_duty_of, frame_duty_from}
 use Rattle.actor_world.specs.Behaviour.{Behaviour, Handling, Handled, Deferred, Unhandled}
 use Rattle.actor_world.specs.Body.{Body, Doing}
-use Rattle.actor_world.specs.Turns.{all_kinds, doing, treated, begun, all_begun, gone, all_gone, closing, with_frame, duty, system_done, said, moved, handled, nobody_there, dispatched, is_meant, dispatch, treat}
+use Rattle.actor_world.specs.Turns.{all_kinds, doing, treated, begun, all_begun, gone, all_gone, closing, with_frame, duty, system_done, handled_as, moved, handled, nobody_there, dispatched, is_meant, dispatch, treat}
 use Rattle.actor_world.specs.Life.{IsModest, ups, downs, actor_of, born_in, dead_in}
 use Rattle.actor_world.proofs.Counts.{times}
 use Rattle.actor_world.proofs.Notes.{ups-append, downs-append, IsPlain, plain_none, Keeps, apply_all_keeps}
@@ -249,7 +249,7 @@ module _ {M : Type 0} (model : Behaviour M) (modest : IsModest model) (t : Table
   nobody_turned : (b : Body M) (m : Msg) → IsSound t me b.frame.lives → Turned b (nobody_there b m)
   nobody_turned b m s = record { noted = noted_plain t me b.frame.lives b.frame.lives [] s refl plain_none; dispatch = λ x e. absurd cc }
 
-  said_to : (r : Handling) (x y : Incarnation) (state : ℕ) → actor_of (said r x state) ≡ Some y → x ≡ y
+  said_to : (r : Handling) (x y : Incarnation) (state : ℕ) → actor_of (handled_as r x state) ≡ Some y → x ≡ y
   said_to Handled x y state h = cc
   said_to Deferred x y state h = cc
   said_to Unhandled x y state h = cc

@@ -1,6 +1,6 @@
 -- A world in which all controllers agree: what the trails of system messages lead to.
--- That is: directories, imports, links and peers. No contract says yet that a quiet world is
--- agreed.
+-- That is: directories, imports, links and peers. `world_agreement` has the laws that say of a
+-- quiet world what is agreed in it.
 use Rattle.std.specs.Prelude.{◌≡◌, ℕ, ◌≤◌, ◌<◌, ◌⊎◌, ◌↔◌, Bool, true, count_by, Contains, length, Option, Some}
 use Rattle.room_kinds.specs.declared.numbers.Incarnation.{Incarnation}
 use Rattle.room_kinds.specs.declared.numbers.Endpoint.{Endpoint}

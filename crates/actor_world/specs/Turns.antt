@@ -125,10 +125,10 @@ system_done model t me b m None = doing b
 system_done model t me b m (Some kind) = duty model t me b m kind
 
 -- what a journal says of a message that an actor handled
-abbrev pub said : Handling → Incarnation → ℕ → Did
-said Handled x state = did.Handled x state
-said Deferred x state = did.Deferred x state
-said Unhandled x state = did.Unhandled x state
+abbrev pub handled_as : Handling → Incarnation → ℕ → Did
+handled_as Handled x state = did.Handled x state
+handled_as Deferred x state = did.Deferred x state
+handled_as Unhandled x state = did.Unhandled x state
 
 -- an actor's machine after a message, and its commands applied
 abbrev pub moved : {M : Type 0} → Tables → ℕ → Body M → Incarnation → Msg → Outcome M → Doing M
@@ -141,7 +141,7 @@ moved t me b x m r =
 -- an actor handles a message
 unfoldable pub handled : {M : Type 0} → Behaviour M → Tables → ℕ → Body M → Incarnation → Msg → M → Treated (Body M)
 handled model t me b x m machine =
-    let r = model.handle x machine m in treated (moved t me b x m r) (said r.result x (model.state r.machine))
+    let r = model.handle x machine m in treated (moved t me b x m r) (handled_as r.result x (model.state r.machine))
 
 -- a message that nobody stands there for
 abbrev pub nobody_there : {M : Type 0} → Body M → Msg → Treated (Body M)

@@ -15,7 +15,7 @@ use Rattle.actor_duties.specs.Lives.{last_of}
 use Rattle.actor_duties.specs.Frame.{FrameDone, frame_duty}
 use Rattle.actor_world.specs.Behaviour.{Behaviour, Handling}
 use Rattle.actor_world.specs.Body.{Body, Doing}
-use Rattle.actor_world.specs.Turns.{all_kinds, doing, treated, begun, all_begun, gone, all_gone, closing, with_frame, duty, system_done, said, moved, handled, nobody_there, dispatched, is_meant, dispatch, treat}
+use Rattle.actor_world.specs.Turns.{all_kinds, doing, treated, begun, all_begun, gone, all_gone, closing, with_frame, duty, system_done, handled_as, moved, handled, nobody_there, dispatched, is_meant, dispatch, treat}
 use Rattle.named_runs.specs.Alike.{DoAlike}
 use Rattle.named_runs.proofs.Doings.{Both, neither, both, Core, Work, core_of, body_of, work_of, doing_of, none, Like, Alike, updated_like, apply_all_alike}
 
@@ -135,7 +135,7 @@ module _ {M N : Type 0} (R : ℕ → M → N → Type 0) (one : Behaviour M) (ot
         let state : one.state (one.handle x a m).machine ≡ other.state (other.handle x b m).machine =
         alike.state x.slot.0 (one.handle x a m).machine (other.handle x b m).machine same.machine in
         treated_alike (moved t me (body_of k f) x m (one.handle x a m)) (moved t me (body_of k g) x m (other.handle x b m))
-        (said (one.handle x a m).result x (one.state (one.handle x a m).machine)) (said (other.handle x b m).result x (other.state (other.handle x b m).machine))
+        (handled_as (one.handle x a m).result x (one.state (one.handle x a m).machine)) (handled_as (other.handle x b m).result x (other.state (other.handle x b m).machine))
         (apply_all_alike R t me x (Some m) (one.handle x a m).commands (other.handle x b m).commands
         (record (doing (body_of k f)) { body = record (body_of k f) { machines = updated f x.slot.0 (Some (one.handle x a m).machine) }; notes = (one.handle x a m).notes })
         (record (doing (body_of k g)) { body = record (body_of k g) { machines = updated g x.slot.0 (Some (other.handle x b m).machine) }; notes = (other.handle x b m).notes })
@@ -144,8 +144,8 @@ module _ {M N : Type 0} (R : ℕ → M → N → Type 0) (one : Behaviour M) (ot
           work = ap (λ (ns : List Note). record { core = k; sent = []; back = []; notes = ns; kept = false }) same.notes;
           machines = updated_like R f g x.slot.0 (Some (one.handle x a m).machine) (Some (other.handle x b m).machine) like (both same.machine);
         }))
-        (ap (λ (h : Handling). said h x (one.state (one.handle x a m).machine)) same.result
-        ∙ ap (λ (n : ℕ). said (other.handle x b m).result x n) state)
+        (ap (λ (h : Handling). handled_as h x (one.state (one.handle x a m).machine)) same.result
+        ∙ ap (λ (n : ℕ). handled_as (other.handle x b m).result x n) state)
 
     dispatched_alike : (m : Msg) (a : Option M) (b : Option N) → Both (R m.target.slot.0) a b → TreatedAlike (dispatched one t me (body_of k f) m a) (dispatched other t me (body_of k g) m b)
     dispatched_alike m a b neither = record { core = refl; machines = like; sent = refl; back = refl; did = refl; notes = refl }

@@ -17,7 +17,7 @@ use Rattle.actor_duties.specs.Lives.{is_live, last_of}
 use Rattle.actor_duties.specs.Frame.{FrameDone, frame_duty}
 use Rattle.actor_world.specs.Behaviour.{Behaviour, Handling, Handled, Deferred, Unhandled}
 use Rattle.actor_world.specs.Body.{Body, Doing}
-use Rattle.actor_world.specs.Turns.{all_kinds, doing, treated, with_frame, with_table, with_links, duty, system_done, said, moved, handled, nobody_there, dispatched, is_meant, dispatch, treat}
+use Rattle.actor_world.specs.Turns.{all_kinds, doing, treated, with_frame, with_table, with_links, duty, system_done, handled_as, moved, handled, nobody_there, dispatched, is_meant, dispatch, treat}
 use Rattle.actor_world.specs.Start.{first_state, plant_of}
 use Rattle.actor_world.specs.Life.{IsModest}
 use Rattle.actor_world.proofs.Notes.{Keeps as KeepsLives, apply_all_keeps as apply_all_lives}
@@ -79,7 +79,7 @@ module _ {M : Type 0} (model : Behaviour M) (modest : IsModest model) (tells : T
   system_owned b m None none s = owned_plain b m (treated (doing b) did.Duty) refl refl
   system_owned b m (Some kind) none s = duty_owned b m kind none s
 
-  said_by : (x y : Incarnation) (r : Handling) (state : ℕ) → is_incarnation y x ≡ true → deferred_by x (said r y state) ≡ is_kept r
+  said_by : (x y : Incarnation) (r : Handling) (state : ℕ) → is_incarnation y x ≡ true → deferred_by x (handled_as r y state) ≡ is_kept r
   said_by x y Handled state h = refl
   said_by x y Deferred state h = h
   said_by x y Unhandled state h = refl
@@ -102,14 +102,14 @@ module _ {M : Type 0} (model : Behaviour M) (modest : IsModest model) (tells : T
           (moved t me b (last_of b.frame.lives slot) taken (model.handle (last_of b.frame.lives slot) machine taken))
           → is_live b.frame.lives x ≡ true → (x.slot.0 ≡ slot) ⊎ (x.slot.0 ≡ slot → ⊥)
           → times m ((moved t me b (last_of b.frame.lives slot) taken (model.handle (last_of b.frame.lives slot) machine taken)).body.deferred x.slot.0)
-          ≤ keeps b x m + deferral x m (said (model.handle (last_of b.frame.lives slot) machine taken).result (last_of b.frame.lives slot)
+          ≤ keeps b x m + deferral x m (handled_as (model.handle (last_of b.frame.lives slot) machine taken).result (last_of b.frame.lives slot)
           (model.state (model.handle (last_of b.frame.lives slot) machine taken).machine)) taken
       go k was (inl e) =
           let r = model.handle (last_of b.frame.lives slot) machine taken in
           let p = and_parts (b.frame.lives.lives x.slot.0) (b.frame.lives.generation x.slot.0 == x.generation.0) was in
           let g : (b.frame.lives.generation slot == x.generation.0) ≡ true = ap (λ n. b.frame.lives.generation n == x.generation.0) (sym e) ∙ p.1 in
           let i : is_incarnation (last_of b.frame.lives slot) x ≡ true = and_from (slot == x.slot.0) (b.frame.lives.generation slot == x.generation.0) (eq-eqb slot x.slot.0 (sym e)) g in
-          let d : deferred_by x (said r.result (last_of b.frame.lives slot) (model.state r.machine)) ≡ list_any is_defer r.commands =
+          let d : deferred_by x (handled_as r.result (last_of b.frame.lives slot) (model.state r.machine)) ≡ list_any is_defer r.commands =
           said_by x (last_of b.frame.lives slot) r.result (model.state r.machine) i ∙ tells (last_of b.frame.lives slot) machine taken in
           let now : times m ((moved t me b (last_of b.frame.lives slot) taken r).body.deferred x.slot.0) ≡ times m ((moved t me b (last_of b.frame.lives slot) taken r).body.deferred slot) =
           ap (λ n. times m ((moved t me b (last_of b.frame.lives slot) taken r).body.deferred n)) e in

@@ -18,7 +18,7 @@ use Rattle.actor_duties.specs.Frame.{FrameDone, frame_duty}
 use Rattle.actor_duties.specs.Names.{table_duty}
 use Rattle.actor_world.specs.Behaviour.{Behaviour, Handling, Handled, Deferred, Unhandled}
 use Rattle.actor_world.specs.Body.{Body, Doing}
-use Rattle.actor_world.specs.Turns.{all_kinds, doing, treated, with_frame, with_table, with_links, duty, system_done, said, moved, handled, nobody_there, dispatched, is_meant, dispatch, treat}
+use Rattle.actor_world.specs.Turns.{all_kinds, doing, treated, with_frame, with_table, with_links, duty, system_done, handled_as, moved, handled, nobody_there, dispatched, is_meant, dispatch, treat}
 use Rattle.actor_world.specs.Life.{IsModest, downs}
 use Rattle.actor_world.proofs.Slots.{own_in_range}
 use Rattle.actor_world.proofs.Counts.{times}
@@ -165,7 +165,7 @@ module _ {M : Type 0} (model : Behaviour M) (modest : IsModest model) (tells : T
   system_accounted b m None none s = accounted_plain t b m (treated (doing b) did.Duty) none refl refl refl (λ x. refl) refl
   system_accounted b m (Some kind) none s = duty_accounted b m kind none s
 
-  said_deferred : (r : Handling) (x : Incarnation) (state : ℕ) → is_deferred (said r x state) ≡ is_kept r
+  said_deferred : (r : Handling) (x : Incarnation) (state : ℕ) → is_deferred (handled_as r x state) ≡ is_kept r
   said_deferred Handled x state = refl
   said_deferred Deferred x state = refl
   said_deferred Unhandled x state = refl
@@ -184,7 +184,7 @@ module _ {M : Type 0} (model : Behaviour M) (modest : IsModest model) (tells : T
         counts = λ which.
             let k : Keeps which m x.slot.0 (list_any is_defer r.commands) first last = apply_all_keeps which t me x m r.commands first in
             let l = none_lost which t b last.notes (λ y. lives.downs y ∙ (modest.handle x machine m y).1) in
-            let what : is_deferred (said r.result x (model.state r.machine)) ≡ last.kept = said_deferred r.result x (model.state r.machine) ∙ tells x machine m ∙ sym k.kept in
+            let what : is_deferred (handled_as r.result x (model.state r.machine)) ≡ last.kept = said_deferred r.result x (model.state r.machine) ∙ tells x machine m ∙ sym k.kept in
             let here : ℕ = x.slot.0 in
             -- at each slot: what is deferred then, and at this one what was, is what was deferred, and at this one what is
             let each : (s : ℕ) → count which (last.body.deferred s) + only_at here (count which (b.deferred here)) s
@@ -196,7 +196,7 @@ module _ {M : Type 0} (model : Behaviour M) (modest : IsModest model) (tells : T
             let p = total_point here (count which (b.deferred here)) 0 (length t.slots) (omega arith) (omega arith) in
             let q = total_point here (count which (last.body.deferred here)) 0 (length t.slots) (omega arith) (omega arith) in
             let w = k.counts in
-            rid_counts which m (is_deferred (said r.result x (model.state r.machine))) last.kept what _ _ _ _ (omega (arith, a, c, e, p, q, w, l));
+            rid_counts which m (is_deferred (handled_as r.result x (model.state r.machine))) last.kept what _ _ _ _ (omega (arith, a, c, e, p, q, w, l));
       }
     where
       others : (s : ℕ) → b.frame.lives.lives s ≡ false → (moved t me b x m (model.handle x machine m)).body.deferred s ≡ []
@@ -226,9 +226,9 @@ module _ {M : Type 0} (model : Behaviour M) (modest : IsModest model) (tells : T
           let u : count which ((moved t me b x m (model.handle x machine m)).body.deferred s) ≡ count which (b.deferred s) = ap (count which) (k.others s n) in
           omega (arith, p, q, u)
 
-      rid_counts : (which : Msg → Bool) (m : Msg) (said kept : Bool) → said ≡ kept → (after back lost before : ℕ)
+      rid_counts : (which : Msg → Bool) (m : Msg) (handled_as kept : Bool) → handled_as ≡ kept → (after back lost before : ℕ)
           → ((after + back) + lost) ≡ before + weight kept (count which (m ∷ []))
-          → ((after + back) + lost) + count which (if said then [] else m ∷ []) ≡ before + count which (m ∷ [])
+          → ((after + back) + lost) + count which (if handled_as then [] else m ∷ []) ≡ before + count which (m ∷ [])
       rid_counts which m true true e after back lost before h = omega (arith, h)
       rid_counts which m false false e after back lost before h = omega (arith, h)
       rid_counts which m true false e after back lost before h = absurd cc

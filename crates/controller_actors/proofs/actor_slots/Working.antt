@@ -12,7 +12,7 @@ use Rattle.actor_duties.specs.Words.{updated}
 use Rattle.actor_duties.specs.State.{Frame, Links}
 use Rattle.actor_world.specs.Behaviour.{Begun}
 use Rattle.actor_world.specs.Body.{Body, Doing as WorldDoing, apply_all}
-use Rattle.actor_world.specs.Turns.{said, treated}
+use Rattle.actor_world.specs.Turns.{handled_as, treated}
 use Rattle.chart_run.specs.declared.chart_tables.tables.Tables.{Tables}
 use Rattle.chart_run.specs.Machines.{result_view}
 use Rattle.chart_behaviour.specs.ModelCharts.{Actor, begins, handles, handling_of, state_number}
@@ -69,16 +69,16 @@ module _ (t : Wiring) (me : ℕ) (f : Frame) (l : Links) (f' : Frame) (l' : Link
   -- a message
   module _ (m : Msg) (o : Option Tables) (old mid new : ActorSlot) (r : Reaction) (done : TurnResult) (h : Reacts m o old.occupant mid.occupant r) (same : mid.deferred ≡ old.deferred)
       (w : Works t me f l f' l' x (Some m) r.commands mid new (record { messages = []; notes = r.notes }) [] (record { messages = done.sent; notes = done.notes }) done.back)
-      (did : done.did ≡ said (handling_of (result_view r.came_to)) x r.state) where
+      (did : done.did ≡ handled_as (handling_of (result_view r.came_to)) x r.state) where
     turn_on : IsOf x old.occupant → (b : Body Actor)
         → turned t me (slot_body f l b x.slot.0 old) x m (handles x m o (actor_of old.occupant)) ≡ treated_on done (slot_body f' l' b x.slot.0 new)
     turn_on of b =
         let result = handling_of (result_view r.came_to) in
         ap (turned t me (slot_body f l b x.slot.0 old) x m) (h.handled x of)
-        ∙ ap (λ (d : WorldDoing Actor). treated d (said result x (state_number (actor_of mid.occupant))))
+        ∙ ap (λ (d : WorldDoing Actor). treated d (handled_as result x (state_number (actor_of mid.occupant))))
         (applied_on b (Some m) r.commands old mid new (actor_of mid.occupant) (record { messages = []; notes = r.notes }) [] (record { messages = done.sent; notes = done.notes }) done.back h.stands same w)
         ∙ ap (λ (d : Did). record { body = slot_body f' l' b x.slot.0 new; sent = done.sent; back = done.back; did = d; notes = done.notes })
-        (ap (said result x) (sym h.state) ∙ sym did)
+        (ap (handled_as result x) (sym h.state) ∙ sym did)
 
     pub turns : SlotFits x o old → HasPriority m → SlotTurns t me f l f' l' x m o old new done
     turns fits prio =

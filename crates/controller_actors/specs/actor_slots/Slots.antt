@@ -11,7 +11,7 @@ use Rattle.actor_duties.specs.Words.{updated}
 use Rattle.actor_duties.specs.State.{Frame, Links}
 use Rattle.actor_world.specs.Behaviour.{Begun, Outcome}
 use Rattle.actor_world.specs.Body.{Body, Doing as WorldDoing, apply_all}
-use Rattle.actor_world.specs.Turns.{moved, said, treated}
+use Rattle.actor_world.specs.Turns.{moved, handled_as, treated}
 use Rattle.chart_run.specs.declared.chart_tables.tables.Tables.{Tables}
 use Rattle.chart_behaviour.specs.ModelCharts.{Actor, begins, handles, state_number}
 use Rattle.actor_commands.specs.declared.command_sends.output.Output.{Output}
@@ -48,7 +48,7 @@ pub record Works (t : Wiring) (me : ℕ) (f : Frame) (l : Links) (f' : Frame) (l
 
 -- a turn in which an actor's machine did this with a message
 abbrev pub turned : Wiring → ℕ → Body Actor → Incarnation → Msg → Outcome Actor → Treated (Body Actor)
-turned t me b x m r = treated (moved t me b x m r) (said r.result x (state_number r.machine))
+turned t me b x m r = treated (moved t me b x m r) (handled_as r.result x (state_number r.machine))
 
 -- the actor of a slot handled a message, whatever else the body has
 pub record SlotTurns (t : Wiring) (me : ℕ) (f : Frame) (l : Links) (f' : Frame) (l' : Links) (x : Incarnation) (m : Msg) (o : Option Tables) (old new : ActorSlot) (done : TurnResult) : Type 0 where

@@ -5,7 +5,7 @@ ghost use Rattle.room_kinds.specs.declared.note.Note.TheVariants.{Up};
 ghost use Rattle.controller_mail.specs.MailState.{HasPriority};
 ghost use Rattle.chart_run.specs.Machines.{result_view};
 ghost use Rattle.chart_behaviour.specs.ModelCharts.{handling_of};
-ghost use Rattle.actor_world.specs.Turns.{said};
+ghost use Rattle.actor_world.specs.Turns.{handled_as};
 ghost use Rattle.controller_actors.specs.actor_slots.Occupants.{AreSound, actor_in};
 ghost use Rattle.controller_actors.specs.actor_slots.Slots.{SlotComesUp, SlotFits, SlotTurns, SlotBegins, Works};
 
@@ -36,7 +36,7 @@ pub struct Entrance {
 
 /// What a journal says of a message that an actor handled.
 fn did_of(came_to: Handling, who: Incarnation, state: u16) -> Did
-    ensures { result ≡ said (handling_of (result_view came_to)) who state }
+    ensures { result ≡ handled_as (handling_of (result_view came_to)) who state }
 {
     match came_to {
         Handling::Handled => Did::Handled { who, state },
