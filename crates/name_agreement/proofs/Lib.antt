@@ -1,0 +1,4 @@
+pub mod Standing
+pub mod Joining
+pub mod Single
+pub mod LinkTelling

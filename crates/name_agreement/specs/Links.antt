@@ -1,0 +1,137 @@
+-- Who is linked by name: what the name table of controller 0 says, and what the owners of the linked
+-- service points know.
+-- A join is a link as the table has it: the provider's place, and the user. `table_peer`: what the table
+-- links a place to. `IsSound`: a table is in order, and no endpoint stands in it twice.
+use Rattle.std.specs.Prelude.{◌≡◌, ℕ, ℤ, ◌+◌, ◌≤◌, ◌==◌, ◌&&◌, true, List, [], ◌∷◌, ◌++◌, slice_get, Option, Some, None, if◌then◌else◌}
+use Rattle.std.specs.Option.{option_map_or}
+use Rattle.room_kinds.specs.declared.numbers.Endpoint.{Endpoint}
+use Rattle.room_kinds.specs.declared.message.Msg.{Msg}
+use Rattle.room_kinds.specs.declared.system.SysKind.{SysKind}
+use Rattle.room_kinds.specs.declared.system.SysKind.TheVariants as kinds
+use Rattle.room_wiring.specs.declared.tables.Tables.{Tables}
+use Rattle.actor_duties.specs.Words.{is_endpoint, is_sap, is_spp}
+use Rattle.actor_duties.specs.State.{User, Provider, Service, NameTable}
+use Rattle.actor_duties.specs.Names.{at_place, is_user, table_duty}
+use Rattle.actor_duties.specs.Links.{is_own_point}
+use Rattle.actor_duties.specs.Peers.{or_else}
+use Rattle.actor_duties.specs.Places.{AreOrderly}
+use Rattle.actor_world.specs.Turns.{all_kinds}
+
+-- a link of the table: the place of the provider, and the user
+pub record Join : Type 0 where
+  pub place : Endpoint
+  pub user : Endpoint
+
+-- the joins of a provider with these users, in their order
+abbrev pub joins_with : Endpoint → List User → List Join
+joins_with p [] = []
+joins_with p (u ∷ us) =
+    option_map_or (λ k. record { place = at_place p k; user = u.at } ∷ []) u.linked [] ++ joins_with p us
+
+-- the joins of a service, which has them where it has a provider
+abbrev pub joins_of : Option Provider → List User → List Join
+joins_of None users = []
+joins_of (Some p) users = joins_with p.at users
+
+-- all joins of a name table
+abbrev pub joins : NameTable → List Join
+joins [] = []
+joins (s ∷ table) = joins_of s.provider s.users ++ joins table
+
+-- the other side of a join, seen from one of its two sides
+abbrev pub across : Endpoint → Join → Option Endpoint
+across a j = if is_endpoint j.place a then Some j.user else if is_endpoint j.user a then Some j.place else None
+
+-- the other side of the first of these joins of which a place is a side
+abbrev pub joined_in : Endpoint → List Join → Option Endpoint
+joined_in a [] = None
+joined_in a (j ∷ js) = or_else (across a j) (joined_in a js)
+
+-- what the name table links a place to
+abbrev pub table_peer : NameTable → Endpoint → Option Endpoint
+table_peer table a = joined_in a (joins table)
+
+-- of how many of these joins a place is a side
+abbrev pub times_joined : Endpoint → List Join → ℕ
+times_joined a [] = 0
+times_joined a (j ∷ js) = option_map_or (λ x. 1) (across a j) 0 + times_joined a js
+
+-- how often an endpoint is the provider of a service
+abbrev pub times_provider : Endpoint → Option Provider → ℕ
+times_provider e None = 0
+times_provider e (Some p) = if is_endpoint p.at e then 1 else 0
+
+-- how often an endpoint is among these users
+abbrev pub times_user : Endpoint → List User → ℕ
+times_user e [] = 0
+times_user e (u ∷ us) = (if is_user e u then 1 else 0) + times_user e us
+
+-- how often an endpoint stands in a service, as provider or as user
+abbrev pub times_in : Endpoint → Service → ℕ
+times_in e s = times_provider e s.provider + times_user e s.users
+
+-- how often an endpoint stands in a name table
+abbrev pub times_standing : Endpoint → NameTable → ℕ
+times_standing e [] = 0
+times_standing e (s ∷ table) = times_in e s + times_standing e table
+
+-- a peer that is no longer linked
+abbrev pub without : Endpoint → Option Endpoint → Option Endpoint
+without peer None = None
+without peer (Some x) = if is_endpoint x peer then None else Some x
+
+-- what place a is linked to after a message of a kind from a source to a target at controller d, if it was
+-- linked so before: a Bound links it, an Ended ends the link that it names
+abbrev pub linked_by : Tables → ℕ → Endpoint → Option SysKind → Option Endpoint → Endpoint → List ℤ → Option Endpoint → Option Endpoint
+linked_by t d a (Some kinds.Bound) (Some peer) own [] before = if is_own_point t d own && is_endpoint own a then Some peer else before
+linked_by t d a (Some kinds.Ended) (Some peer) own [] before = if is_own_point t d own && is_endpoint own a then without peer before else before
+linked_by t d a kind source target numbers before = before
+
+-- the same after a message
+unfoldable pub link_heard : Tables → ℕ → Endpoint → Msg → Option Endpoint → Option Endpoint
+link_heard t d a m before =
+    if m.prio.0 == 0
+    then linked_by t d a (slice_get all_kinds m.signal) m.source m.target m.payload before
+    else before
+
+-- a user is a service access point, named by its place 0
+abbrev pub IsUserPoint : Tables → Endpoint → Type 0
+IsUserPoint t e = (is_sap t e.slot.0 e.port ≡ true) × (e.place ≡ 0)
+
+-- a provider is a service provision point, named by its place 0
+abbrev pub IsProviderPoint : Tables → Option Provider → Type 0
+IsProviderPoint t None = Unit {0}
+IsProviderPoint t (Some p) = (is_spp t p.at.slot.0 p.at.port ≡ true) × (p.at.place ≡ 0)
+
+abbrev pub AreUserPoints : Tables → List User → Type 0
+AreUserPoints t [] = Unit {0}
+AreUserPoints t (u ∷ us) = IsUserPoint t u.at × AreUserPoints t us
+
+-- the same of all services
+abbrev pub ArePoints : Tables → NameTable → Type 0
+ArePoints t [] = Unit {0}
+ArePoints t (s ∷ table) = (IsProviderPoint t s.provider × AreUserPoints t s.users) × ArePoints t table
+
+-- a name table is sound: it is in order, so that only a user of a service with a provider is linked, at a
+-- place behind the provider's static ones and below its next one; no endpoint stands in it twice; and
+-- providers are service provision points, users service access points
+pub record IsSound (t : Tables) (table : NameTable) : Type 0 where
+  pub orderly : AreOrderly t table
+  pub once : (e : Endpoint) → times_standing e table ≤ 1
+  pub points : ArePoints t table
+
+-- an endpoint that registers doesn't stand in the table yet
+abbrev pub IsNew : NameTable → SysKind → Option Endpoint → Type 0
+IsNew table kinds.Register (Some e) = times_standing e table ≡ 0
+IsNew table _ _ = Unit {0}
+
+-- a sound table stays sound
+abbrev pub TableStaysSound : Type 0
+TableStaysSound =
+    (t : Tables) (me : ℕ) (table : NameTable) (kind : SysKind) (m : Msg) → IsNew table kind m.source
+    → IsSound t table → IsSound t (table_duty t me table kind m).now
+
+-- in a sound table no place is a side of two joins
+abbrev pub JoinsAreSingle : Type 0
+JoinsAreSingle =
+    (t : Tables) (table : NameTable) → IsSound t table → (a : Endpoint) → times_joined a (joins table) ≤ 1

@@ -1,0 +1,9 @@
+//! Agreement on names: laws that hold of every run, as functions without a body, whose contract is the
+//! law; they hold over any kind `M` of machine and any tables.
+//!
+//! Service points register under names in the name table of controller 0, which links them.
+#![tactic(auto)]
+
+mod links;
+
+pub use links::tables_are_sound;
