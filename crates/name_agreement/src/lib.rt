@@ -5,5 +5,7 @@
 #![tactic(auto)]
 
 mod links;
+mod registrations;
 
 pub use links::tables_are_sound;
+pub use registrations::names_are_of_the_created;
