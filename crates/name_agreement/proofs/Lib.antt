@@ -2,7 +2,11 @@ pub mod OffNames
 pub mod Naming
 pub mod Creating
 pub mod CreatedRuns
-pub mod Standing
+pub mod Soundness
 pub mod Joining
 pub mod Single
 pub mod LinkTelling
+pub mod Owning
+pub mod LinkRuns
+pub mod LinkAgreeing
+pub mod LinkLaws

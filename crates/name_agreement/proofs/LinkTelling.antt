@@ -19,7 +19,7 @@ use Rattle.world_agreement.specs.Trails.{is_system_to, hear_all}
 use Rattle.world_agreement.proofs.Hearing.{after, after_append}
 use Rattle.world_agreement.proofs.Lists.{all_append}
 use Rattle.name_agreement.specs.Links.{Join, joins_with, joins_of, joins, across, joined_in, table_peer, times_joined, without, link_heard, IsProviderPoint, AreUserPoints, ArePoints, IsSound, IsNew}
-use Rattle.name_agreement.proofs.Standing.{same_endpoint, stays_sound}
+use Rattle.name_agreement.proofs.Soundness.{same_endpoint, stays_sound}
 use Rattle.name_agreement.proofs.Joining.{Mixed, mix_none, mix_left, mix_right, all_told, TableStep, idle, binds, ends, table_steps}
 use Rattle.name_agreement.proofs.Single.{single}
 
@@ -280,7 +280,7 @@ module _ (t : Tables) (a : Endpoint) where
       ∙ reply_one e code (joined_in a now)
 
   -- a duty of a sound table tells the owner of a place how its links change
-  pub table_told : (me : ℕ) (table : NameTable) (kind : SysKind) (m : Msg) → IsNew table kind m.source → IsSound t table
+  pub table_told : (me : ℕ) (table : NameTable) (kind : SysKind) (m : Msg) → IsNew table kind m → IsSound t table
       → told (table_duty t me table kind m).sent (table_peer table a) ≡ table_peer (table_duty t me table kind m).now a
   table_told me table kind m new sound =
       let r : Done NameTable = table_duty t me table kind m in

@@ -11,8 +11,9 @@ use Rattle.actor_duties.specs.Words.{is_endpoint, port_at, is_sap, is_spp, is_sa
 use Rattle.actor_duties.specs.State.{User, Provider, NameTable}
 use Rattle.actor_duties.specs.Names.{at_place, is_user}
 use Rattle.actor_duties.specs.Places.{InPlaces, IsOrderlyWith, AreOrderly}
-use Rattle.name_agreement.specs.Links.{Join, joins_with, joins_of, joins, times_joined, times_provider, times_user, times_standing, IsUserPoint, IsProviderPoint, AreUserPoints, ArePoints, IsSound, JoinsAreSingle}
-use Rattle.name_agreement.proofs.Standing.{same_endpoint}
+use Rattle.name_agreement.specs.Links.{Join, joins_with, joins_of, joins, times_joined, IsUserPoint, IsProviderPoint, AreUserPoints, ArePoints, IsSound, JoinsAreSingle}
+use Rattle.name_agreement.specs.Registrations.{uses, stands}
+use Rattle.name_agreement.proofs.Soundness.{same_endpoint}
 
 -- a service access point is no service provision point
 pub sap_or_spp : (t : Tables) (s p : ℕ) → is_sap t s p ≡ true → is_spp t s p ≡ true → ⊥
@@ -52,11 +53,11 @@ module _ (a : Endpoint) where
 
   module _ (t : Tables) where
     -- a place of no provider is joined as a user alone
-    used_times : (p : Endpoint) → ((k : ℕ) → is_endpoint (at_place p k) a ≡ false) → (us : List User) → times_joined a (joins_with p us) ≤ times_user a us
+    used_times : (p : Endpoint) → ((k : ℕ) → is_endpoint (at_place p k) a ≡ false) → (us : List User) → times_joined a (joins_with p us) ≤ uses a us
     used_times p off [] = omega arith
     used_times p off (u ∷ us) = go u.linked refl (used_times p off us)
       where
-        go : (o : Option ℕ) → u.linked ≡ o → times_joined a (joins_with p us) ≤ times_user a us → times_joined a (joins_with p (u ∷ us)) ≤ times_user a (u ∷ us)
+        go : (o : Option ℕ) → u.linked ≡ o → times_joined a (joins_with p us) ≤ uses a us → times_joined a (joins_with p (u ∷ us)) ≤ uses a (u ∷ us)
         go None q h = rw q (omega (arith, h))
         go (Some k) q h =
             let j : Join = record { place = at_place p k; user = u.at } in
@@ -113,7 +114,7 @@ module _ (a : Endpoint) where
         rw (q.0, q.1, q.2, zero) refl
 
     service_times : (o : Option Provider) (us : List User) → IsOrderlyWith t o us → IsProviderPoint t o → AreUserPoints t us
-        → times_joined a (joins_of o us) ≤ times_provider base o + times_user base us
+        → times_joined a (joins_of o us) ≤ (if option_map_or (λ (p : Provider). is_endpoint p.at base) o false then 1 else 0) + uses base us
     service_times None us h q points = omega arith
     service_times (Some p) us h q points = go (is_spp t a.slot.0 a.port) refl
       where
@@ -142,16 +143,16 @@ module _ (a : Endpoint) where
                 rw (r, place, off u.at k.0) (omega (arith, h))
 
         go : (b : Bool) → is_spp t a.slot.0 a.port ≡ b
-            → times_joined a (joins_with p.at us) ≤ times_provider (if b then at_place a 0 else a) (Some p) + times_user (if b then at_place a 0 else a) us
+            → times_joined a (joins_with p.at us) ≤ (if is_endpoint p.at (if b then at_place a 0 else a) then 1 else 0) + uses (if b then at_place a 0 else a) us
         go false e = let k = used_times p.at (not_place e) us in omega (arith, k)
         go true e = at_point (is_endpoint p.at (at_place a 0)) refl
           where
-            at_point : (b : Bool) → is_endpoint p.at (at_place a 0) ≡ b → times_joined a (joins_with p.at us) ≤ (if b then 1 else 0) + times_user (at_place a 0) us
+            at_point : (b : Bool) → is_endpoint p.at (at_place a 0) ≡ b → times_joined a (joins_with p.at us) ≤ (if b then 1 else 0) + uses (at_place a 0) us
             at_point true r =
                 let k = (provided_times p.at us (not_user e) points (place_count t p.at.slot.0 p.at.port) p.next h).0 in omega (arith, k)
             at_point false r = let k = nowhere us r (not_user e) points in omega (arith, k)
 
-    table_times : (table : NameTable) → AreOrderly t table → ArePoints t table → times_joined a (joins table) ≤ times_standing base table
+    table_times : (table : NameTable) → AreOrderly t table → ArePoints t table → times_joined a (joins table) ≤ stands base table
     table_times [] h k = omega arith
     table_times (s ∷ rest) h k =
         let one = service_times s.provider s.users h.0 k.0.0 k.0.1 in

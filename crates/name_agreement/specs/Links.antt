@@ -2,20 +2,30 @@
 -- service points know.
 -- A join is a link as the table has it: the provider's place, and the user. `table_peer`: what the table
 -- links a place to. `IsSound`: a table is in order, and no endpoint stands in it twice.
-use Rattle.std.specs.Prelude.{◌≡◌, ℕ, ℤ, ◌+◌, ◌≤◌, ◌==◌, ◌&&◌, true, List, [], ◌∷◌, ◌++◌, slice_get, Option, Some, None, if◌then◌else◌}
+use Rattle.std.specs.Prelude.{◌≡◌, ℕ, ℤ, pos, ◌+◌, ◌≤◌, ◌↔◌, ◌==◌, ◌&&◌, true, false, List, [], ◌∷◌, ◌++◌, slice_get, Contains, Option, Some, None, if◌then◌else◌}
 use Rattle.std.specs.Option.{option_map_or}
 use Rattle.room_kinds.specs.declared.numbers.Endpoint.{Endpoint}
 use Rattle.room_kinds.specs.declared.message.Msg.{Msg}
 use Rattle.room_kinds.specs.declared.system.SysKind.{SysKind}
 use Rattle.room_kinds.specs.declared.system.SysKind.TheVariants as kinds
 use Rattle.room_wiring.specs.declared.tables.Tables.{Tables}
-use Rattle.actor_duties.specs.Words.{is_endpoint, is_sap, is_spp}
-use Rattle.actor_duties.specs.State.{User, Provider, Service, NameTable}
-use Rattle.actor_duties.specs.Names.{at_place, is_user, table_duty}
+use Rattle.actor_duties.specs.Words.{whose, owner_of, is_endpoint, is_sap, is_spp}
+use Rattle.actor_duties.specs.State.{User, Provider, NameTable}
+use Rattle.actor_duties.specs.Names.{at_place, table_duty}
 use Rattle.actor_duties.specs.Links.{is_own_point}
-use Rattle.actor_duties.specs.Peers.{or_else}
+use Rattle.actor_duties.specs.Peers.{or_else, link_peer}
 use Rattle.actor_duties.specs.Places.{AreOrderly}
+use Rattle.actor_merge.specs.Parties.{Line}
+use Rattle.actor_merge.specs.World.{World, Placed, IsQuiet}
+use Rattle.actor_world.specs.Behaviour.{Behaviour}
+use Rattle.actor_world.specs.Body.{Body}
 use Rattle.actor_world.specs.Turns.{all_kinds}
+use Rattle.actor_world.specs.Start.{plant_of}
+use Rattle.actor_world.specs.Directories.{IsOpen, AreOpen}
+use Rattle.actor_world.specs.Agreed.{lives_in, TableLinks, LinksAgree}
+use Rattle.world_agreement.specs.Trails.{RunsTo, trail, hear_all}
+use Rattle.world_agreement.specs.Imports.{OwnersAreThere}
+use Rattle.name_agreement.specs.Registrations.{RegistersPoints, stands}
 
 -- a link of the table: the place of the provider, and the user
 pub record Join : Type 0 where
@@ -55,25 +65,6 @@ table_peer table a = joined_in a (joins table)
 abbrev pub times_joined : Endpoint → List Join → ℕ
 times_joined a [] = 0
 times_joined a (j ∷ js) = option_map_or (λ x. 1) (across a j) 0 + times_joined a js
-
--- how often an endpoint is the provider of a service
-abbrev pub times_provider : Endpoint → Option Provider → ℕ
-times_provider e None = 0
-times_provider e (Some p) = if is_endpoint p.at e then 1 else 0
-
--- how often an endpoint is among these users
-abbrev pub times_user : Endpoint → List User → ℕ
-times_user e [] = 0
-times_user e (u ∷ us) = (if is_user e u then 1 else 0) + times_user e us
-
--- how often an endpoint stands in a service, as provider or as user
-abbrev pub times_in : Endpoint → Service → ℕ
-times_in e s = times_provider e s.provider + times_user e s.users
-
--- how often an endpoint stands in a name table
-abbrev pub times_standing : Endpoint → NameTable → ℕ
-times_standing e [] = 0
-times_standing e (s ∷ table) = times_in e s + times_standing e table
 
 -- a peer that is no longer linked
 abbrev pub without : Endpoint → Option Endpoint → Option Endpoint
@@ -117,21 +108,85 @@ ArePoints t (s ∷ table) = (IsProviderPoint t s.provider × AreUserPoints t s.u
 -- providers are service provision points, users service access points
 pub record IsSound (t : Tables) (table : NameTable) : Type 0 where
   pub orderly : AreOrderly t table
-  pub once : (e : Endpoint) → times_standing e table ≤ 1
+  pub once : (e : Endpoint) → stands e table ≤ 1
   pub points : ArePoints t table
 
--- an endpoint that registers doesn't stand in the table yet
-abbrev pub IsNew : NameTable → SysKind → Option Endpoint → Type 0
-IsNew table kinds.Register (Some e) = times_standing e table ≡ 0
-IsNew table _ _ = Unit {0}
+-- the endpoint that registers by a message of a kind from a source to a target: it says of itself, and a name
+abbrev pub registers_by : Option SysKind → Option Endpoint → Endpoint → List ℤ → Option Endpoint
+registers_by (Some kinds.Register) (Some e) target (pos name ∷ []) = if is_endpoint e target then Some e else None
+registers_by kind source target numbers = None
+
+-- the same of a message, if it registers one
+abbrev pub registers : Msg → Option Endpoint
+registers m = if m.prio.0 == 0 then registers_by (slice_get all_kinds m.signal) m.source m.target m.payload else None
+
+-- what registers by a message of a kind doesn't stand in the table yet
+abbrev pub IsNew : NameTable → SysKind → Msg → Type 0
+IsNew table kind m = (e : Endpoint) → registers_by (Some kind) m.source m.target m.payload ≡ Some e → stands e table ≡ 0
 
 -- a sound table stays sound
 abbrev pub TableStaysSound : Type 0
 TableStaysSound =
-    (t : Tables) (me : ℕ) (table : NameTable) (kind : SysKind) (m : Msg) → IsNew table kind m.source
+    (t : Tables) (me : ℕ) (table : NameTable) (kind : SysKind) (m : Msg) → IsNew table kind m
     → IsSound t table → IsSound t (table_duty t me table kind m).now
 
 -- in a sound table no place is a side of two joins
 abbrev pub JoinsAreSingle : Type 0
 JoinsAreSingle =
     (t : Tables) (table : NameTable) → IsSound t table → (a : Endpoint) → times_joined a (joins table) ≤ 1
+
+-- what registers by a message on its way to controller 0 doesn't stand in the name table yet
+abbrev pub RegistersAreNew : {M : Type 0} → World (Body M) → Type 0
+RegistersAreNew w =
+    (a : ℕ) (m : Msg) (e : Endpoint) → Contains (trail w a 0) m → registers m ≡ Some e
+    → stands e (w.controllers 0).body.table ≡ 0
+
+-- for each place of a live actor: what its owner links it to, changed by what is on the trail from
+-- controller 0, is what the name table links it to
+abbrev pub LinksAreForetold : {M : Type 0} → Tables → World (Body M) → Type 0
+LinksAreForetold t w =
+    (a : Endpoint) → lives_in t w (whose a) ≡ true
+    → hear_all (link_heard t (owner_of t a.slot.0) a) (trail w 0 (owner_of t a.slot.0)) (link_peer (w.controllers (owner_of t a.slot.0)).body.links a)
+    ≡ table_peer (w.controllers 0).body.table a
+
+-- where nobody lives, a controller keeps no link
+abbrev pub DeadAreUnlinked : {M : Type 0} → World (Body M) → Type 0
+DeadAreUnlinked w =
+    (c s p : ℕ) → (w.controllers c).body.frame.lives.lives s ≡ false → (w.controllers c).body.links.linked s p ≡ []
+
+-- over every run of the world: the name table of controller 0 is sound
+abbrev pub RunsKeepTablesSound : Type 0 → Type 0
+RunsKeepTablesSound M =
+    (model : Behaviour M) (t : Tables) (lines : List Line) → IsOpen model → AreOpen lines
+    → RegistersPoints t model
+    → (xs : List Placed) (end : World (Body M)) → RunsTo model t lines xs end
+    → IsSound t (end.controllers 0).body.table
+
+-- over every run of the world: what is told, and on its way, is what the table links; and the dead are not
+-- linked
+abbrev pub RunsForetellLinks : Type 0 → Type 0
+RunsForetellLinks M =
+    (model : Behaviour M) (t : Tables) (lines : List Line) → IsOpen model → AreOpen lines
+    → RegistersPoints t model
+    → (xs : List Placed) (end : World (Body M)) → RunsTo model t lines xs end
+    → LinksAreForetold t end × DeadAreUnlinked end
+
+-- over every run of the world that is quiet at its end: what a place of a live actor is linked to at its
+-- owner is what the table links it to, seen from either side
+abbrev pub QuietLinksAgree : Type 0 → Type 0
+QuietLinksAgree M =
+    (model : Behaviour M) (t : Tables) (lines : List Line) → IsOpen model → AreOpen lines
+    → RegistersPoints t model → OwnersAreThere t
+    → (xs : List Placed) (end : World (Body M)) → RunsTo model t lines xs end
+    → IsQuiet (plant_of model t lines) end
+    → (a b : Endpoint) → lives_in t end (whose a) ≡ true
+    → (link_peer (end.controllers (owner_of t a.slot.0)).body.links a ≡ Some b) ↔ TableLinks (end.controllers 0).body.table a b
+
+-- over every run of the world that is quiet at its end: owners and table agree on links, and who stands in
+-- the table is of a live actor
+abbrev pub QuietNamesAgree : Type 0 → Type 0
+QuietNamesAgree M =
+    (model : Behaviour M) (t : Tables) (lines : List Line) → IsOpen model → AreOpen lines
+    → RegistersPoints t model → OwnersAreThere t
+    → (xs : List Placed) (end : World (Body M)) → RunsTo model t lines xs end
+    → IsQuiet (plant_of model t lines) end → LinksAgree t end

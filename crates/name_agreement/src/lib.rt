@@ -7,5 +7,5 @@
 mod links;
 mod registrations;
 
-pub use links::tables_are_sound;
+pub use links::{links_agree, links_foretell, names_agree, tables_are_sound};
 pub use registrations::names_are_of_the_created;

@@ -10,7 +10,8 @@ use Rattle.actor_duties.specs.Words.{endpoint, is_endpoint, is_sap, is_spp, prot
 use Rattle.actor_duties.specs.State.{User, Provider, Service, NameTable, Done}
 use Rattle.actor_duties.specs.Names.{name_reply_to, linked_users, linked_first, meet_with, meet, provide, use_service, unmet, in_service, register_spp, register_sap, waiting, unprovide, unuse, is_user, leave, is_provider, stands_in, withdraw, register, is_name_request, same_table, table_duty_of, table_duty_from, table_duty}
 use Rattle.actor_duties.proofs.Orderly.{stays_orderly}
-use Rattle.name_agreement.specs.Links.{times_user, times_in, times_standing, IsUserPoint, IsProviderPoint, AreUserPoints, ArePoints, IsNew, TableStaysSound}
+use Rattle.name_agreement.specs.Links.{IsUserPoint, IsProviderPoint, AreUserPoints, ArePoints, registers_by, TableStaysSound}
+use Rattle.name_agreement.specs.Registrations.{uses, stands_as, stands}
 
 -- the table that a step gives
 abbrev pub now_of : {C : Type 0} → Done C → C
@@ -34,94 +35,94 @@ same_endpoint a b h =
     (eqb-true a.slot.0 b.slot.0 q.0) (eqb-true a.generation.0 b.generation.0 q.1) (eqb-true a.port b.port q.2) (eqb-true a.place b.place q.3)
 
 module _ (t : Tables) (e : Endpoint) where
-  linked_times : (p : Endpoint) (us : List User) (n : ℕ) → times_user e (linked_users t p us n).users ≡ times_user e us
+  linked_times : (p : Endpoint) (us : List User) (n : ℕ) → uses e (linked_users t p us n).users ≡ uses e us
   linked_times p [] n = refl
   linked_times p (u ∷ us) n = go u.linked (λ k. linked_times p us k)
     where
-      go : (o : Option ℕ) → ((k : ℕ) → times_user e (linked_users t p us k).users ≡ times_user e us)
-          → times_user e (linked_first t p n u o (linked_users t p us)).users ≡ times_user e (u ∷ us)
+      go : (o : Option ℕ) → ((k : ℕ) → uses e (linked_users t p us k).users ≡ uses e us)
+          → uses e (linked_first t p n u o (linked_users t p us)).users ≡ uses e (u ∷ us)
       go None h = ap (λ (k : ℕ). (if is_user e u then 1 else 0) + k) (h (n + 1))
       go (Some k) h = ap (λ (k : ℕ). (if is_user e u then 1 else 0) + k) (h n)
 
-  met_times : (s : Service) (o : Option Provider) → s.provider ≡ o → times_in e (meet_with t s o).now ≡ times_in e s
+  met_times : (s : Service) (o : Option Provider) → s.provider ≡ o → stands_as e (meet_with t s o).now ≡ stands_as e s
   met_times s None q = refl
   met_times s (Some p) q = rw q (ap (λ (k : ℕ). (if is_endpoint p.at e then 1 else 0) + k) (linked_times p.at s.users p.next))
 
-  more_times : (us : List User) (u : User) → times_user e (us ++ u ∷ []) ≡ times_user e us + (if is_user e u then 1 else 0)
+  more_times : (us : List User) (u : User) → uses e (us ++ u ∷ []) ≡ uses e us + (if is_user e u then 1 else 0)
   more_times [] u = omega arith
   more_times (x ∷ us) u = let h = more_times us u in omega (arith, h)
 
-  provide_times : (base : ℕ) (x : Endpoint) (s : Service) → times_in e (provide t base x s).now ≤ times_in e s + (if is_endpoint x e then 1 else 0)
+  provide_times : (base : ℕ) (x : Endpoint) (s : Service) → stands_as e (provide t base x s).now ≤ stands_as e s + (if is_endpoint x e then 1 else 0)
   unfolding provide meet
   provide_times base x s = go (is_some s.provider)
     where
       entered : Service
       entered = record s { provider = Some (record { at = x; next = base }) }
 
-      go : (b : Bool) → times_in e (now_of (
+      go : (b : Bool) → stands_as e (now_of (
           if b then record { now = s; sent = name_reply_to t x (pos 8 ∷ []) ∷ [] }
           else record { now = (meet_with t entered entered.provider).now; sent = name_reply_to t x (pos 0 ∷ []) ∷ (meet_with t entered entered.provider).sent }))
-          ≤ times_in e s + (if is_endpoint x e then 1 else 0)
+          ≤ stands_as e s + (if is_endpoint x e then 1 else 0)
       go true = omega arith
       go false = let h = met_times entered entered.provider refl in omega (arith, h)
 
-  use_times : (x : Endpoint) (s : Service) → times_in e (use_service t x s).now ≤ times_in e s + (if is_endpoint x e then 1 else 0)
+  use_times : (x : Endpoint) (s : Service) → stands_as e (use_service t x s).now ≤ stands_as e s + (if is_endpoint x e then 1 else 0)
   unfolding use_service meet
   use_times x s =
       let entered : Service = record s { users = s.users ++ record { at = x; linked = None } ∷ [] } in
-      let h : times_in e (meet_with t entered entered.provider).now ≡ times_in e entered = met_times entered entered.provider refl in
+      let h : stands_as e (meet_with t entered entered.provider).now ≡ stands_as e entered = met_times entered entered.provider refl in
       let k = more_times s.users (record { at = x; linked = None }) in omega (arith, h, k)
 
-  service_times : (name protocol n : ℕ) (step : Service → Done Service) → ((s : Service) → times_in e (step s).now ≤ times_in e s + n) → (table : NameTable)
-      → times_standing e (in_service name protocol step table).now ≤ times_standing e table + n
+  service_times : (name protocol n : ℕ) (step : Service → Done Service) → ((s : Service) → stands_as e (step s).now ≤ stands_as e s + n) → (table : NameTable)
+      → stands e (in_service name protocol step table).now ≤ stands e table + n
   service_times name protocol n step h [] = let k = h (unmet name protocol) in omega (arith, k)
   service_times name protocol n step h (s ∷ rest) = go ((s.name == name) && (s.protocol == protocol)) (service_times name protocol n step h rest)
     where
-      go : (b : Bool) → times_standing e (in_service name protocol step rest).now ≤ times_standing e rest + n
-          → times_standing e (now_of (
+      go : (b : Bool) → stands e (in_service name protocol step rest).now ≤ stands e rest + n
+          → stands e (now_of (
           if b then record { now = (step s).now ∷ rest; sent = (step s).sent }
-          else record { now = s ∷ (in_service name protocol step rest).now; sent = (in_service name protocol step rest).sent })) ≤ times_standing e (s ∷ rest) + n
+          else record { now = s ∷ (in_service name protocol step rest).now; sent = (in_service name protocol step rest).sent })) ≤ stands e (s ∷ rest) + n
       go true k = let l = h s in omega (arith, l)
       go false k = omega (arith, k)
 
-  waiting_times : (us : List User) → times_user e (map waiting us) ≡ times_user e us
+  waiting_times : (us : List User) → uses e (map waiting us) ≡ uses e us
   waiting_times [] = refl
   waiting_times (u ∷ us) = ap (λ (k : ℕ). (if is_user e u then 1 else 0) + k) (waiting_times us)
 
-  filter_times : (q : User → Bool) (us : List User) → times_user e (filter q us) ≤ times_user e us
+  filter_times : (q : User → Bool) (us : List User) → uses e (filter q us) ≤ uses e us
   filter_times q [] = omega arith
   filter_times q (u ∷ us) = go (q u) (filter_times q us)
     where
-      go : (b : Bool) → times_user e (filter q us) ≤ times_user e us → times_user e (cond b (u ∷ filter q us) (filter q us)) ≤ (if is_user e u then 1 else 0) + times_user e us
+      go : (b : Bool) → uses e (filter q us) ≤ uses e us → uses e (cond b (u ∷ filter q us) (filter q us)) ≤ (if is_user e u then 1 else 0) + uses e us
       go true h = omega (arith, h)
       go false h = omega (arith, h)
 
-  leave_times : (x : Endpoint) (s : Service) → times_in e (leave t x s).now ≤ times_in e s
+  leave_times : (x : Endpoint) (s : Service) → stands_as e (leave t x s).now ≤ stands_as e s
   leave_times x s = go (is_provider x s)
     where
-      go : (b : Bool) → times_in e (now_of (if b then unprovide t x s else unuse t x s)) ≤ times_in e s
+      go : (b : Bool) → stands_as e (now_of (if b then unprovide t x s else unuse t x s)) ≤ stands_as e s
       go true = let h = waiting_times s.users in omega (arith, h)
       go false = let h = filter_times (λ u. not (is_user x u)) s.users in omega (arith, h)
 
-  withdraw_times : (x : Endpoint) (table : NameTable) → times_standing e (withdraw t x table).now ≤ times_standing e table
+  withdraw_times : (x : Endpoint) (table : NameTable) → stands e (withdraw t x table).now ≤ stands e table
   unfolding withdraw
   withdraw_times x [] = omega arith
   withdraw_times x (s ∷ rest) = go (stands_in x s) (withdraw_times x rest)
     where
-      go : (b : Bool) → times_standing e (withdraw t x rest).now ≤ times_standing e rest
-          → times_standing e (now_of (
+      go : (b : Bool) → stands e (withdraw t x rest).now ≤ stands e rest
+          → stands e (now_of (
           if b then record { now = (leave t x s).now ∷ rest; sent = (leave t x s).sent ++ name_reply_to t x (pos 0 ∷ []) ∷ [] }
-          else record { now = s ∷ (withdraw t x rest).now; sent = (withdraw t x rest).sent })) ≤ times_standing e (s ∷ rest)
+          else record { now = s ∷ (withdraw t x rest).now; sent = (withdraw t x rest).sent })) ≤ stands e (s ∷ rest)
       go true k = let l = leave_times x s in omega (arith, l)
       go false k = omega (arith, k)
 
-  register_times : (x : Endpoint) (name : ℕ) (table : NameTable) → times_standing e (register t x name table).now ≤ times_standing e table + (if is_endpoint x e then 1 else 0)
+  register_times : (x : Endpoint) (name : ℕ) (table : NameTable) → stands e (register t x name table).now ≤ stands e table + (if is_endpoint x e then 1 else 0)
   unfolding register register_spp register_sap
   register_times x name table = go (is_spp t x.slot.0 x.port)
     where
-      go : (b : Bool) → times_standing e (now_of (
+      go : (b : Bool) → stands e (now_of (
           if b then in_service name (protocol_of t x.slot.0 x.port) (provide t (place_count t x.slot.0 x.port) x) table
-          else in_service name (protocol_of t x.slot.0 x.port) (use_service t x) table)) ≤ times_standing e table + (if is_endpoint x e then 1 else 0)
+          else in_service name (protocol_of t x.slot.0 x.port) (use_service t x) table)) ≤ stands e table + (if is_endpoint x e then 1 else 0)
       go true = service_times name (protocol_of t x.slot.0 x.port) (if is_endpoint x e then 1 else 0) (provide t (place_count t x.slot.0 x.port) x) (λ s. provide_times (place_count t x.slot.0 x.port) x s) table
       go false = service_times name (protocol_of t x.slot.0 x.port) (if is_endpoint x e then 1 else 0) (use_service t x) (λ s. use_times x s) table
 
@@ -230,41 +231,41 @@ module _ (t : Tables) where
 
   -- what a table is kept as
   abbrev Kept : Done NameTable → Type 0
-  Kept r = ((e : Endpoint) → times_standing e r.now ≤ 1) × ArePoints t r.now
+  Kept r = ((e : Endpoint) → stands e r.now ≤ 1) × ArePoints t r.now
 
-  request_parts : (a b c d e : Bool) → (a && b && c && (d || e)) ≡ true → (c ≡ true) × ((d || e) ≡ true)
-  request_parts true true true d e h = (refl, h)
+  request_parts : (a b c d e : Bool) → (a && b && c && (d || e)) ≡ true → (b ≡ true) × (c ≡ true) × ((d || e) ≡ true)
+  request_parts true true true d e h = (refl, refl, h)
   request_parts false b c d e h = absurd cc
   request_parts true false c d e h = absurd cc
   request_parts true true false d e h = absurd cc
 
-  register_once : (x : Endpoint) (name : ℕ) (table : NameTable) → times_standing x table ≡ 0 → ((e : Endpoint) → times_standing e table ≤ 1)
-      → (e : Endpoint) → times_standing e (register t x name table).now ≤ 1
+  register_once : (x : Endpoint) (name : ℕ) (table : NameTable) → stands x table ≡ 0 → ((e : Endpoint) → stands e table ≤ 1)
+      → (e : Endpoint) → stands e (register t x name table).now ≤ 1
   register_once x name table new once e = go (is_endpoint x e) refl (register_times t e x name table)
     where
-      go : (b : Bool) → is_endpoint x e ≡ b → times_standing e (register t x name table).now ≤ times_standing e table + (if b then 1 else 0)
-          → times_standing e (register t x name table).now ≤ 1
+      go : (b : Bool) → is_endpoint x e ≡ b → stands e (register t x name table).now ≤ stands e table + (if b then 1 else 0)
+          → stands e (register t x name table).now ≤ 1
       go true q h =
-          let none : times_standing e table ≡ 0 = subst (λ (z : Endpoint). times_standing z table ≡ 0) (same_endpoint x e q) new in omega (arith, h, none)
+          let none : stands e table ≡ 0 = subst (λ (z : Endpoint). stands z table ≡ 0) (same_endpoint x e q) new in omega (arith, h, none)
       go false q h = let k = once e in omega (arith, h, k)
 
   if_kept : (b : Bool) (x y : Done NameTable) → (b ≡ true → Kept x) → Kept y → Kept (if b then x else y)
   if_kept true x y h k = h refl
   if_kept false x y h k = k
 
-  duty_of_kept : (me : ℕ) (table : NameTable) (kind : SysKind) (e b : Endpoint) (payload : List ℤ) → IsNew table kind (Some e)
+  duty_of_kept : (me : ℕ) (table : NameTable) (kind : SysKind) (e b : Endpoint) (payload : List ℤ) → ((x : Endpoint) → registers_by (Some kind) (Some e) b payload ≡ Some x → stands x table ≡ 0)
       → Kept (same_table table) → Kept (table_duty_of t me table kind e b payload)
   duty_of_kept me table kinds.Register e b (pos name ∷ []) new k =
       if_kept (is_name_request t me e b) (register t e name table) (same_table table)
       (λ h.
       let q = request_parts (me == 0) (is_endpoint e b) (e.place == 0) (is_sap t e.slot.0 e.port) (is_spp t e.slot.0 e.port) h in
-      (register_once e name table new k.0, register_points e name table (eqb-true e.place 0 q.0) q.1 k.1)) k
+      (register_once e name table (new e (rw q.0 refl)) k.0, register_points e name table (eqb-true e.place 0 q.1) q.2 k.1)) k
   duty_of_kept me table kinds.Withdraw e b [] new k =
       if_kept (is_name_request t me e b) (withdraw t e table) (same_table table)
       (λ h. ((λ x. let l = withdraw_times t x e table in let m = k.0 x in omega (arith, l, m)), withdraw_points e table k.1)) k
   duty_of_kept me table _ e b _ new k = k
 
-  duty_from_kept : (me : ℕ) (table : NameTable) (kind : SysKind) (o : Option Endpoint) (m : Msg) → IsNew table kind o → Kept (same_table table) → Kept (table_duty_from t me table kind o m)
+  duty_from_kept : (me : ℕ) (table : NameTable) (kind : SysKind) (o : Option Endpoint) (m : Msg) → ((x : Endpoint) → registers_by (Some kind) o m.target m.payload ≡ Some x → stands x table ≡ 0) → Kept (same_table table) → Kept (table_duty_from t me table kind o m)
   duty_from_kept me table kind None m new k = k
   duty_from_kept me table kind (Some e) m new k = duty_of_kept me table kind e m.target m.payload new k
 
