@@ -1,7 +1,14 @@
 -- Who is linked by name: what the name table of controller 0 says, and what the owners of the linked
 -- service points know.
 -- A join is a link as the table has it: the provider's place, and the user. `table_peer`: what the table
--- links a place to. `IsSound`: a table is in order, and no endpoint stands in it twice.
+-- links a place to. `link_heard`: what a place is linked to after a message.
+-- The law `tables_are_sound`: in every run of the world the name table is sound: it is in order, no endpoint
+-- stands in it twice, and so no place is a side of two joins.
+-- The law `links_foretell`: at every moment, what the owner links a place of a live actor to, changed by
+-- what is on the trail from controller 0, is what the table links it to; where nobody lives there is no link.
+-- The law `links_agree`: so in every run that is quiet at its end owners and table agree on links.
+-- Premises: actors and lines send nothing at priority 0, which is the system's; actors register service
+-- points alone; and at quiet that each slot's owner is a controller.
 use Rattle.std.specs.Prelude.{◌≡◌, ℕ, ℤ, pos, ◌+◌, ◌≤◌, ◌↔◌, ◌==◌, ◌&&◌, true, false, List, [], ◌∷◌, ◌++◌, slice_get, Contains, Option, Some, None, if◌then◌else◌}
 use Rattle.std.specs.Option.{option_map_or}
 use Rattle.room_kinds.specs.declared.numbers.Endpoint.{Endpoint}
@@ -10,7 +17,7 @@ use Rattle.room_kinds.specs.declared.system.SysKind.{SysKind}
 use Rattle.room_kinds.specs.declared.system.SysKind.TheVariants as kinds
 use Rattle.room_wiring.specs.declared.tables.Tables.{Tables}
 use Rattle.actor_duties.specs.Words.{whose, owner_of, is_endpoint, is_sap, is_spp}
-use Rattle.actor_duties.specs.State.{User, Provider, NameTable}
+use Rattle.actor_duties.specs.State.{Links, User, Provider, NameTable}
 use Rattle.actor_duties.specs.Names.{at_place, table_duty}
 use Rattle.actor_duties.specs.Links.{is_own_point}
 use Rattle.actor_duties.specs.Peers.{or_else, link_peer}
@@ -74,8 +81,10 @@ without peer (Some x) = if is_endpoint x peer then None else Some x
 -- what place a is linked to after a message of a kind from a source to a target at controller d, if it was
 -- linked so before: a Bound links it, an Ended ends the link that it names
 abbrev pub linked_by : Tables → ℕ → Endpoint → Option SysKind → Option Endpoint → Endpoint → List ℤ → Option Endpoint → Option Endpoint
-linked_by t d a (Some kinds.Bound) (Some peer) own [] before = if is_own_point t d own && is_endpoint own a then Some peer else before
-linked_by t d a (Some kinds.Ended) (Some peer) own [] before = if is_own_point t d own && is_endpoint own a then without peer before else before
+linked_by t d a (Some kinds.Bound) (Some peer) own [] before =
+    if is_own_point t d own && is_endpoint own a then Some peer else before
+linked_by t d a (Some kinds.Ended) (Some peer) own [] before =
+    if is_own_point t d own && is_endpoint own a then without peer before else before
 linked_by t d a kind source target numbers before = before
 
 -- the same after a message
@@ -94,6 +103,7 @@ abbrev pub IsProviderPoint : Tables → Option Provider → Type 0
 IsProviderPoint t None = Unit {0}
 IsProviderPoint t (Some p) = (is_spp t p.at.slot.0 p.at.port ≡ true) × (p.at.place ≡ 0)
 
+-- the same of all users
 abbrev pub AreUserPoints : Tables → List User → Type 0
 AreUserPoints t [] = Unit {0}
 AreUserPoints t (u ∷ us) = IsUserPoint t u.at × AreUserPoints t us
@@ -141,12 +151,16 @@ RegistersAreNew w =
     (a : ℕ) (m : Msg) (e : Endpoint) → Contains (trail w a 0) m → registers m ≡ Some e
     → stands e (w.controllers 0).body.table ≡ 0
 
+-- the links that the owner of an endpoint's slot keeps
+abbrev pub links_at : {M : Type 0} → Tables → World (Body M) → Endpoint → Links
+links_at t w a = (w.controllers (owner_of t a.slot.0)).body.links
+
 -- for each place of a live actor: what its owner links it to, changed by what is on the trail from
 -- controller 0, is what the name table links it to
 abbrev pub LinksAreForetold : {M : Type 0} → Tables → World (Body M) → Type 0
 LinksAreForetold t w =
     (a : Endpoint) → lives_in t w (whose a) ≡ true
-    → hear_all (link_heard t (owner_of t a.slot.0) a) (trail w 0 (owner_of t a.slot.0)) (link_peer (w.controllers (owner_of t a.slot.0)).body.links a)
+    → hear_all (link_heard t (owner_of t a.slot.0) a) (trail w 0 (owner_of t a.slot.0)) (link_peer (links_at t w a) a)
     ≡ table_peer (w.controllers 0).body.table a
 
 -- where nobody lives, a controller keeps no link
@@ -180,7 +194,7 @@ QuietLinksAgree M =
     → (xs : List Placed) (end : World (Body M)) → RunsTo model t lines xs end
     → IsQuiet (plant_of model t lines) end
     → (a b : Endpoint) → lives_in t end (whose a) ≡ true
-    → (link_peer (end.controllers (owner_of t a.slot.0)).body.links a ≡ Some b) ↔ TableLinks (end.controllers 0).body.table a b
+    → (link_peer (links_at t end a) a ≡ Some b) ↔ TableLinks (end.controllers 0).body.table a b
 
 -- over every run of the world that is quiet at its end: owners and table agree on links, and who stands in
 -- the table is of a live actor
