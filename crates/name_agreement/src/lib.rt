@@ -6,4 +6,6 @@
 
 mod registrations;
 
-pub use registrations::names_are_of_the_created;
+pub use registrations::{
+    names_are_of_the_created, registrations_are_in_rows, registrations_settle,
+};
