@@ -13,7 +13,7 @@ use Rattle.actor_duties.specs.Messages.{to_owner}
 use Rattle.actor_duties.specs.Names.{at_place, both_told, name_reply_to, linked_users, meet_with, meet, provide, use_service, unmet, in_service, register_spp, register_sap, links_ended, unprovide, is_user, leave, stands_in, withdraw, register, is_name_request, same_table, table_duty_of, table_duty_from, table_duty}
 use Rattle.actor_duties.specs.Places.{AllWait, IsOrderlyWith, IsOrderly, AreOrderly}
 use Rattle.name_agreement.specs.Links.{Join, joins_with, joins_of, joins}
-use Rattle.name_agreement.proofs.Soundness.{same_endpoint}
+use Rattle.name_agreement.proofs.Standing.{same_endpoint}
 
 -- a list is made of two others, whose elements keep their order
 pub data Mixed : List Join → List Join → List Join → Type 0 where

@@ -2,6 +2,14 @@ pub mod OffNames
 pub mod Naming
 pub mod Creating
 pub mod CreatedRuns
+pub mod Rows
+pub mod Standing
+pub mod Tokens
+pub mod Registering
+pub mod Ending
+pub mod RowTurns
+pub mod RowRuns
+pub mod Quiet
 pub mod Soundness
 pub mod Joining
 pub mod Single

@@ -1,6 +1,6 @@
 -- In a sound table what a place is joined to is what the table links it to; so where all is quiet owners and
 -- table agree on links.
-use Rattle.std.proofs.Common.{◌≡◌, ℕ, ◌+◌, ◌<◌, ◌≤◌, Bool, true, false, if◌then◌else◌, List, [], ◌∷◌, ◌++◌, length, Option, Some, None, refl, sym, ap, ◌∙◌, subst, eq-eqb, arith, ◌⊎◌, inl, inr}
+use Rattle.std.proofs.Common.{◌≡◌, ℕ, ◌+◌, ◌<◌, ◌≤◌, Bool, true, false, if◌then◌else◌, List, [], ◌∷◌, ◌++◌, length, Option, Some, None, refl, sym, ap, ◌∙◌, subst, arith, ◌⊎◌, inl, inr}
 use Rattle.std.specs.Prelude.{◌↔◌}
 use Rattle.std.specs.List.{AllByRecursion, Contains}
 use Rattle.std.specs.Option.{option_map_or}
@@ -22,7 +22,7 @@ use Rattle.world_agreement.specs.Trails.{trail, hear_all}
 use Rattle.world_agreement.specs.Imports.{OwnersAreThere}
 use Rattle.world_agreement.proofs.Agreeing.{quiet_trail}
 use Rattle.name_agreement.specs.Links.{Join, joins_with, joins_of, joins, across, joined_in, table_peer, times_joined, link_heard, IsSound}
-use Rattle.name_agreement.proofs.Soundness.{same_endpoint}
+use Rattle.name_agreement.proofs.Standing.{same_endpoint, self_endpoint}
 use Rattle.name_agreement.proofs.Single.{single}
 use Rattle.name_agreement.proofs.LinkRuns.{IsLinkedSo}
 
@@ -179,9 +179,6 @@ member_of table provider user k h =
     All-contains Q table h.service (All-from_recursion Q table (joined_services table)) h.stands j
     (subst (λ (o : Option Provider). Member j (joins_of o h.service.users)) (sym h.provides) one)
 
-pub self : (b : Endpoint) → is_endpoint b b ≡ true
-self b = rw (eq-eqb b.slot.0 b.slot.0 refl, eq-eqb b.generation.0 b.generation.0 refl, eq-eqb b.port b.port refl, eq-eqb b.place b.place refl) refl
-
 -- what a sound table links a place to, seen from either side
 pub peers_linked : (t : Tables) (table : NameTable) → IsSound t table → (a b : Endpoint) → (table_peer table a ≡ Some b) ↔ TableLinks table a b
 peers_linked t table sound a b = (forth, back)
@@ -215,14 +212,14 @@ peers_linked t table sound a b = (forth, back)
     back (inl h) =
         let j : Join = record { place = at_place h.0 h.1; user = b } in
         joined a j b (joins table) (single a t table sound) (member_of table h.0 b h.1 h.3)
-        (ap (λ (z : Bool). if z then Some b else if is_endpoint b a then Some (at_place h.0 h.1) else None) (subst (λ (z : Endpoint). is_endpoint z a ≡ true) h.2 (self a)))
+        (ap (λ (z : Bool). if z then Some b else if is_endpoint b a then Some (at_place h.0 h.1) else None) (subst (λ (z : Endpoint). is_endpoint z a ≡ true) h.2 (self_endpoint a)))
     back (inr h) =
         let j : Join = record { place = at_place h.0 h.1; user = a } in
         joined a j b (joins table) (single a t table sound) (member_of table h.0 a h.1 h.3) (go (is_endpoint (at_place h.0 h.1) a) refl)
       where
         go : (x : Bool) → is_endpoint (at_place h.0 h.1) a ≡ x → (if x then Some a else if is_endpoint a a then Some (at_place h.0 h.1) else None) ≡ Some b
         go true e = ap Some (sym (same_endpoint (at_place h.0 h.1) a e) ∙ sym h.2)
-        go false e = ap (λ (z : Bool). if z then Some (at_place h.0 h.1) else None) (self a) ∙ ap Some (sym h.2)
+        go false e = ap (λ (z : Bool). if z then Some (at_place h.0 h.1) else None) (self_endpoint a) ∙ ap Some (sym h.2)
 
 -- in a quiet world owners and table agree on links
 pub quiet_links : {M : Type 0} (model : Behaviour M) (t : Tables) (lines : List Line) → OwnersAreThere t → (w : World (Body M)) → IsLinkedSo t w → IsQuiet (plant_of model t lines) w

@@ -1,4 +1,4 @@
--- The laws on links, of runs whose registrations are in their rows.
+-- The laws on links: registrations are in their rows, so what registers is new.
 use Rattle.std.proofs.Common.{◌≡◌, ℕ, ◌==◌, ◌||◌, Bool, true, false, if◌then◌else◌, List, [], ◌∷◌, ◌++◌, flat_map, slice_get, Option, Some, None, ℤ, pos, refl, sym, ap, ◌∙◌, subst, inl, inr}
 use Rattle.std.specs.List.{AllByRecursion, Contains, list_any}
 use Rattle.std.proofs.lemmas.List.Elements.{All-from_recursion, All-contains}
@@ -18,11 +18,14 @@ use Rattle.actor_world.specs.Start.{plant_of}
 use Rattle.actor_world.specs.Directories.{IsOpen, AreOpen}
 use Rattle.world_agreement.specs.Trails.{trail}
 use Rattle.name_agreement.specs.Created.{asker_by, asker}
-use Rattle.name_agreement.specs.Registrations.{RegistersPoints, Stage, NotYet, Over, Now, IsRow, asked_by, asked, replied, stands, stage_in, AreInRows, RunsKeepRows, AreSettled, QuietRegistrationsSettle}
+use Rattle.name_agreement.specs.Registrations.{RegistersPoints, Stage, NotYet, Over, Now, IsRow, asked_by, asked, replied, stands, stage_in, AreInRows, AreSettled}
 use Rattle.name_agreement.specs.Links.{registers_by, registers, RegistersAreNew, RunsKeepTablesSound, RunsForetellLinks, QuietLinksAgree, QuietNamesAgree}
 use Rattle.name_agreement.proofs.CreatedRuns.{IsNamed, runs_named, each_named}
+use Rattle.name_agreement.proofs.Standing.{self_endpoint}
+use Rattle.name_agreement.proofs.RowRuns.{runs_keep_rows}
+use Rattle.name_agreement.proofs.Quiet.{quiet_registrations}
 use Rattle.name_agreement.proofs.LinkRuns.{IsLinkedSo, runs_linked_so}
-use Rattle.name_agreement.proofs.LinkAgreeing.{self, quiet_links}
+use Rattle.name_agreement.proofs.LinkAgreeing.{quiet_links}
 
 -- whether a kind is Register
 abbrev is_register : SysKind → Bool
@@ -54,7 +57,7 @@ module _ (e : Endpoint) where
           → (has_register (asked_by e (Some kinds.Register) (Some x) m.target (pos name ∷ [])) ≡ true) × (asker_by (Some kinds.Register) (Some x) ≡ Some e)
       of x name true q r =
           let same : x ≡ e = cc in
-          let one : is_endpoint x e ≡ true = subst (λ (z : Endpoint). is_endpoint x z ≡ true) same (self x) in (rw (one, q) refl, ap Some same)
+          let one : is_endpoint x e ≡ true = subst (λ (z : Endpoint). is_endpoint x z ≡ true) same (self_endpoint x) in (rw (one, q) refl, ap Some same)
       of x name false q r = absurd cc
 
       go : (b : Bool) (k : Option SysKind) (o : Option Endpoint) (numbers : List ℤ) → (if b then registers_by k o m.target numbers else None) ≡ Some e
@@ -96,29 +99,29 @@ new_in_rows t w named rows a m e there h =
         All-contains P (trail w (owner_of t e.slot.0) 0) m (All-from_recursion P (trail w (owner_of t e.slot.0) 0) (none_asked e (trail w (owner_of t e.slot.0) 0) q)) at in
         let z : true ≡ false = sym one ∙ none in absurd cc
 
-module _ {M : Type 0} (keep : RunsKeepRows M) where
-  linked_so : (model : Behaviour M) (t : Tables) (lines : List Line) (clear : IsOpen model) (clear_lines : AreOpen lines) → RegistersPoints t model
-      → (xs : List Placed) (end : World (Body M)) → Runs (plant_of model t lines) (start (plant_of model t lines)) xs end → IsLinkedSo t end
-  linked_so model t lines clear clear_lines points xs end r =
-      runs_linked_so model clear t lines clear_lines
-      (λ ys w s. new_in_rows t w (runs_named model clear t lines clear_lines ys w s) (keep model t lines clear clear_lines points ys w s)) xs end r
+linked_so : {M : Type 0} (model : Behaviour M) (t : Tables) (lines : List Line) (clear : IsOpen model) (clear_lines : AreOpen lines) → RegistersPoints t model
+    → (xs : List Placed) (end : World (Body M)) → Runs (plant_of model t lines) (start (plant_of model t lines)) xs end → IsLinkedSo t end
+linked_so model t lines clear clear_lines points xs end r =
+    runs_linked_so model clear t lines clear_lines
+    (λ ys w s.
+    new_in_rows t w (runs_named model clear t lines clear_lines ys w s) (λ e. runs_keep_rows model clear t points lines clear_lines ys w s e)) xs end r
 
-  pub runs_sound : RunsKeepTablesSound M
-  runs_sound model t lines clear clear_lines points xs end r = (linked_so model t lines clear clear_lines points xs end r).sound
+pub runs_sound : {M : Type 0} → RunsKeepTablesSound M
+runs_sound model t lines clear clear_lines points xs end r = (linked_so model t lines clear clear_lines points xs end r).sound
 
-  pub runs_foretell : RunsForetellLinks M
-  runs_foretell model t lines clear clear_lines points xs end r =
-      let inv : IsLinkedSo t end = linked_so model t lines clear clear_lines points xs end r in (inv.foretold, (λ c s p dead. (inv.kept c).dead s p dead))
+pub runs_foretell : {M : Type 0} → RunsForetellLinks M
+runs_foretell model t lines clear clear_lines points xs end r =
+    let inv : IsLinkedSo t end = linked_so model t lines clear clear_lines points xs end r in (inv.foretold, (λ c s p dead. (inv.kept c).dead s p dead))
 
-  pub quiet_agree : QuietLinksAgree M
-  quiet_agree model t lines clear clear_lines points there xs end r quiet a b live =
-      quiet_links model t lines there end (linked_so model t lines clear clear_lines points xs end r) quiet a b live
+pub quiet_agree : {M : Type 0} → QuietLinksAgree M
+quiet_agree model t lines clear clear_lines points there xs end r quiet a b live =
+    quiet_links model t lines there end (linked_so model t lines clear clear_lines points xs end r) quiet a b live
 
-  pub names_agree : QuietRegistrationsSettle M → QuietNamesAgree M
-  names_agree settle model t lines clear clear_lines points there xs end r quiet =
-      let settled : AreSettled t end = settle model t lines clear clear_lines points there xs end r quiet in
-      record {
-        links = λ a b live. quiet_agree model t lines clear clear_lines points there xs end r quiet a b live;
-        users = λ s u stands among. (settled.users s u stands among).0;
-        providers = λ s p stands is. (settled.providers s p stands is).0;
-      }
+pub names_agree : {M : Type 0} → QuietNamesAgree M
+names_agree model t lines clear clear_lines points there xs end r quiet =
+    let settled : AreSettled t end = quiet_registrations model clear t points lines clear_lines there xs end r quiet in
+    record {
+      links = λ a b live. quiet_agree model t lines clear clear_lines points there xs end r quiet a b live;
+      users = λ s u stands among. (settled.users s u stands among).0;
+      providers = λ s p stands is. (settled.providers s p stands is).0;
+    }

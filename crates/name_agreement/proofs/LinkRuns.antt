@@ -36,7 +36,7 @@ use Rattle.name_agreement.specs.Registrations.{stands}
 use Rattle.name_agreement.proofs.Creating.{ProviderIs, UsersAre, TableIs}
 use Rattle.name_agreement.proofs.CreatedRuns.{WasCreated, AllNamed, IsNamed, hand_named, start_named, step_named}
 use Rattle.name_agreement.proofs.Naming.{IsOf}
-use Rattle.name_agreement.proofs.Soundness.{same_endpoint}
+use Rattle.name_agreement.proofs.Standing.{same_endpoint}
 use Rattle.name_agreement.proofs.Single.{false_by}
 use Rattle.name_agreement.proofs.LinkTelling.{told}
 use Rattle.name_agreement.proofs.Owning.{peer_at, AreKept, IsUnheard, silent_told, TurnLinks, treat_links, treat_table, start_kept, start_linked, start_unheard, start_none}

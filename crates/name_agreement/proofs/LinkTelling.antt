@@ -19,7 +19,8 @@ use Rattle.world_agreement.specs.Trails.{is_system_to, hear_all}
 use Rattle.world_agreement.proofs.Hearing.{after, after_append}
 use Rattle.world_agreement.proofs.Lists.{all_append}
 use Rattle.name_agreement.specs.Links.{Join, joins_with, joins_of, joins, across, joined_in, table_peer, times_joined, without, link_heard, IsProviderPoint, AreUserPoints, ArePoints, IsSound, IsNew}
-use Rattle.name_agreement.proofs.Soundness.{same_endpoint, stays_sound}
+use Rattle.name_agreement.proofs.Standing.{same_endpoint, self_endpoint}
+use Rattle.name_agreement.proofs.Soundness.{stays_sound}
 use Rattle.name_agreement.proofs.Joining.{Mixed, mix_none, mix_left, mix_right, all_told, TableStep, idle, binds, ends, table_steps}
 use Rattle.name_agreement.proofs.Single.{single}
 
@@ -159,9 +160,6 @@ module _ (t : Tables) (a : Endpoint) where
       go false e true f = refl
       go false e false f = refl
 
-  self : (b : Endpoint) → is_endpoint b b ≡ true
-  self b = rw (eq-eqb b.slot.0 b.slot.0 refl, eq-eqb b.generation.0 b.generation.0 refl, eq-eqb b.port b.port refl, eq-eqb b.place b.place refl) refl
-
   twice : (b : Endpoint) (o : Option Endpoint) → without b (without b o) ≡ without b o
   twice b None = refl
   twice b (Some x) = go (is_endpoint x b) refl
@@ -255,7 +253,7 @@ module _ (t : Tables) (a : Endpoint) where
       go None e ih = ih
       go (Some b) e ih =
           let none = no_part k (only_first b j w e h) in
-          ap (λ (z : Bool). told (all_told t kinds.Ended n) (if z then None else Some b)) (self b)
+          ap (λ (z : Bool). told (all_told t kinds.Ended n) (if z then None else Some b)) (self_endpoint b)
           ∙ silent_ended n none.0 p.1 None ∙ sym (joined_nowhere r none.1)
   ended_mixed (mix_right j {n = n} {r = r} {w = w} k) h p = go (across a j) refl (ended_mixed k (later j w h) p)
     where

@@ -7,8 +7,6 @@ use Rattle.room_kinds.specs.declared.numbers.Incarnation.{Incarnation}
 use Rattle.room_kinds.specs.declared.numbers.Endpoint.{Endpoint}
 use Rattle.room_kinds.specs.declared.system.SysKind.{SysKind}
 use Rattle.room_kinds.specs.declared.system.SysKind.TheVariants as kinds
-use Rattle.room_kinds.specs.declared.command.Command.{Command}
-use Rattle.room_kinds.specs.declared.command.Command.TheVariants as commands
 use Rattle.room_kinds.specs.declared.command.NameCommand.{NameCommand}
 use Rattle.room_kinds.specs.declared.command.NameCommand.TheVariants as names
 use Rattle.room_wiring.specs.declared.tables.Tables.{Tables}
@@ -28,13 +26,14 @@ use Rattle.actor_world.specs.Directories.{IsOpen}
 use Rattle.actor_world.proofs.Slots.{own_in_range}
 use Rattle.world_agreement.proofs.Lists.{has, has_range, has_filter, has_reverse, all_append, all_map}
 use Rattle.world_agreement.proofs.Hearing.{swap_eqb, AllMute, after_mute}
-use Rattle.name_agreement.specs.Asking.{AllAsk}
 use Rattle.name_agreement.specs.Links.{table_peer, without, linked_by, link_heard, IsSound, IsNew}
-use Rattle.name_agreement.proofs.Soundness.{now_of, same_endpoint, stays_sound}
+use Rattle.name_agreement.proofs.Standing.{same_endpoint}
+use Rattle.name_agreement.proofs.Soundness.{now_of, stays_sound}
 use Rattle.name_agreement.proofs.LinkTelling.{home, told, table_told}
 use Rattle.name_agreement.proofs.OffNames.{is_name_kind, IsOffNames, AllOffNames}
-use Rattle.name_agreement.proofs.Naming.{LivesBy, stays, makes, ends, all_ended, IsNameWalk, AsksSo, IsOf, is_table_kind, is_links_kind, links_hear, Follows, Turns, treats, hears, leads, treat_turns, start_asks, start_lives, start_table}
+use Rattle.name_agreement.proofs.Naming.{LivesBy, stays, makes, ends, all_ended, IsNameWalk, IsOf, is_table_kind, is_links_kind, links_hear, Follows, Turns, treats, hears, leads, treat_turns, start_asks, start_lives, start_table}
 use Rattle.name_agreement.proofs.Creating.{links_off}
+use Rattle.name_agreement.proofs.CreatedRuns.{ask_somehow}
 
 -- links whose places rise, from this one on
 abbrev pub RiseFrom : ℕ → List Link → Type 0
@@ -720,19 +719,6 @@ module _ (t : Tables) (me : ℕ) where
       subst (IsSound t) (sym follows.table) sound,
       (λ a. silent_told a r.sent (follows_unheard b m d r.sent r.body follows sends) (table_peer b.table a) ∙ ap (λ (z : NameTable). table_peer z a) (sym follows.table)),
     )
-
-  -- every behaviour asks somehow
-  ask_somehow : {M : Type 0} (model : Behaviour M) → AsksSo (λ x c. Unit {0}) model
-  ask_somehow model = record { begin = λ x. each (model.begin x).commands; handle = λ x machine m. each (model.handle x machine m).commands }
-    where
-      each : (cs : List Command) → AllAsk (λ (c : NameCommand). Unit {0}) cs
-      each [] = tt
-      each (commands.Name c ∷ cs) = (tt, each cs)
-      each (commands.Send p k signal payload prio ∷ cs) = each cs
-      each (commands.Defer ∷ cs) = each cs
-      each (commands.Recall ∷ cs) = each cs
-      each (commands.RecallAll ∷ cs) = each cs
-      each (commands.Frame c ∷ cs) = each cs
 
   module _ {M : Type 0} (model : Behaviour M) (clear : IsOpen model) where
     turns_so : (b : Body M) (m : Msg) → Turns t me (λ x c. Unit {0}) Asking b m (treat model t me b m)

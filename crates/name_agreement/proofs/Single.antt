@@ -13,7 +13,7 @@ use Rattle.actor_duties.specs.Names.{at_place, is_user}
 use Rattle.actor_duties.specs.Places.{InPlaces, IsOrderlyWith, AreOrderly}
 use Rattle.name_agreement.specs.Links.{Join, joins_with, joins_of, joins, times_joined, IsUserPoint, IsProviderPoint, AreUserPoints, ArePoints, IsSound, JoinsAreSingle}
 use Rattle.name_agreement.specs.Registrations.{uses, stands}
-use Rattle.name_agreement.proofs.Soundness.{same_endpoint}
+use Rattle.name_agreement.proofs.Standing.{same_endpoint}
 
 -- a service access point is no service provision point
 pub sap_or_spp : (t : Tables) (s p : ℕ) → is_sap t s p ≡ true → is_spp t s p ≡ true → ⊥

@@ -6,33 +6,17 @@ use Rattle.room_kinds.specs.declared.system.SysKind.{SysKind}
 use Rattle.room_kinds.specs.declared.system.SysKind.TheVariants as kinds
 use Rattle.room_wiring.specs.declared.tables.Tables.{Tables}
 use Rattle.room_wiring.specs.Places.{place_count}
-use Rattle.actor_duties.specs.Words.{endpoint, is_endpoint, is_sap, is_spp, protocol_of}
+use Rattle.actor_duties.specs.Words.{is_endpoint, is_sap, is_spp, protocol_of}
 use Rattle.actor_duties.specs.State.{User, Provider, Service, NameTable, Done}
 use Rattle.actor_duties.specs.Names.{name_reply_to, linked_users, linked_first, meet_with, meet, provide, use_service, unmet, in_service, register_spp, register_sap, waiting, unprovide, unuse, is_user, leave, is_provider, stands_in, withdraw, register, is_name_request, same_table, table_duty_of, table_duty_from, table_duty}
 use Rattle.actor_duties.proofs.Orderly.{stays_orderly}
 use Rattle.name_agreement.specs.Links.{IsUserPoint, IsProviderPoint, AreUserPoints, ArePoints, registers_by, TableStaysSound}
 use Rattle.name_agreement.specs.Registrations.{uses, stands_as, stands}
+use Rattle.name_agreement.proofs.Standing.{same_endpoint}
 
 -- the table that a step gives
 abbrev pub now_of : {C : Type 0} → Done C → C
 now_of r = r.now
-
-four : (x y z w : Bool) → ((x && y) && z && w) ≡ true → (x ≡ true) × (y ≡ true) × (z ≡ true) × (w ≡ true)
-four true true true true h = (refl, refl, refl, refl)
-four false y z w h = absurd cc
-four true false z w h = absurd cc
-four true true false w h = absurd cc
-four true true true false h = absurd cc
-
-made_of : (s g p k s2 g2 p2 k2 : ℕ) → s ≡ s2 → g ≡ g2 → p ≡ p2 → k ≡ k2 → endpoint s g p k ≡ endpoint s2 g2 p2 k2
-made_of s g p k s2 g2 p2 k2 h i j l = rw (h, i, j, l) refl
-
--- two endpoints that a test tells to be one are one
-pub same_endpoint : (a b : Endpoint) → is_endpoint a b ≡ true → a ≡ b
-same_endpoint a b h =
-    let q = four (a.slot.0 == b.slot.0) (a.generation.0 == b.generation.0) (a.port == b.port) (a.place == b.place) h in
-    made_of a.slot.0 a.generation.0 a.port a.place b.slot.0 b.generation.0 b.port b.place
-    (eqb-true a.slot.0 b.slot.0 q.0) (eqb-true a.generation.0 b.generation.0 q.1) (eqb-true a.port b.port q.2) (eqb-true a.place b.place q.3)
 
 module _ (t : Tables) (e : Endpoint) where
   linked_times : (p : Endpoint) (us : List User) (n : ℕ) → uses e (linked_users t p us n).users ≡ uses e us

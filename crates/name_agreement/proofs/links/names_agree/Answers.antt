@@ -2,4 +2,4 @@ use Rattle.name_agreement.proofs.LinkLaws.{names_agree}
 use Rattle.name_agreement.proofs.links.names_agree.Goals as goal
 
 pub returns : goal.returns
-returns g c = λ keep settle. names_agree keep settle
+returns g c = names_agree

@@ -4,4 +4,4 @@ use Rattle.name_agreement.proofs.LinkLaws.{runs_sound}
 use Rattle.name_agreement.proofs.links.tables_are_sound.Goals as goal
 
 pub returns : goal.returns
-returns g c = record { stays = stays_sound; single = joins_single; runs = λ keep. runs_sound keep }
+returns g c = record { stays = stays_sound; single = joins_single; runs = runs_sound }
