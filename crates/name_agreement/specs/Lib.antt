@@ -1,0 +1,4 @@
+pub mod Asking
+pub mod Created
+pub mod Registrations
+pub mod Links
