@@ -19,3 +19,4 @@ pub mod Routing
 pub mod Lending
 pub mod Keeping
 pub mod Waiting
+pub mod Mutual

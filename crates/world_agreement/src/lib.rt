@@ -10,6 +10,7 @@ ghost use Rattle.world_agreement.specs.Senders.{OwnersTell};
 ghost use Rattle.world_agreement.specs.Announced.{RunsForetell, QuietDirectoriesAgree};
 ghost use Rattle.world_agreement.specs.Bodies.{RunsForetellParts, QuietBodiesAgree, ContainersLive};
 ghost use Rattle.world_agreement.specs.Settled.{DoneRunsAgree};
+ghost use Rattle.world_agreement.specs.Mutual.{OrderlyPeersAgree, RunsLiveInHomes};
 ghost use Rattle.world_agreement.specs.Imports.{RunsRouteLoans, RunsLendToTheLiving, RunsAwait, QuietPlacesSettle};
 
 /// The system messages on their way from one controller to another are a queue. `steps`: an event that is
@@ -74,4 +75,16 @@ pub fn loans_are_of_the_living<M>()
 pub fn places_settle<M>()
     ensures runs { RunsAwait M }
     ensures quiet { QuietPlacesSettle M }
+{}
+
+/// Where the peer of a place of a live actor is a place of a live actor, that one's peer is the first: in any
+/// orderly world in which directories, imports and links agree. Premises on the wiring: partners are each
+/// other's, and who may have to know of a slot is told of it.
+pub fn peers_agree<M>()
+    ensures { OrderlyPeersAgree M }
+{}
+
+/// Only fixed and optional slots live, each in a generation from 1 on. Premise: slots are numbered depth first.
+pub fn only_homes_live<M>()
+    ensures { RunsLiveInHomes M }
 {}
