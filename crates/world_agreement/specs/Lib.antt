@@ -4,3 +4,4 @@ pub mod Announced
 pub mod Bodies
 pub mod Settled
 pub mod Imports
+pub mod Plugs
