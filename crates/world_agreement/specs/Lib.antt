@@ -5,3 +5,5 @@ pub mod Bodies
 pub mod Settled
 pub mod Imports
 pub mod Plugs
+pub mod Loans
+pub mod Held
