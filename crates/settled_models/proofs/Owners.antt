@@ -51,7 +51,7 @@ use Rattle.binding_expand.specs.Wirings.{IsWiringOf}
 use Rattle.binding_expand.specs.Faults.{HasNoFault}
 use Rattle.actor_duties.specs.Words.{is_imported_kind, is_imported as is_imported_slot, container_number, container_of, owner_of as owner_in}
 use Rattle.world_agreement.specs.Imports.{OwnersAreThere, PlacesAreLocal}
-use Rattle.settled_models.specs.Wirings.{PlacesHaveContainers}
+use Rattle.world_agreement.specs.Held.{PlacesAreContained}
 use Rattle.settled_models.proofs.Types.{Above, Pending}
 use Rattle.settled_models.proofs.Trails.{Stand, all_stand, stand_both, number_above}
 use Rattle.settled_models.proofs.Kept.{wired_all, planned_here}
@@ -247,7 +247,7 @@ module _ (m : ModelTree) (keeps : first_broken all_rules m ≡ None) where
           ap (λ (o : Option SlotId). slice_get (container_class (plan_of m) (slots_in m) (container_of_parent o)).references x.reference) (sym e) ∙ stands.named in
           absurd (not_fixed stands.reference.kind (ap is_imported_kind (sym stands.kind) ∙ imported) (top_fixed x.reference stands.reference named))
 
-  pub places_contained : (t : Tables) → t.slots ≡ slots_in m → PlacesHaveContainers t
+  pub places_contained : (t : Tables) → t.slots ≡ slots_in m → PlacesAreContained t
   unfolding is_imported_slot container_of
   places_contained t slots s imported = by_slot (slot_at t s) refl imported
     where

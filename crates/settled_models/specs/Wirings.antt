@@ -1,7 +1,7 @@
 -- What agreement on imports and on peers asks of the wiring of a model that keeps all rules and has no fault.
 -- Each slot's owner is a controller; an imported slot has a container, whose owner is its own too; and
 -- partners are each other's, and who may have to know of a slot is told of it (`IsMutual`).
-use Rattle.std.specs.Prelude.{◌≡◌, ℕ, true, None, Some}
+use Rattle.std.specs.Prelude.{◌≡◌, None}
 use Rattle.room_ast.specs.Trees.{ModelTree}
 use Rattle.room_wiring.specs.declared.tables.Tables.{Tables}
 use Rattle.structure_check.specs.List.{all_rules}
@@ -9,13 +9,9 @@ use Rattle.structure_check.specs.Rules.{first_broken}
 use Rattle.wiring_slots.specs.model_slots.Answers.{slots_in}
 use Rattle.binding_expand.specs.Wirings.{IsWiringOf}
 use Rattle.binding_expand.specs.Faults.{HasNoFault}
-use Rattle.actor_duties.specs.Words.{is_imported, container_of}
 use Rattle.world_agreement.specs.Imports.{OwnersAreThere, PlacesAreLocal}
+use Rattle.world_agreement.specs.Held.{PlacesAreContained}
 use Rattle.world_agreement.specs.Mutual.{IsMutual}
-
--- each imported slot has a container
-abbrev pub PlacesHaveContainers : Tables → Type 0
-PlacesHaveContainers t = (i : ℕ) → is_imported t i ≡ true → (c : ℕ) × (container_of t i ≡ Some c)
 
 -- over every model that keeps all rules and has no fault, and its wiring
 abbrev pub ModelsHaveOwners : Type 0
@@ -27,7 +23,7 @@ ModelsKeepPlacesLocal = (m : ModelTree) (t : Tables) → t.slots ≡ slots_in m 
 
 -- over every model that keeps all rules, and tables with its slots
 abbrev pub ModelsContainPlaces : Type 0
-ModelsContainPlaces = (m : ModelTree) (t : Tables) → first_broken all_rules m ≡ None → t.slots ≡ slots_in m → PlacesHaveContainers t
+ModelsContainPlaces = (m : ModelTree) (t : Tables) → first_broken all_rules m ≡ None → t.slots ≡ slots_in m → PlacesAreContained t
 
 -- over every model that keeps all rules and has no fault, and its wiring
 abbrev pub ModelsAreMutual : Type 0

@@ -20,3 +20,10 @@ pub mod Lending
 pub mod Keeping
 pub mod Waiting
 pub mod Mutual
+pub mod Pairing
+pub mod Counting
+pub mod Emitting
+pub mod Tying
+pub mod Plugging
+pub mod Standing
+pub mod Holding

@@ -28,7 +28,8 @@ use Rattle.actor_world.specs.Body.{Body}
 use Rattle.actor_world.specs.Agreed.{frame_at, lives_in, place_of, plugged, has_container, TableLinks, DirectoriesAgree, ImportsAgree, LinksAgree, PeersAgree}
 use Rattle.service_messages.proofs.slot_runs.RunLemmas.{not_true_false}
 use Rattle.world_agreement.specs.Imports.{PlacesAreLocal, OwnersAreThere}
-use Rattle.world_agreement.specs.Mutual.{seen_as, IsMutual, LendsFreePorts, IsOrderly}
+use Rattle.world_agreement.specs.Plugs.{PlugsFit}
+use Rattle.world_agreement.specs.Mutual.{seen_as, IsMutual, IsOrderly}
 use Rattle.world_agreement.proofs.Agreeing.{own_there}
 
 -- ---- lists
@@ -338,12 +339,12 @@ module _ {M : Type 0} (t : Tables) (w : World (Body M)) (wired : IsMutual t) (ow
       let i : Incarnation = incarnation x.0 plug.0 in
       let back : joined_at t x.0 q j ≡ partners.End (record { 0 = a.slot.0 }) a.port a.place = wired.sockets a.slot.0 a.port a.place x q j e ∙ seen_end a la in
       let c : ℕ = owner_of t h.slot.0 in
-      let lent : LendsFreePorts t (frame_of_party c) = orderly.lent c in
+      let lent : PlugsFit t (frame_of_party c) = orderly.lent c in
       let fits : is_end (joined_at t x.0 q j) ≡ true = ap is_end back in
-      let free : joined_at t h.slot.0 q j ≡ partners.Nobody = not_joined (joined_at t h.slot.0 q j) (lent.free h.slot.0 q j i plug.1 fits) in
+      let free : joined_at t h.slot.0 q j ≡ partners.Nobody = not_joined (joined_at t h.slot.0 q j) (lent.apart h.slot.0 q j i plug.1 fits) in
       let one : fitting_plug t ((frame_of_party c).plugs h.slot.0) q j ≡ Some i =
       finds (λ (z : Incarnation). is_end (joined_at t z.slot.0 q j)) ((frame_of_party c).plugs h.slot.0) i plug.1.0 plug.1.1 plug.1.2 fits
-      (λ z there passes. lent.once h.slot.0 q j z i there plug.1 passes fits) in
+      (λ z there passes. lent.one h.slot.0 q j z i there plug.1 passes fits) in
       let tells : (c ≢ owner_of t a.slot.0) → is_told t a.slot.0 c ≡ true =
       λ other. wired.sockets_told a.slot.0 a.port a.place x q j c (live_home (whose a) la).0 e (owners h.slot.0) other in
       let seen : other_peer (endpoint h.slot.0 h.generation.0 q j) ≡ Some a =
@@ -352,7 +353,7 @@ module _ {M : Type 0} (t : Tables) (w : World (Body M)) (wired : IsMutual t) (ow
       ∙ ap (end_of_partner t c (frame_of_party c)) back
       ∙ seen_back a c la (joined_there t a.slot.0 a.port a.place (is_joined_by a.slot.0 a.port a.place _ e refl)) (owners h.slot.0) tells in
       let ports = wired.ports x.0 q j imported (is_joined_by x.0 q j _ back refl) in
-      let alike = same_ports t x.0 h.slot.0 q (lent.classes h.slot.0 i plug.1) in
+      let alike = same_ports t x.0 h.slot.0 q (sym (lent.lent h.slot.0 i plug.1)) in
       let slot : h.slot.0 ≡ b.slot.0 = ap (λ (z : Endpoint). z.slot.0) home.2 in
       let port : q ≡ b.port = ap (λ (z : Endpoint). z.port) home.2 in
       let no_sap : is_sap t b.slot.0 b.port ≡ false = subst (λ (z : Endpoint). is_sap t z.slot.0 z.port ≡ false) home.2 (sym alike.0 ∙ ports.0) in

@@ -5,3 +5,6 @@ pub mod Bodies
 pub mod Settled
 pub mod Imports
 pub mod Mutual
+pub mod Plugs
+pub mod Loans
+pub mod Held

@@ -23,6 +23,7 @@ use Rattle.actor_world.specs.Agreed.{IsLinked, DirectoriesAgree, ImportsAgree, L
 use Rattle.service_messages.specs.slot_runs.Runs.{IsDepthFirst}
 use Rattle.world_agreement.specs.Trails.{RunsTo}
 use Rattle.world_agreement.specs.Imports.{PlacesAreLocal, OwnersAreThere, LendsToTheLiving}
+use Rattle.world_agreement.specs.Plugs.{PlugsFit}
 
 -- a place as its partner sees it: a socket where its slot is imported, else an end place
 abbrev pub seen_as : Tables → ℕ → ℕ → ℕ → Partner
@@ -59,15 +60,6 @@ RunsLiveInHomes M =
     → (xs : List Placed) (end : World (Body M)) → RunsTo model t lines xs end
     → (c : ℕ) → LivesInHomes t (end.controllers c).body.frame.lives
 
--- at a controller a home is lent to imported slots of its class alone. At each port and place at most one of
--- its plugs has that place joined to an end place, and none where the home's own place is joined
-pub record LendsFreePorts (t : Tables) (f : Frame) : Type 0 where
-  pub classes : (s : ℕ) (i : Incarnation) → Contains (f.plugs s) i → class_number t i.slot.0 ≡ class_number t s
-  pub once : (s p k : ℕ) (i j : Incarnation) → Contains (f.plugs s) i → Contains (f.plugs s) j
-      → is_end (joined_at t i.slot.0 p k) ≡ true → is_end (joined_at t j.slot.0 p k) ≡ true → i ≡ j
-  pub free : (s p k : ℕ) (i : Incarnation) → Contains (f.plugs s) i → is_end (joined_at t i.slot.0 p k) ≡ true
-      → is_joined (joined_at t s p k) ≡ false
-
 -- the name table links users that are joined to nothing to providers, behind their static places
 pub record LinksFreePlaces (t : Tables) (table : NameTable) : Type 0 where
   pub providers : (p u : Endpoint) (k : ℕ) → IsLinked table p u k → (is_spp t p.slot.0 p.port ≡ true) × (place_count t p.slot.0 p.port ≤ k)
@@ -77,7 +69,7 @@ pub record LinksFreePlaces (t : Tables) (table : NameTable) : Type 0 where
 pub record IsOrderly {M : Type 0} (t : Tables) (w : World (Body M)) : Type 0 where
   pub lives : (c : ℕ) → LivesInHomes t (w.controllers c).body.frame.lives
   pub living : (c : ℕ) → LendsToTheLiving t (w.controllers c).body.frame
-  pub lent : (c : ℕ) → LendsFreePorts t (w.controllers c).body.frame
+  pub lent : (c : ℕ) → PlugsFit t (w.controllers c).body.frame
   pub linked : LinksFreePlaces t (w.controllers 0).body.table
 
 -- over every orderly world in which directories, imports and links agree: so do peers

@@ -12,6 +12,8 @@ ghost use Rattle.world_agreement.specs.Bodies.{RunsForetellParts, QuietBodiesAgr
 ghost use Rattle.world_agreement.specs.Settled.{DoneRunsAgree};
 ghost use Rattle.world_agreement.specs.Mutual.{OrderlyPeersAgree, RunsLiveInHomes};
 ghost use Rattle.world_agreement.specs.Imports.{RunsRouteLoans, RunsLendToTheLiving, RunsAwait, QuietPlacesSettle};
+ghost use Rattle.world_agreement.specs.Loans.{RunsKeepRows};
+ghost use Rattle.world_agreement.specs.Held.{QuietImportsAgree};
 
 /// The system messages on their way from one controller to another are a queue. `steps`: an event that is
 /// not a turn leaves every trail as it is; a turn takes the front of at most one, and appends what it sends.
@@ -87,4 +89,18 @@ pub fn peers_agree<M>()
 /// Only fixed and optional slots live, each in a generation from 1 on. Premise: slots are numbered depth first.
 pub fn only_homes_live<M>()
     ensures { RunsLiveInHomes M }
+{}
+
+/// At every moment each import place and each home stand in a row of the table: how the place stands to the
+/// home, which of their messages are on their way, and how often the place is among the home's plugs. Premise:
+/// an imported slot is its container's owner's.
+pub fn loans_keep_rows<M>()
+    ensures { RunsKeepRows M }
+{}
+
+/// All controllers agree on imports wherever a run is quiet at its end: each import place of a live container
+/// is empty or holds a home that lives and has it once among its plugs, and each plug is such a place.
+/// Premises beside: each slot's owner is a controller, and an imported slot has a container.
+pub fn imports_agree<M>()
+    ensures { QuietImportsAgree M }
 {}
