@@ -1,0 +1,4 @@
+pub mod OffNames
+pub mod Naming
+pub mod Creating
+pub mod CreatedRuns
