@@ -6,4 +6,4 @@
 
 mod registrations;
 
-pub use registrations::names_are_of_the_created;
+pub use registrations::{joined_users_have_no_name, names_are_of_the_created};
