@@ -1,11 +1,10 @@
 -- In a quiet world all controllers agree on imports: what the rows of the pairs come to where nothing is on
 -- its way.
-use Rattle.std.proofs.Common.{◌≡◌, ℕ, zero, suc, ◌<◌, ◌≤◌, ◌==◌, ◌&&◌, ◌↔◌, Bool, true, false, if◌then◌else◌, List, [], ◌∷◌, flat_map, length, Option, Some, None, refl, sym, ap, ◌∙◌, subst, eq-eqb, arith, ◌⊎◌, inl, inr}
+use Rattle.std.proofs.Common.{◌≡◌, ℕ, suc, ◌<◌, ◌≤◌, ◌==◌, ◌&&◌, Bool, true, false, if◌then◌else◌, List, [], ◌∷◌, flat_map, Option, Some, refl, sym, ap, ◌∙◌, subst, eq-eqb, arith, ◌⊎◌, inl, inr}
 use Rattle.std.specs.Prelude.{count_by}
 use Rattle.std.specs.Option.{option_map_or}
 use Rattle.std.specs.List.{AllByRecursion}
-use Rattle.std.proofs.lemmas.Bool.{and_parts, cases_lt}
-use Rattle.room_kinds.specs.declared.message.Msg.{Msg}
+use Rattle.std.proofs.lemmas.Bool.{cases_lt}
 use Rattle.room_kinds.specs.declared.numbers.Incarnation.{Incarnation}
 use Rattle.room_wiring.specs.declared.tables.Tables.{Tables}
 use Rattle.actor_merge.specs.Parties.{Line}
@@ -23,7 +22,7 @@ use Rattle.world_agreement.specs.Held.{PlacesAreContained}
 use Rattle.world_agreement.specs.Loans.{Side, Apart, Asks, Holds, Leaves, Row, tied_as, side_of, lent_by, lent_of, forth_of, back_of, IsInRow}
 use Rattle.world_agreement.proofs.Agreeing.{quiet_trail}
 use Rattle.world_agreement.proofs.Waiting.{quiet_places}
-use Rattle.world_agreement.proofs.Keeping.{LendsSo, ArePlugs, runs_lend_so}
+use Rattle.world_agreement.proofs.Keeping.{LendsSo, runs_lend_so}
 use Rattle.world_agreement.proofs.Pairing.{row_once, row_quiet_plugged, row_quiet_held}
 use Rattle.world_agreement.proofs.Counting.{count_cons}
 use Rattle.world_agreement.proofs.Emitting.{same_incarnation, itself}

@@ -26,3 +26,4 @@ pub mod Tying
 pub mod Plugging
 pub mod Standing
 pub mod Holding
+pub mod Fitting

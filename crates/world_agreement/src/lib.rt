@@ -1,6 +1,6 @@
-//! Agreement: wherever a run of the world is quiet, all controllers agree on which actors live. Laws that
-//! hold of every run, as functions without a body, whose contract is the law; they hold over any kind `M`
-//! of machine and any tables.
+//! Agreement: wherever a run of the world is quiet, all controllers agree on which actors live, and which
+//! are lent to which containers. Laws that hold of every run, as functions without a body, whose contract is
+//! the law; they hold over any kind `M` of machine and any tables.
 //!
 //! Their premises: actors and the lines of the environment send nothing at priority 0, which is the system's.
 #![tactic(auto)]
@@ -9,10 +9,11 @@ ghost use Rattle.world_agreement.specs.Trails.{TrailsAreQueues, QuietTrailsAreEm
 ghost use Rattle.world_agreement.specs.Senders.{OwnersTell};
 ghost use Rattle.world_agreement.specs.Announced.{RunsForetell, QuietDirectoriesAgree};
 ghost use Rattle.world_agreement.specs.Bodies.{RunsForetellParts, QuietBodiesAgree, ContainersLive};
-ghost use Rattle.world_agreement.specs.Settled.{DoneRunsAgree};
+ghost use Rattle.world_agreement.specs.Settled.{DoneRunsAgree, DoneImportsAgree};
 ghost use Rattle.world_agreement.specs.Imports.{RunsRouteLoans, RunsLendToTheLiving, RunsAwait, QuietPlacesSettle};
 ghost use Rattle.world_agreement.specs.Loans.{RunsKeepRows};
 ghost use Rattle.world_agreement.specs.Held.{QuietImportsAgree};
+ghost use Rattle.world_agreement.specs.Plugs.{RunsFitPlugs};
 
 /// The system messages on their way from one controller to another are a queue. `steps`: an event that is
 /// not a turn leaves every trail as it is; a turn takes the front of at most one, and appends what it sends.
@@ -90,4 +91,17 @@ pub fn loans_keep_rows<M>()
 /// Premises beside: each slot's owner is a controller, and an imported slot has a container.
 pub fn imports_agree<M>()
     ensures { QuietImportsAgree M }
+{}
+
+/// The plugs of a home fit, at every moment: of a home's plugs at most one has a place of a port joined to an
+/// end place, and none has where the home's own place is joined to something. What an import place is tied to,
+/// and what a plug holds, is an actor of a slot of the imported slot's class.
+pub fn plugs_fit<M>()
+    ensures { RunsFitPlugs M }
+{}
+
+/// Where a whole run is done, all controllers agree on imports, in the world that its journals lead to.
+/// Premises: an imported slot has a container, whose owner is its own, and each slot's owner is a controller.
+pub fn done_imports_agree<M>()
+    ensures { DoneImportsAgree M }
 {}
