@@ -71,7 +71,7 @@ holds_held h (Held y) e = go (is_incarnation y h) refl e
     go false q r = absurd cc
 
 module _ {M : Type 0} (model : Behaviour M) (clear : IsOpen model) (t : Tables) (lines : List Line) (clear_lines : AreOpen lines) (local : PlacesAreLocal t)
-    (there : OwnersAreThere t) (contained : PlacesAreContained t) (xs : List Placed) (end : World (Body M)) (run : Runs (plant_of model t lines) (start (plant_of model t lines)) xs end) where
+    (contained : PlacesAreContained t) (xs : List Placed) (end : World (Body M)) (run : Runs (plant_of model t lines) (start (plant_of model t lines)) xs end) where
   lends : (s : ℕ) → LendsSo t (frame_at t end s)
   lends s = runs_lend_so model clear t lines xs end run (owner_of t s)
 
@@ -111,7 +111,7 @@ module _ {M : Type 0} (model : Behaviour M) (clear : IsOpen model) (t : Tables) 
   lent_standing i s e = lent_live i (is_live (frame_at t end s).lives (standing_in s)) ((frame_at t end s).plugs s) (lives_standing s e)
 
   -- no place is twice among the plugs of a home
-  once : (i h : Incarnation) → plugged t end i h ≤ 1
+  pub once : (i h : Incarnation) → plugged t end i h ≤ 1
   once i h = go (cases_lt 0 (plugged t end i h))
     where
       go : (0 < plugged t end i h) ⊎ (plugged t end i h ≤ 0) → plugged t end i h ≤ 1
@@ -128,7 +128,7 @@ module _ {M : Type 0} (model : Behaviour M) (clear : IsOpen model) (t : Tables) 
       ap (λ (o : Option ℕ). is_live (frame_at t end (option_map_or (λ k. k) o 0)).lives (incarnation (option_map_or (λ k. k) o 0) i.generation.0)) part
       ∙ ap (λ n. (end.controllers n).body.frame.lives.lives c && ((end.controllers n).body.frame.lives.generation c == i.generation.0)) (sym (local i.slot.0 c imported part))
 
-  module _ (quiet : IsQuiet (plant_of model t lines) end) where
+  module _ (there : OwnersAreThere t) (quiet : IsQuiet (plant_of model t lines) end) where
     quiet_row : (c : ℕ) (i h : Incarnation) → is_imported t i.slot.0 ≡ true → container_of t i.slot.0 ≡ Some c → is_home t h.slot.0 ≡ true
         → Row (side_of c i h (frame_at t end i.slot.0)) [] [] (lent_of i h (frame_at t end h.slot.0))
     quiet_row c i h imported part home =

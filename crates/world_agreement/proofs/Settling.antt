@@ -115,4 +115,4 @@ module _ {M : Type 0} (model : Behaviour M) (clear : IsOpen model) (t : Tables) 
   pub lawful_imports : (events : ℕ → List Entry) (w : World (Body M)) → IsLawful (plant_of model t lines) events w → IsQuiet (plant_of model t lines) w → ImportsAgree t w
   lawful_imports events w lawful quiet =
       same_imports lawful.end w lawful.same
-      (quiet_imports model clear t lines clear_lines local there contained lawful.merge lawful.end lawful.run (same_quiet model t lines lawful.end w lawful.same quiet))
+      (quiet_imports model clear t lines clear_lines local contained lawful.merge lawful.end lawful.run there (same_quiet model t lines lawful.end w lawful.same quiet))

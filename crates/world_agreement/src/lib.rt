@@ -11,7 +11,7 @@ ghost use Rattle.world_agreement.specs.Announced.{RunsForetell, QuietDirectories
 ghost use Rattle.world_agreement.specs.Bodies.{RunsForetellParts, QuietBodiesAgree, ContainersLive};
 ghost use Rattle.world_agreement.specs.Settled.{DoneRunsAgree, DoneImportsAgree};
 ghost use Rattle.world_agreement.specs.Imports.{RunsRouteLoans, RunsLendToTheLiving, RunsAwait, QuietPlacesSettle};
-ghost use Rattle.world_agreement.specs.Loans.{RunsKeepRows};
+ghost use Rattle.world_agreement.specs.Loans.{RunsKeepRows, RunsPlugOnce};
 ghost use Rattle.world_agreement.specs.Held.{QuietImportsAgree};
 ghost use Rattle.world_agreement.specs.Plugs.{RunsFitPlugs};
 
@@ -79,11 +79,13 @@ pub fn places_settle<M>()
     ensures quiet { QuietPlacesSettle M }
 {}
 
-/// At every moment each import place and each home stand in a row of the table: how the place stands to the
-/// home, which of their messages are on their way, and how often the place is among the home's plugs. Premise:
-/// an imported slot is its container's owner's.
+/// The rows of an import place and a home. `rows`: at every moment each import place and each home stand in a
+/// row of the table: how the place stands to the home, which of their messages are on their way, and how often
+/// the place is among the home's plugs. `once`: so no place stands twice among the plugs of a home. Premises:
+/// an imported slot is its container's owner's, and for `once` it has a container.
 pub fn loans_keep_rows<M>()
-    ensures { RunsKeepRows M }
+    ensures rows { RunsKeepRows M }
+    ensures once { RunsPlugOnce M }
 {}
 
 /// All controllers agree on imports wherever a run is quiet at its end: each import place of a live container
