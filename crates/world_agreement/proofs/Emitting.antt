@@ -1,6 +1,6 @@
 -- What lists of messages put on the way of an import place and a home: the kinds of the pair's messages among
 -- them, in order.
-use Rattle.std.proofs.Common.{◌≡◌, ℕ, suc, ◌==◌, ◌&&◌, Bool, true, false, cond, if◌then◌else◌, List, [], ◌∷◌, ◌++◌, map, filter, flat_map, slice_get, Option, Some, None, ℤ, refl, sym, ap, ◌∙◌, subst, eq-eqb, eqb-true, append-nil, append_assoc}
+use Rattle.std.proofs.Common.{◌≡◌, ℕ, suc, ◌==◌, ◌&&◌, Bool, true, false, cond, if◌then◌else◌, List, [], ◌∷◌, ◌++◌, map, filter, flat_map, slice_get, Option, Some, None, ℤ, refl, sym, ap, ◌∙◌, eq-eqb, eqb-true, append-nil}
 use Rattle.std.specs.Prelude.{count_by}
 use Rattle.std.specs.List.{AllByRecursion}
 use Rattle.std.proofs.lemmas.Bool.{and_parts}
@@ -13,11 +13,11 @@ use Rattle.room_kinds.specs.declared.system.SysKind.TheVariants as kinds
 use Rattle.room_wiring.specs.declared.tables.Tables.{Tables}
 use Rattle.actor_merge.specs.Parties.{stamped}
 use Rattle.actor_duties.specs.Words.{incarnation, whose, frame_of, is_frame, is_incarnation, owner_of}
-use Rattle.actor_duties.specs.Messages.{to_owner, system}
+use Rattle.actor_duties.specs.Messages.{to_owner}
 use Rattle.actor_duties.specs.Imports.{ended_plugs}
 use Rattle.actor_world.specs.Turns.{all_kinds}
 use Rattle.world_agreement.specs.Trails.{contents, system_to, is_system_to}
-use Rattle.world_agreement.specs.Imports.{Wait, Ask, Leave, kind_for, Loan, forth_by, forth_on, back_by, back_on}
+use Rattle.world_agreement.specs.Imports.{Wait, Ask, Leave, kind_for, forth_by, back_by}
 use Rattle.world_agreement.specs.Loans.{goes_between, kind_forth, kind_back, forth_of, back_of}
 use Rattle.world_agreement.proofs.OffLoan.{IsOffLoan, AllOffLoan}
 use Rattle.world_agreement.proofs.Hearing.{swap_eqb}

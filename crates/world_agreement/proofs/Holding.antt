@@ -1,11 +1,10 @@
 -- In a quiet world all controllers agree on imports: what the rows of the pairs come to where nothing is on
 -- its way.
-use Rattle.std.proofs.Common.{◌≡◌, ℕ, zero, suc, ◌<◌, ◌≤◌, ◌==◌, ◌&&◌, ◌↔◌, Bool, true, false, if◌then◌else◌, List, [], ◌∷◌, flat_map, length, Option, Some, None, refl, sym, ap, ◌∙◌, subst, eq-eqb, arith, ◌⊎◌, inl, inr}
+use Rattle.std.proofs.Common.{◌≡◌, ℕ, suc, ◌<◌, ◌≤◌, ◌==◌, ◌&&◌, Bool, true, false, if◌then◌else◌, List, [], ◌∷◌, flat_map, Option, Some, refl, sym, ap, ◌∙◌, subst, eq-eqb, arith, ◌⊎◌, inl, inr}
 use Rattle.std.specs.Prelude.{count_by}
 use Rattle.std.specs.Option.{option_map_or}
 use Rattle.std.specs.List.{AllByRecursion}
-use Rattle.std.proofs.lemmas.Bool.{and_parts, cases_lt}
-use Rattle.room_kinds.specs.declared.message.Msg.{Msg}
+use Rattle.std.proofs.lemmas.Bool.{cases_lt}
 use Rattle.room_kinds.specs.declared.numbers.Incarnation.{Incarnation}
 use Rattle.room_wiring.specs.declared.tables.Tables.{Tables}
 use Rattle.actor_merge.specs.Parties.{Line}
@@ -23,7 +22,7 @@ use Rattle.world_agreement.specs.Held.{PlacesAreContained}
 use Rattle.world_agreement.specs.Loans.{Side, Apart, Asks, Holds, Leaves, Row, tied_as, side_of, lent_by, lent_of, forth_of, back_of, IsInRow}
 use Rattle.world_agreement.proofs.Agreeing.{quiet_trail}
 use Rattle.world_agreement.proofs.Waiting.{quiet_places}
-use Rattle.world_agreement.proofs.Keeping.{LendsSo, ArePlugs, runs_lend_so}
+use Rattle.world_agreement.proofs.Keeping.{LendsSo, runs_lend_so}
 use Rattle.world_agreement.proofs.Pairing.{row_once, row_quiet_plugged, row_quiet_held}
 use Rattle.world_agreement.proofs.Counting.{count_cons}
 use Rattle.world_agreement.proofs.Emitting.{same_incarnation, itself}
@@ -72,7 +71,7 @@ holds_held h (Held y) e = go (is_incarnation y h) refl e
     go false q r = absurd cc
 
 module _ {M : Type 0} (model : Behaviour M) (clear : IsOpen model) (t : Tables) (lines : List Line) (clear_lines : AreOpen lines) (local : PlacesAreLocal t)
-    (there : OwnersAreThere t) (contained : PlacesAreContained t) (xs : List Placed) (end : World (Body M)) (run : Runs (plant_of model t lines) (start (plant_of model t lines)) xs end) where
+    (contained : PlacesAreContained t) (xs : List Placed) (end : World (Body M)) (run : Runs (plant_of model t lines) (start (plant_of model t lines)) xs end) where
   lends : (s : ℕ) → LendsSo t (frame_at t end s)
   lends s = runs_lend_so model clear t lines xs end run (owner_of t s)
 
@@ -112,7 +111,7 @@ module _ {M : Type 0} (model : Behaviour M) (clear : IsOpen model) (t : Tables) 
   lent_standing i s e = lent_live i (is_live (frame_at t end s).lives (standing_in s)) ((frame_at t end s).plugs s) (lives_standing s e)
 
   -- no place is twice among the plugs of a home
-  once : (i h : Incarnation) → plugged t end i h ≤ 1
+  pub once : (i h : Incarnation) → plugged t end i h ≤ 1
   once i h = go (cases_lt 0 (plugged t end i h))
     where
       go : (0 < plugged t end i h) ⊎ (plugged t end i h ≤ 0) → plugged t end i h ≤ 1
@@ -129,7 +128,7 @@ module _ {M : Type 0} (model : Behaviour M) (clear : IsOpen model) (t : Tables) 
       ap (λ (o : Option ℕ). is_live (frame_at t end (option_map_or (λ k. k) o 0)).lives (incarnation (option_map_or (λ k. k) o 0) i.generation.0)) part
       ∙ ap (λ n. (end.controllers n).body.frame.lives.lives c && ((end.controllers n).body.frame.lives.generation c == i.generation.0)) (sym (local i.slot.0 c imported part))
 
-  module _ (quiet : IsQuiet (plant_of model t lines) end) where
+  module _ (there : OwnersAreThere t) (quiet : IsQuiet (plant_of model t lines) end) where
     quiet_row : (c : ℕ) (i h : Incarnation) → is_imported t i.slot.0 ≡ true → container_of t i.slot.0 ≡ Some c → is_home t h.slot.0 ≡ true
         → Row (side_of c i h (frame_at t end i.slot.0)) [] [] (lent_of i h (frame_at t end h.slot.0))
     quiet_row c i h imported part home =

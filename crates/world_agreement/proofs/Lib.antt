@@ -28,3 +28,4 @@ pub mod Plugging
 pub mod Standing
 pub mod Holding
 pub mod Alike
+pub mod Fitting

@@ -1,5 +1,5 @@
 -- From row to row: what each step of an import place or of its home makes of the row in which they stand.
-use Rattle.std.proofs.Common.{◌≡◌, ℕ, zero, suc, ◌+◌, ◌≤◌, ◌==◌, ◌⊎◌, inl, inr, List, [], ◌∷◌, ◌++◌, refl, sym, ap, ◌∙◌, subst, append-nil, arith}
+use Rattle.std.proofs.Common.{◌≡◌, ℕ, zero, suc, ◌+◌, ◌≤◌, List, [], ◌∷◌, ◌++◌, refl, arith}
 use Rattle.room_kinds.specs.declared.system.SysKind.{SysKind}
 use Rattle.room_kinds.specs.declared.system.SysKind.TheVariants as kinds
 use Rattle.world_agreement.specs.Loans.{Side, Unmade, Apart, Asks, Holds, Leaves, Over, Row, unmade, apart, asked, granted, granted_bereft, refused, held, held_bereft, leaves, leaves_unplugged, leaves_bereft, left, left_bereft, over, over_asked, over_plugged, over_unplugged}

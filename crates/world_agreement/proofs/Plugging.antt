@@ -13,11 +13,11 @@ use Rattle.room_kinds.specs.declared.command.FrameCommand.{FrameCommand}
 use Rattle.room_kinds.specs.declared.command.FrameCommand.TheVariants as frames
 use Rattle.room_wiring.specs.declared.tables.Tables.{Tables}
 use Rattle.actor_duties.specs.Words.{updated, incarnation, frame_at, frame_of, whose, is_incarnation, is_frame, is_own, is_home, is_imported, owner_of, part_at, of_id}
-use Rattle.actor_duties.specs.State.{Lives, Frame, ImportPlace, Empty, Asking, Held, Leaving, Done}
+use Rattle.actor_duties.specs.State.{Frame, ImportPlace, Empty, Asking, Held, Leaving, Done}
 use Rattle.actor_duties.specs.Messages.{Code, code_number, refused_at_once, to_owner, reply, coded, StaleId, PortTaken, NotHere, NoSlot, Busy, Occupied}
 use Rattle.actor_duties.specs.Lives.{is_live, last_of, answered, counts_as_live, comes_up, lives_made, lives_ended, goes_down, ended_slots, is_reached, announces, create, made, part_make}
 use Rattle.actor_duties.specs.Imports.{import, deport, imported_parts, ended_plugs, given_back, is_port_taken}
-use Rattle.actor_duties.specs.Frame.{FrameDone, nothing, plainly, with_plugs, with_lives, end_messages, part_ends, end_set_ended, frame_ended, destroy, part_end, is_forth, frame_duty_of, frame_duty_from, frame_duty, import_code, import_with, import_into, import_command, deport_from, deport_of, deport_command, frame_request, incarnate, destroy_command}
+use Rattle.actor_duties.specs.Frame.{FrameDone, plainly, with_lives, end_messages, part_ends, end_set_ended, frame_ended, destroy, part_end, is_forth, frame_duty_of, frame_duty_from, frame_duty, import_code, import_with, import_into, import_command, deport_from, deport_of, deport_command, frame_request, incarnate, destroy_command}
 use Rattle.actor_world.specs.Behaviour.{Behaviour}
 use Rattle.actor_world.specs.Body.{Body}
 use Rattle.actor_world.specs.Turns.{all_kinds, treat}
@@ -31,7 +31,7 @@ use Rattle.world_agreement.proofs.Lists.{all_flat, all_unit}
 use Rattle.world_agreement.proofs.Hearing.{swap_eqb}
 use Rattle.world_agreement.proofs.Duties.{by_plainly, by_number, by_natural}
 use Rattle.world_agreement.proofs.OffLoan.{IsOffLoan, AllOffLoan, off_asked, off_announces, off_part_ends, off_part_make, off_create, off_create_done, off_create_refused, off_destroy_done, off_import_done, off_import_refused, off_import_ended, off_deport_done}
-use Rattle.world_agreement.proofs.Walking.{IsHere, IsWalk, turn_walks, start_walks}
+use Rattle.world_agreement.proofs.Walking.{IsWalk, turn_walks, start_walks}
 use Rattle.world_agreement.proofs.Waiting.{vacant}
 use Rattle.world_agreement.proofs.Keeping.{LendsSo}
 use Rattle.world_agreement.proofs.Pairing.{times, row_denies, row_grants, row_frees, row_bereaves}

@@ -1,5 +1,5 @@
 -- Over every run of the world: each import place and each home stand in a row.
-use Rattle.std.proofs.Common.{◌≡◌, ℕ, ◌+◌, ◌<◌, ◌==◌, ◌&&◌, Bool, true, false, if◌then◌else◌, List, [], ◌∷◌, ◌++◌, flat_map, slice_get, length, Option, Some, None, ℤ, refl, sym, ap, ◌∙◌, subst, eq-eqb, eqb-true, append-nil, append_assoc, ◌⊎◌, inl, inr}
+use Rattle.std.proofs.Common.{◌≡◌, ℕ, ◌==◌, ◌&&◌, Bool, true, false, if◌then◌else◌, List, [], ◌∷◌, ◌++◌, flat_map, slice_get, Option, Some, None, ℤ, refl, sym, ap, ◌∙◌, subst, eq-eqb, eqb-true, append-nil, append_assoc, ◌⊎◌, inl, inr}
 use Rattle.std.specs.Prelude.{nat_lt}
 use Rattle.std.proofs.lemmas.Bool.{and_parts, ne_eqb, eqb-false}
 use Rattle.std.proofs.lemmas.List.Concat.{flat_map-append}
@@ -16,16 +16,16 @@ use Rattle.actor_merge.specs.Parties.{State, Line, Taken, put, stamped, next_of,
 use Rattle.actor_merge.specs.World.{World, Placed, start, Runs, controller_does}
 use Rattle.actor_merge.proofs.Back.{Happened, controller, environment, happened, own_of}
 use Rattle.actor_duties.specs.Words.{whose, is_frame, is_incarnation, is_own, is_imported, is_home, container_of, owner_of}
-use Rattle.actor_duties.specs.State.{Frame, ImportPlace, Empty}
+use Rattle.actor_duties.specs.State.{Empty}
 use Rattle.actor_duties.specs.Lives.{is_live}
 use Rattle.actor_world.specs.Behaviour.{Behaviour}
 use Rattle.actor_world.specs.Body.{Body}
 use Rattle.actor_world.specs.Turns.{all_kinds, treat}
 use Rattle.actor_world.specs.Start.{first_frame, first_state, plant_of}
 use Rattle.actor_world.specs.Directories.{IsOpen, AreOpen}
-use Rattle.world_agreement.specs.Trails.{from_a, contents, system_to, trail, taken_from, leaves, comes}
+use Rattle.world_agreement.specs.Trails.{from_a, contents, system_to, trail, taken_from}
 use Rattle.world_agreement.specs.Imports.{PlacesAreLocal, Loan, back_by, back_on, forth_by, forth_on, IsRouted}
-use Rattle.world_agreement.specs.Loans.{Side, Unmade, Apart, Over, Row, unmade, apart, over, tied_as, side_by, side_of, lent_by, lent_of, goes_between, kind_forth, kind_back, forth_of, back_of, IsInRow}
+use Rattle.world_agreement.specs.Loans.{Side, Unmade, Apart, Over, Row, unmade, apart, over, side_by, side_of, lent_of, goes_between, kind_forth, kind_back, forth_of, back_of, IsInRow}
 use Rattle.world_agreement.proofs.Hearing.{from_append}
 use Rattle.world_agreement.proofs.Moving.{Ranked, next_front, kept_by, from_one, post_from, turn_from, world_after, controller_moves}
 use Rattle.world_agreement.proofs.Agreeing.{environment_moves, world_then, fresh_trail}

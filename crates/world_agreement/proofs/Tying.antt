@@ -1,9 +1,8 @@
 -- An import place and a home: what each event of the place's controller makes of the row in which they stand.
-use Rattle.std.proofs.Common.{◌≡◌, ℕ, suc, ◌+◌, ◌<◌, ◌≤◌, ◌==◌, ◌&&◌, ◌||◌, Bool, true, false, not, cond, if◌then◌else◌, List, [], ◌∷◌, ◌++◌, map, filter, flat_map, reverse, length, slice_get, Option, Some, None, ℤ, pos, refl, sym, ap, ◌∙◌, subst, eq-eqb, eqb-true, append-nil, append_assoc, arith, ◌⊎◌, inl, inr}
+use Rattle.std.proofs.Common.{◌≡◌, ℕ, ◌+◌, ◌<◌, ◌≤◌, ◌==◌, ◌&&◌, ◌||◌, Bool, true, false, not, if◌then◌else◌, List, [], ◌∷◌, ◌++◌, flat_map, slice_get, Option, Some, None, ℤ, pos, refl, sym, ap, ◌∙◌, subst, eq-eqb, eqb-true, append-nil, append_assoc, arith, ◌⊎◌, inl, inr}
 use Rattle.std.specs.Prelude.{nat_lt}
 use Rattle.std.specs.Option.{option_map_or}
-use Rattle.std.specs.List.{AllByRecursion}
-use Rattle.std.proofs.lemmas.Bool.{and_parts, ne_eqb, eqb-false, cases_eq, cases_lt, lt-ltb, le-ltb}
+use Rattle.std.proofs.lemmas.Bool.{and_parts, ne_eqb, cases_eq, cases_lt, lt-ltb, le-ltb}
 use Rattle.room_kinds.specs.declared.message.Msg.{Msg}
 use Rattle.room_kinds.specs.declared.numbers.Incarnation.{Incarnation}
 use Rattle.room_kinds.specs.declared.numbers.Endpoint.{Endpoint}
@@ -12,13 +11,12 @@ use Rattle.room_kinds.specs.declared.system.SysKind.TheVariants as kinds
 use Rattle.room_kinds.specs.declared.command.FrameCommand.{FrameCommand}
 use Rattle.room_kinds.specs.declared.command.FrameCommand.TheVariants as frames
 use Rattle.room_wiring.specs.declared.tables.Tables.{Tables}
-use Rattle.room_wiring.specs.declared.slot.Slot.{Slot}
-use Rattle.actor_duties.specs.Words.{updated, incarnation, frame_at, frame_of, whose, id_of, is_incarnation, is_frame, is_own, is_home, is_imported, is_part_of, container_of, owner_of, part_at, of_id, slots_of, class_number}
-use Rattle.actor_duties.specs.State.{Lives, Frame, ImportPlace, Empty, Asking, Held, Leaving, Done}
+use Rattle.actor_duties.specs.Words.{updated, incarnation, frame_at, frame_of, whose, id_of, is_incarnation, is_frame, is_own, is_home, is_imported, is_part_of, container_of, owner_of, part_at, of_id, class_number}
+use Rattle.actor_duties.specs.State.{Frame, ImportPlace, Empty, Asking, Held, Leaving, Done}
 use Rattle.actor_duties.specs.Messages.{told_of, Imported, Ended, Deported, Refused, Code, is_code, to_owner, reply, coded, StaleId, WrongClass, PortTaken, NotHere, Occupied}
-use Rattle.actor_duties.specs.Lives.{is_live, last_of, answered, counts_as_live, comes_up, is_made_with, lives_made, lives_ended, goes_down, ended_slots, is_reached, announces, create, made, part_make}
-use Rattle.actor_duties.specs.Imports.{container_frame, is_container_live, is_asking, is_held, is_leaving, heard, import, import_done, import_refused, import_ended, deport, deport_done, imported_parts, ended_plugs, given_back, tied_home, is_port_taken}
-use Rattle.actor_duties.specs.Frame.{FrameDone, nothing, plainly, with_number, with_places, with_lives, end_messages, part_ends, end_set_ended, frame_ended, is_place_ended, destroy, part_end, is_forth, is_back, frame_duty_of, frame_duty_from, frame_duty, is_same_class, busy_code, import_code, import_with, import_into, import_command, deport_from, deport_of, deport_command, frame_request, incarnate, destroy_command}
+use Rattle.actor_duties.specs.Lives.{is_live, last_of, answered, counts_as_live, comes_up, lives_made, lives_ended, goes_down, ended_slots, is_reached, announces, create, made, part_make}
+use Rattle.actor_duties.specs.Imports.{container_frame, is_container_live, is_asking, is_held, is_leaving, heard, import, import_done, import_refused, import_ended, deport, deport_done, imported_parts, ended_plugs, given_back, is_port_taken}
+use Rattle.actor_duties.specs.Frame.{FrameDone, plainly, with_number, with_places, with_lives, end_messages, part_ends, end_set_ended, frame_ended, is_place_ended, destroy, part_end, is_back, frame_duty_of, frame_duty_from, frame_duty, is_same_class, busy_code, import_code, import_with, import_into, import_command, deport_from, deport_of, deport_command, frame_request, incarnate, destroy_command}
 use Rattle.actor_world.specs.Behaviour.{Behaviour}
 use Rattle.actor_world.specs.Body.{Body}
 use Rattle.actor_world.specs.Turns.{all_kinds, treat}

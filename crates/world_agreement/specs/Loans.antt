@@ -6,9 +6,10 @@
 -- plugs.
 -- The law `loans_keep_rows`: at every moment of every run of the world each pair stands in a row. While the
 -- container lives exactly one message is on its way where the place asks for a home or gives it back, the
--- request or its answer, and beside it at most word that the home has ended. Premises: actors and lines send
--- nothing at priority 0, which is the system's; and an imported slot is its container's owner's.
-use Rattle.std.specs.Prelude.{◌≡◌, ℕ, ℤ, ◌+◌, ◌==◌, ◌&&◌, ◌||◌, nat_lt, Bool, true, false, List, [], ◌∷◌, flat_map, count_by, slice_get, Option, Some, None, if◌then◌else◌}
+-- request or its answer, and beside it at most word that the home has ended. So no place stands twice among
+-- the plugs of a home. Premises: actors and lines send nothing at priority 0, which is the system's; an
+-- imported slot is its container's owner's; and for the last, it has a container.
+use Rattle.std.specs.Prelude.{◌≡◌, ℕ, ℤ, ◌≤◌, ◌==◌, ◌&&◌, ◌||◌, nat_lt, Bool, true, false, List, [], ◌∷◌, flat_map, count_by, slice_get, Option, Some, None, if◌then◌else◌}
 use Rattle.room_kinds.specs.declared.message.Msg.{Msg}
 use Rattle.room_kinds.specs.declared.numbers.Incarnation.{Incarnation}
 use Rattle.room_kinds.specs.declared.numbers.Endpoint.{Endpoint}
@@ -24,10 +25,11 @@ use Rattle.actor_duties.specs.Messages.{is_code, StaleId, PortTaken}
 use Rattle.actor_world.specs.Behaviour.{Behaviour}
 use Rattle.actor_world.specs.Body.{Body}
 use Rattle.actor_world.specs.Turns.{all_kinds}
-use Rattle.actor_world.specs.Agreed.{frame_at}
+use Rattle.actor_world.specs.Agreed.{frame_at, plugged}
 use Rattle.actor_world.specs.Directories.{IsOpen, AreOpen}
 use Rattle.world_agreement.specs.Trails.{RunsTo, trail}
 use Rattle.world_agreement.specs.Imports.{PlacesAreLocal}
+use Rattle.world_agreement.specs.Held.{PlacesAreContained}
 
 -- how an import place stands to a home: its container hasn't come up yet; it is empty, or of another home;
 -- it asks for the home, holds it, or gives it back; its container has ended
@@ -70,7 +72,7 @@ side_by i h generation lives place =
     else if lives && (generation == i.generation.0) then tied_as h place
     else Over
 
--- the same in slot c's controller, where c is the container
+-- the same at the place's controller, where slot c is the container
 abbrev pub side_of : ℕ → Incarnation → Incarnation → Frame → Side
 side_of c i h f = side_by i h (f.lives.generation c) (f.lives.lives c) (f.places i.slot.0)
 
@@ -82,7 +84,7 @@ lent_by i lives plugs = if lives then count_by (is_incarnation i) plugs else 0
 abbrev pub lent_of : Incarnation → Incarnation → Frame → ℕ
 lent_of i h f = lent_by i (is_live f.lives h) (f.plugs h.slot.0)
 
--- whether a message goes from one actor's frame to another's
+-- whether a message goes from the frame of one incarnation to that of another
 abbrev pub goes_between : Incarnation → Incarnation → Option Endpoint → Endpoint → Bool
 goes_between a b (Some source) target =
     is_frame source && is_frame target && is_incarnation a (whose source) && is_incarnation b (whose target)
@@ -126,3 +128,11 @@ RunsKeepRows M =
     → (xs : List Placed) (end : World (Body M)) → RunsTo model t lines xs end
     → (c : ℕ) (i h : Incarnation) → is_imported t i.slot.0 ≡ true → container_of t i.slot.0 ≡ Some c → is_home t h.slot.0 ≡ true
     → IsInRow t end c i h
+
+-- over every run of the world: no import place stands twice among the plugs of a home
+abbrev pub RunsPlugOnce : Type 0 → Type 0
+RunsPlugOnce M =
+    (model : Behaviour M) (t : Tables) (lines : List Line) → IsOpen model → AreOpen lines
+    → PlacesAreLocal t → PlacesAreContained t
+    → (xs : List Placed) (end : World (Body M)) → RunsTo model t lines xs end
+    → (i h : Incarnation) → plugged t end i h ≤ 1
