@@ -110,7 +110,7 @@ pub record IsNamed {M : Type 0} (t : Tables) (w : World (Body M)) : Type 0 where
   pub tables : (c : ℕ) → TableIs t (WasCreated (last_at t w)) (w.controllers c).body.table
 
 -- every behaviour asks somehow
-ask_somehow : {M : Type 0} (model : Behaviour M) → AsksSo (λ x c. Unit {0}) model
+pub ask_somehow : {M : Type 0} (model : Behaviour M) → AsksSo (λ x c. Unit {0}) model
 ask_somehow model = record { begin = λ x. each (model.begin x).commands; handle = λ x machine m. each (model.handle x machine m).commands }
   where
     each : (cs : List Command) → AllAsk (λ (c : NameCommand). Unit {0}) cs
@@ -179,7 +179,7 @@ module _ {M : Type 0} (model : Behaviour M) (clear : IsOpen model) (t : Tables) 
           go true e = subst (λ (z : Body M). x.generation.0 ≤ z.frame.lives.generation x.slot.0) (sym after_body) below
           go false e = absurd cc
 
-      creates : TurnCreates t (WasCreated (last_at t After)) c (w.controllers c).body k.message (treat model t c (w.controllers c).body k.message)
+      pub creates : TurnCreates t (WasCreated (last_at t After)) c (w.controllers c).body k.message (treat model t c (w.controllers c).body k.message)
       creates =
           turn_creates t (WasCreated (last_at t After)) c (w.controllers c).body k.message _ turns_so
           (table_still t (last_at t w) (last_at t After) rise_after (w.controllers c).body.table (inv.tables c)) hand here_after
@@ -275,28 +275,29 @@ module _ {M : Type 0} (model : Behaviour M) (clear : IsOpen model) (t : Tables) 
   abbrev SentAt : ℕ → Lives → Links → List Msg → Links → Type 0
   SentAt c = SentHere t (WasCreated (last_at t Started)) c
 
-  pub start_named : IsNamed t Started
+  -- what a controller sends at its start
+  pub start_sent : (a : ℕ) → AllSent t (WasCreated (last_at t Started)) a (first_state model t a).outbox
   unfolding SentHere
-  start_named =
-      record {
-        foretold = start_foretold model clear t lines clear_lines;
-        named = λ a b.
-            subst (AllNamed t (last_at t Started) a b) (sym (fresh_trail a b (first_state model t a).outbox))
-            (sent_named t (last_at t Started) a b (first_state model t a).outbox (sent a));
-        tables = λ c. subst (TableIs t (WasCreated (last_at t Started))) (sym (start_table t c (λ x c. Unit {0}) (SentAt c) (sent_here t (WasCreated (last_at t Started)) c) model clear (ask_somehow model))) tt;
-      }
+  start_sent a =
+      start_asks t a (λ x c. Unit {0}) (SentAt a) (sent_here t (WasCreated (last_at t Started)) a) model clear (ask_somehow model) here
     where
-      here : (a : ℕ) → AreHere t (WasCreated (last_at t Started)) a (first_lives t a)
-      here a x own below =
+      here : AreHere t (WasCreated (last_at t Started)) a (first_lives t a)
+      here x own below =
           let same : owner_of t x.slot.0 ≡ a = own_owner t a x.slot.0 own in
           let lives : (first_state model t a).body.frame.lives ≡ first_lives t a =
           start_lives t a (λ x c. Unit {0}) (SentAt a) (sent_here t (WasCreated (last_at t Started)) a) model clear (ask_somehow model) in
           subst (λ n. x.generation.0 ≤ (first_state model t n).body.frame.lives.generation x.slot.0) (sym same)
           (subst (λ (z : Lives). x.generation.0 ≤ z.generation x.slot.0) (sym lives) below)
 
-      sent : (a : ℕ) → AllSent t (WasCreated (last_at t Started)) a (first_state model t a).outbox
-      sent a =
-          start_asks t a (λ x c. Unit {0}) (SentAt a) (sent_here t (WasCreated (last_at t Started)) a) model clear (ask_somehow model) (here a)
+  pub start_named : IsNamed t Started
+  start_named =
+      record {
+        foretold = start_foretold model clear t lines clear_lines;
+        named = λ a b.
+            subst (AllNamed t (last_at t Started) a b) (sym (fresh_trail a b (first_state model t a).outbox))
+            (sent_named t (last_at t Started) a b (first_state model t a).outbox (start_sent a));
+        tables = λ c. subst (TableIs t (WasCreated (last_at t Started))) (sym (start_table t c (λ x c. Unit {0}) (SentAt c) (sent_here t (WasCreated (last_at t Started)) c) model clear (ask_somehow model))) tt;
+      }
 
   pub runs_named : (xs : List Placed) (end : World (Body M)) → Runs (plant_of model t lines) (start (plant_of model t lines)) xs end → IsNamed t end
   runs_named xs end r = run_named xs (start (plant_of model t lines)) end start_named r

@@ -125,27 +125,44 @@ module _ (t : Tables) (Q : Incarnation → Type 0) where
   abbrev pub TableIs : NameTable → Type 0
   TableIs table = AllByRecursion ServiceIs table
 
+  -- what the table tells a point, which asks nobody
+  abbrev IsTold : Msg → Type 0
+  IsTold m = IsSent 0 m × (asker m ≡ None)
+
+  abbrev AllTold : List Msg → Type 0
+  AllTold ms = AllByRecursion IsTold ms
+
+  pub all_told_sent : (ms : List Msg) → AllTold ms → AllSent 0 ms
+  all_told_sent [] h = tt
+  all_told_sent (m ∷ ms) h = (h.0.0, all_told_sent ms h.1)
+
+  pub all_told_ask : (ms : List Msg) → AllTold ms → AllByRecursion (λ (m : Msg). asker m ≡ None) ms
+  all_told_ask [] h = tt
+  all_told_ask (m ∷ ms) h = (h.0.1, all_told_ask ms h.1)
+
   -- what the table tells a point of a peer
   told_sent : (kind : SysKind) (peer e : Endpoint) (payload : List ℤ) (m : Msg) → m.to.0 ≡ owner_of t e.slot.0 → asker m ≡ None → hearer m ≡ Some e → told_of m ≡ Some peer
-      → Q (whose peer) → Q (whose e) → IsSent 0 m
-  told_sent kind peer e payload m to none tells of q r =
-      record {
-        asks = λ x k. (let n : None ≡ Some x = sym none ∙ k in absurd cc);
-        tells = λ x k. (let n : Some e ≡ Some x = sym tells ∙ k in let same : e ≡ x = cc in
-            subst (λ (z : Endpoint). (◌≡◌ {A = ℕ} 0 0) × (owner_of t z.slot.0 ≡ m.to.0) × Q (whose z)) same (refl, sym to, r));
-        peers = λ x k. (let n : Some peer ≡ Some x = sym of ∙ k in let same : peer ≡ x = cc in subst (λ (z : Endpoint). Q (whose z)) same q);
-      }
+      → Q (whose peer) → Q (whose e) → IsTold m
+  told_sent kind peer e payload m to none tells of q r = (
+    record {
+      asks = λ x k. (let n : None ≡ Some x = sym none ∙ k in absurd cc);
+      tells = λ x k. (let n : Some e ≡ Some x = sym tells ∙ k in let same : e ≡ x = cc in
+          subst (λ (z : Endpoint). (◌≡◌ {A = ℕ} 0 0) × (owner_of t z.slot.0 ≡ m.to.0) × Q (whose z)) same (refl, sym to, r));
+      peers = λ x k. (let n : Some peer ≡ Some x = sym of ∙ k in let same : peer ≡ x = cc in subst (λ (z : Endpoint). Q (whose z)) same q);
+    },
+    none,
+  )
 
-  reply_sent : (e : Endpoint) (code : List ℤ) → Q (whose e) → IsSent 0 (name_reply_to t e code)
+  reply_sent : (e : Endpoint) (code : List ℤ) → Q (whose e) → IsTold (name_reply_to t e code)
   reply_sent e code q = told_sent kinds.NameReply e e code (name_reply_to t e code) refl refl refl refl q q
 
-  bound_sent : (provider : Endpoint) (k : ℕ) (user : Endpoint) → Q (whose provider) → Q (whose user) → AllSent 0 (both_told t kinds.Bound provider k user)
+  bound_sent : (provider : Endpoint) (k : ℕ) (user : Endpoint) → Q (whose provider) → Q (whose user) → AllTold (both_told t kinds.Bound provider k user)
   bound_sent provider k user q r = (
     told_sent kinds.Bound user (at_place provider k) [] _ refl refl refl refl r q,
     (told_sent kinds.Bound (at_place provider k) user [] _ refl refl refl refl q r, tt),
   )
 
-  ended_sent : (provider : Endpoint) (k : ℕ) (user : Endpoint) → Q (whose provider) → Q (whose user) → AllSent 0 (both_told t kinds.Ended provider k user)
+  ended_sent : (provider : Endpoint) (k : ℕ) (user : Endpoint) → Q (whose provider) → Q (whose user) → AllTold (both_told t kinds.Ended provider k user)
   ended_sent provider k user q r = (
     told_sent kinds.Ended user (at_place provider k) [] _ refl refl refl refl r q,
     (told_sent kinds.Ended (at_place provider k) user [] _ refl refl refl refl q r, tt),
@@ -153,13 +170,13 @@ module _ (t : Tables) (Q : Incarnation → Type 0) where
 
   -- what a step of a service, and of the table, leads to
   abbrev ServiceDone : Done Service → Type 0
-  ServiceDone r = ServiceIs r.now × AllSent 0 r.sent
+  ServiceDone r = ServiceIs r.now × AllTold r.sent
 
   abbrev TableDone : Done NameTable → Type 0
-  TableDone r = TableIs r.now × AllSent 0 r.sent
+  TableDone r = TableIs r.now × AllTold r.sent
 
   abbrev LinkingIs : Linking → Type 0
-  LinkingIs r = UsersAre r.users × AllSent 0 r.sent
+  LinkingIs r = UsersAre r.users × AllTold r.sent
 
   linked_is : (provider : Endpoint) (us : List User) (next : ℕ) → Q (whose provider) → UsersAre us → LinkingIs (linked_users t provider us next)
   linked_is provider [] next q h = (tt, tt)
@@ -169,7 +186,7 @@ module _ (t : Tables) (Q : Incarnation → Type 0) where
       go (Some k) rest = ((h.0, (rest next).0), (rest next).1)
       go None rest = (
         (h.0, (rest (next + 1)).0),
-        all_append (IsSent 0) (both_told t kinds.Bound provider next u.at) (linked_users t provider us (next + 1)).sent
+        all_append (IsTold) (both_told t kinds.Bound provider next u.at) (linked_users t provider us (next + 1)).sent
             (bound_sent provider next u.at q h.0) (rest (next + 1)).1,
       )
 
@@ -214,12 +231,12 @@ module _ (t : Tables) (Q : Incarnation → Type 0) where
       go true k = (let r = does s h.0 in ((r.0, h.1), r.1))
       go false k = ((h.0, k.0), k.1)
 
-  links_ended_is : (e : Endpoint) → Q (whose e) → (us : List User) → UsersAre us → AllSent 0 (links_ended t e us)
+  links_ended_is : (e : Endpoint) → Q (whose e) → (us : List User) → UsersAre us → AllTold (links_ended t e us)
   links_ended_is e q [] h = tt
   links_ended_is e q (u ∷ us) h =
-      all_append (IsSent 0) (link_ended t e u) (links_ended t e us) (go u.linked) (links_ended_is e q us h.1)
+      all_append (IsTold) (link_ended t e u) (links_ended t e us) (go u.linked) (links_ended_is e q us h.1)
     where
-      go : (o : Option ℕ) → AllSent 0 (option_map_or (λ k. both_told t kinds.Ended e k u.at) o [])
+      go : (o : Option ℕ) → AllTold (option_map_or (λ k. both_told t kinds.Ended e k u.at) o [])
       go None = tt
       go (Some k) = ended_sent e k u.at q h.0
 
@@ -230,7 +247,7 @@ module _ (t : Tables) (Q : Incarnation → Type 0) where
   leave_is : (e : Endpoint) → Q (whose e) → (s : Service) → ServiceIs s → ServiceDone (leave t e s)
   leave_is e q s h = go (is_provider e s)
     where
-      ends_for : (o : Option Provider) → ProviderIs o → AllSent 0 (user_ended t e o s.users)
+      ends_for : (o : Option Provider) → ProviderIs o → AllTold (user_ended t e o s.users)
       ends_for None k = tt
       ends_for (Some p) k = links_ended_is p.at k (filter (is_user e) s.users) (all_filter (λ (u : User). Q (whose u.at)) (is_user e) s.users h.1)
 
@@ -249,7 +266,7 @@ module _ (t : Tables) (Q : Incarnation → Type 0) where
           else (let r = withdraw t e rest in record { now = s ∷ r.now; sent = r.sent }))
       go true k =
           (let r = leave_is e q s h.0 in
-          ((r.0, h.1), all_append (IsSent 0) (leave t e s).sent (name_reply_to t e (pos 0 ∷ []) ∷ []) r.1 (reply_sent e (pos 0 ∷ []) q, tt)))
+          ((r.0, h.1), all_append (IsTold) (leave t e s).sent (name_reply_to t e (pos 0 ∷ []) ∷ []) r.1 (reply_sent e (pos 0 ∷ []) q, tt)))
       go false k = ((h.0, k.0), k.1)
 
   register_is : (e : Endpoint) → Q (whose e) → (name : ℕ) (table : NameTable) → TableIs table → TableDone (register t e name table)
@@ -264,8 +281,10 @@ module _ (t : Tables) (Q : Incarnation → Type 0) where
       go false x y h k = k
 
   -- the duties of the name table, which are controller 0's
-  abbrev DutyDone : ℕ → Done NameTable → Type 0
-  DutyDone me r = TableIs r.now × AllSent me r.sent
+  pub record DutyDone (me : ℕ) (r : Done NameTable) : Type 0 where
+    pub now : TableIs r.now
+    pub sent : AllSent me r.sent
+    pub asks : AllByRecursion (λ (m : Msg). asker m ≡ None) r.sent
 
   at_zero : (me : ℕ) (e target : Endpoint) → is_name_request t me e target ≡ true → 0 ≡ me
   at_zero me e target h =
@@ -277,8 +296,9 @@ module _ (t : Tables) (Q : Incarnation → Type 0) where
       → (b : Bool) → is_name_request t me e target ≡ b → DutyDone me (if b then r else same_table table)
   requested me e target r table h k true is =
       let zero : 0 ≡ me = at_zero me e target is in
-      let d = k zero in (d.0, subst (λ n. AllSent n r.sent) zero d.1)
-  requested me e target r table h k false is = (h, tt)
+      let d = k zero in
+      record { now = d.0; sent = subst (λ n. AllSent n r.sent) zero (all_told_sent r.sent d.1); asks = all_told_ask r.sent d.1 }
+  requested me e target r table h k false is = record { now = h; sent = tt; asks = tt }
 
   table_of_is : (me : ℕ) (table : NameTable) (k : SysKind) (e target : Endpoint) (payload : List ℤ) → TableIs table
       → ((x : Endpoint) → asker_by (Some k) (Some e) ≡ Some x → Q (whose x)) → DutyDone me (table_duty_of t me table k e target payload)
@@ -286,14 +306,14 @@ module _ (t : Tables) (Q : Incarnation → Type 0) where
       requested me e target (register t e name table) table h (λ z. register_is e (q e refl) name table h) (is_name_request t me e target) refl
   table_of_is me table kinds.Withdraw e target [] h q =
       requested me e target (withdraw t e table) table h (λ z. withdraw_is e (q e refl) table h) (is_name_request t me e target) refl
-  table_of_is me table _ e target _ h q = (h, tt)
+  table_of_is me table _ e target _ h q = record { now = h; sent = tt; asks = tt }
 
   table_from_is : (me : ℕ) (table : NameTable) (k : SysKind) (o : Option Endpoint) (m : Msg) → TableIs table
       → ((x : Endpoint) → asker_by (Some k) o ≡ Some x → Q (whose x)) → DutyDone me (table_duty_from t me table k o m)
-  table_from_is me table k None m h q = (h, tt)
+  table_from_is me table k None m h q = record { now = h; sent = tt; asks = tt }
   table_from_is me table k (Some e) m h q = table_of_is me table k e m.target m.payload h q
 
-  table_is : (me : ℕ) (table : NameTable) (k : SysKind) (m : Msg) → TableIs table
+  pub table_is : (me : ℕ) (table : NameTable) (k : SysKind) (m : Msg) → TableIs table
       → ((x : Endpoint) → asker_by (Some k) m.source ≡ Some x → Q (whose x)) → DutyDone me (table_duty t me table k m)
   unfolding table_duty
   table_is me table k m h q = table_from_is me table k m.source m h q
@@ -409,8 +429,8 @@ module _ (t : Tables) (Q : Incarnation → Type 0) where
       turn_creates r (treats kind test is body sent) h hand here =
           let k = table_is me b.table kind m h (λ e q. hand e (asker_of kind is e q)) in
           record {
-            sent = subst (AllSent me) (sym sent) k.1;
-            table = subst (λ (z : Body M). TableIs z.table) (sym body) k.0;
+            sent = subst (AllSent me) (sym sent) k.sent;
+            table = subst (λ (z : Body M). TableIs z.table) (sym body) k.now;
           }
       turn_creates r (hears kind test is body sent) h hand here =
           record {
@@ -435,3 +455,19 @@ module _ (t : Tables) (Q : Incarnation → Type 0) where
       turn_rises Asks R r (hears kind test is body sent) s = subst (λ (z : Body M). b.frame.lives.generation s ≤ z.frame.lives.generation s) (sym body) (omega arith)
       turn_rises Asks R r (leads d apart deals off f) s =
           subst (λ (z : Lives). b.frame.lives.generation s ≤ z.generation s) (sym f.lives) (lives_rise d deals.lives s)
+
+-- what a name table sends asks nobody
+pub table_asks : (t : Tables) (me : ℕ) (table : NameTable) (k : SysKind) (m : Msg) → AllByRecursion (λ (m : Msg). asker m ≡ None) (table_duty t me table k m).sent
+table_asks t me table k m = (table_is t (λ x. Unit {0}) me table k m (each table) (λ x q. tt)).asks
+  where
+    users : (us : List User) → UsersAre t (λ x. Unit {0}) us
+    users [] = tt
+    users (u ∷ us) = (tt, users us)
+
+    provider : (o : Option Provider) → ProviderIs t (λ x. Unit {0}) o
+    provider None = tt
+    provider (Some p) = tt
+
+    each : (table : NameTable) → TableIs t (λ x. Unit {0}) table
+    each [] = tt
+    each (s ∷ table) = ((provider s.provider, users s.users), each table)

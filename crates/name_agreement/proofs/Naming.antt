@@ -1,6 +1,6 @@
 -- A turn, for the layer service, is a duty of its own; or actors come up or go down, and actors that live
 -- here ask: whatever holds of what they ask, one after another, holds of the turn.
-use Rattle.std.proofs.Common.{◌≡◌, ℕ, ◌==◌, ◌&&◌, ◌||◌, Bool, true, false, not, if◌then◌else◌, List, [], ◌∷◌, ◌++◌, map, filter, slice_get, Option, Some, None, ℤ, pos, refl, sym, ap, ◌∙◌, subst, append-nil, append_assoc, eq-eqb}
+use Rattle.std.proofs.Common.{◌≡◌, ◌⊎◌, inl, inr, ℕ, ◌==◌, ◌&&◌, ◌||◌, Bool, true, false, not, if◌then◌else◌, List, [], ◌∷◌, ◌++◌, map, filter, slice_get, Option, Some, None, ℤ, pos, refl, sym, ap, ◌∙◌, subst, append-nil, append_assoc, eq-eqb}
 use Rattle.std.specs.List.{AllByRecursion}
 use Rattle.std.proofs.lemmas.Bool.{and_parts}
 use Rattle.room_kinds.specs.declared.message.Msg.{Msg}
@@ -181,6 +181,8 @@ module _ {M : Type 0} (t : Tables) (me : ℕ) (Asks : Incarnation → NameComman
     pub lives : next.frame.lives ≡ r.frame.lives
     pub table : next.table ≡ b.table
     pub off : AllOffNames last
+    -- where actors ended none came up
+    pub alone : (r.ended ≡ []) ⊎ ((asked ≡ []) × (links ≡ b.links))
 
   -- what a turn does, for the layer service: the name table treats its message; registrations and links hear
   -- it; or it isn't on names
@@ -293,28 +295,63 @@ module _ {M : Type 0} (t : Tables) (me : ℕ) (Asks : Incarnation → NameComman
       closed_off None h = tt
       closed_off (Some m) h = (h, tt)
 
-      frame_follows : (b : Body M) (r : FrameDone) → AllByRecursion (IsHere t me r.frame.lives) r.made → IsOffLast r.last
-          → Follows b r (with_frame model t me b r).sent (with_frame model t me b r).body
-      frame_follows b r made last =
-          let first : Doing M = record (doing b) { body = record b { frame = r.frame }; sent = r.sent } in
-          let middle : Doing M = all_begun model t me r.made first in
-          let final : Doing M = all_gone t me r.ended middle in
-          let begins = all_begun_walks r.made first made in
-          let down = all_gone_ends r.ended middle in
-          record {
-            asked = begins.more;
-            links = middle.body.links;
-            last = closed r.last;
-            sends = closing_sent final r.last
-                ∙ ap (λ (z : List Msg). z ++ closed r.last) (down.sent ∙ ap (λ (z : List Msg). z ++ (all_ended t me r.ended middle.body.links).sent) begins.sent)
-                ∙ append_assoc (r.sent ++ begins.more) (all_ended t me r.ended middle.body.links).sent (closed r.last)
-                ∙ append_assoc r.sent begins.more ((all_ended t me r.ended middle.body.links).sent ++ closed r.last);
-            asks = begins.does;
-            after = ap (λ (z : Body M). z.links) (closing_body final r.last) ∙ down.links;
-            lives = ap (λ (z : Body M). z.frame.lives) (closing_body final r.last) ∙ down.lives ∙ begins.lives;
-            table = ap (λ (z : Body M). z.table) (closing_body final r.last) ∙ down.table ∙ begins.table;
-            off = closed_off r.last last;
-          }
+      module _ (b : Body M) (r : FrameDone) (last : IsOffLast r.last) where
+        -- the actors that are made, and after them those that end
+        abbrev Final : List Incarnation → Doing M
+        Final made = closing (all_gone t me r.ended (all_begun model t me made (record (doing b) { body = record b { frame = r.frame }; sent = r.sent }))) r.last
+
+        -- none ends
+        made_follows : AllByRecursion (IsHere t me r.frame.lives) r.made → r.ended ≡ [] → Follows b r (Final r.made).sent (Final r.made).body
+        made_follows made ended =
+            let start : Doing M = record (doing b) { body = record b { frame = r.frame }; sent = r.sent } in
+            let middle : Doing M = all_begun model t me r.made start in
+            let final : Doing M = all_gone t me r.ended middle in
+            let begins = all_begun_walks r.made start made in
+            let down = all_gone_ends r.ended middle in
+            record {
+              asked = begins.more;
+              links = middle.body.links;
+              last = closed r.last;
+              sends = closing_sent final r.last
+                  ∙ ap (λ (z : List Msg). z ++ closed r.last) (down.sent ∙ ap (λ (z : List Msg). z ++ (all_ended t me r.ended middle.body.links).sent) begins.sent)
+                  ∙ append_assoc (r.sent ++ begins.more) (all_ended t me r.ended middle.body.links).sent (closed r.last)
+                  ∙ append_assoc r.sent begins.more ((all_ended t me r.ended middle.body.links).sent ++ closed r.last);
+              asks = begins.does;
+              after = ap (λ (z : Body M). z.links) (closing_body final r.last) ∙ down.links;
+              lives = ap (λ (z : Body M). z.frame.lives) (closing_body final r.last) ∙ down.lives ∙ begins.lives;
+              table = ap (λ (z : Body M). z.table) (closing_body final r.last) ∙ down.table ∙ begins.table;
+              off = closed_off r.last last;
+              alone = inl ended;
+            }
+
+        -- none is made
+        ended_follows : r.made ≡ [] → Follows b r (Final r.made).sent (Final r.made).body
+        ended_follows none = subst (λ xs. Follows b r (Final xs).sent (Final xs).body) (sym none) here
+          where
+            here : Follows b r (Final []).sent (Final []).body
+            here =
+                let start : Doing M = record (doing b) { body = record b { frame = r.frame }; sent = r.sent } in
+                let final : Doing M = all_gone t me r.ended start in
+                let down = all_gone_ends r.ended start in
+                record {
+                  asked = [];
+                  links = b.links;
+                  last = closed r.last;
+                  sends = closing_sent final r.last
+                      ∙ ap (λ (z : List Msg). z ++ closed r.last) down.sent
+                      ∙ append_assoc r.sent (all_ended t me r.ended b.links).sent (closed r.last);
+                  asks = walk.off r.frame.lives b.links [] tt;
+                  after = ap (λ (z : Body M). z.links) (closing_body final r.last) ∙ down.links;
+                  lives = ap (λ (z : Body M). z.frame.lives) (closing_body final r.last) ∙ down.lives;
+                  table = ap (λ (z : Body M). z.table) (closing_body final r.last) ∙ down.table;
+                  off = closed_off r.last last;
+                  alone = inr (refl, refl);
+                }
+
+        frame_follows : AllByRecursion (IsHere t me r.frame.lives) r.made → LivesBy t me b.frame.lives r → Follows b r (with_frame model t me b r).sent (with_frame model t me b r).body
+        frame_follows made (stays same none ended) = made_follows made ended
+        frame_follows made (makes o same up ended) = made_follows made ended
+        frame_follows made (ends o same none ended) = ended_follows none
 
       module _ (b : Body M) (m : Msg) where
         -- what is done by a turn
@@ -325,7 +362,7 @@ module _ {M : Type 0} (t : Tables) (me : ℕ) (Asks : Incarnation → NameComman
         of_frame kind apart =
             let deals = frame_duty_deals t me b.frame m kind in
             leads (frame_duty t me b.frame kind m) apart deals (frame_duty_off t me b.frame m kind)
-            (frame_follows b (frame_duty t me b.frame kind m) (frame_duty_makes t me b.frame m kind).made deals.last)
+            (frame_follows b (frame_duty t me b.frame kind m) deals.last (frame_duty_makes t me b.frame m kind).made deals.lives)
 
         duty_turns : (kind : SysKind) → IsOf m kind → TurnsInto (treated (duty model t me b m kind) did.Duty)
         duty_turns kinds.Register is = treats kinds.Register refl is refl refl
@@ -363,6 +400,7 @@ module _ {M : Type 0} (t : Tables) (me : ℕ) (Asks : Incarnation → NameComman
               lives = same;
               table = table;
               off = tt;
+              alone = inl refl;
             })
 
         nobody_turns : IsOffNames m → TurnsInto (nobody_there b m)

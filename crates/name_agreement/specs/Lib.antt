@@ -1,3 +1,5 @@
 pub mod Asking
 pub mod Created
+pub mod Registrations
+pub mod Links
 pub mod Unjoined
