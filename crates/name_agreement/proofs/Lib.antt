@@ -18,3 +18,4 @@ pub mod Owning
 pub mod LinkRuns
 pub mod LinkAgreeing
 pub mod LinkLaws
+pub mod Unjoined

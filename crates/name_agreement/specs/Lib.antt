@@ -2,3 +2,4 @@ pub mod Asking
 pub mod Created
 pub mod Registrations
 pub mod Links
+pub mod Unjoined

@@ -2,6 +2,7 @@
 
 ghost use Rattle.name_agreement.specs.Created.{RunsNameTheCreated};
 ghost use Rattle.name_agreement.specs.Registrations.{RunsKeepRows, QuietRegistrationsSettle};
+ghost use Rattle.name_agreement.specs.Unjoined.{RunsLeaveJoinedUnnamed};
 
 /// At every moment, what is on its way between service points and the name table goes between the
 /// point's controller and controller 0; and every endpoint that it names, or that stands in the table, is
@@ -24,4 +25,9 @@ pub fn registrations_are_in_rows<M>()
 /// owner is a controller.
 pub fn registrations_settle<M>()
     ensures { QuietRegistrationsSettle M }
+{}
+
+/// At every moment, a service access point that the model joins is neither registered nor asks for a name.
+pub fn joined_users_have_no_name<M>()
+    ensures { RunsLeaveJoinedUnnamed M }
 {}

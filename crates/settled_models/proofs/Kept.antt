@@ -99,13 +99,18 @@ module _ (m : ModelTree) (few : has_few_parts m ≡ true) where
       pick true here more k = subst (λ z. g (h z) ≡ true) (same_Some x s k) here
       pick false here more k = more k
 
-  wired_all : {Y : Type 0} (g : Y → Bool) (h : SubsystemTree → Y) (s : SubsystemTree) → list_all g (map h (subsystems m)) ≡ true
+  pub wired_all : {Y : Type 0} (g : Y → Bool) (h : SubsystemTree → Y) (s : SubsystemTree) → list_all g (map h (subsystems m)) ≡ true
       → (o : Option (List ℕ)) → option_map_or (λ name. first_named name (subsystems m)) o None ≡ Some s → g (h s) ≡ true
   wired_all g h s all None e = absurd cc
   wired_all g h s all (Some n) e = named_all g h n (subsystems m) s all e
 
   abbrev seen : SubsystemTree → WiredTree
   seen s = record { items = s.items; container = subsystem_container (actor_names m) s }
+
+  pub planned_here : (s : SubsystemTree) → wired_subsystem m ≡ Some s → (plan_of m).subsystem.references ≡ map reference_plan (subsystem_container (actor_names m) s).references
+  unfolding plan_of
+  planned_here s e =
+      ap (λ (o : Option SubsystemTree). (option_map_or (λ (x : SubsystemTree). subsystem_plan (tables_of m).actors (subsystem_container (actor_names m) x) x.items) o no_plan).references) e
 
   module _ (known : mappings_are_known m ≡ true) (allowed : mappings_are_allowed m ≡ true) where
     known_here : (s : SubsystemTree) → wired_subsystem m ≡ Some s → subsystem_known (tables_of m).actors (wired_here (actor_names m) s) ≡ true
@@ -115,11 +120,6 @@ module _ (m : ModelTree) (few : has_few_parts m ≡ true) where
     allowed_here : (s : SubsystemTree) → wired_subsystem m ≡ Some s → subsystem_allowed (tables_of m).actors (wired_here (actor_names m) s) ≡ true
     unfolding mappings_are_allowed tables_with class_names
     allowed_here s e = wired_all (subsystem_allowed (tables_of m).actors) (wired_here (actor_names m)) s allowed (wired_name (systems m)) e
-
-    planned_here : (s : SubsystemTree) → wired_subsystem m ≡ Some s → (plan_of m).subsystem.references ≡ map reference_plan (subsystem_container (actor_names m) s).references
-    unfolding plan_of
-    planned_here s e =
-        ap (λ (o : Option SubsystemTree). (option_map_or (λ (x : SubsystemTree). subsystem_plan (tables_of m).actors (subsystem_container (actor_names m) x) x.items) o no_plan).references) e
 
     pub model_ends : Each (EndsWell (plan_of m)) (wired_names m).mappings
     unfolding wired_names

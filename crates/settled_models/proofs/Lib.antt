@@ -9,3 +9,9 @@ mod Plans
 mod Models
 mod Wired
 pub mod Runs
+mod Chains
+mod Located
+mod Owners
+mod Joins
+mod Ports
+mod Mutual

@@ -116,16 +116,16 @@ module _ (plan : StructurePlan) (mappings : List MappingPlan) where
 -- ---- slots
 
 -- these slots have the numbers from n on
-abbrev Stand : Tables → ℕ → List Slot → Type 0
+abbrev pub Stand : Tables → ℕ → List Slot → Type 0
 Stand t n [] = Unit {0}
 Stand t n (x ∷ xs) = (slot_at t n ≡ Some x) × Stand t (n + 1) xs
 
-all_stand : (t : Tables) (n : ℕ) (xs : List Slot) → ((i : ℕ) → slot_at t (n + i) ≡ slice_get xs i) → Stand t n xs
+pub all_stand : (t : Tables) (n : ℕ) (xs : List Slot) → ((i : ℕ) → slot_at t (n + i) ≡ slice_get xs i) → Stand t n xs
 all_stand t n [] h = tt
 all_stand t n (x ∷ xs) h =
     (subst (λ k. slot_at t k ≡ Some x) (omega arith) (h 0), all_stand t (n + 1) xs (λ i. subst (λ k. slot_at t k ≡ slice_get xs i) (omega arith) (h (suc i))))
 
-stand_both : (t : Tables) (n : ℕ) (xs ys : List Slot) → Stand t n (xs ++ ys) → Stand t n xs × Stand t (n + length xs) ys
+pub stand_both : (t : Tables) (n : ℕ) (xs ys : List Slot) → Stand t n (xs ++ ys) → Stand t n xs × Stand t (n + length xs) ys
 stand_both t n [] ys h = (tt, subst (λ k. Stand t k ys) (omega arith) h)
 stand_both t n (x ∷ xs) ys h =
     let rest = stand_both t (n + 1) xs ys h.1 in
@@ -140,7 +140,7 @@ abbrev Good : Tables → Slot → Type 0
 Good t x = is_optional_kind x.kind ≡ true → (c : ℕ) → container_number x ≡ Some c → (owner_in t c == x.owner.0) ≡ false → lives_from_start t c ≡ true
 
 -- the number of what is above
-abbrev number_above : Above → Option ℕ
+abbrev pub number_above : Above → Option ℕ
 number_above above = option_map_or (λ (s : SlotId). Some s.0) above.parent None
 
 module _ (t : Tables) (plan : StructurePlan) (names : SlotNames) (mappings : List MappingPlan) where

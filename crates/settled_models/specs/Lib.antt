@@ -1,3 +1,4 @@
 pub mod Agreeing
 pub mod Living
 pub mod Open
+pub mod Wirings

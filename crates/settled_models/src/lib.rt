@@ -5,6 +5,8 @@
 //! No code: the laws.
 #![tactic(auto)]
 
+pub mod wirings;
+
 ghost use Rattle.settled_models.specs.Agreeing.{ModelRunsAgree};
 ghost use Rattle.settled_models.specs.Living.{OthersLive};
 ghost use Rattle.settled_models.specs.Open.{ChartsAreOpen};

@@ -97,7 +97,7 @@ module _ {M : Type 0} (model : Behaviour M) (clear : IsOpen model) (t : Tables) 
               (all_append (IsRouted t a b) (trail w a b) (comes (world_after model t lines w c e next) c e a b) (inv.routed a b) (step_routed e next h a b)));
         }
 
-  step_lends : (w : World (Body M)) (x : Placed) (next : World (Body M)) → IsLending t w → Happened (plant_of model t lines) w x next → IsLending t next
+  pub step_lends : (w : World (Body M)) (x : Placed) (next : World (Body M)) → IsLending t w → Happened (plant_of model t lines) w x next → IsLending t next
   step_lends w x next inv (controller below s does same) = subst (IsLending t) (sym same) (controller_lends w inv x.party below x.entry s does)
   step_lends w x next inv (environment is v does same) =
       subst (IsLending t) (sym same)
@@ -110,7 +110,7 @@ module _ {M : Type 0} (model : Behaviour M) (clear : IsOpen model) (t : Tables) 
   run_lends [] w end inv r = subst (IsLending t) (sym r) inv
   run_lends (x ∷ xs) w end inv r = run_lends xs r.0 end (step_lends w x r.0 inv (happened (plant_of model t lines) w x r.0 r.2)) r.3
 
-  start_lends : IsLending t (start (plant_of model t lines))
+  pub start_lends : IsLending t (start (plant_of model t lines))
   start_lends =
       record {
         foretold = start_foretold model clear t lines clear_lines;

@@ -19,3 +19,13 @@ pub mod Routing
 pub mod Lending
 pub mod Keeping
 pub mod Waiting
+pub mod Mutual
+pub mod Pairing
+pub mod Counting
+pub mod Emitting
+pub mod Tying
+pub mod Plugging
+pub mod Standing
+pub mod Holding
+pub mod Alike
+pub mod Fitting

@@ -1,11 +1,12 @@
 -- What holds of the lives of one controller at every moment.
-use Rattle.std.proofs.Common.{◌≡◌, ℕ, ◌≤◌, ◌==◌, ◌&&◌, ◌||◌, Bool, true, false, not, if◌then◌else◌, Some, refl, sym, ◌∙◌, subst, eqb-true, arith, ◌⊎◌, inl, inr}
-use Rattle.std.proofs.lemmas.Bool.{and_parts, and_from}
+use Rattle.std.proofs.Common.{◌≡◌, ℕ, zero, suc, ◌≤◌, ◌==◌, ◌&&◌, ◌||◌, Bool, true, false, not, if◌then◌else◌, length, Some, refl, sym, ap, ◌∙◌, subst, eqb-true, arith, ◌⊎◌, inl, inr}
+use Rattle.std.specs.Option.{option_map_or}
+use Rattle.std.proofs.lemmas.Bool.{and_parts, and_from, or_cases}
 use Rattle.room_wiring.specs.declared.tables.Tables.{Tables}
-use Rattle.actor_duties.specs.Words.{is_own, is_optional, container_of}
+use Rattle.actor_duties.specs.Words.{is_own, is_fixed, is_optional, is_home, container_of}
 use Rattle.actor_duties.specs.State.{Lives}
-use Rattle.actor_duties.specs.Lives.{is_made_with, comes_up, is_reached, ends_by, goes_down, lives_made, lives_ended}
-use Rattle.actor_world.specs.Start.{lives_from_start, first_lives}
+use Rattle.actor_duties.specs.Lives.{is_made_within, is_made_with, comes_up, is_reached, ends_by, goes_down, lives_made, lives_ended}
+use Rattle.actor_world.specs.Start.{is_fixed_up, lives_from_start, first_lives}
 use Rattle.actor_world.proofs.LifeSteps.{IsSound, made_sound, ended_sound}
 use Rattle.service_messages.specs.slot_runs.Runs.{IsDepthFirst}
 use Rattle.service_messages.proofs.slot_runs.RunLemmas.{false_from, not_true_false}
@@ -30,6 +31,42 @@ pub record IsWhole (t : Tables) (me : ℕ) (l : Lives) : Type 0 where
   pub firsts : (s : ℕ) → is_own t me s ≡ true → lives_from_start t s ≡ true → l.lives s ≡ true
   -- a live optional slot has a live container, if the controller owns it
   pub containers : (s c : ℕ) → is_own t me s ≡ true → is_own t me c ≡ true → is_optional t s ≡ true → container_of t s ≡ Some c → l.lives s ≡ true → l.lives c ≡ true
+  -- only fixed and optional slots live
+  pub homes : (s : ℕ) → l.lives s ≡ true → is_home t s ≡ true
+
+fixed_home : (t : Tables) (s : ℕ) → is_fixed t s ≡ true → is_home t s ≡ true
+fixed_home t s h = ap (λ b. b || is_optional t s) h
+
+optional_home : (t : Tables) (s : ℕ) → is_optional t s ≡ true → is_home t s ≡ true
+optional_home t s h = go (is_fixed t s) (is_optional t s) h
+  where
+    go : (a b : Bool) → b ≡ true → (a || b) ≡ true
+    go true b e = refl
+    go false b e = e
+
+-- what is made with an optional slot is fixed, or is that slot
+made_home : (t : Tables) (o s : ℕ) → is_optional t o ≡ true → is_made_with t o s ≡ true → is_home t s ≡ true
+unfolding is_made_with
+made_home t o s opt made = go (length t.slots) made
+  where
+    here : (s == o) ≡ true → is_home t s ≡ true
+    here e = optional_home t s (subst (λ n. is_optional t n ≡ true) (sym (eqb-true s o e)) opt)
+
+    go : (up : ℕ) → is_made_within t o up s ≡ true → is_home t s ≡ true
+    go zero e = here e
+    go (suc up) e = elim (or_cases (s == o) (is_fixed t s && option_map_or (λ c. is_made_within t o up c) (container_of t s) false) e) [
+      | inl same ↦ here same
+      | inr fixed ↦ fixed_home t s (and_parts (is_fixed t s) (option_map_or (λ c. is_made_within t o up c) (container_of t s) false) fixed).0
+    ]
+
+-- what lives from the start is fixed
+from_start_home : (t : Tables) (s : ℕ) → lives_from_start t s ≡ true → is_home t s ≡ true
+unfolding lives_from_start
+from_start_home t s h = fixed_home t s (go (length t.slots) h)
+  where
+    go : (up : ℕ) → is_fixed_up t up s ≡ true → is_fixed t s ≡ true
+    go zero e = e
+    go (suc up) e = (and_parts (is_fixed t s) (option_map_or (λ c. is_fixed_up t up c) (container_of t s) true) e).0
 
 -- at a controller that doesn't own a slot, nobody lives there
 pub not_own_dead : (t : Tables) (me : ℕ) (l : Lives) (s : ℕ) → IsSound t me l → is_own t me s ≡ false → l.lives s ≡ false
@@ -58,6 +95,11 @@ module _ (t : Tables) (me : ℕ) (l : Lives) where
       go : (b : Bool) → (not b && b) ≡ false
       go true = refl
       go false = refl
+
+  -- who lives after an end lived before it
+  ended_lived : (p s : ℕ) → (lives_ended t me p l).lives s ≡ true → l.lives s ≡ true
+  unfolding lives_ended
+  ended_lived p s live = (and_parts (not (goes_down t me l p s)) (l.lives s) live).1
 
   pub ended_stays : (p s : ℕ) → is_reached t me l p s ≡ false → (lives_ended t me p l).lives s ≡ l.lives s
   unfolding lives_ended goes_down
@@ -92,8 +134,13 @@ module _ (t : Tables) (first : IsDepthFirst t) (me : ℕ) (l : Lives) (h : IsWho
         bodies = λ o s a b own made. body o s a b own made (one_or_other p o);
         firsts = λ s own f. made_stays t me l p s (first_not_made t p s opt f) ∙ h.firsts s own f;
         containers = λ s c own other a is live. holds s c own other a is live (one_or_other p s);
+        homes = λ s live. home s live (is_made_with t p s) refl;
       }
     where
+      home : (s : ℕ) → (lives_made t me p l).lives s ≡ true → (b : Bool) → is_made_with t p s ≡ b → is_home t s ≡ true
+      home s live true e = made_home t p s opt e
+      home s live false e = h.homes s (sym (made_stays t me l p s e) ∙ live)
+
       body : (o s : ℕ) → is_optional t o ≡ true → is_own t me o ≡ true → is_own t me s ≡ true → is_made_with t o s ≡ true
           → ((p == o) ≡ true) ⊎ ((p == o) ≡ false) → (lives_made t me p l).lives s ≡ (lives_made t me p l).lives o
       body o s a b own made (inl e) =
@@ -126,6 +173,7 @@ module _ (t : Tables) (first : IsDepthFirst t) (me : ℕ) (l : Lives) (h : IsWho
         bodies = λ o s a b own made. body o s a b own made (reached_or_not p o);
         firsts = λ s own f. ended_stays t me l p s (first_not_reached t me l p s opt f) ∙ h.firsts s own f;
         containers = λ s c own other a is live. holds s c own other a is live (reached_or_not p s);
+        homes = λ s live. h.homes s (ended_lived t me l p s live);
       }
     where
       body : (o s : ℕ) → is_optional t o ≡ true → is_own t me o ≡ true → is_own t me s ≡ true → is_made_with t o s ≡ true
@@ -173,6 +221,7 @@ first_whole t me =
       firsts = λ s own f. and_from (is_own t me s) (lives_from_start t s) own f;
       containers = λ s c own other a is live.
           absurd (not_true_false (is_made_with t s s) (made_itself t s) (first_not_made t s s a (and_parts (is_own t me s) (lives_from_start t s) live).1));
+      homes = λ s live. from_start_home t s (and_parts (is_own t me s) (lives_from_start t s) live).1;
     }
   where
     none : (s : ℕ) → lives_from_start t s ≡ false → (is_own t me s && lives_from_start t s) ≡ false

@@ -94,11 +94,11 @@ abbrev posted : Msg → ℕ → Stamp → Msg
 posted m a stamp = record m { from = record { 0 = a }; stamp = stamp }
 
 -- what lives stands in its generation
-live_generation : (l : Lives) (x : Incarnation) → is_live l x ≡ true → l.generation x.slot.0 ≡ x.generation.0
+pub live_generation : (l : Lives) (x : Incarnation) → is_live l x ≡ true → l.generation x.slot.0 ≡ x.generation.0
 live_generation l x e = eqb-true (l.generation x.slot.0) x.generation.0 (and_parts (l.lives x.slot.0) (l.generation x.slot.0 == x.generation.0) e).1
 
 -- what comes up was vacant
-vacant : (t : Tables) (me o c : ℕ) (l : Lives) → comes_up t me l o c ≡ true → l.lives c ≡ false
+pub vacant : (t : Tables) (me o c : ℕ) (l : Lives) → comes_up t me l o c ≡ true → l.lives c ≡ false
 unfolding comes_up
 vacant t me o c l up = denied (l.lives c) (and_parts (is_own t me c) (not (l.lives c)) (and_parts (is_made_with t o c) (is_own t me c && not (l.lives c)) up).1).1
   where
@@ -358,7 +358,7 @@ module _ (t : Tables) (wait : Wait) (s c : ℕ) (imported : is_imported t s ≡ 
       start_waits = (start_walks t me WaitsSo waits_so model clear (first_lends t me)).1
 
 -- a slot that is imported, or one of homes, is its owner's
-own_imported : (t : Tables) (s : ℕ) → is_imported t s ≡ true → is_own t (owner_of t s) s ≡ true
+pub own_imported : (t : Tables) (s : ℕ) → is_imported t s ≡ true → is_own t (owner_of t s) s ≡ true
 unfolding is_imported is_own owner_of
 own_imported t s h = go (slot_at t s) h
   where
@@ -367,7 +367,7 @@ own_imported t s h = go (slot_at t s) h
     go None k = absurd cc
     go (Some x) k = eq-eqb x.owner.0 x.owner.0 refl
 
-own_home : (t : Tables) (s : ℕ) → is_home t s ≡ true → is_own t (owner_of t s) s ≡ true
+pub own_home : (t : Tables) (s : ℕ) → is_home t s ≡ true → is_own t (owner_of t s) s ≡ true
 unfolding is_fixed is_optional is_own owner_of
 own_home t s h = go (slot_at t s) h
   where

@@ -215,88 +215,105 @@ module _ {M : Type 0} (t : Tables) (me : ℕ) (R : Frame → List Msg → Frame 
     closing_walks d None h = stands d d [] (sym (append-nil d.sent)) refl tt
     closing_walks d (Some m) h = stands d _ (m ∷ []) refl refl (h, tt)
 
-    -- a duty of the frame service, and what follows it
-    frame_walks : (b : Body M) (r : FrameDone) → Makes t me r → R b.frame r.sent r.frame → R b.frame (with_frame model t me b r).sent (with_frame model t me b r).body.frame
-    frame_walks b r made does =
-        let begins = all_begun_walks r.made (record (doing b) { body = record b { frame = r.frame }; sent = r.sent }) made.made in
-        let k = goes_on _ _ _ (goes_on _ _ _ begins (all_gone_walks r.ended _)) (closing_walks _ r.last made.last) in
-        subst (λ (z : List Msg). R b.frame z (with_frame model t me b r).body.frame) (sym k.sent)
-        (walk.two b.frame r.frame (with_frame model t me b r).body.frame r.sent k.more does k.does)
+    -- a turn as a whole: what its message makes the frame service do at first, and then what follows
+    module _ (Q : Frame → List Msg → Frame → Type 0) (on : (f g h : Frame) (a b : List Msg) → Q f a g → R g b h → Q f (a ++ b) h) where
+      -- a duty of the frame service, and what follows it
+      frame_walks : (b : Body M) (r : FrameDone) → Makes t me r → Q b.frame r.sent r.frame → Q b.frame (with_frame model t me b r).sent (with_frame model t me b r).body.frame
+      frame_walks b r made does =
+          let begins = all_begun_walks r.made (record (doing b) { body = record b { frame = r.frame }; sent = r.sent }) made.made in
+          let k = goes_on _ _ _ (goes_on _ _ _ begins (all_gone_walks r.ended _)) (closing_walks _ r.last made.last) in
+          subst (λ (z : List Msg). Q b.frame z (with_frame model t me b r).body.frame) (sym k.sent)
+          (on b.frame r.frame (with_frame model t me b r).body.frame r.sent k.more does k.does)
 
-    module _ (b : Body M) (m : Msg) where
-      -- the duty of a kind is so
-      abbrev pub Duty : SysKind → Type 0
-      Duty kind = R b.frame (frame_duty t me b.frame kind m).sent (frame_duty t me b.frame kind m).frame
+      module _ (b : Body M) (m : Msg) (idle : IsOffLoan m → Q b.frame [] b.frame) where
+        -- the duty of a kind is so
+        abbrev pub Duty : SysKind → Type 0
+        Duty kind = Q b.frame (frame_duty t me b.frame kind m).sent (frame_duty t me b.frame kind m).frame
 
-      -- each duty of the frame service is so
-      abbrev pub AreDuties : Type 0
-      AreDuties = (m.prio.0 == 0) ≡ true → (kind : SysKind) → slice_get all_kinds m.signal ≡ Some kind → Duty kind
+        -- each duty of the frame service is so
+        abbrev pub AreDuties : Type 0
+        AreDuties = (m.prio.0 == 0) ≡ true → (kind : SysKind) → slice_get all_kinds m.signal ≡ Some kind → Duty kind
 
-      duty_walks : (kind : SysKind) → Duty kind → R b.frame (duty model t me b m kind).sent (duty model t me b m kind).body.frame
-      duty_walks kinds.Register h = walk.off b.frame _ (off_table t me b.table kinds.Register m)
-      duty_walks kinds.Withdraw h = walk.off b.frame _ (off_table t me b.table kinds.Withdraw m)
-      duty_walks kinds.Bound h = walk.off b.frame _ (off_links t me b.links _ kinds.Bound m)
-      duty_walks kinds.Ended h = walk.off b.frame _ (off_links t me b.links _ kinds.Ended m)
-      duty_walks kinds.NameReply h = walk.off b.frame _ (off_links t me b.links _ kinds.NameReply m)
-      duty_walks kinds.Create h = frame_walks b _ (frame_duty_makes t me b.frame m kinds.Create) h
-      duty_walks kinds.CreateDone h = frame_walks b _ (frame_duty_makes t me b.frame m kinds.CreateDone) h
-      duty_walks kinds.CreateRefused h = frame_walks b _ (frame_duty_makes t me b.frame m kinds.CreateRefused) h
-      duty_walks kinds.Destroy h = frame_walks b _ (frame_duty_makes t me b.frame m kinds.Destroy) h
-      duty_walks kinds.DestroyDone h = frame_walks b _ (frame_duty_makes t me b.frame m kinds.DestroyDone) h
-      duty_walks kinds.Import h = frame_walks b _ (frame_duty_makes t me b.frame m kinds.Import) h
-      duty_walks kinds.ImportDone h = frame_walks b _ (frame_duty_makes t me b.frame m kinds.ImportDone) h
-      duty_walks kinds.ImportRefused h = frame_walks b _ (frame_duty_makes t me b.frame m kinds.ImportRefused) h
-      duty_walks kinds.ImportEnded h = frame_walks b _ (frame_duty_makes t me b.frame m kinds.ImportEnded) h
-      duty_walks kinds.Deport h = frame_walks b _ (frame_duty_makes t me b.frame m kinds.Deport) h
-      duty_walks kinds.DeportDone h = frame_walks b _ (frame_duty_makes t me b.frame m kinds.DeportDone) h
-      duty_walks kinds.Announce h = frame_walks b _ (frame_duty_makes t me b.frame m kinds.Announce) h
-      duty_walks kinds.PartMake h = frame_walks b _ (frame_duty_makes t me b.frame m kinds.PartMake) h
-      duty_walks kinds.PartEnd h = frame_walks b _ (frame_duty_makes t me b.frame m kinds.PartEnd) h
+        -- a turn without a duty of the frame service
+        idle_walks : (ms : List Msg) → IsOffLoan m → AllOffLoan ms → Q b.frame ms b.frame
+        idle_walks ms off h = on b.frame b.frame b.frame [] ms (idle off) (walk.off b.frame ms h)
 
-      system_walks : (o : Option SysKind) → ((kind : SysKind) → o ≡ Some kind → Duty kind)
-          → R b.frame (system_done model t me b m o).sent (system_done model t me b m o).body.frame
-      system_walks None h = walk.off b.frame [] tt
-      system_walks (Some kind) h = duty_walks kind (h kind refl)
+        duty_walks : (kind : SysKind) → slice_get all_kinds m.signal ≡ Some kind → (m.prio.0 == 0) ≡ true → Duty kind
+            → Q b.frame (duty model t me b m kind).sent (duty model t me b m kind).body.frame
+        duty_walks kinds.Register e z h = idle_walks _ (rw (z, e) (refl, refl)) (off_table t me b.table kinds.Register m)
+        duty_walks kinds.Withdraw e z h = idle_walks _ (rw (z, e) (refl, refl)) (off_table t me b.table kinds.Withdraw m)
+        duty_walks kinds.Bound e z h = idle_walks _ (rw (z, e) (refl, refl)) (off_links t me b.links _ kinds.Bound m)
+        duty_walks kinds.Ended e z h = idle_walks _ (rw (z, e) (refl, refl)) (off_links t me b.links _ kinds.Ended m)
+        duty_walks kinds.NameReply e z h = idle_walks _ (rw (z, e) (refl, refl)) (off_links t me b.links _ kinds.NameReply m)
+        duty_walks kinds.Create e z h = frame_walks b _ (frame_duty_makes t me b.frame m kinds.Create) h
+        duty_walks kinds.CreateDone e z h = frame_walks b _ (frame_duty_makes t me b.frame m kinds.CreateDone) h
+        duty_walks kinds.CreateRefused e z h = frame_walks b _ (frame_duty_makes t me b.frame m kinds.CreateRefused) h
+        duty_walks kinds.Destroy e z h = frame_walks b _ (frame_duty_makes t me b.frame m kinds.Destroy) h
+        duty_walks kinds.DestroyDone e z h = frame_walks b _ (frame_duty_makes t me b.frame m kinds.DestroyDone) h
+        duty_walks kinds.Import e z h = frame_walks b _ (frame_duty_makes t me b.frame m kinds.Import) h
+        duty_walks kinds.ImportDone e z h = frame_walks b _ (frame_duty_makes t me b.frame m kinds.ImportDone) h
+        duty_walks kinds.ImportRefused e z h = frame_walks b _ (frame_duty_makes t me b.frame m kinds.ImportRefused) h
+        duty_walks kinds.ImportEnded e z h = frame_walks b _ (frame_duty_makes t me b.frame m kinds.ImportEnded) h
+        duty_walks kinds.Deport e z h = frame_walks b _ (frame_duty_makes t me b.frame m kinds.Deport) h
+        duty_walks kinds.DeportDone e z h = frame_walks b _ (frame_duty_makes t me b.frame m kinds.DeportDone) h
+        duty_walks kinds.Announce e z h = frame_walks b _ (frame_duty_makes t me b.frame m kinds.Announce) h
+        duty_walks kinds.PartMake e z h = frame_walks b _ (frame_duty_makes t me b.frame m kinds.PartMake) h
+        duty_walks kinds.PartEnd e z h = frame_walks b _ (frame_duty_makes t me b.frame m kinds.PartEnd) h
 
-      handled_walks : (x : Incarnation) (machine : M) → IsHere t me b.frame.lives x → R b.frame (handled model t me b x m machine).sent (handled model t me b x m machine).body.frame
-      unfolding handled
-      handled_walks x machine here =
-          let r = model.handle x machine m in
-          let first : Doing M = record (doing b) { body = record b { machines = updated b.machines x.slot.0 (Some r.machine) }; notes = r.notes } in
-          let k = apply_all_walks x (Some m) r.commands (clear.handle x machine m) first here in
-          subst (λ (z : List Msg). R b.frame z (moved t me b x m r).body.frame) (sym k.sent) k.does
+        system_walks : (o : Option SysKind) → slice_get all_kinds m.signal ≡ o → (m.prio.0 == 0) ≡ true → ((kind : SysKind) → o ≡ Some kind → Duty kind)
+            → Q b.frame (system_done model t me b m o).sent (system_done model t me b m o).body.frame
+        system_walks None e z h = idle_walks [] (rw (z, e) (refl, refl)) tt
+        system_walks (Some kind) e z h = duty_walks kind e z (h kind refl)
 
-      dispatched_walks : (o : Option M) → IsHere t me b.frame.lives (last_of b.frame.lives m.target.slot.0)
-          → R b.frame (dispatched model t me b m o).sent (dispatched model t me b m o).body.frame
-      dispatched_walks None here = walk.off b.frame [] tt
-      dispatched_walks (Some machine) here = handled_walks (last_of b.frame.lives m.target.slot.0) machine here
+        -- what an actor does, after nothing of the frame service
+        alone : (ms : List Msg) (g : Frame) → IsOffLoan m → R b.frame ms g → Q b.frame ms g
+        alone ms g off h = on b.frame b.frame g [] ms (idle off) h
 
-      dispatch_walks : R b.frame (dispatch model t me b m).sent (dispatch model t me b m).body.frame
-      unfolding dispatch
-      dispatch_walks = go (is_own t me m.target.slot.0 && b.frame.lives.lives m.target.slot.0) refl (not (is_meant b.frame m))
-        where
-          there : (is_own t me m.target.slot.0 && b.frame.lives.lives m.target.slot.0) ≡ true → IsHere t me b.frame.lives (last_of b.frame.lives m.target.slot.0)
-          there e =
-              let p = and_parts (is_own t me m.target.slot.0) (b.frame.lives.lives m.target.slot.0) e in
-              (p.0, rw (p.1, eq-eqb (b.frame.lives.generation m.target.slot.0) (b.frame.lives.generation m.target.slot.0) refl) refl)
+        handled_walks : (x : Incarnation) (machine : M) → IsHere t me b.frame.lives x → R b.frame (handled model t me b x m machine).sent (handled model t me b x m machine).body.frame
+        unfolding handled
+        handled_walks x machine here =
+            let r = model.handle x machine m in
+            let first : Doing M = record (doing b) { body = record b { machines = updated b.machines x.slot.0 (Some r.machine) }; notes = r.notes } in
+            let k = apply_all_walks x (Some m) r.commands (clear.handle x machine m) first here in
+            subst (λ (z : List Msg). R b.frame z (moved t me b x m r).body.frame) (sym k.sent) k.does
 
-          go : (a : Bool) → (is_own t me m.target.slot.0 && b.frame.lives.lives m.target.slot.0) ≡ a → (c : Bool) → DoneBy R b (
-              if not a then nobody_there b m
-              else if c then treated (doing b) (did.Stale (whose m.target))
-              else dispatched model t me b m (b.machines m.target.slot.0))
-          go false e c = walk.off b.frame [] tt
-          go true e true = walk.off b.frame [] tt
-          go true e false = dispatched_walks (b.machines m.target.slot.0) (there e)
+        dispatched_walks : (o : Option M) → IsHere t me b.frame.lives (last_of b.frame.lives m.target.slot.0)
+            → R b.frame (dispatched model t me b m o).sent (dispatched model t me b m o).body.frame
+        dispatched_walks None here = walk.off b.frame [] tt
+        dispatched_walks (Some machine) here = handled_walks (last_of b.frame.lives m.target.slot.0) machine here
 
-      -- a whole turn
-      pub treat_walks : AreDuties → R b.frame (treat model t me b m).sent (treat model t me b m).body.frame
-      unfolding treat
-      treat_walks h = go (m.prio.0 == 0) refl
-        where
-          go : (a : Bool) → (m.prio.0 == 0) ≡ a
-              → DoneBy R b (if a then treated (system_done model t me b m (slice_get all_kinds m.signal)) did.Duty else dispatch model t me b m)
-          go true e = system_walks (slice_get all_kinds m.signal) (h e)
-          go false e = dispatch_walks
+        dispatch_walks : R b.frame (dispatch model t me b m).sent (dispatch model t me b m).body.frame
+        unfolding dispatch
+        dispatch_walks = go (is_own t me m.target.slot.0 && b.frame.lives.lives m.target.slot.0) refl (not (is_meant b.frame m))
+          where
+            there : (is_own t me m.target.slot.0 && b.frame.lives.lives m.target.slot.0) ≡ true → IsHere t me b.frame.lives (last_of b.frame.lives m.target.slot.0)
+            there e =
+                let p = and_parts (is_own t me m.target.slot.0) (b.frame.lives.lives m.target.slot.0) e in
+                (p.0, rw (p.1, eq-eqb (b.frame.lives.generation m.target.slot.0) (b.frame.lives.generation m.target.slot.0) refl) refl)
+
+            go : (a : Bool) → (is_own t me m.target.slot.0 && b.frame.lives.lives m.target.slot.0) ≡ a → (c : Bool) → DoneBy R b (
+                if not a then nobody_there b m
+                else if c then treated (doing b) (did.Stale (whose m.target))
+                else dispatched model t me b m (b.machines m.target.slot.0))
+            go false e c = walk.off b.frame [] tt
+            go true e true = walk.off b.frame [] tt
+            go true e false = dispatched_walks (b.machines m.target.slot.0) (there e)
+
+        -- a whole turn, by what its duty does
+        pub turn_walks : AreDuties → Q b.frame (treat model t me b m).sent (treat model t me b m).body.frame
+        unfolding treat
+        turn_walks h = go (m.prio.0 == 0) refl
+          where
+            go : (a : Bool) → (m.prio.0 == 0) ≡ a
+                → DoneBy Q b (if a then treated (system_done model t me b m (slice_get all_kinds m.signal)) did.Duty else dispatch model t me b m)
+            go true e = system_walks (slice_get all_kinds m.signal) refl e (h e)
+            go false e = alone _ _ (rw e (refl, refl)) dispatch_walks
+
+    -- a whole turn
+    pub treat_walks : (b : Body M) (m : Msg)
+        → ((m.prio.0 == 0) ≡ true → (kind : SysKind) → slice_get all_kinds m.signal ≡ Some kind → R b.frame (frame_duty t me b.frame kind m).sent (frame_duty t me b.frame kind m).frame)
+        → R b.frame (treat model t me b m).sent (treat model t me b m).body.frame
+    treat_walks b m h = turn_walks R walk.two b m (λ off. walk.off b.frame [] tt) h
 
     -- the start of a controller
     all_started_walks : (xs : List Incarnation) (s : Starting M) → AllByRecursion (IsHere t me s.doing.body.frame.lives) xs → Walks s.doing (all_started model t me xs s).doing

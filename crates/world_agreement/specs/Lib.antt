@@ -4,3 +4,7 @@ pub mod Announced
 pub mod Bodies
 pub mod Settled
 pub mod Imports
+pub mod Mutual
+pub mod Plugs
+pub mod Loans
+pub mod Held

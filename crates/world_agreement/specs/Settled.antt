@@ -6,6 +6,8 @@
 -- Premises, beside that actors and lines send nothing at priority 0: the tables name only what they
 -- have, and slots are numbered depth first; and the container of an optional slot that another
 -- controller owns lives from the start.
+-- The law `done_imports_agree`: in such a world they agree on imports too (`ImportsAgree`). Premises
+-- there: an imported slot has a container, whose owner is its own, and each slot's owner is a controller.
 use Rattle.std.specs.Prelude.{◌≡◌, ℕ, true, List, Some}
 use Rattle.journal.specs.declared.entry.Entry.{Entry}
 use Rattle.journal.specs.declared.entry.Left.{Left}
@@ -18,10 +20,12 @@ use Rattle.actor_world.specs.Behaviour.{Behaviour}
 use Rattle.actor_world.specs.Body.{Body}
 use Rattle.actor_world.specs.Start.{plant_of}
 use Rattle.actor_world.specs.Directories.{IsOpen, AreOpen}
-use Rattle.actor_world.specs.Agreed.{DirectoriesAgree}
+use Rattle.actor_world.specs.Agreed.{DirectoriesAgree, ImportsAgree}
 use Rattle.actor_world.specs.Journals.{IsLawfulRun, IsDone}
 use Rattle.service_messages.specs.slot_runs.Runs.{IsDepthFirst}
 use Rattle.world_agreement.specs.Bodies.{lives_at, IsInBody, OthersLiveFromStart}
+use Rattle.world_agreement.specs.Imports.{PlacesAreLocal, OwnersAreThere}
+use Rattle.world_agreement.specs.Held.{PlacesAreContained}
 
 -- all controllers agree on which actors live
 pub record LivesAgree {M : Type 0} (t : Tables) (w : World (Body M)) : Type 0 where
@@ -39,3 +43,13 @@ DoneRunsAgree M =
     → (w : World (Body M))
     → IsLawfulRun model t lines fuel journals left_over w
     → IsDone (plant_of model t lines) w left_over unposted → LivesAgree t w
+
+-- over every whole run that is done: in the world that its journals lead to, all controllers agree on imports
+abbrev pub DoneImportsAgree : Type 0 → Type 0
+DoneImportsAgree M =
+    (model : Behaviour M) (t : Tables) (lines : List Line) → IsOpen model → AreOpen lines
+    → PlacesAreLocal t → OwnersAreThere t → PlacesAreContained t
+    → (fuel : ℕ) (journals : ℕ → List Entry) (left_over : List Left) (unposted : List ℕ)
+    → (w : World (Body M))
+    → IsLawfulRun model t lines fuel journals left_over w
+    → IsDone (plant_of model t lines) w left_over unposted → ImportsAgree t w

@@ -1,0 +1,19 @@
+//! Laws that say definitions which go along a list or a tree again, in the words of their subject: which
+//! program a text has, and which places a binding pairs.
+//!
+//! No code: the laws.
+#![tactic(auto)]
+
+ghost use Rattle.definition_laws.specs.Codes.{CodesHaveOneProgram};
+ghost use Rattle.definition_laws.specs.Places.{BindingsTakeFreePlaces};
+
+/// The program of a code is the one whose tokens are those of its text, within the limits of the language; there
+/// is none exactly where the text has none. So it is of conditions.
+pub fn codes_have_one_program()
+    ensures { CodesHaveOneProgram }
+{}
+
+/// A binding pairs the first places of its sides that no earlier binding of its class paired.
+pub fn bindings_take_free_places()
+    ensures { BindingsTakeFreePlaces }
+{}

@@ -1,0 +1,4 @@
+mod Tables
+pub mod Lines
+pub mod Plants
+pub mod Runs

@@ -1,0 +1,2 @@
+pub mod Plants
+pub mod Runs
