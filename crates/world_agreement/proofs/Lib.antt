@@ -22,6 +22,7 @@ pub mod Waiting
 pub mod Pairing
 pub mod Counting
 pub mod Emitting
+pub mod Siding
 pub mod Tying
 pub mod Plugging
 pub mod Standing
