@@ -77,7 +77,8 @@ often_range : (s a k : ℕ) → a ≤ s → s < a + k → often s (range_with_le
 often_range s a zero h l = absurd (omega (arith, h, l))
 often_range s a (suc k) h l = count_cons (λ k. k == s) a (range_with_len (a + 1) k) ∙ go (cases_eq a s) (λ far. often_range s (a + 1) k far (omega (arith, l)))
   where
-    go : (a ≡ s) ⊎ (a ≡ s → ⊥) → (a + 1 ≤ s → often s (range_with_len (a + 1) k) ≡ 1) → (if a == s then suc (often s (range_with_len (a + 1) k)) else often s (range_with_len (a + 1) k)) ≡ 1
+    go : (a ≡ s) ⊎ (a ≡ s → ⊥) → (a + 1 ≤ s → often s (range_with_len (a + 1) k) ≡ 1)
+        → (if a == s then suc (often s (range_with_len (a + 1) k)) else often s (range_with_len (a + 1) k)) ≡ 1
     go (inl e) rest = rw (eq-eqb a s e) (ap (λ n. suc n) (often_later s (a + 1) k (omega (arith, e))))
     go (inr f) rest = rw (ne_eqb a s f) (rest (omega (arith, h, f)))
 
@@ -93,7 +94,8 @@ module _ {X : Type 0} (f : ℕ → List X) (s : ℕ) (alone : (k : ℕ) → (k =
   flat_times [] = refl
   flat_times (k ∷ ks) = go (k == s) refl (flat_times ks) ∙ ap (λ n. times n (f s)) (sym (count_cons (λ k. k == s) k ks))
     where
-      go : (b : Bool) → (k == s) ≡ b → flat_map f ks ≡ times (often s ks) (f s) → f k ++ flat_map f ks ≡ times (if b then suc (often s ks) else often s ks) (f s)
+      go : (b : Bool) → (k == s) ≡ b → flat_map f ks ≡ times (often s ks) (f s)
+          → f k ++ flat_map f ks ≡ times (if b then suc (often s ks) else often s ks) (f s)
       go true e rest = ap (λ n. f n ++ flat_map f ks) (eqb-true k s e) ∙ ap (λ (z : List X). f s ++ z) rest
       go false e rest = ap (λ (z : List X). z ++ flat_map f ks) (alone k e) ∙ rest
 

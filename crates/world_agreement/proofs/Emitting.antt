@@ -72,7 +72,8 @@ emits_none kind b (m ∷ ms) h = go (is_system_to b m) ∙ emits_none kind b ms 
     go true = ap (λ (z : List SysKind). z ++ emits kind b ms) h.0
     go false = refl
 
-pub emits_flat : {X : Type 0} (kind : Msg → List SysKind) (b : ℕ) (f : X → List Msg) (xs : List X) → emits kind b (flat_map f xs) ≡ flat_map (λ x. emits kind b (f x)) xs
+pub emits_flat : {X : Type 0} (kind : Msg → List SysKind) (b : ℕ) (f : X → List Msg) (xs : List X)
+    → emits kind b (flat_map f xs) ≡ flat_map (λ x. emits kind b (f x)) xs
 emits_flat kind b f [] = refl
 emits_flat kind b f (x ∷ xs) = emits_append kind b (f x) (flat_map f xs) ∙ ap (λ (z : List SysKind). emits kind b (f x) ++ z) (emits_flat kind b f xs)
 
@@ -93,7 +94,8 @@ module _ (i h : Incarnation) where
   plain_back a m = refl
 
   -- a message of the pair is on its loan
-  forth_known : (o : Option SysKind) (s : Option Endpoint) (e : Endpoint) (ns : List ℤ) → forth_by o s e ≡ None → if_off (goes_between i h s e) (kind_forth o ns)
+  forth_known : (o : Option SysKind) (s : Option Endpoint) (e : Endpoint) (ns : List ℤ) → forth_by o s e ≡ None
+      → if_off (goes_between i h s e) (kind_forth o ns)
   forth_known o None e ns q = refl
   forth_known (Some kinds.Import) (Some s) e ns q = absurd cc
   forth_known (Some kinds.Deport) (Some s) e ns q = absurd cc
@@ -109,7 +111,8 @@ module _ (i h : Incarnation) where
       go true q = forth_known (slice_get all_kinds m.signal) m.source m.target m.payload q
       go false q = refl
 
-  back_known : (o : Option SysKind) (s : Option Endpoint) (e : Endpoint) (ns : List ℤ) → back_by o s e ≡ None → if_off (goes_between h i s e) (kind_back o ns)
+  back_known : (o : Option SysKind) (s : Option Endpoint) (e : Endpoint) (ns : List ℤ) → back_by o s e ≡ None
+      → if_off (goes_between h i s e) (kind_back o ns)
   back_known o None e ns q = refl
   back_known (Some kinds.ImportDone) (Some s) e ns q = absurd cc
   back_known (Some kinds.ImportRefused) (Some s) e ns q = absurd cc

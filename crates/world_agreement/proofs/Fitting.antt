@@ -123,7 +123,8 @@ module _ (t : Tables) where
       go true true a false b q = absurd cc
 
   -- where no port is taken no place is
-  not_taken : (plugs : List Incarnation) (i h : Incarnation) → is_port_taken t plugs i h ≡ false → (p k : ℕ) → Ends i p k → is_taken_at t plugs i h p k ≡ false
+  not_taken : (plugs : List Incarnation) (i h : Incarnation) → is_port_taken t plugs i h ≡ false → (p k : ℕ) → Ends i p k
+      → is_taken_at t plugs i h p k ≡ false
   unfolding is_port_taken
   not_taken plugs i h free p k e =
       let r = ends_there i p k e in
@@ -175,7 +176,8 @@ module _ (t : Tables) where
         lent = λ i x. h.lent i (in_filter i q xs x);
       }
 
-  fits_more : (xs : List Incarnation) (i h : Incarnation) → is_port_taken t xs i h ≡ false → class_number t h.slot.0 ≡ class_number t i.slot.0 → FitsAt h.slot.0 xs
+  fits_more : (xs : List Incarnation) (i h : Incarnation) → is_port_taken t xs i h ≡ false
+      → class_number t h.slot.0 ≡ class_number t i.slot.0 → FitsAt h.slot.0 xs
       → FitsAt h.slot.0 (xs ++ i ∷ [])
   fits_more xs i h free class k =
       record {
@@ -222,7 +224,8 @@ module _ (t : Tables) where
       kind j (inr (inr x)) = absurd x
 
   -- the plugs of one slot change
-  fits_put : (plugs : ℕ → List Incarnation) (at : ℕ) (next : List Incarnation) → FitsAt at next → ((s : ℕ) → FitsAt s (plugs s)) → (s : ℕ) → FitsAt s (updated plugs at next s)
+  fits_put : (plugs : ℕ → List Incarnation) (at : ℕ) (next : List Incarnation) → FitsAt at next → ((s : ℕ) → FitsAt s (plugs s)) → (s : ℕ)
+      → FitsAt s (updated plugs at next s)
   unfolding updated
   fits_put plugs at next new h s = go (s == at) refl
     where
@@ -234,7 +237,8 @@ module _ (t : Tables) where
   abbrev TiedAt : ℕ → ImportPlace → Type 0
   TiedAt i p = (h : Incarnation) → home_of p ≡ Some h → class_number t h.slot.0 ≡ class_number t i
 
-  tied_put : (places : ℕ → ImportPlace) (at : ℕ) (next : ImportPlace) → TiedAt at next → ((i : ℕ) → TiedAt i (places i)) → (i : ℕ) → TiedAt i (updated places at next i)
+  tied_put : (places : ℕ → ImportPlace) (at : ℕ) (next : ImportPlace) → TiedAt at next → ((i : ℕ) → TiedAt i (places i)) → (i : ℕ)
+      → TiedAt i (updated places at next i)
   unfolding updated
   tied_put places at next new h i = go (i == at) refl
     where
@@ -260,7 +264,8 @@ module _ (t : Tables) where
   first_fits me = record { plugs = fits_none; tied = tied_empty }
 
   -- an import that no code refuses is of the class
-  class_by : (places : ℕ → ImportPlace) (i : ℕ) (h : Incarnation) → import_code t places i (Some h) ≡ None → class_number t h.slot.0 ≡ class_number t i
+  class_by : (places : ℕ → ImportPlace) (i : ℕ) (h : Incarnation) → import_code t places i (Some h) ≡ None
+      → class_number t h.slot.0 ≡ class_number t i
   class_by places i h e = go (is_home t h.slot.0) (is_same_class (class_number t i) (class_number t h.slot.0)) refl e
     where
       same : (a b : Option ℕ) → is_same_class a b ≡ true → b ≡ a
@@ -280,7 +285,8 @@ module _ (t : Tables) where
       abbrev AskedFits : Done (ℕ → ImportPlace) → Type 0
       AskedFits r = (i : ℕ) → TiedAt i (r.now i)
 
-      import_with_fits : (j : ℕ) (o : Option Incarnation) (code : Option Code) → import_code t f.places j o ≡ code → AskedFits (import_with t me f.places x reference index j o code)
+      import_with_fits : (j : ℕ) (o : Option Incarnation) (code : Option Code) → import_code t f.places j o ≡ code
+          → AskedFits (import_with t me f.places x reference index j o code)
       import_with_fits j o (Some code) e = h.tied
       import_with_fits j None None e = h.tied
       import_with_fits j (Some y) None e = tied_put f.places j (Asking y) (tied_to j y (Asking y) refl (class_by f.places j y e)) h.tied
@@ -379,7 +385,8 @@ module _ (t : Tables) where
       abbrev PlaceFits : Done (ℕ → ImportPlace) → Type 0
       PlaceFits r = (i : ℕ) → TiedAt i (r.now i)
 
-      heard_fits : (i : Endpoint) (fits : Bool) (next : ImportPlace) (n : Msg) → (fits ≡ true → TiedAt i.slot.0 next) → FitsSo f → PlaceFits (heard t f.lives f.places i fits next n)
+      heard_fits : (i : Endpoint) (fits : Bool) (next : ImportPlace) (n : Msg) → (fits ≡ true → TiedAt i.slot.0 next) → FitsSo f
+          → PlaceFits (heard t f.lives f.places i fits next n)
       heard_fits i fits next n new h = go (is_container_live t f.lives i && fits) refl
         where
           go : (b : Bool) → (is_container_live t f.lives i && fits) ≡ b
@@ -411,7 +418,8 @@ module _ (t : Tables) where
       unfolding deport_done
       freed_fits h i k = heard_fits i _ Empty _ (λ e. tied_empty i.slot.0) k
 
-      duty_of_fits : (kind : SysKind) (a b : Endpoint) → (kind ≡ kinds.Import → class_number t b.slot.0 ≡ class_number t a.slot.0) → Fits (frame_duty_of t me f m kind a b)
+      duty_of_fits : (kind : SysKind) (a b : Endpoint) → (kind ≡ kinds.Import → class_number t b.slot.0 ≡ class_number t a.slot.0)
+          → Fits (frame_duty_of t me f m kind a b)
       duty_of_fits kinds.Create a b class = by_plainly t me f Fits none_fits _ m.payload _ (λ e h. lives_fits _ h)
       duty_of_fits kinds.Destroy a b class = by_plainly t me f Fits none_fits _ m.payload _ (λ e h. destroy_fits b.slot.0 a h)
       duty_of_fits kinds.CreateDone a b class = by_plainly t me f Fits none_fits _ m.payload _ (λ e h. h)
@@ -433,13 +441,15 @@ module _ (t : Tables) where
       duty_of_fits kinds.PartMake a b class = by_plainly t me f Fits none_fits _ m.payload _ (λ e h. lives_fits _ h)
       duty_of_fits kinds.PartEnd a b class = by_plainly t me f Fits none_fits _ m.payload _ (λ e h. part_end_fits a.slot.0 h)
 
-      duty_from_fits : (kind : SysKind) (o : Option Endpoint) → ((x : Loan) → asks_by (Some kind) o m.target ≡ Some x → class_number t x.home.slot.0 ≡ class_number t x.place.slot.0)
+      duty_from_fits : (kind : SysKind) (o : Option Endpoint)
+          → ((x : Loan) → asks_by (Some kind) o m.target ≡ Some x → class_number t x.home.slot.0 ≡ class_number t x.place.slot.0)
           → Fits (frame_duty_from t me f m kind o)
       duty_from_fits kind None hand = none_fits
       duty_from_fits kind (Some a) hand =
           duty_of_fits kind a m.target (λ e. hand (record { place = whose a; home = whose m.target }) (ap (λ (z : SysKind). asks_by (Some z) (Some a) m.target) e))
 
-      duty_fits : (kind : SysKind) → ((x : Loan) → asks_by (Some kind) m.source m.target ≡ Some x → class_number t x.home.slot.0 ≡ class_number t x.place.slot.0)
+      duty_fits : (kind : SysKind)
+          → ((x : Loan) → asks_by (Some kind) m.source m.target ≡ Some x → class_number t x.home.slot.0 ≡ class_number t x.place.slot.0)
           → Fits (frame_duty t me f kind m)
       unfolding frame_duty
       duty_fits kind hand = duty_from_fits kind m.source hand
@@ -463,7 +473,8 @@ module _ (t : Tables) where
     all_off_classed (m ∷ ms) h = (off_classed m h.0, all_off_classed ms h.1)
 
     module _ (places : ℕ → ImportPlace) (x : Incarnation) (reference : ℕ) (index : ℤ) where
-      import_with_classed : (j : ℕ) (o : Option Incarnation) (code : Option Code) → import_code t places j o ≡ code → AllClassed (import_with t me places x reference index j o code).sent
+      import_with_classed : (j : ℕ) (o : Option Incarnation) (code : Option Code) → import_code t places j o ≡ code
+          → AllClassed (import_with t me places x reference index j o code).sent
       import_with_classed j o (Some code) e = ((λ z q. absurd cc), tt)
       import_with_classed j None None e = ((λ z q. absurd cc), tt)
       import_with_classed j (Some y) None e = (
@@ -666,7 +677,8 @@ module _ (t : Tables) where
           go true = classed_system a b next.outbox sent_classed
           go false = tt
 
-      does_fits : (e : Entry) (next : State (Body M)) → controller_does (plant_of model t lines) w c (event_of e) ≡ Some (next, e) → FitsSo next.body.frame
+      does_fits : (e : Entry) (next : State (Body M)) → controller_does (plant_of model t lines) w c (event_of e) ≡ Some (next, e)
+          → FitsSo next.body.frame
       unfolding turn post fetch
       does_fits (entry.Start who state ns) next h = absurd cc
       does_fits (entry.Fetch stamp m) next h =
@@ -680,7 +692,8 @@ module _ (t : Tables) where
           subst (λ (z : State (Body M) × Entry). FitsSo z.0.body.frame) r.3
           (treat_fits c model clear (w.controllers c).body r.0.message (λ zero. hand_classed r.0 r.2 zero) (inv.fits c))
 
-      controller_fits : c < length t.controllers → (e : Entry) (next : State (Body M)) → controller_does (plant_of model t lines) w c (event_of e) ≡ Some (next, e)
+      controller_fits : c < length t.controllers → (e : Entry) (next : State (Body M))
+          → controller_does (plant_of model t lines) w c (event_of e) ≡ Some (next, e)
           → IsFitting (world_after model t lines w c e next)
       controller_fits below e next h =
           record {

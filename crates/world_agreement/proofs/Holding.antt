@@ -10,7 +10,7 @@ use Rattle.room_wiring.specs.declared.tables.Tables.{Tables}
 use Rattle.actor_merge.specs.Parties.{Line}
 use Rattle.actor_merge.specs.World.{World, Placed, IsQuiet, start, Runs}
 use Rattle.actor_duties.specs.Words.{incarnation, is_incarnation, is_imported, is_home, container_of, owner_of}
-use Rattle.actor_duties.specs.State.{Frame, ImportPlace, Empty, Asking, Held, Leaving}
+use Rattle.actor_duties.specs.State.{Frame, Held}
 use Rattle.actor_duties.specs.Lives.{is_live, last_of}
 use Rattle.actor_world.specs.Behaviour.{Behaviour}
 use Rattle.actor_world.specs.Body.{Body}
@@ -19,14 +19,14 @@ use Rattle.actor_world.specs.Directories.{IsOpen, AreOpen}
 use Rattle.actor_world.specs.Agreed.{frame_at, lives_in, place_of, plugged, has_container, ImportsAgree}
 use Rattle.world_agreement.specs.Imports.{home_of, PlacesAreLocal, OwnersAreThere}
 use Rattle.world_agreement.specs.Held.{PlacesAreContained}
-use Rattle.world_agreement.specs.Loans.{Side, Apart, Asks, Holds, Leaves, Row, tied_as, side_of, lent_by, lent_of, forth_of, back_of, IsInRow}
+use Rattle.world_agreement.specs.Loans.{Side, Apart, Holds, Row, tied_as, side_of, lent_by, lent_of, forth_of, back_of, IsInRow}
 use Rattle.world_agreement.proofs.Agreeing.{quiet_trail}
 use Rattle.world_agreement.proofs.Waiting.{quiet_places}
 use Rattle.world_agreement.proofs.Keeping.{LendsSo, runs_lend_so}
 use Rattle.world_agreement.proofs.Pairing.{row_once, row_quiet_plugged, row_quiet_held}
 use Rattle.world_agreement.proofs.Counting.{count_cons}
 use Rattle.world_agreement.proofs.Emitting.{same_incarnation, itself}
-use Rattle.world_agreement.proofs.Tying.{side_live, side_tied}
+use Rattle.world_agreement.proofs.Siding.{side_live, side_tied, holds_held}
 use Rattle.world_agreement.proofs.Standing.{same_row, runs_stand}
 
 -- what is counted in a list has what all of the list have
@@ -51,31 +51,13 @@ unfolding lent_by
 lent_one i true plugs e = (refl, e)
 lent_one i false plugs e = absurd (let q : 0 ≡ 1 = e in omega (arith, q))
 
--- a place that holds the home
-holds_held : (h : Incarnation) (p : ImportPlace) → tied_as h p ≡ Holds → p ≡ Held h
-holds_held h Empty e = absurd cc
-holds_held h (Asking y) e = go (is_incarnation y h) e
-  where
-    go : (b : Bool) → (if b then Asks else Apart) ≡ Holds → Asking y ≡ Held h
-    go true q = absurd cc
-    go false q = absurd cc
-holds_held h (Leaving y) e = go (is_incarnation y h) e
-  where
-    go : (b : Bool) → (if b then Leaves else Apart) ≡ Holds → Leaving y ≡ Held h
-    go true q = absurd cc
-    go false q = absurd cc
-holds_held h (Held y) e = go (is_incarnation y h) refl e
-  where
-    go : (b : Bool) → is_incarnation y h ≡ b → (if b then Holds else Apart) ≡ Holds → Held y ≡ Held h
-    go true q r = ap (λ (z : Incarnation). Held z) (same_incarnation y h q)
-    go false q r = absurd cc
-
 module _ {M : Type 0} (model : Behaviour M) (clear : IsOpen model) (t : Tables) (lines : List Line) (clear_lines : AreOpen lines) (local : PlacesAreLocal t)
     (contained : PlacesAreContained t) (xs : List Placed) (end : World (Body M)) (run : Runs (plant_of model t lines) (start (plant_of model t lines)) xs end) where
   lends : (s : ℕ) → LendsSo t (frame_at t end s)
   lends s = runs_lend_so model clear t lines xs end run (owner_of t s)
 
-  row_of : (c : ℕ) (i h : Incarnation) → is_imported t i.slot.0 ≡ true → container_of t i.slot.0 ≡ Some c → is_home t h.slot.0 ≡ true → IsInRow t end c i h
+  row_of : (c : ℕ) (i h : Incarnation) → is_imported t i.slot.0 ≡ true → container_of t i.slot.0 ≡ Some c → is_home t h.slot.0 ≡ true
+      → IsInRow t end c i h
   row_of c i h imported part home = runs_stand model clear t local lines clear_lines c i h imported part home xs end run
 
   -- who has plugs lives, and a plug is an import place
@@ -158,7 +140,8 @@ module _ {M : Type 0} (model : Behaviour M) (clear : IsOpen model) (t : Tables) 
         lent_one i (is_live (frame_at t end h.slot.0).lives h) ((frame_at t end h.slot.0).plugs h.slot.0)
         (row_quiet_held (subst (λ (z : Side). Row z [] [] (lent_of i h (frame_at t end h.slot.0))) side (quiet_row c.0 i h imported c.1 home)))
 
-    lone_plugged : (i h : Incarnation) → is_imported t i.slot.0 ≡ true → (lives_in t end h ≡ true) × (plugged t end i h ≡ 1) → place_of t end i.slot.0 ≡ Held h
+    lone_plugged : (i h : Incarnation) → is_imported t i.slot.0 ≡ true → (lives_in t end h ≡ true) × (plugged t end i h ≡ 1)
+        → place_of t end i.slot.0 ≡ Held h
     lone_plugged i h imported lone =
         let few : 1 ≤ plugged t end i h = (let e = lone.1 in omega (arith, e)) in
         let p = plugs_of i h few in

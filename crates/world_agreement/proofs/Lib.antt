@@ -23,6 +23,7 @@ pub mod Mutual
 pub mod Pairing
 pub mod Counting
 pub mod Emitting
+pub mod Siding
 pub mod Tying
 pub mod Plugging
 pub mod Standing

@@ -70,7 +70,8 @@ row_not_granted Apart other r = elim r [ ]
 row_not_granted Holds other r = elim r [ ]
 row_not_granted Leaves other r = elim r [ ]
 
-pub row_not_refused : (a : Side) {forth back : List SysKind} {n : ℕ} → (a ≡ Asks → ⊥) → Row a forth (kinds.ImportRefused ∷ back) n → Row a forth back n
+pub row_not_refused : (a : Side) {forth back : List SysKind} {n : ℕ} → (a ≡ Asks → ⊥) → Row a forth (kinds.ImportRefused ∷ back) n
+    → Row a forth back n
 row_not_refused Asks other r = absurd (other refl)
 row_not_refused Over other r = row_over r
 row_not_refused Unmade other r = elim r [ ]
@@ -96,11 +97,13 @@ row_not_freed Asks other r = elim r [ ]
 row_not_freed Holds other r = elim r [ ]
 
 -- a home that refuses a place, or grants what it asks
-pub row_denies : {a : Side} {forth back : List SysKind} {n : ℕ} → Row a (kinds.Import ∷ forth) back n → Row a forth (back ++ kinds.ImportRefused ∷ []) n
+pub row_denies : {a : Side} {forth back : List SysKind} {n : ℕ} → Row a (kinds.Import ∷ forth) back n
+    → Row a forth (back ++ kinds.ImportRefused ∷ []) n
 row_denies asked = refused
 row_denies (over_asked back) = over_unplugged (back ++ kinds.ImportRefused ∷ [])
 
-pub row_grants : {a : Side} {forth back : List SysKind} {n : ℕ} → Row a (kinds.Import ∷ forth) back n → Row a forth (back ++ kinds.ImportDone ∷ []) (n + 1)
+pub row_grants : {a : Side} {forth back : List SysKind} {n : ℕ} → Row a (kinds.Import ∷ forth) back n
+    → Row a forth (back ++ kinds.ImportDone ∷ []) (n + 1)
 row_grants asked = granted
 row_grants (over_asked back) = over_plugged (back ++ kinds.ImportDone ∷ [])
 

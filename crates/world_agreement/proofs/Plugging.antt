@@ -103,18 +103,21 @@ module _ (t : Tables) (i h : Incarnation) where
     import_with_in places x reference index j None None = off_one (refused_at_once me x reference index (code_number StaleId)) (refl, refl)
     import_with_in places x reference index j (Some y) None = silent_in (to_owner t me kinds.Import (frame_at j x.generation.0) (frame_of y) [] ∷ []) (no_either _, tt)
 
-    import_into_in : (places : ℕ → ImportPlace) (x : Incarnation) (reference : ℕ) (index id : ℤ) (o : Option ℕ) → inn (import_into t me places x reference index id o).sent ≡ []
+    import_into_in : (places : ℕ → ImportPlace) (x : Incarnation) (reference : ℕ) (index id : ℤ) (o : Option ℕ)
+        → inn (import_into t me places x reference index id o).sent ≡ []
     import_into_in places x reference index id None = off_one (refused_at_once me x reference index (code_number NoSlot)) (refl, refl)
     import_into_in places x reference index id (Some j) = import_with_in places x reference index j (of_id id) (import_code t places j (of_id id))
 
-    deport_from_in : (places : ℕ → ImportPlace) (x : Incarnation) (reference : ℕ) (index : ℤ) (j : ℕ) (p : ImportPlace) → inn (deport_from t me places x reference index j p).sent ≡ []
+    deport_from_in : (places : ℕ → ImportPlace) (x : Incarnation) (reference : ℕ) (index : ℤ) (j : ℕ) (p : ImportPlace)
+        → inn (deport_from t me places x reference index j p).sent ≡ []
     unfolding back_of
     deport_from_in places x reference index j Empty = off_one (refused_at_once me x reference index (code_number NotHere)) (refl, refl)
     deport_from_in places x reference index j (Asking y) = off_one (refused_at_once me x reference index (code_number Busy)) (refl, refl)
     deport_from_in places x reference index j (Leaving y) = off_one (refused_at_once me x reference index (code_number Busy)) (refl, refl)
     deport_from_in places x reference index j (Held y) = silent_in (to_owner t me kinds.Deport (frame_at j x.generation.0) (frame_of y) [] ∷ []) (no_either _, tt)
 
-    deport_of_in : (places : ℕ → ImportPlace) (x : Incarnation) (reference : ℕ) (index : ℤ) (o : Option ℕ) → inn (deport_of t me places x reference index o).sent ≡ []
+    deport_of_in : (places : ℕ → ImportPlace) (x : Incarnation) (reference : ℕ) (index : ℤ) (o : Option ℕ)
+        → inn (deport_of t me places x reference index o).sent ≡ []
     deport_of_in places x reference index None = off_one (refused_at_once me x reference index (code_number NoSlot)) (refl, refl)
     deport_of_in places x reference index (Some j) = deport_from_in places x reference index j (places j)
 
@@ -182,7 +185,8 @@ module _ (t : Tables) (i h : Incarnation) where
       abbrev word : ℕ → List SysKind
       word s = if h.generation.0 == f.lives.generation s then times (count_by (is_incarnation i) (f.plugs s)) (kinds.ImportEnded ∷ []) else []
 
-      ends_in : (o : ℕ) → inn (flat_map (end_messages t me f) (ended_slots t me f.lives o)) ≡ (if goes_down t me f.lives o h.slot.0 then word h.slot.0 else [])
+      ends_in : (o : ℕ)
+          → inn (flat_map (end_messages t me f) (ended_slots t me f.lives o)) ≡ (if goes_down t me f.lives o h.slot.0 then word h.slot.0 else [])
       unfolding ended_slots
       ends_in o =
           emits_flat (back_of i h) (owner_of t i.slot.0) (end_messages t me f) (ended_slots t me f.lives o)
@@ -253,7 +257,8 @@ module _ (t : Tables) (i h : Incarnation) where
             ∙ rw (eq-eqb (owner_of t i.slot.0) m.from.0 (sym from), eq-eqb h.slot.0 h.slot.0 refl, eq-eqb h.generation.0 h.generation.0 refl, eq-eqb i.slot.0 i.slot.0 refl, eq-eqb i.generation.0 i.generation.0 refl) refl
 
         -- an answer to another place, or of another home
-        reply_other : (kind : SysKind) (payload : List ℤ) (a b : Endpoint) → goes_between h i (Some b) a ≡ false → inn (reply me m kind b a payload ∷ []) ≡ []
+        reply_other : (kind : SysKind) (payload : List ℤ) (a b : Endpoint) → goes_between h i (Some b) a ≡ false
+            → inn (reply me m kind b a payload ∷ []) ≡ []
         unfolding back_of
         reply_other kind payload a b other = silent_in (reply me m kind b a payload ∷ []) (ap (λ (z : Bool). if z then kind_back (slice_get all_kinds (number_of kind)) payload else []) other, tt)
 
@@ -264,7 +269,8 @@ module _ (t : Tables) (i h : Incarnation) where
             more : List Incarnation
             more = f.plugs h.slot.0 ++ i ∷ []
 
-            grown : is_live f.lives h ≡ true → lent (record f { plugs = λ n. if n == h.slot.0 then f.plugs h.slot.0 ++ i ∷ [] else f.plugs n }) ≡ suc (count_by (is_incarnation i) (f.plugs h.slot.0))
+            grown : is_live f.lives h ≡ true
+                → lent (record f { plugs = λ n. if n == h.slot.0 then f.plugs h.slot.0 ++ i ∷ [] else f.plugs n }) ≡ suc (count_by (is_incarnation i) (f.plugs h.slot.0))
             grown live =
                 live_lent (is_live f.lives h) (if h.slot.0 == h.slot.0 then f.plugs h.slot.0 ++ i ∷ [] else f.plugs h.slot.0) live
                 ∙ ap (λ (z : Bool). count_by (is_incarnation i) (if z then f.plugs h.slot.0 ++ i ∷ [] else f.plugs h.slot.0)) (eq-eqb h.slot.0 h.slot.0 refl)
@@ -294,7 +300,8 @@ module _ (t : Tables) (i h : Incarnation) where
             passed : (q : Incarnation) → Bool
             passed q = not (is_incarnation q i)
 
-            shrunk : is_live f.lives h ≡ true → lent (record f { plugs = λ n. if n == h.slot.0 then filter (λ (q : Incarnation). not (is_incarnation q i)) (f.plugs h.slot.0) else f.plugs n }) ≡ 0
+            shrunk : is_live f.lives h ≡ true
+                → lent (record f { plugs = λ n. if n == h.slot.0 then filter (λ (q : Incarnation). not (is_incarnation q i)) (f.plugs h.slot.0) else f.plugs n }) ≡ 0
             shrunk live =
                 live_lent (is_live f.lives h) (if h.slot.0 == h.slot.0 then filter (λ (q : Incarnation). not (is_incarnation q i)) (f.plugs h.slot.0) else f.plugs h.slot.0) live
                 ∙ ap (λ (z : Bool). count_by (is_incarnation i) (if z then filter (λ (q : Incarnation). not (is_incarnation q i)) (f.plugs h.slot.0) else f.plugs h.slot.0)) (eq-eqb h.slot.0 h.slot.0 refl)
@@ -480,7 +487,8 @@ module _ (t : Tables) (i h : Incarnation) where
             (s.0, s.1)
 
         -- who asks for the pair is the place's owner
-        asker : (a : Endpoint) → (is_imported t a.slot.0 ≡ true → owner_of t a.slot.0 ≡ m.from.0) → is_incarnation i (whose a) ≡ true → m.from.0 ≡ owner_of t i.slot.0
+        asker : (a : Endpoint) → (is_imported t a.slot.0 ≡ true → owner_of t a.slot.0 ≡ m.from.0) → is_incarnation i (whose a) ≡ true
+            → m.from.0 ≡ owner_of t i.slot.0
         asker a from e =
             let same : i ≡ whose a = same_incarnation i (whose a) e in
             sym (from (subst (λ (z : Incarnation). is_imported t z.slot.0 ≡ true) same imported)) ∙ sym (ap (λ (z : Incarnation). owner_of t z.slot.0) same)
@@ -504,7 +512,8 @@ module _ (t : Tables) (i h : Incarnation) where
             go true = e
             go false = refl
 
-        plain_takes : (z fits : Bool) → (z ≡ true → fits ≡ true) → (kind : SysKind) (numbers : List ℤ → List SysKind) → numbers [] ≡ kind ∷ [] → ((n : ℤ) (ns : List ℤ) → numbers (n ∷ ns) ≡ [])
+        plain_takes : (z fits : Bool) → (z ≡ true → fits ≡ true) → (kind : SysKind) (numbers : List ℤ → List SysKind)
+            → numbers [] ≡ kind ∷ [] → ((n : ℤ) (ns : List ℤ) → numbers (n ∷ ns) ≡ [])
             → (r : FrameDone) → (fits ≡ true → Takes (if z then kind ∷ [] else []) f r.sent r.frame) → (payload : List ℤ)
             → Takes (if z then numbers payload else []) f (plainly f fits payload r).sent (plainly f fits payload r).frame
         plain_takes z fits form kind numbers one none r p (n ∷ ns) = silent z (numbers (n ∷ ns)) (none n ns) f [] none_rests
@@ -571,7 +580,8 @@ module _ (t : Tables) (i h : Incarnation) where
                 ∙ ap (λ (o : Option SysKind). if goes_between i h m.source m.target then kind_forth o m.payload else []) is
 
     module _ {M : Type 0} (model : Behaviour M) (clear : IsOpen model) where
-      pub treat_takes : is_imported t i.slot.0 ≡ true → is_home t h.slot.0 ≡ true → is_own t me h.slot.0 ≡ true → (b : Body M) (m : Msg) → LendsSo t b.frame
+      pub treat_takes : is_imported t i.slot.0 ≡ true → is_home t h.slot.0 ≡ true → is_own t me h.slot.0 ≡ true → (b : Body M) (m : Msg)
+          → LendsSo t b.frame
           → ((m.prio.0 == 0) ≡ true → IsRouted t m.from.0 me m)
           → Takes (forth_of i h m) b.frame (treat model t me b m).sent (treat model t me b m).body.frame
       treat_takes imported home mine b m k routed =
@@ -583,6 +593,7 @@ module _ (t : Tables) (i h : Incarnation) where
       start_rests = start_walks t me (Takes []) resting model clear
 
   -- what it says of a row
-  pub takes_row : (toks : List SysKind) (f g : Frame) (ms : List Msg) → Takes toks f ms g → (a : Side) (forth back : List SysKind) → Row a (toks ++ forth) back (lent f) → Row a forth (back ++ inn ms) (lent g)
+  pub takes_row : (toks : List SysKind) (f g : Frame) (ms : List Msg) → Takes toks f ms g → (a : Side) (forth back : List SysKind)
+      → Row a (toks ++ forth) back (lent f) → Row a forth (back ++ inn ms) (lent g)
   unfolding Takes
   takes_row toks f g ms p a forth back r = p a forth back r

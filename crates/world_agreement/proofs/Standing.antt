@@ -1,6 +1,5 @@
 -- Over every run of the world: each import place and each home stand in a row.
 use Rattle.std.proofs.Common.{◌≡◌, ℕ, ◌==◌, ◌&&◌, Bool, true, false, if◌then◌else◌, List, [], ◌∷◌, ◌++◌, flat_map, slice_get, Option, Some, None, ℤ, refl, sym, ap, ◌∙◌, subst, eq-eqb, eqb-true, append-nil, append_assoc, ◌⊎◌, inl, inr}
-use Rattle.std.specs.Prelude.{nat_lt}
 use Rattle.std.proofs.lemmas.Bool.{and_parts, ne_eqb, eqb-false}
 use Rattle.std.proofs.lemmas.List.Concat.{flat_map-append}
 use Rattle.room_kinds.specs.declared.message.Msg.{Msg}
@@ -16,7 +15,6 @@ use Rattle.actor_merge.specs.Parties.{State, Line, Taken, put, stamped, next_of,
 use Rattle.actor_merge.specs.World.{World, Placed, start, Runs, controller_does}
 use Rattle.actor_merge.proofs.Back.{Happened, controller, environment, happened, own_of}
 use Rattle.actor_duties.specs.Words.{whose, is_frame, is_incarnation, is_own, is_imported, is_home, container_of, owner_of}
-use Rattle.actor_duties.specs.State.{Empty}
 use Rattle.actor_duties.specs.Lives.{is_live}
 use Rattle.actor_world.specs.Behaviour.{Behaviour}
 use Rattle.actor_world.specs.Body.{Body}
@@ -25,7 +23,7 @@ use Rattle.actor_world.specs.Start.{first_frame, first_state, plant_of}
 use Rattle.actor_world.specs.Directories.{IsOpen, AreOpen}
 use Rattle.world_agreement.specs.Trails.{from_a, contents, system_to, trail, taken_from}
 use Rattle.world_agreement.specs.Imports.{PlacesAreLocal, Loan, back_by, back_on, forth_by, forth_on, IsRouted}
-use Rattle.world_agreement.specs.Loans.{Side, Unmade, Apart, Over, Row, unmade, apart, over, side_by, side_of, lent_of, goes_between, kind_forth, kind_back, forth_of, back_of, IsInRow}
+use Rattle.world_agreement.specs.Loans.{Side, Row, side_of, lent_of, goes_between, kind_forth, kind_back, forth_of, back_of, IsInRow}
 use Rattle.world_agreement.proofs.Hearing.{from_append}
 use Rattle.world_agreement.proofs.Moving.{Ranked, next_front, kept_by, from_one, post_from, turn_from, world_after, controller_moves}
 use Rattle.world_agreement.proofs.Agreeing.{environment_moves, world_then, fresh_trail}
@@ -33,6 +31,7 @@ use Rattle.world_agreement.proofs.Lending.{IsLending, hand_routed, step_lends as
 use Rattle.world_agreement.proofs.Keeping.{AllLend, step_lends, start_lends}
 use Rattle.world_agreement.proofs.Waiting.{own_imported, own_home}
 use Rattle.world_agreement.proofs.Emitting.{same_incarnation, emits, emits_system, plain_forth, plain_back}
+use Rattle.world_agreement.proofs.Siding.{first_side}
 use Rattle.world_agreement.proofs.Tying.{treat_hears, start_keeps, hears_row}
 use Rattle.world_agreement.proofs.Plugging.{treat_takes, start_rests, takes_row, empty_lent}
 
@@ -51,7 +50,8 @@ module _ (i h : Incarnation) where
   pair = record { place = i; home = h }
 
   -- a message of the pair is on its loan
-  back_named : (s e : Endpoint) → goes_between h i (Some s) e ≡ true → ◌≡◌ {A = Option Loan} (Some (record { place = whose e; home = whose s })) (Some pair)
+  back_named : (s e : Endpoint) → goes_between h i (Some s) e ≡ true
+      → ◌≡◌ {A = Option Loan} (Some (record { place = whose e; home = whose s })) (Some pair)
   back_named s e q =
       let p = and_parts (is_frame s && is_frame e && is_incarnation h (whose s)) (is_incarnation i (whose e)) q in
       let r = and_parts (is_frame s && is_frame e) (is_incarnation h (whose s)) p.0 in
@@ -72,12 +72,14 @@ module _ (i h : Incarnation) where
   unfolding back_of
   back_loan m zero = go m.source
     where
-      go : (o : Option Endpoint) → ((if (m.prio.0 == 0) && goes_between h i o m.target then kind_back (slice_get all_kinds m.signal) m.payload else []) ≡ [])
+      go : (o : Option Endpoint)
+          → ((if (m.prio.0 == 0) && goes_between h i o m.target then kind_back (slice_get all_kinds m.signal) m.payload else []) ≡ [])
           ⊎ ((if m.prio.0 == 0 then back_by (slice_get all_kinds m.signal) o m.target else None) ≡ Some pair)
       go None = inl (rw zero refl)
       go (Some s) = rw zero (back_case (slice_get all_kinds m.signal) s m.target m.payload (goes_between h i (Some s) m.target) refl)
 
-  forth_named : (s e : Endpoint) → goes_between i h (Some s) e ≡ true → ◌≡◌ {A = Option Loan} (Some (record { place = whose s; home = whose e })) (Some pair)
+  forth_named : (s e : Endpoint) → goes_between i h (Some s) e ≡ true
+      → ◌≡◌ {A = Option Loan} (Some (record { place = whose s; home = whose e })) (Some pair)
   forth_named s e q =
       let p = and_parts (is_frame s && is_frame e && is_incarnation i (whose s)) (is_incarnation h (whose e)) q in
       let r = and_parts (is_frame s && is_frame e) (is_incarnation i (whose s)) p.0 in
@@ -96,7 +98,8 @@ module _ (i h : Incarnation) where
   unfolding forth_of
   forth_loan m zero = go m.source
     where
-      go : (o : Option Endpoint) → ((if (m.prio.0 == 0) && goes_between i h o m.target then kind_forth (slice_get all_kinds m.signal) m.payload else []) ≡ [])
+      go : (o : Option Endpoint)
+          → ((if (m.prio.0 == 0) && goes_between i h o m.target then kind_forth (slice_get all_kinds m.signal) m.payload else []) ≡ [])
           ⊎ ((if m.prio.0 == 0 then forth_by (slice_get all_kinds m.signal) o m.target else None) ≡ Some pair)
       go None = inl (rw zero refl)
       go (Some s) = rw zero (forth_case (slice_get all_kinds m.signal) s m.target m.payload (goes_between i h (Some s) m.target) refl)
@@ -109,16 +112,6 @@ module _ (i h : Incarnation) where
   low_forth : (m : Msg) → (m.prio.0 == 0) ≡ false → forth_of i h m ≡ []
   unfolding forth_of
   low_forth m e = rw e refl
-
-  -- at the start
-  first_side : (gen : ℕ) (live : Bool) → Row (side_by i h gen live Empty) [] [] 0
-  unfolding side_by
-  first_side gen live = go (nat_lt gen i.generation.0) (live && (gen == i.generation.0))
-    where
-      go : (x y : Bool) → Row (if x then Unmade else if y then Apart else Over) [] [] 0
-      go true y = unmade
-      go false true = apart
-      go false false = over []
 
 -- what a turn takes out of a trail, by the kinds of messages
 module _ {M : Type 0} (w : World (Body M)) (n : ℕ) (k : Taken) (front : next_of (w.controllers n).pending ≡ Some k) (rank : k.message.prio.0 ≡ k.priority) where
@@ -161,7 +154,8 @@ module _ {M : Type 0} (w : World (Body M)) (n : ℕ) (k : Taken) (front : next_o
                 ∙ append_assoc (from_a a (k.message ∷ [])) (from_a a k.rest) (contents a (w.lanes (lane a b 0)) ++ system_to a b (w.controllers a).outbox),
           )
 
-      go : (x : Bool) → (b == n) ≡ x → (rest : List Msg) × (trail w a b ≡ (if x then taken_from a (next_of (w.controllers b).pending) else []) ++ rest)
+      go : (x : Bool) → (b == n) ≡ x
+          → (rest : List Msg) × (trail w a b ≡ (if x then taken_from a (next_of (w.controllers b).pending) else []) ++ rest)
       go false e = (trail w a b, refl)
       go true e =
           let at : b ≡ n = eqb-true b n e in
@@ -184,7 +178,8 @@ module _ {M : Type 0} (model : Behaviour M) (clear : IsOpen model) (t : Tables) 
     pub row : IsInRow t w c i h
 
   -- an event that touches no frame service and no trail
-  untouched : (w v : World (Body M)) → ((n : ℕ) → (v.controllers n).body.frame ≡ (w.controllers n).body.frame) → ((a b : ℕ) → trail v a b ≡ trail w a b)
+  untouched : (w v : World (Body M)) → ((n : ℕ) → (v.controllers n).body.frame ≡ (w.controllers n).body.frame)
+      → ((a b : ℕ) → trail v a b ≡ trail w a b)
       → IsInRow t w c i h → IsInRow t v c i h
   untouched w v bodies trails row =
       same_row _ _ _ _ _ _ _ _ (ap (side_of c i h) (sym (bodies here))) (ap (flat_map (forth_of i h)) (sym (trails here there)))
@@ -227,7 +222,8 @@ module _ {M : Type 0} (model : Behaviour M) (clear : IsOpen model) (t : Tables) 
             routed : (k.message.prio.0 == 0) ≡ true → (back_of i h k.message ≡ []) ⊎ (there ≡ k.message.from.0)
             routed zero = which (back_loan i h k.message zero)
               where
-                which : (back_of i h k.message ≡ []) ⊎ (back_on k.message ≡ Some (record { place = i; home = h })) → (back_of i h k.message ≡ []) ⊎ (there ≡ k.message.from.0)
+                which : (back_of i h k.message ≡ []) ⊎ (back_on k.message ≡ Some (record { place = i; home = h }))
+                    → (back_of i h k.message ≡ []) ⊎ (there ≡ k.message.from.0)
                 which (inl q) = inl q
                 which (inr q) = inr (((hand zero).back (record { place = i; home = h }) q).home)
 
@@ -254,7 +250,8 @@ module _ {M : Type 0} (model : Behaviour M) (clear : IsOpen model) (t : Tables) 
             routed : (k.message.prio.0 == 0) ≡ true → (forth_of i h k.message ≡ []) ⊎ (here ≡ k.message.from.0)
             routed zero = which (forth_loan i h k.message zero)
               where
-                which : (forth_of i h k.message ≡ []) ⊎ (forth_on k.message ≡ Some (record { place = i; home = h })) → (forth_of i h k.message ≡ []) ⊎ (here ≡ k.message.from.0)
+                which : (forth_of i h k.message ≡ []) ⊎ (forth_on k.message ≡ Some (record { place = i; home = h }))
+                    → (forth_of i h k.message ≡ []) ⊎ (here ≡ k.message.from.0)
                 which (inl q) = inl q
                 which (inr q) = inr (((hand zero).forth (record { place = i; home = h }) q).place imported)
 
@@ -272,7 +269,8 @@ module _ {M : Type 0} (model : Behaviour M) (clear : IsOpen model) (t : Tables) 
           same_rest (out_of a b (b == n)) (trail (world_after model t lines w n e next) a b) (rest_of a b ++ into a b (a == n))
           (moves a b ∙ ap (λ (z : List Msg). z ++ into a b (a == n)) (before a b) ∙ append_assoc (out_of a b (b == n)) (rest_of a b) (into a b (a == n)))
 
-      kinds_before : (kind : Msg → List SysKind) (a b : ℕ) → flat_map kind (trail w a b) ≡ flat_map kind (out_of a b (b == n)) ++ flat_map kind (rest_of a b)
+      kinds_before : (kind : Msg → List SysKind) (a b : ℕ)
+          → flat_map kind (trail w a b) ≡ flat_map kind (out_of a b (b == n)) ++ flat_map kind (rest_of a b)
       kinds_before kind a b = ap (flat_map kind) (before a b) ∙ flat_map-append kind (out_of a b (b == n)) (rest_of a b)
 
       kinds_after : (kind : Msg → List SysKind) (a b : ℕ)
@@ -291,7 +289,8 @@ module _ {M : Type 0} (model : Behaviour M) (clear : IsOpen model) (t : Tables) 
           same_row _ _ _ _ _ _ _ _ refl (sym (kinds_after f here there)) (sym (kinds_after g there here)) refl third
 
   -- each event of a controller
-  controller_row : (w : World (Body M)) → Stands w → (n : ℕ) (e : Entry) (next : State (Body M)) → controller_does (plant_of model t lines) w n (event_of e) ≡ Some (next, e)
+  controller_row : (w : World (Body M)) → Stands w → (n : ℕ) (e : Entry) (next : State (Body M))
+      → controller_does (plant_of model t lines) w n (event_of e) ≡ Some (next, e)
       → IsInRow t (world_after model t lines w n e next) c i h
   unfolding turn post fetch put
   controller_row w inv n (entry.Start who state ns) next does = absurd cc
@@ -343,7 +342,8 @@ module _ {M : Type 0} (model : Behaviour M) (clear : IsOpen model) (t : Tables) 
       (sym (ap (flat_map (back_of i h)) (fresh_trail b a (first_state model t b).outbox) ∙ emits_system (back_of i h) (λ x m. plain_back i h x m) b a (first_state model t b).outbox))
       refl homed
 
-  pub runs_stand : (xs : List Placed) (end : World (Body M)) → Runs (plant_of model t lines) (start (plant_of model t lines)) xs end → IsInRow t end c i h
+  pub runs_stand : (xs : List Placed) (end : World (Body M)) → Runs (plant_of model t lines) (start (plant_of model t lines)) xs end
+      → IsInRow t end c i h
   runs_stand xs end r =
       (run_stands xs (start (plant_of model t lines)) end
       (record { routes = start_routes model clear t local lines clear_lines; lends = λ n. start_lends t n model clear; row = first_row }) r).row

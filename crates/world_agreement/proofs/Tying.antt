@@ -1,6 +1,5 @@
 -- An import place and a home: what each event of the place's controller makes of the row in which they stand.
 use Rattle.std.proofs.Common.{◌≡◌, ℕ, ◌+◌, ◌<◌, ◌≤◌, ◌==◌, ◌&&◌, ◌||◌, Bool, true, false, not, if◌then◌else◌, List, [], ◌∷◌, ◌++◌, flat_map, slice_get, Option, Some, None, ℤ, pos, refl, sym, ap, ◌∙◌, subst, eq-eqb, eqb-true, append-nil, append_assoc, arith, ◌⊎◌, inl, inr}
-use Rattle.std.specs.Prelude.{nat_lt}
 use Rattle.std.specs.Option.{option_map_or}
 use Rattle.std.proofs.lemmas.Bool.{and_parts, ne_eqb, cases_eq, cases_lt, lt-ltb, le-ltb}
 use Rattle.room_kinds.specs.declared.message.Msg.{Msg}
@@ -28,6 +27,7 @@ use Rattle.world_agreement.specs.Imports.{Wait, Ask, Leave, place_for, kind_for}
 use Rattle.world_agreement.specs.Loans.{Side, Unmade, Apart, Asks, Holds, Leaves, Over, Row, tied_as, side_by, side_of, goes_between, kind_back, forth_of, back_of}
 use Rattle.world_agreement.proofs.Hearing.{swap_eqb}
 use Rattle.world_agreement.proofs.OffLoan.{IsOffLoan, AllOffLoan, off_asked, off_announces, off_part_ends, off_part_make, off_create, off_create_done, off_create_refused, off_destroy_done}
+use Rattle.world_agreement.proofs.Siding.{was, elsewhere, side_live, side_dead, side_tied, other_place, ask_other, hold_other, leave_other, asks_is, holds_is, leaves_is, is_asks, is_holds, is_leaves}
 use Rattle.world_agreement.proofs.Walking.{IsHere, IsWalk, turn_walks, start_walks}
 use Rattle.world_agreement.proofs.Routing.{part_of_at}
 use Rattle.world_agreement.proofs.Waiting.{live_generation, vacant}
@@ -36,47 +36,7 @@ use Rattle.world_agreement.proofs.Lists.{all_map}
 use Rattle.world_agreement.proofs.Duties.{by_plainly, by_number, by_natural}
 use Rattle.world_agreement.proofs.Pairing.{row_made, row_asks, row_leaves, row_apart_ends, row_leaves_ends, row_asks_ends, row_holds_ends, row_granted, row_refused, row_bereft, row_freed, row_not_granted, row_not_refused, row_not_bereft, row_not_freed}
 use Rattle.world_agreement.proofs.Counting.{picked, picked_down}
-use Rattle.world_agreement.proofs.Emitting.{same_incarnation, itself, swap_incarnation, same_frame, emits, emits_append, emits_none, emits_flat, no_either, off_back, off_out, sent_out}
-
--- what a place that asks for a home held before, and what one held that gives it back
-abbrev was : Wait → Incarnation → ImportPlace
-was Ask y = Empty
-was Leave y = Held y
-
-module _ (i h : Incarnation) where
-  -- where the container doesn't live in the place's generation
-  abbrev elsewhere : ℕ → Side
-  elsewhere gen = if nat_lt gen i.generation.0 then Unmade else Over
-
-  -- where it does
-  pub side_live : (gen : ℕ) (live : Bool) (p : ImportPlace) → (live && (gen == i.generation.0)) ≡ true → side_by i h gen live p ≡ tied_as h p
-  unfolding side_by
-  side_live gen live p e =
-      let q = and_parts live (gen == i.generation.0) e in
-      let g : gen ≡ i.generation.0 = eqb-true gen i.generation.0 q.1 in
-      rw (le-ltb gen i.generation.0 (omega (arith, g)), e) refl
-
-  side_dead : (gen : ℕ) (live : Bool) (p : ImportPlace) → (live && (gen == i.generation.0)) ≡ false → side_by i h gen live p ≡ elsewhere gen
-  unfolding side_by
-  side_dead gen live p e = rw e refl
-
-  -- a place that asks for, holds or gives back the home is of a live container
-  pub side_tied : (s : Side) → (s ≡ Unmade → ⊥) → (s ≡ Over → ⊥) → (gen : ℕ) (live : Bool) (p : ImportPlace) → side_by i h gen live p ≡ s
-      → ((live && (gen == i.generation.0)) ≡ true) × (tied_as h p ≡ s)
-  side_tied s not_unmade not_over gen live p e = go (live && (gen == i.generation.0)) refl
-    where
-      neither : (b : Bool) → (if b then Unmade else Over) ≡ s → ⊥
-      neither true q = not_unmade (sym q)
-      neither false q = not_over (sym q)
-
-      go : (b : Bool) → (live && (gen == i.generation.0)) ≡ b → ((live && (gen == i.generation.0)) ≡ true) × (tied_as h p ≡ s)
-      go true q = (q, sym (side_live gen live p q) ∙ e)
-      go false q = absurd (neither (nat_lt gen i.generation.0) (sym (side_dead gen live p q) ∙ e))
-
-  -- what a place is to the home where it is of another
-  other_place : (w : Wait) (y : Incarnation) → is_incarnation y h ≡ false → (tied_as h (was w y) ≡ Apart) × (tied_as h (place_for w y) ≡ Apart)
-  other_place Ask y e = (refl, rw e refl)
-  other_place Leave y e = (rw e refl, rw e refl)
+use Rattle.world_agreement.proofs.Emitting.{itself, swap_incarnation, same_frame, emits, emits_append, emits_none, emits_flat, no_either, off_back, off_out, sent_out}
 
 module _ (t : Tables) (c : ℕ) (i h : Incarnation) (imported : is_imported t i.slot.0 ≡ true) (part : container_of t i.slot.0 ≡ Some c) where
   -- what messages put on the way forth
@@ -242,27 +202,32 @@ module _ (t : Tables) (c : ℕ) (i h : Incarnation) (imported : is_imported t i.
     told_keeps f g m off same = stays f g (m ∷ []) same (off_out i h (owner_of t h.slot.0) (m ∷ []) (off, tt))
 
     module _ (f : Frame) (x : Incarnation) (reference : ℕ) (index : ℤ) (live : is_live f.lives x ≡ true) where
-      import_with_keeps : (j : ℕ) → container_of t j ≡ Some x.slot.0 → (o : Option Incarnation) (code : Option Code) → import_code t f.places j o ≡ code
+      import_with_keeps : (j : ℕ) → container_of t j ≡ Some x.slot.0 → (o : Option Incarnation) (code : Option Code)
+          → import_code t f.places j o ≡ code
           → AskedIn f (import_with t me f.places x reference index j o code)
       import_with_keeps j own o (Some code) e = told_keeps f f _ (refl, refl) refl
       import_with_keeps j own None None e = told_keeps f f _ (refl, refl) refl
       import_with_keeps j own (Some y) None e = put_keeps f x j Ask y own live (empty_by f.places j y e)
 
-      import_into_keeps : (id : ℤ) (o : Option ℕ) → ((j : ℕ) → o ≡ Some j → container_of t j ≡ Some x.slot.0) → AskedIn f (import_into t me f.places x reference index id o)
+      import_into_keeps : (id : ℤ) (o : Option ℕ) → ((j : ℕ) → o ≡ Some j → container_of t j ≡ Some x.slot.0)
+          → AskedIn f (import_into t me f.places x reference index id o)
       import_into_keeps id None own = told_keeps f f _ (refl, refl) refl
       import_into_keeps id (Some j) own = import_with_keeps j (own j refl) (of_id id) (import_code t f.places j (of_id id)) refl
 
-      deport_from_keeps : (j : ℕ) → container_of t j ≡ Some x.slot.0 → (p : ImportPlace) → f.places j ≡ p → AskedIn f (deport_from t me f.places x reference index j p)
+      deport_from_keeps : (j : ℕ) → container_of t j ≡ Some x.slot.0 → (p : ImportPlace) → f.places j ≡ p
+          → AskedIn f (deport_from t me f.places x reference index j p)
       deport_from_keeps j own Empty e = told_keeps f f _ (refl, refl) refl
       deport_from_keeps j own (Asking y) e = told_keeps f f _ (refl, refl) refl
       deport_from_keeps j own (Leaving y) e = told_keeps f f _ (refl, refl) refl
       deport_from_keeps j own (Held y) e = put_keeps f x j Leave y own live e
 
-      deport_of_keeps : (o : Option ℕ) → ((j : ℕ) → o ≡ Some j → container_of t j ≡ Some x.slot.0) → AskedIn f (deport_of t me f.places x reference index o)
+      deport_of_keeps : (o : Option ℕ) → ((j : ℕ) → o ≡ Some j → container_of t j ≡ Some x.slot.0)
+          → AskedIn f (deport_of t me f.places x reference index o)
       deport_of_keeps None own = told_keeps f f _ (refl, refl) refl
       deport_of_keeps (Some j) own = deport_from_keeps j (own j refl) (f.places j) refl
 
-    request_keeps : (f : Frame) (x : Incarnation) (k : FrameCommand) → IsHere t me f.lives x → Keeps f (frame_request t me f x k).sent (frame_request t me f x k).now
+    request_keeps : (f : Frame) (x : Incarnation) (k : FrameCommand) → IsHere t me f.lives x
+        → Keeps f (frame_request t me f x k).sent (frame_request t me f x k).now
     unfolding incarnate destroy_command import_command deport_command
     request_keeps f x (frames.Incarnate reference index) here =
         told_keeps f f _ (off_asked t me x reference index (part_at t x.slot.0 reference index)).0 refl
@@ -312,7 +277,8 @@ module _ (t : Tables) (c : ℕ) (i h : Incarnation) (imported : is_imported t i.
               either (inl l) = rw (lt-ltb g i.generation.0 l, lt-ltb (g + 1) i.generation.0 (omega (arith, l, apart))) refl
               either (inr l) = rw (le-ltb g i.generation.0 l, le-ltb (g + 1) i.generation.0 (omega (arith, l))) refl
 
-          go : (g + 1 ≡ i.generation.0) ⊎ (g + 1 ≡ i.generation.0 → ⊥) → Row (elsewhere i h g) forth back n → Row (side_by i h (g + 1) true (f.places i.slot.0)) forth back n
+          go : (g + 1 ≡ i.generation.0) ⊎ (g + 1 ≡ i.generation.0 → ⊥) → Row (elsewhere i h g) forth back n
+              → Row (side_by i h (g + 1) true (f.places i.slot.0)) forth back n
           go (inl q) s =
               let now : side_by i h (g + 1) true (f.places i.slot.0) ≡ Apart =
               side_live i h (g + 1) true (f.places i.slot.0) (rw (eq-eqb (g + 1) i.generation.0 q) refl) ∙ ap (tied_as h) empty in
@@ -482,7 +448,8 @@ module _ (t : Tables) (c : ℕ) (i h : Incarnation) (imported : is_imported t i.
 
       -- an answer of the home to the place
       module _ (k : SysKind) (s after : Side) (not_unmade : s ≡ Unmade → ⊥) (not_over : s ≡ Over → ⊥) (fits : Bool) (next : ImportPlace) (m : Msg) (off : IsOffLoan m)
-          (fit_of : tied_as h (f.places i.slot.0) ≡ s → fits ≡ true) (of_fit : fits ≡ true → tied_as h (f.places i.slot.0) ≡ s) (now : tied_as h next ≡ after)
+          (fit_of : tied_as h (f.places i.slot.0) ≡ s → fits ≡ true) (of_fit : fits ≡ true
+          → tied_as h (f.places i.slot.0) ≡ s) (now : tied_as h next ≡ after)
           (yes : (forth back : List SysKind) (n : ℕ) → Row s forth (k ∷ back) n → Row after forth back n)
           (no : (a : Side) (forth back : List SysKind) (n : ℕ) → (a ≡ s → ⊥) → Row a forth (k ∷ back) n → Row a forth back n) where
         waits_not : (is_container_live t f.lives (frame_of i) && fits) ≡ false → side f ≡ s → ⊥
@@ -522,7 +489,8 @@ module _ (t : Tables) (c : ℕ) (i h : Incarnation) (imported : is_imported t i.
           l : Bool
           l = f.lives.lives c
 
-          same_slot : (is_container_live t f.lives b && fits) ≡ true → (i.slot.0 == b.slot.0) ≡ true → (live : Bool) → (l && (g == i.generation.0)) ≡ live
+          same_slot : (is_container_live t f.lives b && fits) ≡ true → (i.slot.0 == b.slot.0) ≡ true → (live : Bool)
+              → (l && (g == i.generation.0)) ≡ live
               → side_by i h g l next ≡ side_by i h g l (f.places i.slot.0)
           same_slot e d false q = side_dead i h g l next q ∙ sym (side_dead i h g l (f.places i.slot.0) q)
           same_slot e d true q =
@@ -547,11 +515,13 @@ module _ (t : Tables) (c : ℕ) (i h : Incarnation) (imported : is_imported t i.
       -- an answer, on whichever loan
       module _ (k : SysKind) (fits : Incarnation → ImportPlace → Bool) (next : Incarnation → ImportPlace) (tell : Endpoint → Endpoint → Msg) (off : (a b : Endpoint) → IsOffLoan (tell a b))
           (here : HeardIn (k ∷ []) (heard t f.lives f.places (frame_of i) (fits h (f.places i.slot.0)) (next h) (tell (frame_of h) (frame_of i))))
-          (other : (x : Incarnation) → is_incarnation h x ≡ false → (p : ImportPlace) → fits x p ≡ true → (tied_as h p ≡ Apart) × (tied_as h (next x) ≡ Apart)) where
+          (other : (x : Incarnation) → is_incarnation h x ≡ false → (p : ImportPlace) → fits x p ≡ true
+          → (tied_as h p ≡ Apart) × (tied_as h (next x) ≡ Apart)) where
         abbrev heard_by : Endpoint → Endpoint → Done (ℕ → ImportPlace)
         heard_by a b = heard t f.lives f.places b (fits (whose a) (f.places b.slot.0)) (next (whose a)) (tell a b)
 
-        heard_on : (a b : Endpoint) → is_frame a ≡ true → is_frame b ≡ true → HeardIn (if goes_between h i (Some a) b then k ∷ [] else []) (heard_by a b)
+        heard_on : (a b : Endpoint) → is_frame a ≡ true → is_frame b ≡ true
+            → HeardIn (if goes_between h i (Some a) b then k ∷ [] else []) (heard_by a b)
         heard_on a b fa fb = go (is_incarnation h (whose a)) refl (is_incarnation i (whose b)) refl
           where
             toks : (x : Bool) → is_incarnation h (whose a) ≡ x → (y : Bool) → is_incarnation i (whose b) ≡ y
@@ -585,110 +555,17 @@ module _ (t : Tables) (c : ℕ) (i h : Incarnation) (imported : is_imported t i.
           let s = and_parts (is_frame b) (is_frame a) r.0 in
           (s.1, s.0)
 
-      -- a home that the place isn't tied to
-      apart_home : (x y : Incarnation) → is_incarnation h x ≡ false → is_incarnation y x ≡ true → is_incarnation y h ≡ false
-      apart_home x y e q = ap (λ (z : Incarnation). is_incarnation z h) (same_incarnation y x q) ∙ swap_incarnation x h ∙ e
-
-      ask_other : (x : Incarnation) → is_incarnation h x ≡ false → (p : ImportPlace) → is_asking x p ≡ true → tied_as h p ≡ Apart
-      ask_other x e Empty q = refl
-      ask_other x e (Asking y) q = ap (λ (z : Bool). if z then Asks else Apart) (apart_home x y e q)
-      ask_other x e (Held y) q = absurd cc
-      ask_other x e (Leaving y) q = absurd cc
-
-      hold_other : (x : Incarnation) → is_incarnation h x ≡ false → (p : ImportPlace) → is_held x p ≡ true → tied_as h p ≡ Apart
-      hold_other x e Empty q = refl
-      hold_other x e (Held y) q = ap (λ (z : Bool). if z then Holds else Apart) (apart_home x y e q)
-      hold_other x e (Asking y) q = absurd cc
-      hold_other x e (Leaving y) q = absurd cc
-
-      leave_other : (x : Incarnation) → is_incarnation h x ≡ false → (p : ImportPlace) → is_leaving x p ≡ true → tied_as h p ≡ Apart
-      leave_other x e Empty q = refl
-      leave_other x e (Leaving y) q = ap (λ (z : Bool). if z then Leaves else Apart) (apart_home x y e q)
-      leave_other x e (Asking y) q = absurd cc
-      leave_other x e (Held y) q = absurd cc
-
-      asks_is : (p : ImportPlace) → tied_as h p ≡ Asks → is_asking h p ≡ true
-      asks_is Empty q = absurd cc
-      asks_is (Asking y) q = go (is_incarnation y h) q
-        where
-          go : (b : Bool) → (if b then Asks else Apart) ≡ Asks → b ≡ true
-          go true r = refl
-          go false r = absurd cc
-      asks_is (Held y) q = go (is_incarnation y h) q
-        where
-          go : (b : Bool) → (if b then Holds else Apart) ≡ Asks → false ≡ true
-          go true r = absurd cc
-          go false r = absurd cc
-      asks_is (Leaving y) q = go (is_incarnation y h) q
-        where
-          go : (b : Bool) → (if b then Leaves else Apart) ≡ Asks → false ≡ true
-          go true r = absurd cc
-          go false r = absurd cc
-
-      holds_is : (p : ImportPlace) → tied_as h p ≡ Holds → is_held h p ≡ true
-      holds_is Empty q = absurd cc
-      holds_is (Held y) q = go (is_incarnation y h) q
-        where
-          go : (b : Bool) → (if b then Holds else Apart) ≡ Holds → b ≡ true
-          go true r = refl
-          go false r = absurd cc
-      holds_is (Asking y) q = go (is_incarnation y h) q
-        where
-          go : (b : Bool) → (if b then Asks else Apart) ≡ Holds → false ≡ true
-          go true r = absurd cc
-          go false r = absurd cc
-      holds_is (Leaving y) q = go (is_incarnation y h) q
-        where
-          go : (b : Bool) → (if b then Leaves else Apart) ≡ Holds → false ≡ true
-          go true r = absurd cc
-          go false r = absurd cc
-
-      leaves_is : (p : ImportPlace) → tied_as h p ≡ Leaves → is_leaving h p ≡ true
-      leaves_is Empty q = absurd cc
-      leaves_is (Leaving y) q = go (is_incarnation y h) q
-        where
-          go : (b : Bool) → (if b then Leaves else Apart) ≡ Leaves → b ≡ true
-          go true r = refl
-          go false r = absurd cc
-      leaves_is (Asking y) q = go (is_incarnation y h) q
-        where
-          go : (b : Bool) → (if b then Asks else Apart) ≡ Leaves → false ≡ true
-          go true r = absurd cc
-          go false r = absurd cc
-      leaves_is (Held y) q = go (is_incarnation y h) q
-        where
-          go : (b : Bool) → (if b then Holds else Apart) ≡ Leaves → false ≡ true
-          go true r = absurd cc
-          go false r = absurd cc
-
-      is_asks : (p : ImportPlace) → is_asking h p ≡ true → tied_as h p ≡ Asks
-      is_asks Empty q = absurd cc
-      is_asks (Asking y) q = ap (λ (z : Bool). if z then Asks else Apart) q
-      is_asks (Held y) q = absurd cc
-      is_asks (Leaving y) q = absurd cc
-
-      is_holds : (p : ImportPlace) → is_held h p ≡ true → tied_as h p ≡ Holds
-      is_holds Empty q = absurd cc
-      is_holds (Held y) q = ap (λ (z : Bool). if z then Holds else Apart) q
-      is_holds (Asking y) q = absurd cc
-      is_holds (Leaving y) q = absurd cc
-
-      is_leaves : (p : ImportPlace) → is_leaving h p ≡ true → tied_as h p ≡ Leaves
-      is_leaves Empty q = absurd cc
-      is_leaves (Leaving y) q = ap (λ (z : Bool). if z then Leaves else Apart) q
-      is_leaves (Asking y) q = absurd cc
-      is_leaves (Held y) q = absurd cc
-
-      done_hears : (a b : Endpoint) → is_back t me a b ≡ true → HeardIn (if goes_between h i (Some a) b then kinds.ImportDone ∷ [] else []) (import_done t me f.lives f.places a b)
+      done_hears : (a b : Endpoint) → is_back t me a b ≡ true
+          → HeardIn (if goes_between h i (Some a) b then kinds.ImportDone ∷ [] else []) (import_done t me f.lives f.places a b)
       unfolding import_done
       done_hears a b form =
           let tell : Endpoint → Endpoint → Msg = λ x y. told_of t me Imported x (container_frame t y) y.slot.0 (id_of (whose x)) in
           let fr = back_frames a b form in
           heard_on kinds.ImportDone is_asking (λ x. Held x) tell (λ x y. (refl, refl))
           (heard_here kinds.ImportDone Asks Holds (λ q. absurd cc) (λ q. absurd cc) (is_asking h (f.places i.slot.0)) (Held h) (tell (frame_of h) (frame_of i)) (refl, refl)
-          (asks_is (f.places i.slot.0)) (is_asks (f.places i.slot.0)) (ap (λ (z : Bool). if z then Holds else Apart) (itself h))
+          (asks_is h (f.places i.slot.0)) (is_asks h (f.places i.slot.0)) (ap (λ (z : Bool). if z then Holds else Apart) (itself h))
           (λ forth back n r. row_granted r) (λ x forth back n not r. row_not_granted x not r))
-          (λ x e p q. (ask_other x e p q, ap (λ (z : Bool). if z then Holds else Apart) (swap_incarnation x h ∙ e))) a b fr.0 fr.1
+          (λ x e p q. (ask_other h x e p q, ap (λ (z : Bool). if z then Holds else Apart) (swap_incarnation x h ∙ e))) a b fr.0 fr.1
 
       refused_hears : (a b : Endpoint) (n : ℤ) → is_back t me a b ≡ true
           → HeardIn (if goes_between h i (Some a) b then (if is_code StaleId n || is_code PortTaken n then kinds.ImportRefused ∷ [] else []) else []) (import_refused t me f.lives f.places a b n)
@@ -707,35 +584,37 @@ module _ (t : Tables) (c : ℕ) (i h : Incarnation) (imported : is_imported t i.
               let fr = back_frames a b form in
               heard_on kinds.ImportRefused is_asking (λ x. Empty) tell (λ x y. (refl, refl))
               (heard_here kinds.ImportRefused Asks Apart (λ q. absurd cc) (λ q. absurd cc) (is_asking h (f.places i.slot.0)) Empty (tell (frame_of h) (frame_of i)) (refl, refl)
-              (asks_is (f.places i.slot.0)) (is_asks (f.places i.slot.0)) refl
+              (asks_is h (f.places i.slot.0)) (is_asks h (f.places i.slot.0)) refl
               (λ forth back n r. row_refused r) (λ x forth back n not r. row_not_refused x not r))
-              (λ x e p q. (ask_other x e p q, refl)) a b fr.0 fr.1
+              (λ x e p q. (ask_other h x e p q, refl)) a b fr.0 fr.1
 
           go : (z : Bool) → HeardIn (if goes_between h i (Some a) b then (if z then kinds.ImportRefused ∷ [] else []) else []) (heard t f.lives f.places b (z && is_asking (whose a) (f.places b.slot.0)) Empty (told_of t me Refused a (container_frame t b) b.slot.0 n))
           go true = known
           go false = none (goes_between h i (Some a) b) (is_container_live t f.lives b)
 
-      ended_hears : (a b : Endpoint) → is_back t me a b ≡ true → HeardIn (if goes_between h i (Some a) b then kinds.ImportEnded ∷ [] else []) (import_ended t me f.lives f.places a b)
+      ended_hears : (a b : Endpoint) → is_back t me a b ≡ true
+          → HeardIn (if goes_between h i (Some a) b then kinds.ImportEnded ∷ [] else []) (import_ended t me f.lives f.places a b)
       unfolding import_ended
       ended_hears a b form =
           let tell : Endpoint → Endpoint → Msg = λ x y. told_of t me Ended x (container_frame t y) y.slot.0 (id_of (whose x)) in
           let fr = back_frames a b form in
           heard_on kinds.ImportEnded is_held (λ x. Empty) tell (λ x y. (refl, refl))
           (heard_here kinds.ImportEnded Holds Apart (λ q. absurd cc) (λ q. absurd cc) (is_held h (f.places i.slot.0)) Empty (tell (frame_of h) (frame_of i)) (refl, refl)
-          (holds_is (f.places i.slot.0)) (is_holds (f.places i.slot.0)) refl
+          (holds_is h (f.places i.slot.0)) (is_holds h (f.places i.slot.0)) refl
           (λ forth back n r. row_bereft r) (λ x forth back n not r. row_not_bereft x not r))
-          (λ x e p q. (hold_other x e p q, refl)) a b fr.0 fr.1
+          (λ x e p q. (hold_other h x e p q, refl)) a b fr.0 fr.1
 
-      freed_hears : (a b : Endpoint) → is_back t me a b ≡ true → HeardIn (if goes_between h i (Some a) b then kinds.DeportDone ∷ [] else []) (deport_done t me f.lives f.places a b)
+      freed_hears : (a b : Endpoint) → is_back t me a b ≡ true
+          → HeardIn (if goes_between h i (Some a) b then kinds.DeportDone ∷ [] else []) (deport_done t me f.lives f.places a b)
       unfolding deport_done
       freed_hears a b form =
           let tell : Endpoint → Endpoint → Msg = λ x y. told_of t me Deported x (container_frame t y) y.slot.0 (id_of (whose x)) in
           let fr = back_frames a b form in
           heard_on kinds.DeportDone is_leaving (λ x. Empty) tell (λ x y. (refl, refl))
           (heard_here kinds.DeportDone Leaves Apart (λ q. absurd cc) (λ q. absurd cc) (is_leaving h (f.places i.slot.0)) Empty (tell (frame_of h) (frame_of i)) (refl, refl)
-          (leaves_is (f.places i.slot.0)) (is_leaves (f.places i.slot.0)) refl
+          (leaves_is h (f.places i.slot.0)) (is_leaves h (f.places i.slot.0)) refl
           (λ forth back n r. row_freed r) (λ x forth back n not r. row_not_freed x not r))
-          (λ x e p q. (leave_other x e p q, refl)) a b fr.0 fr.1
+          (λ x e p q. (leave_other h x e p q, refl)) a b fr.0 fr.1
 
     -- the duties
     module _ (home : is_home t h.slot.0 ≡ true) (mine : is_own t me i.slot.0 ≡ true) (f : Frame) (k : LendsSo t f) (m : Msg) where
@@ -829,7 +708,8 @@ module _ (t : Tables) (c : ℕ) (i h : Incarnation) (imported : is_imported t i.
           go true = e
           go false = refl
 
-      plain_hears : (z fits : Bool) → (z ≡ true → fits ≡ true) → (kind : SysKind) (numbers : List ℤ → List SysKind) → numbers [] ≡ kind ∷ [] → ((n : ℤ) (ns : List ℤ) → numbers (n ∷ ns) ≡ [])
+      plain_hears : (z fits : Bool) → (z ≡ true → fits ≡ true) → (kind : SysKind) (numbers : List ℤ → List SysKind) → numbers [] ≡ kind ∷ []
+          → ((n : ℤ) (ns : List ℤ) → numbers (n ∷ ns) ≡ [])
           → (r : FrameDone) → (fits ≡ true → Hears (if z then kind ∷ [] else []) f r.sent r.frame) → (payload : List ℤ)
           → Hears (if z then numbers payload else []) f (plainly f fits payload r).sent (plainly f fits payload r).frame
       plain_hears z fits form kind numbers one none r p (n ∷ ns) = silent z (numbers (n ∷ ns)) (none n ns) f [] none_keeps
@@ -920,6 +800,7 @@ module _ (t : Tables) (c : ℕ) (i h : Incarnation) (imported : is_imported t i.
       start_keeps = start_walks t me (Hears []) keeping model clear
 
   -- what it says of a row
-  pub hears_row : (toks : List SysKind) (f g : Frame) (ms : List Msg) → Hears toks f ms g → (forth back : List SysKind) (n : ℕ) → Row (side f) forth (toks ++ back) n → Row (side g) (forth ++ out ms) back n
+  pub hears_row : (toks : List SysKind) (f g : Frame) (ms : List Msg) → Hears toks f ms g → (forth back : List SysKind) (n : ℕ)
+      → Row (side f) forth (toks ++ back) n → Row (side g) (forth ++ out ms) back n
   unfolding Hears
   hears_row toks f g ms p forth back n r = p forth back n r
