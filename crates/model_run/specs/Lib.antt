@@ -1,6 +1,8 @@
+pub mod fixed_lines
 pub mod joined_round
 pub mod local_run
 pub mod parallel_run
+pub mod part_source
 pub mod part_posts
 pub mod run_ends
 pub mod run_loop

@@ -1,9 +1,13 @@
 //! A run of all controllers on the calling thread, one after another.
-ghost use Rattle.std.specs.Prelude.{IfOk};
+ghost use Rattle.std.specs.Prelude.{◌≡◌, IfOk};
 ghost use Rattle.controller_actors.specs.Plants.{IsPlant};
-ghost use Rattle.model_run.specs.run_ends.Runs.{IsRun};
+ghost use Rattle.model_run.specs.part_source.Calls.{seen_in, Asked};
+ghost use Rattle.model_run.specs.part_source.Parts.{IsPart};
+ghost use Rattle.model_run.specs.run_ends.Runs.{IsRun, RanThrough};
 
+use crate::fixed_lines::FixedLines;
 use crate::joined_round::round_in_order;
+use crate::part_source::PartSource;
 use crate::run_loop::{Run, next_round};
 use controller::Plant;
 use inject_reader::inject_lines::Line;
@@ -37,10 +41,29 @@ where
     requires plant { IsPlant plant.now }
     ensures { IfOk result (λ j. IsRun plant.now lines.now fuel j) }
 {
+    let mut source = FixedLines::new(lines);
+    run_parts_in_order::<M, FixedLines>(alloc, plant, &mut source, fuel)
+}
+
+/// The same over lines that come part by part. The source stands at its first part.
+pub fn run_parts_in_order<M: Mail + Drop, S: PartSource>(
+    alloc: Global,
+    plant: &Plant,
+    source: &mut S,
+    fuel: u64,
+) -> Result<Journals, AllocError>
+where
+    M::Office: Drop,
+    requires plant { IsPlant plant.now }
+    requires first { S.given source.old ≡ S.stands_at source.old }
+    requires part { IsPart (S.stands_at source.old) }
+    ensures ran { IfOk result (λ j. RanThrough plant.now (S.given source.new) (S.left source.new) fuel j) }
+    ensures asked { IfOk result (λ j. Asked S.goes_on source.old source.new (seen_in j)) }
+{
     let mut run = Run::start(alloc, plant, fuel)?;
     for _round in 0..u64::MAX {
-        let Some((office, ends)) = next_round::<M>(alloc, plant, &mut run, lines, fuel)? else {
-            return run.journals(alloc, plant, lines, fuel);
+        let Some((office, ends)) = next_round::<M, S>(alloc, plant, &mut run, source, fuel)? else {
+            return run.journals(alloc, plant, source, fuel);
         };
         round_in_order(alloc, &mut run.controllers, plant, office, ends)?;
     }

@@ -3,11 +3,15 @@
 //! A run goes in rounds: the workers of the controllers, a joined step in which all mail is fetched and each
 //! controller takes a turn, and so on until all is quiet or spent; then the environment posts the lines of
 //! the next part. The rounds are this project's own.
-ghost use Rattle.std.specs.Prelude.{IfOk};
+ghost use Rattle.std.specs.Prelude.{◌≡◌, IfOk};
 ghost use Rattle.controller_actors.specs.Plants.{IsPlant};
-ghost use Rattle.model_run.specs.run_ends.Runs.{IsRun};
+ghost use Rattle.model_run.specs.part_source.Calls.{seen_in, Asked};
+ghost use Rattle.model_run.specs.part_source.Parts.{IsPart};
+ghost use Rattle.model_run.specs.run_ends.Runs.{IsRun, RanThrough};
 
+use crate::fixed_lines::FixedLines;
 use crate::joined_round::round_at_once;
+use crate::part_source::PartSource;
 use crate::run_loop::{Run, next_round};
 use controller::Plant;
 use inject_reader::inject_lines::Line;
@@ -32,10 +36,35 @@ pub fn run_model<M: Mail<Office = ()> + Send + Drop, G: Gate + Sync, R: Threads 
     requires plant { IsPlant plant.now }
     ensures { IfOk result (λ j. IsRun plant.now lines.now fuel j) }
 {
+    let mut source = FixedLines::new(lines);
+    run_parts::<M, G, R, FixedLines>(rt, alloc, plant, &mut source, fuel, gate)
+}
+
+/// The same over lines that come part by part: the source, which stands at its first part, is asked for the next
+/// one when all is quiet.
+pub fn run_parts<
+    M: Mail<Office = ()> + Send + Drop,
+    G: Gate + Sync,
+    R: Threads + Sync,
+    S: PartSource,
+>(
+    rt: &R,
+    alloc: Global,
+    plant: &Plant,
+    source: &mut S,
+    fuel: u64,
+    gate: &G,
+) -> Result<Journals, AllocError>
+    requires plant { IsPlant plant.now }
+    requires first { S.given source.old ≡ S.stands_at source.old }
+    requires part { IsPart (S.stands_at source.old) }
+    ensures ran { IfOk result (λ j. RanThrough plant.now (S.given source.new) (S.left source.new) fuel j) }
+    ensures asked { IfOk result (λ j. Asked S.goes_on source.old source.new (seen_in j)) }
+{
     let mut run = Run::start(alloc, plant, fuel)?;
     for _round in 0..u64::MAX {
-        let Some((_office, ends)) = next_round::<M>(alloc, plant, &mut run, lines, fuel)? else {
-            return run.journals(alloc, plant, lines, fuel);
+        let Some((_office, ends)) = next_round::<M, S>(alloc, plant, &mut run, source, fuel)? else {
+            return run.journals(alloc, plant, source, fuel);
         };
         round_at_once(rt, alloc, &mut run.controllers, plant, ends, gate)?;
     }

@@ -2,11 +2,11 @@
 //!
 //! Over any mail: each turn is prompt, and what the controller's end has posted and taken is just what its
 //! journal says.
-ghost use Rattle.std.specs.Prelude.{◌≡◌, ◌+◌, ◌<◌, [], length, OnOk};
+ghost use Rattle.std.specs.Prelude.{◌≡◌, ◌+◌, ◌<◌, [], length, IfOk, OnOk};
 ghost use Rattle.mail_core.specs.Tied.{IsTied, StaysTied};
 ghost use Rattle.controller_actors.specs.Plants.{IsPlant};
 ghost use Rattle.controller.specs.Controllers.{IsOf};
-ghost use Rattle.model_run.specs.run_worker.Works.{Did, Works};
+ghost use Rattle.model_run.specs.run_worker.Works.{Counted, Did, Works};
 
 use controller::{Controller, Plant};
 use mail_core::Mail;
@@ -17,7 +17,8 @@ use std::alloc::AllocError;
 const IDLE_STEPS: u32 = 64;
 
 /// A poll, and a turn if a message waits for one: then the controller first enters the gate, under its
-/// number and with the turns that it has taken. It answers whether anything was fetched or turned.
+/// number and with the turns that it has taken. It answers whether it took a turn. If not, it fetched nothing
+/// either: what is fetched waits for a turn.
 fn poll_and_turn<M: Mail, G: Gate>(
     number: ControllerNo,
     controller: &mut Controller,
@@ -35,18 +36,19 @@ fn poll_and_turn<M: Mail, G: Gate>(
     requires posted { controller.old.mail.outbox ≡ [] }
     requires fuel { controller.old.mail.turns < controller.old.fuel }
     ensures ok { OnOk result (Did plant.now controller.old controller.new (M.log end.old) (M.log end.new)) }
+    ensures counted { IfOk result (λ turned. Counted turned controller.old controller.new) }
     ensures of { IsOf plant.now controller.new }
     ensures tied { StaysTied M.tied (M.log end.old).party office.old office.new end.old end.new }
 {
-    let fetched = controller.poll(plant, office, end)?;
+    controller.poll(plant, office, end)?;
     if !controller.has_pending() {
-        return Ok(0 < fetched);
+        return Ok(false);
     }
     gate.enter(number, controller.turns());
     controller.turn(plant)
 }
 
-/// A poll, a turn, and the posts of what the turn sent. It answers whether anything was fetched or turned.
+/// A poll, a turn, and the posts of what the turn sent. It answers whether it took a turn.
 fn step<M: Mail, G: Gate>(
     number: ControllerNo,
     controller: &mut Controller,
@@ -64,12 +66,13 @@ fn step<M: Mail, G: Gate>(
     requires posted { controller.old.mail.outbox ≡ [] }
     requires fuel { controller.old.mail.turns < controller.old.fuel }
     ensures ok { OnOk result (Works plant.now controller.old controller.new (M.log end.old) (M.log end.new)) }
+    ensures counted { IfOk result (λ turned. Counted turned controller.old controller.new) }
     ensures of { IsOf plant.now controller.new }
     ensures tied { StaysTied M.tied (M.log end.old).party office.old office.new end.old end.new }
 {
-    let moved = poll_and_turn(number, controller, plant, office, end, gate)?;
+    let turned = poll_and_turn(number, controller, plant, office, end, gate)?;
     controller.post_all(plant, office, end)?;
-    Ok(moved)
+    Ok(turned)
 }
 
 /// A controller posts what it has to post, and then goes step by step until 64 steps in a row fetched and
@@ -95,13 +98,9 @@ pub fn work<M: Mail, G: Gate>(
 {
     controller.post_all(plant, office, end)?;
     let mut idle = 0u32;
-    for _step in 0..u64::MAX {
-        if controller.is_spent() || IDLE_STEPS <= idle {
-            return Ok(());
-        }
-        let moved = step(number, controller, plant, office, end, gate)?;
-        idle = if moved { 0 } else { idle + 1 };
+    while !controller.is_spent() && idle < IDLE_STEPS {
+        let turned = step(number, controller, plant, office, end, gate)?;
+        idle = if turned { 0 } else { idle + 1 };
     }
-    // Never reached: of 64 steps one has an entry, and so many entries no memory holds.
-    Err(AllocError)
+    Ok(())
 }

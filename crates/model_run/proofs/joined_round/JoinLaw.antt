@@ -1,8 +1,7 @@
 -- One step after another, for each controller.
-use Rattle.std.proofs.Common.{◌≡◌, ℕ, zero, suc, ◌+◌, ◌<◌, ◌≤◌, Bool, true, false, List, [], ◌∷◌, length, map, set, get_or, slice_get, slice_index_or, Option, Some, None, Result, Ok, Err, OnOk, refl, sym, ap, ◌∙◌, subst, arith}
+use Rattle.std.proofs.Common.{◌≡◌, ℕ, zero, suc, ◌+◌, ◌<◌, Bool, false, List, [], ◌∷◌, length, map, set, get_or, slice_get, slice_index_or, Option, Some, Result, Ok, Err, OnOk, refl, sym, ap, ◌∙◌, subst, arith}
 use Rattle.std.proofs.lemmas.Option.{slice_get_read, slice_get_within, get_or_from_slice_get}
 use Rattle.std.proofs.lemmas.List.{map-set, get_or-map, get_or-set_other}
-use Rattle.room_kinds.specs.declared.numbers.ControllerId.{ControllerId}
 use Rattle.room_kinds.specs.declared.message.Msg.{Msg}
 use Rattle.mail_core.specs.EndLog.{EndLog, fresh}
 use Rattle.mail_core.specs.Lanes.{log_at}
@@ -11,12 +10,12 @@ use Rattle.mail_core.proofs.Tied.{log_at-map}
 use Rattle.model_run.specs.run_rounds.OneByOne.{StepsBelow}
 use Rattle.model_run.proofs.run_rounds.OneByOne.{steps_one, slice_get-other, slice_get-same}
 use Rattle.controller_actors.specs.declared.plant.Plant.{Plant}
-use Rattle.controller.specs.Controllers.{IsOf, Goes}
-use Rattle.controller.specs.Calls.{FetchesLeft, Turns, took_one, took_none}
+use Rattle.controller.specs.Controllers.{IsOf}
+use Rattle.controller.specs.Calls.{Turns, took_one, took_none}
 use Rattle.controller.specs.declared.controller.Controller.{Controller}
 use Rattle.controller.proofs.Going.{goes_none}
 use Rattle.model_run.specs.run_worker.Works.{Works}
-use Rattle.model_run.specs.joined_round.Joined.{AllStand, Changes, LastTurn, IsReady, Seat, seat, WorkedAt, FetchedAt, TurnedAt, HaveWorked, AreJoined, Joined, RoundDone}
+use Rattle.model_run.specs.joined_round.Joined.{AllStand, Changes, LastTurn, IsReady, seat, WorkedAt, FetchedAt, TurnedAt, HaveWorked, AreJoined, Joined, RoundDone}
 
 module _ (plant : Plant) where
   -- no turn

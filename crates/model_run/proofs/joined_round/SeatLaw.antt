@@ -1,16 +1,15 @@
 -- Controllers in their seats, before and after the workers.
-use Rattle.std.proofs.Common.{inl, inr, ◌≡◌, ℕ, zero, suc, ◌+◌, ◌-◌, ◌<◌, ◌≤◌, List, [], ◌∷◌, ◌++◌, length, map, get_or, slice_get, Option, Some, None, refl, sym, ap, ◌∙◌, subst, arith}
+use Rattle.std.proofs.Common.{inl, inr, ◌≡◌, ℕ, zero, suc, ◌+◌, ◌<◌, ◌≤◌, List, [], ◌∷◌, ◌++◌, length, map, get_or, slice_get, Some, None, refl, sym, ap, ◌∙◌, subst, arith}
 use Rattle.std.proofs.lemmas.Bool.{cases_eq}
 use Rattle.std.proofs.lemmas.List.{length_push, length-map, map-append, get_or_push, get_or_append_left, get_or-append_right}
 use Rattle.std.proofs.lemmas.Option.{slice_get_within, get_or_from_slice_get, slice_get-get_or}
 use Rattle.mail_core.specs.EndLog.{EndLog, fresh}
 use Rattle.mail_core.specs.Lanes.{log_at}
-use Rattle.mail_core.specs.Tied.{IsTied, StaysTied}
+use Rattle.mail_core.specs.Tied.{StaysTied}
 use Rattle.mail_core.proofs.Tied.{IsTied-at, log_at-map}
 use Rattle.mail_core.proofs.TieAll.{tied_all, stays_from}
 use Rattle.controller_actors.specs.Plants.{IsPlant}
 use Rattle.controller_actors.specs.declared.plant.Plant.{Plant}
-use Rattle.controller.specs.Controllers.{IsOf}
 use Rattle.controller.specs.declared.controller.Controller.{Controller}
 use Rattle.model_run.specs.declared.joined_round.seat.Seat.{Seat}
 use Rattle.model_run.specs.run_worker.Works.{Works}

@@ -7,7 +7,7 @@ use denote.Struct.Declared.{shape}
 use denote.Enum.Declared.{shape as enum_shape}
 use denote.Param.Send.{IsSync, struct_sync, enum_sync, sendable}
 use denote.Param.SendFields.{declared_sync, variants_sync, as_row_sync}
-use Rattle.std.proofs.Crossing.{Box-sync, Vec-sync, crosses}
+use Rattle.std.proofs.Crossing.{Box-sync, Vec-sync}
 use Rattle.std.specs.contracts.vec.Vec as Vec
 use Rattle.std.specs.contracts.option.Option as Option
 use Rattle.std.specs.contracts.alloc.Global as Global

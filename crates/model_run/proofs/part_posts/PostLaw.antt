@@ -1,7 +1,8 @@
 -- One line more is posted.
-use Rattle.std.proofs.Common.{◌≡◌, ℕ, ℤ, zero, suc, ◌+◌, ◌<◌, ◌≤◌, ◌==◌, ◌&&◌, Bool, true, false, if◌then◌else◌, List, [], ◌∷◌, ◌++◌, length, drop, slice_get, get_or, Some, refl, sym, ap, ◌∙◌, subst, arith, append_assoc, append-nil, length-append, eq-eqb}
+use Rattle.std.proofs.Common.{◌≡◌, ℕ, ℤ, zero, suc, ◌+◌, ◌<◌, ◌==◌, ◌&&◌, Bool, true, false, if◌then◌else◌, List, [], ◌∷◌, ◌++◌, length, drop, slice_get, get_or, Some, refl, sym, ap, ◌∙◌, subst, arith, append_assoc, append-nil, length-append, eq-eqb}
 use Rattle.std.specs.Option.{option_map_or}
-use Rattle.std.proofs.lemmas.List.{length-map}
+use Rattle.std.proofs.lemmas.Bool.{true≢false}
+use Rattle.std.proofs.lemmas.List.{drop_all, length-map}
 use Rattle.std.proofs.lemmas.Option.{slice_get_within, slice_get-get_or}
 use Rattle.room_kinds.specs.declared.message.Msg.{Msg}
 use Rattle.room_kinds.specs.declared.numbers.Endpoint.{Endpoint}
@@ -13,9 +14,11 @@ use Rattle.inject_reader.specs.declared.inject_lines.accepted.What.{What}
 use Rattle.inject_reader.specs.declared.inject_lines.accepted.What.TheVariants as whats
 use Rattle.mail_core.specs.EndLog.{EndLog, gained, posting}
 use Rattle.actor_merge.specs.Mail.{lane, is_lane}
-use Rattle.actor_merge.specs.Parties.{stamped, part_of, Line as RunLine}
-use Rattle.actor_world.specs.Journals.{Item, Message, Settle, lines_of}
-use Rattle.model_run.specs.run_rounds.LineParts.{CutAt, EndsPart, PostsPart}
+use Rattle.actor_merge.specs.Parties.{stamped, part_of, Line as RunLine, Plant as RunPlant}
+use Rattle.actor_world.specs.Body.{Body}
+use Rattle.actor_world.specs.Journals.{Item, Message, lines_of}
+use Rattle.chart_behaviour.specs.ModelCharts.{Actor}
+use Rattle.model_run.specs.run_rounds.LineParts.{CutAt, PostsPart}
 use Rattle.model_run.proofs.run_rounds.LinesLaw.{cut_message, line_at, posts_nothing, posts_more}
 use Rattle.controller_mail.specs.MailState.{EnvironmentState, environment_of}
 use Rattle.controller_mail.specs.Steps.{environment_after}
@@ -24,6 +27,8 @@ use Rattle.controller_actors.specs.declared.plant.Plant.{Plant}
 use Rattle.controller.specs.Controllers.{EndGoes, run_plant}
 use Rattle.controller.specs.Calls.{PostsLine}
 use Rattle.controller.proofs.Going.{end_goes_none, end_goes_then}
+use Rattle.model_run.specs.part_source.Parts.{is_message, IsPart}
+use Rattle.model_run.proofs.run_so_far.GoesOn.{within_both}
 use Rattle.model_run.specs.part_posts.Items.{injected, item_of, items_of}
 use Rattle.model_run.specs.part_posts.Posting.{PostsUpTo}
 
@@ -51,17 +56,18 @@ module _ (plant : Plant) (lines : List Line) where
   items = items_of plant.wiring lines
 
   -- nothing is posted yet
-  pub none_posted : (from : ℕ) (env : EnvironmentState) (log : EndLog) → PostsUpTo plant lines from from env env log log
-  none_posted from env log = record {
+  pub none_posted : (env : EnvironmentState) (log : EndLog) → PostsUpTo plant lines 0 env env log log
+  none_posted env log = record {
     entries = [];
     journal = sym (append-nil env.journal);
-    count = omega arith;
+    count = refl;
     end = end_goes_none (length plant.wiring.controllers) log;
-    posts = λ q cut. (posts_nothing (run_plant plant (lines_of items)) (environment_of env) q, cut);
+    within = tt;
+    posts = λ whole rest q cut. (posts_nothing (run_plant plant (lines_of whole)) (environment_of env) q, cut);
   }
 
-  module _ (from at number : ℕ) (old mid : EnvironmentState) (log log' : EndLog) (m : Msg) (s : PostsUpTo plant lines from at old mid log log')
-      (here : drop at items ≡ Message number m ∷ drop (at + 1) items) where
+  module _ (at number : ℕ) (old mid : EnvironmentState) (log log' : EndLog) (m : Msg) (s : PostsUpTo plant lines at old mid log log')
+      (here : drop at items ≡ Message number m ∷ drop (at + 1) items) (to : m.to.0 < length plant.wiring.controllers) (prio : m.prio.0 < 6) where
     abbrev sent : Msg
     sent = stamped (length plant.wiring.controllers) (mid.clock + 1) m
 
@@ -74,29 +80,34 @@ module _ (plant : Plant) (lines : List Line) where
     one_longer : length new.journal ≡ length mid.journal + 1
     one_longer = length-append mid.journal (last ∷ []) ∙ omega arith
 
-    part_of_line : (q : ℕ) → slice_get (lines_of items) (length mid.journal) ≡ Some (record { part = q; message = m }) → part_of (run_plant plant (lines_of items)) (length mid.journal) ≡ q
-    part_of_line q e = ap (λ o. option_map_or (λ (x : RunLine). x.part) o 1) e
+    module _ (whole rest : List Item) (q : ℕ) (cut : CutAt whole (items ++ rest) (length old.journal) q) where
+      abbrev plan : RunPlant (Body Actor)
+      plan = run_plant plant (lines_of whole)
 
-    posts_on : (q : ℕ) → CutAt items (drop from items) (length old.journal) q
-        → PostsPart (run_plant plant (lines_of items)) (environment_of old) (environment_of new) (s.entries ++ last ∷ []) q × CutAt items (drop (at + 1) items) (length new.journal) q
-    posts_on q cut =
-        let both = s.posts q cut in
-        let now : CutAt items (Message number m ∷ drop (at + 1) items) (length mid.journal) q = subst (λ (z : List Item). CutAt items z (length mid.journal) q) here both.1 in
-        let line = line_at items (drop (at + 1) items) (length mid.journal) q number m now in
-        let replays = environment_leaves (run_plant plant (lines_of items)) (environment_of old) s.entries mid (record { part = q; message = m }) both.0.replays line in (
-          posts_more (run_plant plant (lines_of items)) (environment_of old) (environment_of mid) (environment_of new) s.entries last q both.0 replays one_longer (part_of_line q line),
-          subst (λ (z : ℕ). CutAt items (drop (at + 1) items) z q) (sym one_longer) (cut_message items (drop (at + 1) items) (length mid.journal) q number m now),
-        )
+      part_of_line : slice_get (lines_of whole) (length mid.journal) ≡ Some (record { part = q; message = m }) → part_of plan (length mid.journal) ≡ q
+      part_of_line e = ap (λ o. option_map_or (λ (x : RunLine). x.part) o 1) e
+
+      posts_on : PostsPart plan (environment_of old) (environment_of new) (s.entries ++ last ∷ []) q × CutAt whole (drop (at + 1) items ++ rest) (length new.journal) q
+      posts_on =
+          let after : List Item = drop (at + 1) items ++ rest in
+          let both = s.posts whole rest q cut in
+          let now : CutAt whole (Message number m ∷ after) (length mid.journal) q = subst (λ (z : List Item). CutAt whole (z ++ rest) (length mid.journal) q) here both.1 in
+          let line = line_at whole after (length mid.journal) q number m now in
+          let replays = environment_leaves plan (environment_of old) s.entries mid (record { part = q; message = m }) both.0.replays line in (
+            posts_more plan (environment_of old) (environment_of mid) (environment_of new) s.entries last q both.0 replays one_longer (part_of_line line),
+            subst (λ (z : ℕ). CutAt whole after z q) (sym one_longer) (cut_message whole after (length mid.journal) q number m now),
+          )
 
     -- one line more
-    pub one_posted : (after : EnvironmentState) (log'' : EndLog) → PostsLine (length plant.wiring.controllers) mid after log' log'' m → PostsUpTo plant lines from (at + 1) old after log log''
+    pub one_posted : (after : EnvironmentState) (log'' : EndLog) → PostsLine (length plant.wiring.controllers) mid after log' log'' m → PostsUpTo plant lines (at + 1) old after log log''
     one_posted after log'' p =
-        subst (λ (z : EnvironmentState). PostsUpTo plant lines from (at + 1) old z log log'') (sym p.state)
+        subst (λ (z : EnvironmentState). PostsUpTo plant lines (at + 1) old z log log'') (sym p.state)
         (record {
           entries = s.entries ++ last ∷ [];
           journal = ap (λ (z : List Entry). z ++ last ∷ []) s.journal ∙ append_assoc old.journal s.entries (last ∷ []);
-          count = omega (arith, s.count, length-append s.entries (last ∷ []));
+          count = length-append s.entries (last ∷ []) ∙ ap (λ (z : ℕ). z + 1) s.count;
           end = end_goes_then s.end (subst (λ (z : EndLog). EndGoes (length plant.wiring.controllers) log' z (last ∷ [])) (sym p.end) (end_posts (length plant.wiring.controllers) log' sent));
+          within = within_both (length plant.wiring.controllers) s.entries (last ∷ []) s.within ((to, prio), tt);
           posts = posts_on;
         })
 
@@ -110,33 +121,17 @@ item_there plant (y ∷ lines) (suc at) x h =
     item_there plant lines at x h
     ∙ ap (λ (z : ℕ). item_of plant.wiring x.number x.what ∷ drop z (items_of plant.wiring (y ∷ lines))) (sym next)
 
-past_all : {X : Type 0} (xs : List X) (k : ℕ) → length xs ≤ k → drop k xs ≡ []
-past_all [] zero h = refl
-past_all [] (suc k) h = refl
-past_all (x ∷ xs) zero h = absurd (omega arith)
-past_all (x ∷ xs) (suc k) h = past_all xs k (omega arith)
-
--- all lines were posted
-pub ends_all : (plant : Plant) (lines : List Line) (k : ℕ) → length lines ≤ k → EndsPart (drop k (items_of plant.wiring lines))
-ends_all plant lines k h = subst EndsPart (sym (past_all (items_of plant.wiring lines) k (rw (length-map lines (λ (l : Line). item_of plant.wiring l.number l.what)) h))) tt
-
--- a `settle` ends a part
-pub ends_at : (plant : Plant) (lines : List Line) (at : ℕ) (x : Line) → slice_get lines at ≡ Some x → EndsPart (item_of plant.wiring x.number x.what ∷ []) → EndsPart (drop at (items_of plant.wiring lines))
-ends_at plant lines at x h e = subst EndsPart (sym (item_there plant lines at x h)) (go (item_of plant.wiring x.number x.what) (drop (at + 1) (items_of plant.wiring lines)) e)
-  where
-    go : (i : Item) (rest : List Item) → EndsPart (i ∷ []) → EndsPart (i ∷ rest)
-    go (Message number m) rest f = absurd f
-    go (Settle number) rest f = tt
+-- no line is left
+pub all_gone : (plant : Plant) (lines : List Line) → drop (length lines) (items_of plant.wiring lines) ≡ []
+all_gone plant lines = drop_all (length lines) (items_of plant.wiring lines) (rw (length-map lines (λ (l : Line). item_of plant.wiring l.number l.what)) (omega arith))
 
 -- the line that was read
 line_there : (lines : List Line) (at : ℕ) (x : Line) → x ≡ get_or lines at x → at < length lines → slice_get lines at ≡ Some x
 line_there lines at x e h = slice_get-get_or lines at x h ∙ ap Some (sym e)
 
--- the line that was read is a `settle`
-pub settle_read : (plant : Plant) (lines : List Line) (at : ℕ) (x : Line) → x ≡ get_or lines at x → at < length lines → (get_or lines at x).what ≡ whats.Settle → EndsPart (drop at (items_of plant.wiring lines))
-settle_read plant lines at x e h is =
-    let what : x.what ≡ whats.Settle = ap (λ (l : Line). l.what) e ∙ is in
-    ends_at plant lines at x (line_there lines at x e h) (subst (λ (w : What). EndsPart (item_of plant.wiring x.number w ∷ [])) (sym what) tt)
+-- no line of a part is a `settle`
+pub no_settle : (lines : List Line) (at : ℕ) (x : Line) → IsPart lines → x ≡ get_or lines at x → at < length lines → (get_or lines at x).what ≡ whats.Settle → ⊥
+no_settle lines at x part e h is = true≢false (sym (part at x h) ∙ ap is_message is)
 
 -- the line that was read asks for a message
 pub message_read : (plant : Plant) (lines : List Line) (at : ℕ) (x : Line) (target : Endpoint) (signal : ℕ) (payload : List ℤ) (prio : Priority) (m : Msg)

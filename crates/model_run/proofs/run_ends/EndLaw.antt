@@ -1,10 +1,11 @@
 -- The journals of a run that has ended are those of a run.
-use Rattle.std.proofs.Common.{◌≡◌, ℕ, ◌+◌, ◌<◌, ◌≤◌, inl, inr, Bool, true, false, if◌then◌else◌, List, [], ◌∷◌, ◌++◌, length, map, drop, slice_get, slice_index_or, nat_lt, Some, refl, sym, ap, ◌∙◌, subst, arith, append-nil}
-use Rattle.std.specs.List.{flat_map, list_all, range_with_len}
+use Rattle.std.proofs.Common.{◌≡◌, ℕ, ◌+◌, ◌<◌, ◌≤◌, inl, inr, Bool, true, false, if◌then◌else◌, List, [], ◌∷◌, ◌++◌, length, map, slice_get, slice_index_or, nat_lt, Some, refl, sym, ap, ◌∙◌, subst, arith, append-nil}
+use Rattle.std.specs.List.{flat_map, range_with_len}
 use Rattle.std.proofs.lemmas.Bool.{cases_lt, lt-ltb, le-ltb, true≢false}
-use Rattle.std.proofs.lemmas.List.{length-map}
+use Rattle.std.proofs.lemmas.List.{length-map, map-append}
 use Rattle.std.proofs.lemmas.Option.{slice_get_within}
 use Rattle.room_kinds.specs.declared.message.Msg.{Msg}
+use Rattle.room_wiring.specs.declared.tables.Tables.{Tables}
 use Rattle.journal.specs.declared.entry.Entry.{Entry}
 use Rattle.journal.specs.declared.entry.Left.{Left}
 use Rattle.journal.specs.declared.entry.Journals.{Journals}
@@ -15,7 +16,7 @@ use Rattle.actor_merge.specs.World.{World, IsQuiet}
 use Rattle.actor_merge.proofs.Rounds.{history_lawful}
 use Rattle.actor_world.specs.Body.{Body}
 use Rattle.actor_world.specs.Start.{start_entries}
-use Rattle.actor_world.specs.Journals.{Item, lines_of, last_part, left, left_for, left_of, priorities, number_of, unposted_from, IsSpent, HasMessage, in_lane, in_pending, in_outbox, IsLawfulRun, IsPrompt, IsDone, IsStopped}
+use Rattle.actor_world.specs.Journals.{Item, lines_of, last_part, left, left_for, left_of, priorities, number_of, unposted_from, IsSpent, HasMessage, in_lane, in_pending, in_outbox, IsLawfulRun, IsPrompt, IsDone, IsStopped, IsEnded}
 use Rattle.chart_behaviour.specs.ModelCharts.{Actor}
 use Rattle.controller_mail.specs.MailState.{EnvironmentState, pending_of, messages_in}
 use Rattle.controller_actors.specs.Plants.{model_of}
@@ -23,38 +24,39 @@ use Rattle.controller_actors.specs.declared.plant.Plant.{Plant}
 use Rattle.controller.specs.Controllers.{run_plant, state_in}
 use Rattle.controller.specs.declared.controller.Controller.{Controller}
 use Rattle.model_run.specs.run_rounds.Rounds.{PostsWithin}
-use Rattle.model_run.specs.run_rounds.LineParts.{CutAt}
+use Rattle.model_run.specs.run_rounds.LineParts.{CutAt, EndsPart}
 use Rattle.model_run.specs.run_rounds.Prompts.{PromptFrom}
 use Rattle.model_run.proofs.run_rounds.LinesLaw.{all_posted, part_posted, rest_unposted}
 use Rattle.model_run.proofs.run_rounds.PromptLists.{prompt_at}
 use Rattle.model_run.specs.run_so_far.SoFar.{world_of, whole, IsSound}
 use Rattle.controller.proofs.Standing.{some_at, state_is}
 use Rattle.model_run.proofs.run_so_far.GoesOn.{within_back}
-use Rattle.model_run.specs.part_posts.Items.{items_of}
+use Rattle.model_run.specs.part_posts.Items.{item_of, items_of}
+use Rattle.model_run.proofs.run_loop.Skipping.{settle_item}
 use Rattle.model_run.specs.run_ends.Ends.{IsAtEnd}
-use Rattle.model_run.specs.run_ends.Runs.{journal_of, IsRun}
-use Rattle.model_run.specs.run_ends.Told.{is_post_within, journals_in, left_from, AreTold}
-use Rattle.model_run.proofs.run_ends.ToldLaw.{map_at, posts_tested, fits_at, none_waits, all_empty, some_waits, six_lists, flat_nothing, left_rows, none_left, numbers_are}
+use Rattle.model_run.specs.run_ends.Runs.{journal_of, IsRun, MayBeLeft}
+use Rattle.model_run.specs.run_ends.Runs.MayBeLeft.{nothing, from_settle}
+use Rattle.model_run.specs.run_ends.Told.{journals_in, left_from, AreTold}
+use Rattle.model_run.proofs.run_ends.ToldLaw.{map_at, fits_at, none_waits, all_empty, some_waits, six_lists, flat_nothing, left_rows, none_left, map_numbers}
 
 within_nothing : (n : ℕ) (es : List Entry) → es ≡ [] → PostsWithin n es
 within_nothing n es e = subst (PostsWithin n) (sym e) tt
 
-module _ (plant : Plant) (lines : List Line) (fuel at : ℕ) (ks : List Controller) (env : EnvironmentState) (done : Bool) (js : List (List Entry)) (ls : List Left) (unposted : List ℕ)
-    (a : IsAtEnd plant lines fuel at ks env done)
+module _ (plant : Plant) (gone rest : List Item) (fuel : ℕ) (ks : List Controller) (env : EnvironmentState) (done : Bool) (js : List (List Entry)) (ls : List Left)
+    (a : IsAtEnd plant gone fuel ks env done)
     (t : AreTold (length plant.wiring.controllers) (length plant.wiring.controllers) ks [] js ls)
-    (posts : PostsWithin (length plant.wiring.controllers) env.journal)
-    (numbers : unposted ≡ map (λ (l : Line). l.number) (drop at lines)) where
+    (whole_is : done ≡ true → rest ≡ []) (ends : EndsPart rest) where
   abbrev n : ℕ
   n = length plant.wiring.controllers
 
   abbrev items : List Item
-  items = items_of plant.wiring lines
+  items = gone ++ rest
 
-  abbrev rest : List Item
-  rest = drop at (items_of plant.wiring lines)
+  abbrev unposted : List ℕ
+  unposted = map number_of rest
 
   abbrev plan : RunPlant (Body Actor)
-  plan = run_plant plant (lines_of (items_of plant.wiring lines))
+  plan = run_plant plant (lines_of items)
 
   abbrev w : World (Body Actor)
   w = world_of plant ks a.v
@@ -104,12 +106,12 @@ module _ (plant : Plant) (lines : List Line) (fuel at : ℕ) (ks : List Controll
       | inl above ↦ within_nothing n (a.so_far.events party) (a.so_far.nobody party above)
       | inr here ↦
           let same : n ≡ party = omega arith in
-          subst (λ (z : ℕ). PostsWithin n (a.so_far.events z)) same (subst (PostsWithin n) (sym a.so_far.posted) posts)
+          subst (λ (z : ℕ). PostsWithin n (a.so_far.events z)) same (subst (PostsWithin n) (sym a.so_far.posted) a.within)
     ]
   ]
 
-  sound : IsSound plant (lines_of (items_of plant.wiring lines)) a.so_far.events w
-  sound = a.so_far.sound within
+  sound : IsSound plant (lines_of items) a.so_far.events w
+  sound = a.so_far.sound within rest
 
   keeps_fuel : (c : ℕ) → c < n → (w.controllers c).turns ≤ fuel
   keeps_fuel c b =
@@ -136,7 +138,7 @@ module _ (plant : Plant) (lines : List Line) (fuel at : ℕ) (ks : List Controll
       ap (λ (z : ℕ). flat_map (left_for plan w) (range_with_len 0 z)) (sym a.so_far.stand.count)
       ∙ left_rows (left_for plan w) 0 ks (λ i k e. subst (λ (z : ℕ). left_for plan w z ≡ map (left z true) (messages_in k.mail.pending)) (let z : i ≡ 0 + i = omega arith in z) (left_at i k e))
 
-  lawful : IsLawfulRun (model_of plant) plant.wiring (lines_of (items_of plant.wiring lines)) fuel (journal_of j) ls w
+  lawful : IsLawfulRun (model_of plant) plant.wiring (lines_of items) fuel (journal_of j) ls w
   lawful = record {
     events = a.so_far.events;
     begins = own_journal;
@@ -166,9 +168,9 @@ module _ (plant : Plant) (lines : List Line) (fuel at : ℕ) (ks : List Controll
     done_law : IsDone plan w ls unposted
     done_law = record {
       quiet = record { lanes = λ l. refl; pending = pending_empty; outbox = outbox_empty };
-      all_posted = a.posted ∙ all_posted items (length env.journal) a.part (subst (λ (z : List Item). CutAt items z (length env.journal) a.part) (a.whole is) a.cut);
+      all_posted = a.posted ∙ all_posted items (length env.journal) a.part (subst (λ (z : List Item). CutAt items z (length env.journal) a.part) (whole_is is) (a.cut rest));
       none_left = left_told ∙ none_left 0 ks (a.quiet is);
-      none_unposted = numbers ∙ sym (numbers_are plant.wiring lines at) ∙ ap (λ (z : List Item). map number_of z) (a.whole is);
+      none_unposted = ap (λ (z : List Item). map number_of z) (whole_is is);
     }
 
   module _ (is : done ≡ false) where
@@ -189,36 +191,54 @@ module _ (plant : Plant) (lines : List Line) (fuel at : ℕ) (ks : List Controll
         subst (λ (z : State (Body Actor)). IsSpent fuel z) (sym (at_seat c s.0 s.1)) (a.spent is c s.0 s.1 (some_waits s.0.mail.pending p here))
     spent_at c b (in_outbox h) = absurd (omega (arith, ap (λ (z : List Msg). length z) (outbox_empty c b)))
 
-    last_is : a.part ≡ last_part (lines_of (items_of plant.wiring lines)) a.v.posted
-    last_is = a.last is ∙ ap (last_part (lines_of (items_of plant.wiring lines))) (sym a.posted)
+    last_is : a.part ≡ last_part (lines_of items) a.v.posted
+    last_is = a.last is rest ∙ ap (last_part (lines_of items)) (sym a.posted)
 
     stopped_law : IsStopped plan items fuel w unposted
     stopped_law = record {
       busy = not_quiet;
       spent = spent_at;
       part_posted = λ line l there low.
-          let early : line < length env.journal = part_posted items rest (length env.journal) a.part a.cut (a.ends is) line l there (subst (λ (z : ℕ). l.part ≤ z) (sym last_is) low) in
+          let early : line < length env.journal = part_posted items rest (length env.journal) a.part (a.cut rest) ends line l there (subst (λ (z : ℕ). l.part ≤ z) (sym last_is) low) in
           subst (λ (z : ℕ). line < z) (sym a.posted) early;
-      unposted_is = numbers ∙ sym (numbers_are plant.wiring lines at) ∙ sym (rest_unposted items rest (length env.journal) a.part a.cut (a.ends is))
-          ∙ ap (λ (z : ℕ). unposted_from z items) last_is;
+      unposted_is = sym (rest_unposted items rest (length env.journal) a.part (a.cut rest) ends) ∙ ap (λ (z : ℕ). unposted_from z items) last_is;
     }
 
-  pub is_run : IsRun plant lines fuel j
-  is_run = record {
+  -- over lines with these items
+  pub is_run : (lines : List Line) → items_of plant.wiring lines ≡ items → IsRun plant lines fuel j
+  is_run lines same = record {
     world = w;
     count = count_is;
-    lawful = lawful;
+    lawful = subst (λ (z : List Item). IsLawfulRun (model_of plant) plant.wiring (lines_of z) fuel (journal_of j) ls w) (sym same) lawful;
     prompt = prompt;
-    ended = record { posted = outbox_empty; is_done = done_law; is_stopped = stopped_law };
+    ended = subst (λ (z : List Item). IsEnded (run_plant plant (lines_of z)) z fuel w ls unposted done) (sym same)
+        (record { posted = outbox_empty; is_done = done_law; is_stopped = stopped_law });
   }
 
--- the same of what was tested and told
-pub run_told : (plant : Plant) (lines : List Line) (fuel at : ℕ) (ks : List Controller) (env : EnvironmentState) (done : Bool) (count : ℕ) (js : List (List Entry)) (posts : List Entry) (ls : List Left) (unposted : List ℕ)
-    → IsAtEnd plant lines fuel at ks env done → count ≡ length plant.wiring.controllers → AreTold count count ks [] js ls → posts ≡ env.journal
-    → list_all (is_post_within count) posts ≡ true → unposted ≡ map (λ (l : Line). l.number) (drop at lines)
-    → IsRun plant lines fuel (record { controllers = js; environment = posts; left = ls; unposted = unposted; done = done })
-run_told plant lines fuel at ks env done count js posts ls unposted a same t told tested numbers =
-    let within : PostsWithin count posts = posts_tested count posts tested in
-    subst (λ (z : List Entry). IsRun plant lines fuel (record { controllers = js; environment = z; left = ls; unposted = unposted; done = done })) (sym told)
-    (is_run plant lines fuel at ks env done js ls unposted a (subst (λ (z : ℕ). AreTold z z ks [] js ls) same t)
-    (subst (λ (z : ℕ). PostsWithin z env.journal) same (subst (λ (z : List Entry). PostsWithin count z) told within)) numbers)
+-- what may be left is nothing where a run is done, and begins with the end of a part
+none_left_over : (rest : List Line) → MayBeLeft true rest → rest ≡ []
+none_left_over [] m = refl
+none_left_over (l ∷ rest) m = absurd (go true (l ∷ rest) m refl refl)
+  where
+    go : (done : Bool) (lines : List Line) → MayBeLeft done lines → done ≡ true → lines ≡ l ∷ rest → ⊥
+    go done lines nothing e f = absurd cc
+    go done lines (from_settle x xs h) e f = absurd cc
+
+ends_there : (t : Tables) (done : Bool) (rest : List Line) → MayBeLeft done rest → EndsPart (items_of t rest)
+ends_there t done rest nothing = tt
+ends_there t done rest (from_settle l lines h) = subst (λ (z : Item). EndsPart (z ∷ items_of t lines)) (sym (settle_item t l.number l.what h)) tt
+
+-- the same of what was told, with whatever may be left
+pub ran_told : (plant : Plant) (given rest : List Line) (fuel : ℕ) (ks : List Controller) (env : EnvironmentState) (done : Bool) (count : ℕ) (js : List (List Entry)) (ls : List Left)
+    → IsAtEnd plant (items_of plant.wiring given) fuel ks env done → count ≡ length plant.wiring.controllers → AreTold count count ks [] js ls → MayBeLeft done rest
+    → IsRun plant (given ++ rest) fuel (record { controllers = js; environment = env.journal; left = ls; unposted = map (λ (l : Line). l.number) rest; done = done })
+ran_told plant given rest fuel ks env done count js ls a same t may =
+    let items = items_of plant.wiring rest in
+    let none : done ≡ true → items ≡ [] = λ e. ap (λ (z : List Line). items_of plant.wiring z) (none_left_over rest (subst (λ (z : Bool). MayBeLeft z rest) e may)) in
+    subst (λ (z : List ℕ). IsRun plant (given ++ rest) fuel (record { controllers = js; environment = env.journal; left = ls; unposted = z; done = done })) (map_numbers plant.wiring rest)
+    (is_run plant (items_of plant.wiring given) items fuel ks env done js ls a (subst (λ (z : ℕ). AreTold z z ks [] js ls) same t) none (ends_there plant.wiring done rest may)
+    (given ++ rest) (map-append (λ (l : Line). item_of plant.wiring l.number l.what) given rest))
+
+-- the journals that were told are those that were seen
+pub journals_told : (count : ℕ) (ks : List Controller) (js : List (List Entry)) (ls : List Left) → AreTold count count ks [] js ls → js ≡ journals_in ks
+journals_told count ks js ls t = sym (append-nil js) ∙ t.journals_are

@@ -1,5 +1,5 @@
 -- Lists of controllers, of what waits for them, and of lines.
-use Rattle.std.proofs.Common.{◌≡◌, ℕ, zero, suc, ◌+◌, ◌<◌, ◌||◌, Bool, true, false, not, List, [], ◌∷◌, ◌++◌, length, map, drop, reverse, slice_get, slice_index_or, nat_lt, Some, refl, sym, ap, ◌∙◌, subst, arith, append_assoc}
+use Rattle.std.proofs.Common.{◌≡◌, ℕ, zero, suc, ◌+◌, ◌<◌, ◌||◌, Bool, true, false, not, List, [], ◌∷◌, ◌++◌, length, map, reverse, slice_get, slice_index_or, nat_lt, Some, refl, sym, ap, ◌∙◌, subst, arith, append_assoc}
 use Rattle.std.specs.List.{list_any, list_all, range_with_len, flat_map}
 use Rattle.std.proofs.lemmas.Bool.{and_parts, ltb-true, ne_eqb, true≢false}
 use Rattle.std.proofs.lemmas.List.{map-append, reverse-append}
@@ -121,16 +121,11 @@ number_is : (t : Tables) (n : ℕ) (w : What) → number_of (item_of t n w) ≡ 
 number_is t n whats.Settle = refl
 number_is t n (whats.Message target signal payload prio) = refl
 
-map_numbers : (t : Tables) (lines : List Line) → map number_of (items_of t lines) ≡ map (λ (l : Line). l.number) lines
+-- the numbers of items are those of their lines
+pub map_numbers : (t : Tables) (lines : List Line) → map number_of (items_of t lines) ≡ map (λ (l : Line). l.number) lines
 map_numbers t [] = refl
 map_numbers t (l ∷ lines) =
     ap (λ (z : ℕ). z ∷ map number_of (items_of t lines)) (number_is t l.number l.what) ∙ ap (λ (z : List ℕ). l.number ∷ z) (map_numbers t lines)
-
-pub numbers_are : (t : Tables) (lines : List Line) (at : ℕ) → map number_of (drop at (items_of t lines)) ≡ map (λ (l : Line). l.number) (drop at lines)
-numbers_are t [] zero = refl
-numbers_are t [] (suc at) = refl
-numbers_are t (l ∷ lines) zero = map_numbers t (l ∷ lines)
-numbers_are t (l ∷ lines) (suc at) = numbers_are t lines at
 
 -- one controller more has told
 pub told_more : (n c : ℕ) (ks : List Controller) (k : Controller) (rest : List Controller) (js : List (List Entry)) (ls more : List Left)

@@ -1,5 +1,5 @@
 -- The environment posted at the last end.
-use Rattle.std.proofs.Common.{◌≡◌, ℕ, ◌+◌, List, map, set, length, slice_get, Some, Result, Ok, Err, IfOk, sym, ap, ◌∙◌, subst, arith}
+use Rattle.std.proofs.Common.{◌≡◌, ℕ, ◌+◌, List, map, set, length, slice_get, Some, Result, Ok, Err, OnOk, sym, ap, ◌∙◌, subst, arith}
 use Rattle.std.proofs.lemmas.List.{length-set, map-set, get_or-set_other}
 use Rattle.std.proofs.lemmas.Option.{slice_get_within}
 use Rattle.inject_reader.specs.declared.inject_lines.accepted.Line.{Line}
@@ -20,7 +20,7 @@ module _ {E : Type 0} (log : E → EndLog) (n : ℕ) (ends : List E) (e : E) (f 
   pub was_fresh : log e ≡ fresh (n + 1) n
   was_fresh = sym (log_at-map log ends n e at) ∙ f.each n (omega arith)
 
-module _ {E : Type 0} (log : E → EndLog) (plant : Plant) (lines : List Line) (from to : ℕ) (old new : EnvironmentState) (ends : List E) (e e' : E)
+module _ {E : Type 0} (log : E → EndLog) (plant : Plant) (lines : List Line) (old new : EnvironmentState) (ends : List E) (e e' : E)
     (f : AreFresh (length plant.wiring.controllers + 1) (map log ends)) (at : slice_get ends (length plant.wiring.controllers) ≡ Some e) where
   abbrev n : ℕ
   n = length plant.wiring.controllers
@@ -28,10 +28,10 @@ module _ {E : Type 0} (log : E → EndLog) (plant : Plant) (lines : List Line) (
   abbrev logs : List EndLog
   logs = map log (set ends n e')
 
-  did : (p : PostsThePart plant lines from to old new (fresh (n + 1) n) (log e')) → EndDid n (log e') p.up_to.entries
-  did p = record { posted = p.up_to.end.posted; took = p.up_to.end.took }
+  did : (p : PostsThePart plant lines old new (fresh (n + 1) n) (log e')) → EndDid n (log e') p.entries
+  did p = record { posted = p.end.posted; took = p.end.took }
 
-  ends_posted : (p : PostsThePart plant lines from to old new (fresh (n + 1) n) (log e')) → EndsPosted n logs p.up_to.entries
+  ends_posted : (p : PostsThePart plant lines old new (fresh (n + 1) n) (log e')) → EndsPosted n logs p.entries
   ends_posted p =
       let same = map-set log ends n e' in
       let is : log_at logs n ≡ log e' = log_at-map log (set ends n e') n e' (slice_get-same ends n e' (slice_get_within ends n e at)) in
@@ -41,23 +41,23 @@ module _ {E : Type 0} (log : E → EndLog) (plant : Plant) (lines : List Line) (
             ap (λ (z : List EndLog). log_at z c) same
             ∙ get_or-set_other (map log ends) n c (log e') (fresh 0 0) (λ x. absurd (omega arith))
             ∙ f.each c (omega arith);
-        environment = subst (λ (z : EndLog). EndDid n z p.up_to.entries) (sym is) (did p);
+        environment = subst (λ (z : EndLog). EndDid n z p.entries) (sym is) (did p);
       }
 
-  pub posted_at_last : PostsThePart plant lines from to old new (log e) (log e') → PartPosted plant lines from to old new logs
+  pub posted_at_last : PostsThePart plant lines old new (log e) (log e') → PartPosted plant lines old new logs
   posted_at_last p =
-      let q : PostsThePart plant lines from to old new (fresh (n + 1) n) (log e') =
-      subst (λ (z : EndLog). PostsThePart plant lines from to old new z (log e')) (was_fresh log n ends e f at) p in
+      let q : PostsThePart plant lines old new (fresh (n + 1) n) (log e') =
+      subst (λ (z : EndLog). PostsThePart plant lines old new z (log e')) (was_fresh log n ends e f at) p in
       record { log = log e'; part = q; ends = ends_posted q }
 
-pub posted_there : {E : Type 0} (log : E → EndLog) (plant : Plant) (lines : List Line) (from to : ℕ) (old new : EnvironmentState) (ends : List E) (e e' : E) (i : ℕ) → i ≡ length plant.wiring.controllers
-    → AreFresh (length plant.wiring.controllers + 1) (map log ends) → slice_get ends i ≡ Some e → PostsThePart plant lines from to old new (log e) (log e')
-    → PartPosted plant lines from to old new (map log (set ends i e'))
-posted_there log plant lines from to old new ends e e' i here f at p =
-    subst (λ (z : ℕ). PartPosted plant lines from to old new (map log (set ends z e'))) (sym here)
-    (posted_at_last log plant lines from to old new ends e e' f (subst (λ (z : ℕ). slice_get ends z ≡ Some e) here at) p)
+pub posted_there : {E : Type 0} (log : E → EndLog) (plant : Plant) (lines : List Line) (old new : EnvironmentState) (ends : List E) (e e' : E) (i : ℕ) → i ≡ length plant.wiring.controllers
+    → AreFresh (length plant.wiring.controllers + 1) (map log ends) → slice_get ends i ≡ Some e → PostsThePart plant lines old new (log e) (log e')
+    → PartPosted plant lines old new (map log (set ends i e'))
+posted_there log plant lines old new ends e e' i here f at p =
+    subst (λ (z : ℕ). PartPosted plant lines old new (map log (set ends z e'))) (sym here)
+    (posted_at_last log plant lines old new ends e e' f (subst (λ (z : ℕ). slice_get ends z ≡ Some e) here at) p)
 
 -- what follows from what a call that ends well ensures
-pub if_ok_then : {T E : Type 0} {P Q : T → Type 0} (r : Result T E) → ((x : T) → P x → Q x) → IfOk r P → IfOk r Q
-if_ok_then (Ok x) f h = f x h
-if_ok_then (Err e) f h = tt
+pub on_ok_then : {E P Q : Type 0} (r : Result (Unit {0}) E) → (P → Q) → OnOk r P → OnOk r Q
+on_ok_then (Ok x) f h = f h
+on_ok_then (Err e) f h = tt

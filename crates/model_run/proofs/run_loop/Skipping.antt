@@ -1,41 +1,42 @@
 -- One `settle` after another.
-use Rattle.std.proofs.Common.{◌≡◌, ℕ, ◌+◌, ◌<◌, List, ◌∷◌, drop, length, get_or, slice_get, Some, refl, ap, ◌∙◌, subst, arith}
-use Rattle.std.proofs.lemmas.Option.{slice_get_read}
+use Rattle.std.proofs.Common.{◌≡◌, ℕ, ◌+◌, false, List, [], ◌∷◌, ◌++◌, length, refl, sym, subst, arith, append_assoc, append-nil}
+use Rattle.std.specs.List.{AllByRecursion}
+use Rattle.std.proofs.lemmas.List.Elements.{recursion_from_All}
+use Rattle.room_wiring.specs.declared.tables.Tables.{Tables}
 use Rattle.inject_reader.specs.declared.inject_lines.accepted.Line.{Line}
 use Rattle.inject_reader.specs.declared.inject_lines.accepted.What.{What}
 use Rattle.inject_reader.specs.declared.inject_lines.accepted.What.TheVariants as whats
 use Rattle.actor_world.specs.Journals.{Item, Settle}
-use Rattle.model_run.specs.run_rounds.LineParts.{CutAt}
+use Rattle.model_run.specs.run_rounds.LineParts.{CutAt, GoneTo}
 use Rattle.model_run.proofs.run_rounds.LinesLaw.{cut_settle}
-use Rattle.controller_actors.specs.declared.plant.Plant.{Plant}
+use Rattle.model_run.specs.part_source.Parts.{is_message, AreSettles}
 use Rattle.model_run.specs.part_posts.Items.{item_of, items_of}
-use Rattle.model_run.proofs.part_posts.PostLaw.{item_there}
-use Rattle.model_run.specs.run_loop.Plays.{Skips}
 
-pub skips_none : (items : List Item) (from : ℕ) → Skips items from from
-skips_none items from = record {
-  settles = 0;
-  count = omega arith;
-  cut = λ posted part c. let same : part ≡ part + 0 = omega arith in subst (λ (z : ℕ). CutAt items (drop from items) posted z) same c;
-}
+-- the item of a `settle`
+pub settle_item : (t : Tables) (number : ℕ) (what : What) → is_message what ≡ false → item_of t number what ≡ Settle number
+settle_item t number whats.Settle h = refl
+settle_item t number (whats.Message target signal payload prio) h = absurd cc
 
--- one more
-skips_more : (items : List Item) (from to number : ℕ) → Skips items from to → drop to items ≡ Settle number ∷ drop (to + 1) items → Skips items from (to + 1)
-skips_more items from to number s here = record {
-  settles = s.settles + 1;
-  count = omega (arith, s.count);
-  cut = λ posted part c.
-      let same : (part + s.settles) + 1 ≡ part + (s.settles + 1) = omega arith in
-      subst (λ (z : ℕ). CutAt items (drop (to + 1) items) posted z) same
-      (cut_settle items (drop (to + 1) items) posted (part + s.settles) number
-      (subst (λ (z : List Item). CutAt items z posted (part + s.settles)) here (s.cut posted part c)));
-}
+-- one `settle` more
+gone_settle : (gone : List Item) (posted q number : ℕ) → GoneTo gone posted q → GoneTo (gone ++ Settle number ∷ []) posted (q + 1)
+gone_settle gone posted q number g rest =
+    subst (λ (z : List Item). CutAt z rest posted (q + 1)) (sym (append_assoc gone (Settle number ∷ []) rest))
+    (cut_settle (gone ++ Settle number ∷ rest) rest posted q number (g (Settle number ∷ rest)))
 
--- the line that was read is a `settle`
-pub settle_more : (plant : Plant) (lines : List Line) (from to : ℕ) (x : Line) → Skips (items_of plant.wiring lines) from to → x ≡ get_or lines to x → to < length lines
-    → (get_or lines to x).what ≡ whats.Settle → Skips (items_of plant.wiring lines) from (to + 1)
-settle_more plant lines from to x s e h is =
-    let items = items_of plant.wiring lines in
-    let there : slice_get lines to ≡ Some x = slice_get_read lines (length lines) to x refl h e in
-    let what : x.what ≡ whats.Settle = ap (λ (l : Line). l.what) e ∙ is in
-    skips_more items from to x.number s (item_there plant lines to x there ∙ ap (λ (w : What). item_of plant.wiring x.number w ∷ drop (to + 1) items) what)
+gone_rec : (t : Tables) (settles : List Line) → AllByRecursion (λ (l : Line). is_message l.what ≡ false) settles → (gone : List Item) (posted q : ℕ)
+    → GoneTo gone posted q → GoneTo (gone ++ items_of t settles) posted (q + length settles)
+gone_rec t [] h gone posted q g =
+    let same : q ≡ q + 0 = omega arith in
+    subst (λ (z : ℕ). GoneTo (gone ++ []) posted z) same (subst (λ (z : List Item). GoneTo z posted q) (sym (append-nil gone)) g)
+gone_rec t (l ∷ settles) h gone posted q g =
+    let item : item_of t l.number l.what ≡ Settle l.number = settle_item t l.number l.what h.0 in
+    let one : GoneTo (gone ++ item_of t l.number l.what ∷ []) posted (q + 1) =
+    subst (λ (z : Item). GoneTo (gone ++ z ∷ []) posted (q + 1)) (sym item) (gone_settle gone posted q l.number g) in
+    let same : (q + 1) + length settles ≡ q + length (l ∷ settles) = omega arith in
+    subst (λ (z : ℕ). GoneTo (gone ++ items_of t (l ∷ settles)) posted z) same
+    (subst (λ (z : List Item). GoneTo z posted ((q + 1) + length settles)) (append_assoc gone (item_of t l.number l.what ∷ []) (items_of t settles))
+    (gone_rec t settles h.1 (gone ++ item_of t l.number l.what ∷ []) posted (q + 1) one))
+
+-- behind `settle` lines
+pub gone_settles : (t : Tables) (settles : List Line) → AreSettles settles → (gone : List Item) (posted q : ℕ) → GoneTo gone posted q → GoneTo (gone ++ items_of t settles) posted (q + length settles)
+gone_settles t settles h gone posted q g = gone_rec t settles (recursion_from_All (λ (l : Line). is_message l.what ≡ false) settles h) gone posted q g

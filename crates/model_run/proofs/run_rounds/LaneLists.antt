@@ -1,10 +1,10 @@
 -- What entries give to a lane and take from it.
-use Rattle.std.proofs.Common.{◌≡◌, ℕ, ◌+◌, ◌<◌, ◌≤◌, ◌==◌, ◌&&◌, ◌⊎◌, inl, inr, Bool, true, false, if◌then◌else◌, List, [], ◌∷◌, ◌++◌, length, Some, None, Option, slice_get, refl, sym, ap, ◌∙◌, subst, arith, append_assoc}
+use Rattle.std.proofs.Common.{◌≡◌, ℕ, ◌<◌, ◌≤◌, ◌==◌, ◌&&◌, ◌⊎◌, inl, inr, Bool, true, false, if◌then◌else◌, List, [], ◌∷◌, ◌++◌, Some, None, Option, slice_get, refl, sym, ap, subst, arith}
 use Rattle.std.proofs.lemmas.Bool.{ne_eqb}
 use Rattle.room_kinds.specs.declared.message.Msg.{Msg}
 use Rattle.journal.specs.declared.entry.Entry.{Entry}
 use Rattle.journal.specs.declared.entry.Entry.TheVariants as entry
-use Rattle.mail_core.specs.Lanes.{IsFor, AllFor}
+use Rattle.mail_core.specs.Lanes.{AllFor}
 use Rattle.actor_merge.specs.Mail.{Lane, lane, is_lane, takes, gives, taken, given}
 use Rattle.actor_merge.specs.Parties.{State, Environment, Line, Plant, post, post_front, post_line, environment_post, Does, Replays, EnvironmentReplays}
 use Rattle.actor_merge.proofs.Lanes.{is_lane-true, is_lane-receiver, is_lane-sender}

@@ -1,9 +1,9 @@
 -- Lists of entries with prompt turns.
-use Rattle.std.proofs.Common.{◌≡◌, ℕ, zero, suc, ◌+◌, ◌<◌, ◌≤◌, ◌==◌, ◌⊎◌, inl, inr, Bool, true, false, if◌then◌else◌, List, [], ◌∷◌, ◌++◌, refl, sym, ap, ◌∙◌, subst, arith, append_assoc, append-nil}
+use Rattle.std.proofs.Common.{◌≡◌, ℕ, ◌+◌, ◌<◌, ◌≤◌, ◌⊎◌, inl, inr, Bool, true, false, if◌then◌else◌, List, [], ◌∷◌, ◌++◌, refl, sym, ap, ◌∙◌, subst, arith, append_assoc, append-nil}
 use Rattle.room_kinds.specs.declared.message.Msg.{Msg}
 use Rattle.journal.specs.declared.entry.Entry.{Entry}
 use Rattle.mail_core.specs.EndLog.{EndLog}
-use Rattle.actor_merge.specs.Mail.{Lane, lane, taken, given}
+use Rattle.actor_merge.specs.Mail.{lane, taken, given}
 use Rattle.actor_merge.proofs.Rounds.{taken-append, given-append}
 use Rattle.actor_world.specs.Journals.{is_turn, fetches_at, fetches_since}
 use Rattle.model_run.specs.run_rounds.Prompts.{MayTurn, PromptFrom, OwnFetched, EndsAs}

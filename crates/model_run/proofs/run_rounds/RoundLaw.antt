@@ -1,5 +1,5 @@
 -- What the parties do in a round is a round of the world.
-use Rattle.std.proofs.Common.{◌≡◌, ℕ, ◌+◌, ◌<◌, ◌≤◌, ◌⊎◌, inl, inr, List, [], ◌∷◌, ◌++◌, length, get_or, slice_index_or, refl, sym, ap, ◌∙◌, subst, arith, append_assoc, append-nil}
+use Rattle.std.proofs.Common.{◌≡◌, ℕ, ◌+◌, ◌<◌, ◌≤◌, ◌⊎◌, inl, inr, List, [], ◌∷◌, ◌++◌, slice_index_or, refl, sym, ap, ◌∙◌, subst, arith, append-nil}
 use Rattle.std.proofs.lemmas.Bool.{cases_lt, cases_order}
 use Rattle.std.proofs.lemmas.Option.{get_or_from_slice_get}
 use Rattle.room_kinds.specs.declared.message.Msg.{Msg}
@@ -12,7 +12,7 @@ use Rattle.actor_merge.specs.Parties.{State, Environment, Plant}
 use Rattle.actor_merge.specs.World.{World, caught_up}
 use Rattle.actor_merge.specs.Merge.{EnvironmentGoes, IsRound}
 use Rattle.actor_merge.proofs.Rounds.{taken-append, given-append}
-use Rattle.model_run.specs.run_rounds.Rounds.{EndDid, Joins, AreParts, Fetched}
+use Rattle.model_run.specs.run_rounds.Rounds.{Joins, AreParts, Fetched}
 use Rattle.model_run.proofs.run_rounds.LaneLists.{given_outside, taken_outside, fetched_give, turns_give, turns_take, given_for, AllFor-back, PostsFrom, replays_from, lines_from_environment, lines_take}
 use Rattle.model_run.proofs.run_rounds.PollOrder.{taken_fetched, order_misses, order_picks}
 

@@ -1,6 +1,5 @@
 -- A run so far goes on by a round.
-use Rattle.std.proofs.Common.{◌≡◌, ℕ, zero, suc, ◌+◌, ◌<◌, ◌≤◌, ◌⊎◌, inl, inr, true, false, List, [], ◌∷◌, ◌++◌, length, slice_get, slice_index_or, Option, Some, None, refl, sym, ap, ◌∙◌, subst, arith, append_assoc, append-nil}
-use Rattle.std.specs.Option.{option_map_or}
+use Rattle.std.proofs.Common.{◌≡◌, ℕ, ◌+◌, ◌<◌, ◌≤◌, ◌⊎◌, inl, inr, true, false, List, [], ◌∷◌, ◌++◌, length, slice_get, slice_index_or, Option, Some, refl, sym, ap, ◌∙◌, subst, arith, append_assoc}
 use Rattle.std.proofs.lemmas.Bool.{cases_lt}
 use Rattle.std.proofs.lemmas.Option.{slice_get_within}
 use Rattle.room_kinds.specs.declared.numbers.ControllerId.{ControllerId}
@@ -8,13 +7,14 @@ use Rattle.room_kinds.specs.declared.message.Msg.{Msg}
 use Rattle.journal.specs.declared.entry.Entry.{Entry}
 use Rattle.mail_core.specs.EndLog.{EndLog, fresh}
 use Rattle.mail_core.specs.Lanes.{log_at}
-use Rattle.actor_merge.specs.Mail.{lane, given, taken}
+use Rattle.actor_merge.specs.Mail.{lane}
 use Rattle.actor_merge.specs.Parties.{State, Environment, Line, Replays, begins}
 use Rattle.actor_merge.specs.World.{World, IsQuiet}
 use Rattle.actor_merge.specs.Merge.{EnvironmentGoes}
 use Rattle.actor_merge.proofs.Rounds.{history_more}
 use Rattle.actor_world.specs.Body.{Body}
-use Rattle.actor_world.specs.Start.{first_state, start_entries}
+use Rattle.actor_world.specs.Journals.{Item, lines_of}
+use Rattle.actor_world.specs.Start.{start_entries}
 use Rattle.chart_behaviour.specs.ModelCharts.{Actor}
 use Rattle.model_run.specs.run_rounds.Rounds.{EndDid, Joins, AreParts, OnlyTurns, PostsWithin}
 use Rattle.model_run.specs.run_rounds.Prompts.{PromptFrom, OwnFetched, EndsAs}
@@ -30,7 +30,7 @@ use Rattle.controller.specs.declared.controller.Controller.{Controller}
 use Rattle.controller.proofs.Going.{goes_then}
 use Rattle.controller.proofs.Standing.{some_at, state_is}
 use Rattle.model_run.proofs.run_worker.WorkLaw.{fetched_of}
-use Rattle.model_run.specs.joined_round.Joined.{AllStand, Joined, RoundDone}
+use Rattle.model_run.specs.joined_round.Joined.{Joined, RoundDone}
 use Rattle.model_run.specs.run_so_far.SoFar.{world_of, whole, IsSound, RunSoFar, EndsPosted, EnvironmentPosts}
 
 turns_even : (c : ℕ) (es : List Entry) → OnlyTurns es → OwnFetched c es
@@ -46,6 +46,10 @@ within_front : (n : ℕ) (a b : List Entry) → PostsWithin n (a ++ b) → Posts
 within_front n [] b h = tt
 within_front n (e ∷ a) b h = (h.0, within_front n a b h.1)
 
+pub within_both : (n : ℕ) (a b : List Entry) → PostsWithin n a → PostsWithin n b → PostsWithin n (a ++ b)
+within_both n [] b h k = k
+within_both n (e ∷ a) b h k = (h.0, within_both n a b h.1 k)
+
 pub within_back : (n : ℕ) (a b : List Entry) → PostsWithin n (a ++ b) → PostsWithin n b
 within_back n [] b h = h
 within_back n (e ∷ a) b h = within_back n a b h.1
@@ -54,9 +58,9 @@ same_there : {X : Type 0} (o : Option X) (x y : X) → o ≡ Some x → o ≡ So
 same_there o x y e f = let both : Some x ≡ Some y = sym e ∙ f in cc
 
 module _ (plant : Plant) where
-  module _ (lines : List Line) (fuel : ℕ) (ks news : List Controller) (v after : Environment) (posts es : List Entry) (logs logs' : List EndLog) (answer : List (List Msg))
-      (r : RunSoFar plant lines fuel ks v posts) (ends : EndsPosted (length plant.wiring.controllers) logs es)
-      (env : EnvironmentPosts plant lines (world_of plant ks v) es after) (done : RoundDone plant ks news logs logs' answer) where
+  module _ (gone : List Item) (fuel : ℕ) (ks news : List Controller) (v after : Environment) (posts es : List Entry) (logs logs' : List EndLog) (answer : List (List Msg))
+      (r : RunSoFar plant gone fuel ks v posts) (ends : EndsPosted (length plant.wiring.controllers) logs es)
+      (env : (rest : List Item) → EnvironmentPosts plant (lines_of (gone ++ rest)) (world_of plant ks v) es after) (done : RoundDone plant ks news logs logs' answer) where
     abbrev n : ℕ
     n = length plant.wiring.controllers
 
@@ -74,8 +78,8 @@ module _ (plant : Plant) where
       is : slice_get news c ≡ Some new
       joined : Joined plant old new (log_at logs c) (log_at logs' c) (slice_index_or answer c [])
       goes : Goes plant old new x
-      joins : Joins (run_plant plant lines) c (state_at plant ks c) (state_at plant news c) (log_at logs' c) (slice_index_or answer c []) x
-      prompt : (before : List Entry) → OwnFetched c before → PromptFrom c before joins.works
+      parts : x ≡ joined.works.did.entries ++ (joined.fetches.entries ++ joined.turn.entries)
+      prompt : (before : List Entry) → OwnFetched c before → PromptFrom c before joined.works.did.entries
 
     at_of : (c : ℕ) → c < length plant.wiring.controllers → (x : List Entry) × At c x
     at_of c b =
@@ -87,13 +91,9 @@ module _ (plant : Plant) where
         let x = works ++ (j.fetches.entries ++ j.turn.entries) in
         let goes : Goes plant k e.0 x = goes_then j.works.did.goes (goes_then j.fetches.goes j.turn.goes) in
         let me : k.me.0 ≡ c = r.stand.me c k o.1 in
-        let end : EndGoes c (fresh (length plant.wiring.controllers + 1) c) (log_at logs' c) works =
-        subst (λ (z : EndLog). EndGoes c z (log_at logs' c) works) (ends.controllers c b) (subst (λ (z : ℕ). EndGoes z (log_at logs c) (log_at logs' c) works) me j.works.did.end) in
         let prompt : (before : List Entry) → EndsAs c before (fresh (length plant.wiring.controllers + 1) c) → PromptFrom c before works =
         subst (λ (z : EndLog). (before : List Entry) → EndsAs c before z → PromptFrom c before works) (ends.controllers c b)
-        (subst (λ (z : ℕ). (before : List Entry) → EndsAs z before (log_at logs c) → PromptFrom z before works) me j.works.did.prompt) in
-        let replays : Replays (run_plant plant lines) c (state_in plant k) x (state_in plant e.0) =
-        subst (λ (z : ℕ). Replays (run_plant plant lines) z (state_in plant k) x (state_in plant e.0)) me (goes.replays lines) in (
+        (subst (λ (z : ℕ). (before : List Entry) → EndsAs z before (log_at logs c) → PromptFrom z before works) me j.works.did.prompt) in (
           x,
           record {
             old = k;
@@ -102,21 +102,34 @@ module _ (plant : Plant) where
             is = e.1;
             joined = j;
             goes = goes;
-            joins = record {
-              works = works;
-              fetches = j.fetches.entries;
-              turned = j.turn.entries;
-              is = refl;
-              replays = subst (λ (z : State (Body Actor)). Replays (run_plant plant lines) c z x (state_at plant news c)) (sym (state_is plant ks c k o.1))
-                  (subst (λ (z : State (Body Actor)). Replays (run_plant plant lines) c (state_in plant k) x z) (sym (state_is plant news c e.0 e.1)) replays);
-              did = record { posted = end.posted; took = end.took };
-              within = j.works.did.within;
-              fetched = fetched_of (slice_index_or answer c []) j.fetches.entries j.fetches.fetches;
-              turns = j.turn.only;
-            };
+            parts = refl;
             prompt = λ before h. prompt before (ends_fresh c before (fresh (length plant.wiring.controllers + 1) c) h (λ p. refl) (λ p. refl));
           },
         )
+
+    -- the same as the world has it, whatever lines the environment posts
+    joins_of : (lines : List Line) (c : ℕ) → c < length plant.wiring.controllers → (x : List Entry) → At c x
+        → Joins (run_plant plant lines) c (state_at plant ks c) (state_at plant news c) (log_at logs' c) (slice_index_or answer c []) x
+    joins_of lines c b x a =
+        let j = a.joined in
+        let me : a.old.me.0 ≡ c = r.stand.me c a.old a.was in
+        let end : EndGoes c (fresh (length plant.wiring.controllers + 1) c) (log_at logs' c) j.works.did.entries =
+        subst (λ (z : EndLog). EndGoes c z (log_at logs' c) j.works.did.entries) (ends.controllers c b)
+        (subst (λ (z : ℕ). EndGoes z (log_at logs c) (log_at logs' c) j.works.did.entries) me j.works.did.end) in
+        let replays : Replays (run_plant plant lines) c (state_in plant a.old) x (state_in plant a.new) =
+        subst (λ (z : ℕ). Replays (run_plant plant lines) z (state_in plant a.old) x (state_in plant a.new)) me (a.goes.replays lines) in
+        record {
+          works = j.works.did.entries;
+          fetches = j.fetches.entries;
+          turned = j.turn.entries;
+          is = a.parts;
+          replays = subst (λ (z : State (Body Actor)). Replays (run_plant plant lines) c z x (state_at plant news c)) (sym (state_is plant ks c a.old a.was))
+              (subst (λ (z : State (Body Actor)). Replays (run_plant plant lines) c (state_in plant a.old) x z) (sym (state_is plant news c a.new a.is)) replays);
+          did = record { posted = end.posted; took = end.took };
+          within = j.works.did.within;
+          fetched = fetched_of (slice_index_or answer c []) j.fetches.entries j.fetches.fetches;
+          turns = j.turn.only;
+        }
 
     abbrev HasEntries : ℕ → List Entry → Type 0
     HasEntries p x = (p < n → At p x) × (p ≡ n → x ≡ es)
@@ -143,17 +156,23 @@ module _ (plant : Plant) where
     end_did : EndDid n (log_at logs' n) es
     end_did = subst (λ (z : EndLog). EndDid n z es) (sym (done.others n (omega arith))) ends.environment
 
-    parts : ((p : ℕ) → PostsWithin n (more p)) → AreParts (run_plant plant lines) old_world new_world more logs' answer
-    parts within = record {
+    -- the lines, where these items come after those so far
+    abbrev with_rest : List Item → List Line
+    with_rest rest = lines_of (gone ++ rest)
+
+    parts : (rest : List Item) → ((p : ℕ) → PostsWithin n (more p)) → AreParts (run_plant plant (with_rest rest)) old_world new_world more logs' answer
+    parts rest within = record {
       parties = done.parties ∙ ends.count;
       left = done.left;
-      controllers = λ c h. (more_at c h).joins;
-      environment = subst (λ (z : List Entry). EnvironmentGoes (run_plant plant lines) old_world z after) (sym more_environment) env.goes;
+      controllers = λ c h. joins_of (with_rest rest) c h (more c) (more_at c h);
+      environment = subst (λ (z : List Entry). EnvironmentGoes (run_plant plant (with_rest rest)) old_world z after) (sym more_environment) (env rest).goes;
       did = subst (λ (z : List Entry). EndDid n (log_at logs' n) z) (sym more_environment) end_did;
       nobody = more_past;
       within = within;
-      quiet = subst (λ (z : List Entry). begins (run_plant plant lines) v.posted ≡ true → (z ≡ []) ⊎ IsQuiet (run_plant plant lines) old_world) (sym more_environment) env.quiet;
-      one_part = subst (λ (z : List Entry). (line : ℕ) → v.posted < line → line < v.posted + length z → begins (run_plant plant lines) line ≡ false) (sym more_environment) env.one_part;
+      quiet = subst (λ (z : List Entry). begins (run_plant plant (with_rest rest)) v.posted ≡ true → (z ≡ []) ⊎ IsQuiet (run_plant plant (with_rest rest)) old_world)
+          (sym more_environment) (env rest).quiet;
+      one_part = subst (λ (z : List Entry). (line : ℕ) → v.posted < line → line < v.posted + length z → begins (run_plant plant (with_rest rest)) line ≡ false)
+          (sym more_environment) (env rest).one_part;
       empty_before = λ l. refl;
       empty_after = λ l. refl;
     }
@@ -190,54 +209,64 @@ module _ (plant : Plant) where
           a.goes.journal ∙ ap (λ (z : List Entry). z ++ more c) (r.journals c a.old a.was)
           ∙ append_assoc (start_entries (model_of plant) plant.wiring c) (r.events c) (more c)
 
+      abbrev worked : List Entry
+      worked = a.joined.works.did.entries
+
+      abbrev fetched : List Entry
+      fetched = a.joined.fetches.entries
+
+      abbrev turned : List Entry
+      turned = a.joined.turn.entries
+
       module _ (within : (p : ℕ) → PostsWithin n (more p)) (even : OwnFetched c (whole plant r.events c)) where
         abbrev before : List Entry
         before = whole plant r.events c
 
-        evened : OwnFetched c ((before ++ a.joins.works) ++ a.joins.fetches)
-        unfolding parts
+        evened : OwnFetched c ((before ++ worked) ++ fetched)
+        unfolding parts joins_of
         evened =
-            subst (λ (z : List Entry). OwnFetched c z) (sym (append_assoc before a.joins.works a.joins.fetches))
-            (own_append c before (a.joins.works ++ a.joins.fetches) even
-            (record { all = λ p d. own_even (run_plant plant lines) old_world new_world more logs' answer (parts within) c p b d }))
+            subst (λ (z : List Entry). OwnFetched c z) (sym (append_assoc before worked fetched))
+            (own_append c before (worked ++ fetched) even
+            (record { all = λ p d. own_even (run_plant plant (with_rest [])) old_world new_world more logs' answer (parts [] within) c p b d }))
 
-        all_of_it : ((before ++ a.joins.works) ++ a.joins.fetches) ++ a.joins.turned ≡ start_entries (model_of plant) plant.wiring c ++ (r.events c ++ more c)
+        all_of_it : ((before ++ worked) ++ fetched) ++ turned ≡ start_entries (model_of plant) plant.wiring c ++ (r.events c ++ more c)
         all_of_it =
-            append_assoc (before ++ a.joins.works) a.joins.fetches a.joins.turned
-            ∙ append_assoc before a.joins.works (a.joins.fetches ++ a.joins.turned)
-            ∙ ap (λ (z : List Entry). before ++ z) (sym a.joins.is)
+            append_assoc (before ++ worked) fetched turned
+            ∙ append_assoc before worked (fetched ++ turned)
+            ∙ ap (λ (z : List Entry). before ++ z) (sym a.parts)
             ∙ append_assoc (start_entries (model_of plant) plant.wiring c) (r.events c) (more c)
 
         even_after : OwnFetched c (start_entries (model_of plant) plant.wiring c ++ (r.events c ++ more c))
         even_after =
             subst (λ (z : List Entry). OwnFetched c z) all_of_it
-            (own_append c ((before ++ a.joins.works) ++ a.joins.fetches) a.joins.turned evened (turns_even c a.joins.turned a.joins.turns))
+            (own_append c ((before ++ worked) ++ fetched) turned evened (turns_even c turned a.joined.turn.only))
 
-        prompt_more : PromptFrom c before (a.joins.works ++ (a.joins.fetches ++ a.joins.turned))
+        prompt_more : PromptFrom c before (worked ++ (fetched ++ turned))
         prompt_more =
-            prompt_append c before a.joins.works (a.joins.fetches ++ a.joins.turned) (a.prompt before even)
-            (prompt_append c (before ++ a.joins.works) a.joins.fetches a.joins.turned
-            (no_turns_prompt c (before ++ a.joins.works) a.joins.fetches (fetched_no_turns _ a.joins.fetches a.joins.fetched))
-            (turns_prompt c ((before ++ a.joins.works) ++ a.joins.fetches) a.joins.turned evened a.joins.turns))
+            prompt_append c before worked (fetched ++ turned) (a.prompt before even)
+            (prompt_append c (before ++ worked) fetched turned
+            (no_turns_prompt c (before ++ worked) fetched
+            (fetched_no_turns (slice_index_or answer c []) fetched (fetched_of (slice_index_or answer c []) fetched a.joined.fetches.fetches)))
+            (turns_prompt c ((before ++ worked) ++ fetched) turned evened a.joined.turn.only))
 
         prompt_after : PromptFrom c [] before → PromptFrom c [] (start_entries (model_of plant) plant.wiring c ++ (r.events c ++ more c))
         prompt_after h =
             subst (λ (z : List Entry). PromptFrom c [] z) (append_assoc (start_entries (model_of plant) plant.wiring c) (r.events c) (more c))
-            (prompt_append c [] before (more c) h (subst (λ (z : List Entry). PromptFrom c before z) (sym a.joins.is) prompt_more))
+            (prompt_append c [] before (more c) h (subst (λ (z : List Entry). PromptFrom c before z) (sym a.parts) prompt_more))
 
-    sound_after : ((p : ℕ) → PostsWithin n (r.events p ++ more p)) → IsSound plant lines (λ p. r.events p ++ more p) new_world
-    sound_after within =
+    sound_after : ((p : ℕ) → PostsWithin n (r.events p ++ more p)) → (rest : List Item) → IsSound plant (with_rest rest) (λ p. r.events p ++ more p) new_world
+    sound_after within rest =
         let old_within : (p : ℕ) → PostsWithin n (r.events p) = λ p. within_front n (r.events p) (more p) (within p) in
         let new_within : (p : ℕ) → PostsWithin n (more p) = λ p. within_back n (r.events p) (more p) (within p) in
-        let s = r.sound old_within in
+        let s = r.sound old_within rest in
         record {
-          history = history_more (run_plant plant lines) r.events more old_world new_world s.history
-              (parts_round (run_plant plant lines) old_world new_world more logs' answer (parts new_within));
+          history = history_more (run_plant plant (with_rest rest)) r.events more old_world new_world s.history
+              (parts_round (run_plant plant (with_rest rest)) old_world new_world more logs' answer (parts rest new_within));
           prompt = λ c b. prompt_after c b new_within (s.even c b) (s.prompt c b);
           even = λ c b. even_after c b new_within (s.even c b);
         }
 
-    pub so_far : RunSoFar plant lines fuel news after (posts ++ es)
+    pub so_far : RunSoFar plant gone fuel news after (posts ++ es)
     so_far = record {
       stand = record {
         count = done.count ∙ r.stand.count;
@@ -253,3 +282,17 @@ module _ (plant : Plant) where
       nobody = λ p h. ap (λ (z : List Entry). z ++ more p) (r.nobody p h) ∙ more_past p h;
       sound = sound_after;
     }
+
+  -- what holds whatever comes after some items holds after more of them
+  pub so_far_more : (gone more : List Item) (fuel : ℕ) (ks : List Controller) (v : Environment) (posts : List Entry) → RunSoFar plant gone fuel ks v posts → RunSoFar plant (gone ++ more) fuel ks v posts
+  so_far_more gone more fuel ks v posts r = record {
+    stand = r.stand;
+    fuel_is = r.fuel_is;
+    fuelled = r.fuelled;
+    events = r.events;
+    journals = r.journals;
+    posted = r.posted;
+    nobody = r.nobody;
+    sound = λ within rest.
+        subst (λ (z : List Item). IsSound plant (lines_of z) r.events (world_of plant ks v)) (sym (append_assoc gone more rest)) (r.sound within (more ++ rest));
+  }

@@ -1,5 +1,5 @@
 -- The start of a run is a run so far.
-use Rattle.std.proofs.Common.{◌≡◌, ℕ, zero, suc, ◌+◌, ◌<◌, ◌≤◌, ◌⊎◌, inl, inr, true, false, List, [], ◌∷◌, ◌++◌, length, slice_get, Option, Some, None, refl, sym, ap, ◌∙◌, subst, arith, append-nil}
+use Rattle.std.proofs.Common.{◌≡◌, ℕ, zero, suc, ◌<◌, ◌⊎◌, inl, inr, false, List, [], ◌∷◌, ◌++◌, length, slice_get, Option, Some, refl, sym, ap, ◌∙◌, subst, arith, append-nil}
 use Rattle.std.specs.Option.{option_map_or}
 use Rattle.std.proofs.lemmas.Bool.{cases_lt}
 use Rattle.std.proofs.lemmas.Option.{slice_get_past, slice_get_within}
@@ -10,13 +10,13 @@ use Rattle.room_wiring.specs.declared.tables.Tables.{Tables}
 use Rattle.journal.specs.declared.entry.Entry.{Entry}
 use Rattle.journal.specs.declared.entry.Entry.TheVariants as entry
 use Rattle.actor_merge.specs.Mail.{Lane, lane, given, taken, gives, takes}
-use Rattle.actor_merge.specs.Parties.{State, Line, Environment}
+use Rattle.actor_merge.specs.Parties.{State, Line}
 use Rattle.actor_merge.specs.World.{World, start}
 use Rattle.actor_merge.specs.History.{IsHistory}
 use Rattle.actor_merge.proofs.Rounds.{start_history}
 use Rattle.actor_world.specs.Behaviour.{Behaviour}
 use Rattle.actor_world.specs.Body.{Body}
-use Rattle.actor_world.specs.Journals.{is_turn}
+use Rattle.actor_world.specs.Journals.{is_turn, lines_of}
 use Rattle.actor_world.specs.Start.{Starting, started, all_started, starting, first_actors, first_state, start_entries}
 use Rattle.chart_behaviour.specs.ModelCharts.{Actor}
 use Rattle.model_run.specs.run_rounds.Prompts.{PromptFrom, OwnFetched}
@@ -25,7 +25,7 @@ use Rattle.controller_actors.specs.Plants.{model_of}
 use Rattle.controller_actors.specs.declared.plant.Plant.{Plant}
 use Rattle.controller.specs.Controllers.{IsOf, Begins, run_plant, state_in, state_at}
 use Rattle.controller.specs.declared.controller.Controller.{Controller}
-use Rattle.model_run.specs.run_so_far.SoFar.{world_of, whole, RunSoFar}
+use Rattle.model_run.specs.run_so_far.SoFar.{world_of, RunSoFar}
 use Rattle.model_run.specs.run_start.Begun.{AllBegun}
 
 -- each of these entries is a start
@@ -144,8 +144,8 @@ module _ (plant : Plant) (fuel : ℕ) where
     starts_of : (c : ℕ) → OnlyStarts (start_entries (model_of plant) plant.wiring c)
     starts_of c = start_is_starts (model_of plant) plant.wiring c
 
-    pub starts_run : (lines : List Line) → RunSoFar plant lines fuel ks (record { clock = 0; posted = 0 }) []
-    starts_run lines = record {
+    pub starts_run : RunSoFar plant [] fuel ks (record { clock = 0; posted = 0 }) []
+    starts_run = record {
       stand = record { count = count; me = a.me; of = a.of };
       fuel_is = λ c k at. (a.begins c k at).fuel_is;
       fuelled = λ c k at. let none : k.mail.turns ≡ 0 = ap (λ (s : State (Body Actor)). s.turns) (a.begins c k at).state in omega arith;
@@ -156,8 +156,8 @@ module _ (plant : Plant) (fuel : ℕ) where
           ∙ sym (append-nil (start_entries (model_of plant) plant.wiring c));
       posted = refl;
       nobody = λ p h. refl;
-      sound = λ within. record {
-        history = subst (λ (w : World (Body Actor)). IsHistory (run_plant plant lines) (λ p. []) w) (first_world lines) (start_history (run_plant plant lines));
+      sound = λ within rest. record {
+        history = subst (λ (w : World (Body Actor)). IsHistory (run_plant plant (lines_of rest)) (λ p. []) w) (first_world (lines_of rest)) (start_history (run_plant plant (lines_of rest)));
         prompt = λ c b. subst (λ (z : List Entry). PromptFrom c [] z) (sym (append-nil (start_entries (model_of plant) plant.wiring c)))
             (no_turns_prompt c [] (start_entries (model_of plant) plant.wiring c) (starts_no_turns (start_entries (model_of plant) plant.wiring c) (starts_of c)));
         even = λ c b. subst (λ (z : List Entry). OwnFetched c z) (sym (append-nil (start_entries (model_of plant) plant.wiring c)))

@@ -1,14 +1,14 @@
 -- What posts, a poll and a turn are together.
-use Rattle.std.proofs.Common.{◌≡◌, ℕ, ◌+◌, ◌<◌, ◌≤◌, ◌⊎◌, Bool, true, false, List, [], ◌∷◌, ◌++◌, length, Option, Some, None, Result, Ok, Err, IfOk, OnOk, All, refl, sym, ap, ◌∙◌, subst, arith, append-nil}
+use Rattle.std.proofs.Common.{◌≡◌, ℕ, ◌+◌, ◌<◌, ◌≤◌, Bool, true, false, List, [], ◌∷◌, ◌++◌, length, Some, None, Result, Ok, Err, IfOk, OnOk, All, refl, sym, ap, ◌∙◌, subst, arith}
 use Rattle.std.proofs.lemmas.List.Elements.{All-head, All-tail}
 use Rattle.room_kinds.specs.declared.numbers.ControllerId.{ControllerId}
 use Rattle.room_kinds.specs.declared.message.Msg.{Msg}
 use Rattle.journal.specs.declared.entry.Entry.{Entry}
 use Rattle.journal.specs.declared.entry.Entry.TheVariants as entry
 use Rattle.mail_core.specs.EndLog.{EndLog}
-use Rattle.actor_merge.specs.Mail.{lane, given, taken, gives, takes}
+use Rattle.actor_merge.specs.Mail.{lane}
 use Rattle.actor_merge.specs.Parties.{State, Plant as RunPlant, post, post_front, Does, Replays}
-use Rattle.actor_world.specs.Journals.{is_turn, fetches_since}
+use Rattle.actor_world.specs.Journals.{is_turn}
 use Rattle.model_run.specs.run_rounds.Rounds.{IsFetchWithin, FetchesWithin, Fetched, OnlyTurns}
 use Rattle.model_run.specs.run_rounds.Prompts.{PromptFrom, EndsAs}
 use Rattle.model_run.proofs.run_rounds.LaneLists.{turns_give, turns_take}
@@ -18,13 +18,18 @@ use Rattle.controller_actors.specs.declared.plant.Plant.{Plant}
 use Rattle.controller.specs.Controllers.{Goes, EndGoes, run_plant, state_in}
 use Rattle.controller.specs.Calls.{is_post, AreFetches, no_fetches, one_more, PostsAll, Polls, Turns, took_one, took_none}
 use Rattle.controller.specs.declared.controller.Controller.{Controller}
-use Rattle.model_run.specs.run_worker.Works.{Did, Works}
+use Rattle.model_run.specs.run_worker.Works.{Counted, Did, Works}
 use Rattle.controller.proofs.Going.{goes_then, end_goes_then, end_goes_still}
 
 -- what follows from each answer of a call that ends well
 pub each_ok : {T E P : Type 0} {Q : T → Type 0} (r : Result T E) → ((x : T) → Q x → P) → IfOk r Q → OnOk r P
 each_ok (Ok x) f h = f x h
 each_ok (Err e) f h = tt
+
+-- the same where what follows is of the answer too
+pub each_if_ok : {T E : Type 0} {P Q : T → Type 0} (r : Result T E) → ((x : T) → Q x → P x) → IfOk r Q → IfOk r P
+each_if_ok (Ok x) f h = f x h
+each_if_ok (Err e) f h = tt
 
 -- each of these entries posts
 abbrev pub OnlyPosts : List Entry → Type 0
@@ -107,10 +112,14 @@ module _ (plant : Plant) where
             omega arith;
       }
 
+  pub posts_turns : (old new : Controller) (log log' : EndLog) → PostsAll plant old new log log' → new.mail.turns ≡ old.mail.turns
+  posts_turns old new log log' p =
+      posts_keep_turns (run_plant plant []) old.me.0 (state_in plant old) p.entries (state_in plant new) (only_posts p.entries p.posts) (p.goes.replays [])
+
   pub posts_did : (old new : Controller) (log log' : EndLog) → PostsAll plant old new log log' → Works plant old new log log'
   posts_did old new log log' p =
       let only = only_posts p.entries p.posts in
-      let turns : new.mail.turns ≡ old.mail.turns = posts_keep_turns (run_plant plant []) old.me.0 (state_in plant old) p.entries (state_in plant new) only (p.goes.replays []) in
+      let turns : new.mail.turns ≡ old.mail.turns = posts_turns old new log log' p in
       record {
         did = record {
           entries = p.entries;
@@ -169,6 +178,12 @@ module _ (plant : Plant) where
   step_did in_box boxes old mid new log log' count took parties fuel p (took_one e t is goes more) = with_turn in_box boxes old mid new log log' count e parties fuel p is goes more
   step_did in_box boxes old mid new log log' count took parties fuel p (took_none t none same) =
       subst (λ (z : Controller). Did plant old z log log') (sym same) (polls_did in_box boxes old mid log log' count parties p)
+
+  -- the turns are counted
+  pub turn_counted : (old mid new : Controller) (took : Bool) → mid.mail.turns ≡ old.mail.turns → Turns plant mid new took → Counted took old new
+  turn_counted old mid new took polled (took_one e t is goes more) = subst (λ (b : Bool). Counted b old new) (sym t) (more ∙ ap (λ (n : ℕ). n + 1) polled)
+  turn_counted old mid new took polled (took_none t none same) =
+      subst (λ (b : Bool). Counted b old new) (sym t) (ap (λ (k : Controller). k.mail.turns) same ∙ polled)
 
   pub works_then : (a b c : Controller) (x y z : EndLog) → Did plant a b x y → Works plant b c y z → Works plant a c x z
   works_then a b c x y z d w = record { did = did_then a b c x y z d w.did; posted = w.posted }

@@ -3,7 +3,7 @@
 -- takes a turn or none.
 -- `AreParts` says of each party by itself what it does in a round. The law `parts_are_a_round`:
 -- then the journals are a round of the world, after which no lane holds a message.
-use Rattle.std.specs.Prelude.{◌≡◌, ℕ, ◌+◌, ◌<◌, ◌≤◌, ◌⊎◌, true, false, List, [], ◌∷◌, ◌++◌, length, slice_index_or}
+use Rattle.std.specs.Prelude.{◌≡◌, ℕ, ◌+◌, ◌<◌, ◌⊎◌, true, false, List, [], ◌∷◌, ◌++◌, length, slice_index_or}
 use Rattle.room_kinds.specs.declared.message.Msg.{Msg}
 use Rattle.room_kinds.specs.declared.numbers.Stamp.{Stamp}
 use Rattle.journal.specs.declared.entry.Entry.{Entry}

@@ -1,21 +1,22 @@
 -- A run between two rounds: its world, and what holds of its journals.
 -- `world_of` is the world of controllers that stand between two rounds. `RunSoFar`: their journals
 -- are a history that leads to this world, the turns were prompt, and no controller took more turns
--- than its fuel. `EnvironmentPosts`: the environment may post these entries in the next round. The
--- law `round_goes_on`: a run so far in which the environment posts and all controllers join in a
--- round is a run so far again.
+-- than its fuel. It speaks of the items so far, and holds whatever items come after them.
+-- `EnvironmentPosts`: the environment may post these entries in the next round. The law
+-- `round_goes_on`: a run so far in which the environment posts and all controllers join in a round
+-- is a run so far again.
 use Rattle.std.specs.Prelude.{◌≡◌, ℕ, ◌+◌, ◌<◌, ◌≤◌, ◌⊎◌, true, false, List, [], ◌++◌, length, slice_get, Some}
-use Rattle.std.specs.Option.{option_map_or}
 use Rattle.room_kinds.specs.declared.message.Msg.{Msg}
 use Rattle.journal.specs.declared.entry.Entry.{Entry}
 use Rattle.mail_core.specs.EndLog.{EndLog, fresh}
 use Rattle.mail_core.specs.Lanes.{log_at}
-use Rattle.actor_merge.specs.Parties.{State, Environment, Line, begins}
+use Rattle.actor_merge.specs.Parties.{Environment, Line, begins}
 use Rattle.actor_merge.specs.World.{World, IsQuiet}
 use Rattle.actor_merge.specs.Merge.{EnvironmentGoes}
 use Rattle.actor_merge.specs.History.{IsHistory}
 use Rattle.actor_world.specs.Body.{Body}
-use Rattle.actor_world.specs.Start.{first_state, start_entries}
+use Rattle.actor_world.specs.Journals.{Item, lines_of}
+use Rattle.actor_world.specs.Start.{start_entries}
 use Rattle.chart_behaviour.specs.ModelCharts.{Actor}
 use Rattle.model_run.specs.run_rounds.Rounds.{EndDid, PostsWithin}
 use Rattle.model_run.specs.run_rounds.Prompts.{PromptFrom, OwnFetched}
@@ -40,9 +41,9 @@ pub record IsSound (plant : Plant) (lines : List Line) (events : ℕ → List En
   pub prompt : (c : ℕ) → c < length plant.wiring.controllers → PromptFrom c [] (whole plant events c)
   pub even : (c : ℕ) → c < length plant.wiring.controllers → OwnFetched c (whole plant events c)
 
--- a run so far, in which the environment posted these entries: sound, if each post went to a controller that
--- is there, at a priority that is there
-pub record RunSoFar (plant : Plant) (lines : List Line) (fuel : ℕ) (ks : List Controller) (v : Environment) (posts : List Entry) : Type 0 where
+-- a run so far over these items, in which the environment posted these entries: sound, whatever items come
+-- after them, if each post went to a controller that is there, at a priority that is there
+pub record RunSoFar (plant : Plant) (gone : List Item) (fuel : ℕ) (ks : List Controller) (v : Environment) (posts : List Entry) : Type 0 where
   pub stand : AllStand plant ks
   pub fuel_is : (c : ℕ) (k : Controller) → slice_get ks c ≡ Some k → k.fuel ≡ fuel
   pub fuelled : (c : ℕ) (k : Controller) → slice_get ks c ≡ Some k → k.mail.turns ≤ fuel
@@ -50,7 +51,7 @@ pub record RunSoFar (plant : Plant) (lines : List Line) (fuel : ℕ) (ks : List 
   pub journals : (c : ℕ) (k : Controller) → slice_get ks c ≡ Some k → k.mail.journal ≡ whole plant events c
   pub posted : events (length plant.wiring.controllers) ≡ posts
   pub nobody : (party : ℕ) → length plant.wiring.controllers < party → events party ≡ []
-  pub sound : ((party : ℕ) → PostsWithin (length plant.wiring.controllers) (events party)) → IsSound plant lines events (world_of plant ks v)
+  pub sound : ((party : ℕ) → PostsWithin (length plant.wiring.controllers) (events party)) → (rest : List Item) → IsSound plant (lines_of (gone ++ rest)) events (world_of plant ks v)
 
 -- the ends of a round before its workers: the environment posted these entries, the controllers did nothing
 pub record EndsPosted (n : ℕ) (logs : List EndLog) (es : List Entry) : Type 0 where
@@ -67,6 +68,7 @@ pub record EnvironmentPosts (plant : Plant) (lines : List Line) (w : World (Body
 -- a run goes on by a round
 abbrev pub RoundGoesOn : Type 0
 RoundGoesOn =
-    (plant : Plant) (lines : List Line) (fuel : ℕ) (ks news : List Controller) (v after : Environment) (posts es : List Entry) (logs logs' : List EndLog) (answer : List (List Msg))
-    → RunSoFar plant lines fuel ks v posts → EndsPosted (length plant.wiring.controllers) logs es → EnvironmentPosts plant lines (world_of plant ks v) es after
-    → RoundDone plant ks news logs logs' answer → RunSoFar plant lines fuel news after (posts ++ es)
+    (plant : Plant) (gone : List Item) (fuel : ℕ) (ks news : List Controller) (v after : Environment) (posts es : List Entry) (logs logs' : List EndLog) (answer : List (List Msg))
+    → RunSoFar plant gone fuel ks v posts → EndsPosted (length plant.wiring.controllers) logs es
+    → ((rest : List Item) → EnvironmentPosts plant (lines_of (gone ++ rest)) (world_of plant ks v) es after)
+    → RoundDone plant ks news logs logs' answer → RunSoFar plant gone fuel news after (posts ++ es)

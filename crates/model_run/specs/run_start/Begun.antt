@@ -1,5 +1,5 @@
 -- Controllers that have just started.
-use Rattle.std.specs.Prelude.{◌≡◌, ℕ, List, length, slice_get, Some}
+use Rattle.std.specs.Prelude.{◌≡◌, ℕ, List, slice_get, Some}
 use Rattle.controller_actors.specs.declared.plant.Plant.{Plant}
 use Rattle.controller.specs.Controllers.{IsOf, Begins}
 use Rattle.controller.specs.declared.controller.Controller.{Controller}

@@ -1,5 +1,5 @@
 -- What a controller does with its end of the mail in a round.
-use Rattle.std.specs.Prelude.{◌≡◌, ℕ, ◌≤◌, List, [], length}
+use Rattle.std.specs.Prelude.{◌≡◌, ◌+◌, ◌≤◌, Bool, List, [], length, if◌then◌else◌}
 use Rattle.journal.specs.declared.entry.Entry.{Entry}
 use Rattle.mail_core.specs.EndLog.{EndLog}
 use Rattle.model_run.specs.run_rounds.Rounds.{FetchesWithin}
@@ -22,3 +22,7 @@ pub record Did (plant : Plant) (old new : Controller) (log log' : EndLog) : Type
 pub record Works (plant : Plant) (old new : Controller) (log log' : EndLog) : Type 0 where
   pub did : Did plant old new log log'
   pub posted : new.mail.outbox ≡ []
+
+-- the turns were counted: one more if one was taken
+abbrev pub Counted : Bool → Controller → Controller → Type 0
+Counted turned old new = new.mail.turns ≡ (if turned then old.mail.turns + 1 else old.mail.turns)

@@ -30,7 +30,7 @@ pub(crate) fn work_at_once<M: Mail<Office = ()> + Send + Drop, G: Gate + Sync, R
     ensures tied { IfOk result (λ after. M.tied tt after.items) }
 {
     let Some(environment) = ends.pop() else {
-        return Err(AllocError);
+        unreachable!()
     };
     let idle = mem::replace(controllers, Vec::new(alloc));
     let mut seats = seated(alloc, plant.wiring.controller_count(), idle, ends)?;

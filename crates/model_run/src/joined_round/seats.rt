@@ -23,10 +23,10 @@ pub(crate) fn seated<M: Drop>(
     let mut seats = Vec::new(alloc);
     for number in 0..count {
         let Some(controller) = controllers.pop_front() else {
-            return Err(AllocError);
+            unreachable!()
         };
         let Some(end) = ends.pop_front() else {
-            return Err(AllocError);
+            unreachable!()
         };
         seats.push(Seat {
             number,

@@ -45,7 +45,7 @@ pub(crate) fn finish_all(
     controllers.reverse();
     for me in 0..count {
         let Some(controller) = controllers.pop() else {
-            return Err(AllocError);
+            unreachable!()
         };
         let (journal, waiting) = controller.finish()?;
         // A controller posts to a controller of its wiring, at one of the six priorities.

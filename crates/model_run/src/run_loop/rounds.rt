@@ -1,10 +1,14 @@
 //! The beginning of a round, with a mail of its own.
-ghost use Rattle.std.specs.Prelude.{◌≡◌, ◌+◌, ◌≤◌, map, length, IfOk};
+ghost use Rattle.std.specs.Prelude.{◌≡◌, ◌+◌, map, length, IfOk, OnOk};
 ghost use Rattle.mail_core.specs.SetUp.{AreFresh};
+ghost use Rattle.model_run.specs.part_posts.Items.{items_of};
+ghost use Rattle.model_run.specs.part_source.Calls.{seen, Grew};
+ghost use Rattle.model_run.specs.part_source.Parts.{IsPart};
 ghost use Rattle.model_run.specs.run_loop.Plays.{BeforePart, PartPosted};
 ghost use Rattle.model_run.specs.run_loop.Runs.{IsInRound};
 
 use crate::part_posts::post_part;
+use crate::part_source::PartSource;
 use crate::run_loop::state::Run;
 use controller::{Environment, Plant};
 use inject_reader::inject_lines::Line;
@@ -31,49 +35,43 @@ fn post_at_last<M: Mail>(
     environment: &mut Environment,
     office: &mut M::Office,
     ends: &mut Vec<M>,
-    lines: &[Line],
-    from: usize,
-) -> Result<usize, AllocError>
+    part: &[Line],
+) -> Result<(), AllocError>
     requires fresh { AreFresh (length plant.now.wiring.controllers + 1) (map M.log ends.old.items) }
     requires tied { M.tied office.old ends.old.items }
-    requires within { from ≤ length lines.now }
-    ensures posted { IfOk result (λ to. PartPosted plant.now lines.now from to environment.old environment.new (map M.log ends.new.items)) }
+    requires part { IsPart part.now }
+    ensures posted { OnOk result (PartPosted plant.now part.now environment.old environment.new (map M.log ends.new.items)) }
     ensures tied { M.tied office.new ends.new.items }
 {
     let last = &mut ends[usize::from(plant.wiring.controller_count())];
-    post_part(alloc, plant, environment, office, last, lines, from)
+    post_part(alloc, plant, environment, office, last, part)
 }
 
-/// Begins the first round of a part: the environment posts the lines from here on, to the end of their part.
-pub(crate) fn begin_part<M: Mail + Drop>(
+/// Begins the first round of a part: the environment posts the lines of the part at which the source stands.
+pub(crate) fn begin_part<M: Mail + Drop, S: PartSource>(
     alloc: Global,
     plant: &Plant,
     run: &mut Run,
-    lines: &[Line],
+    source: &S,
     fuel: u64,
 ) -> Result<(M::Office, Vec<M>), AllocError>
 where
     M::Office: Drop,
-    requires before { BeforePart plant.now lines.now fuel run.old.at run.old.controllers.items run.old.environment }
-    ensures begun { IfOk result (λ made. IsInRound plant.now lines.now fuel run.new (map M.log made.1.items)) }
+    requires before { BeforePart plant.now (items_of plant.now.wiring (S.given source.now)) (S.stands_at source.now) fuel run.old.controllers.items run.old.environment }
+    ensures begun { IfOk result (λ made. IsInRound plant.now (items_of plant.now.wiring (S.given source.now)) fuel run.new (map M.log made.1.items)) }
     ensures count { IfOk result (λ made. length made.1.items ≡ length plant.now.wiring.controllers + 1) }
     ensures tied { IfOk result (λ made. M.tied made.0 made.1.items) }
+    ensures grew { IfOk result (λ made. Grew (seen run.old.controllers.items run.old.environment) (seen run.new.controllers.items run.new.environment)) }
 {
     let (mut office, mut ends) = open::<M>(alloc, plant)?;
-    let to = post_at_last(
+    post_at_last(
         alloc,
         plant,
         &mut run.environment,
         &mut office,
         &mut ends,
-        lines,
-        run.at,
+        source.part(),
     )?;
-    // The first part alone may have no lines: a later one begins with a message.
-    if to == run.at && run.at != 0 {
-        return Err(AllocError);
-    }
-    run.at = to;
     run.in_part = true;
     Ok((office, ends))
 }

@@ -1,14 +1,18 @@
-use Rattle.std.proofs.Common.{◌≡◌, true, false, map, sym, ◌∙◌, rules}
-use Rattle.model_run.specs.run_loop.Runs.{IsInRound}
+use Rattle.std.proofs.Common.{◌≡◌, List, ◌∙◌, subst}
+use Rattle.inject_reader.specs.declared.inject_lines.accepted.Line.{Line}
+use Rattle.model_run.specs.declared.fixed_lines.FixedLines.{FixedLines}
+use Rattle.model_run.specs.run_ends.Runs.{IsRun}
+use Rattle.model_run.proofs.fixed_lines.FixedLaw.{ran_fixed, if_ok_both}
+use Rattle.model_run.proofs.part_source.CallsLaw.{asked_keeps}
 use Rattle.model_run.proofs.local_run.run_in_order.Goals as goal
 
-pub loop-round-preserved : goal.loop-round-preserved
-loop-round-preserved g c =
-    let begun : IsInRound c.args.plant.now c.args.lines.now c.args.fuel c.next_round.new.run (map g.M.Mail.log c.in-Some.ends.items) = search rules in
-    let done = c.in_ok-round_in_order.ensures in
-    record {
-      stands = record {
-        before = λ e. let both : true ≡ false = sym begun.in_part ∙ e in absurd cc;
-        within = λ e. begun.goes_on c.round_in_order.new.controllers.items done.0 done.1 done.2;
-      };
-    }
+pub returns : goal.returns
+returns g c =
+    let plant = c.args.plant.now in
+    let start = c.new-source.result in
+    let end = c.run_parts_in_order.new.source in
+    if_ok_both c.run_parts_in_order.result
+    (λ j ran asked.
+    let kept : end.lines.now ≡ c.args.lines.now = asked_keeps (λ (s : FixedLines). s.lines.now) start end _ asked ∙ c.new-source.ensures.lines in
+    subst (λ (z : List Line). IsRun plant z c.args.fuel j) kept (ran_fixed plant end.lines.now end.to c.args.fuel j end.ends ran))
+    c.run_parts_in_order.ensures.ran c.run_parts_in_order.ensures.asked

@@ -1,4 +1,4 @@
-use Rattle.std.proofs.Common.{◌≡◌, ℕ, ◌+◌, List, [], ◌∷◌, ◌++◌, length, sym, ap, ◌∙◌, subst, arith}
+use Rattle.std.proofs.Common.{◌≡◌, ◌+◌, List, [], ◌∷◌, ◌++◌, length, sym, ap, subst, arith}
 use Rattle.std.proofs.lemmas.List.{length_push}
 use Rattle.controller.specs.declared.controller.Controller.{Controller}
 use Rattle.model_run.specs.run_start.Begun.{AllBegun}
@@ -20,6 +20,6 @@ loop-me-preserved c =
     }
 
 pub returns : goal.returns
-returns c = λ lines.
+returns c =
     let count : length c.loop-me.controllers.items ≡ length c.args.plant.now.wiring.controllers = omega arith in
-    starts_run c.args.plant.now c.args.fuel c.loop-me.controllers.items c.loop-me.invariant.begun count lines
+    starts_run c.args.plant.now c.args.fuel c.loop-me.controllers.items c.loop-me.invariant.begun count

@@ -1,4 +1,4 @@
-use Rattle.std.proofs.Common.{◌≡◌, ◌+◌, List, map, length, slice_get, Vec, Global, ◌∙◌, subst, arith}
+use Rattle.std.proofs.Common.{◌≡◌, map, length, slice_get, Vec, Global, ◌∙◌, subst, arith}
 use Rattle.std.proofs.lemmas.List.{length-map}
 use Rattle.room_kinds.specs.declared.message.Msg.{Msg}
 use Rattle.model_run.specs.run_rounds.OneByOne.{StepsBelow}

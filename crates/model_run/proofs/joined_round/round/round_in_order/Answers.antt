@@ -1,4 +1,4 @@
-use Rattle.std.proofs.Common.{◌≡◌, ◌+◌, map, length, arith}
+use Rattle.std.proofs.Common.{◌≡◌, map, length, arith}
 use Rattle.std.proofs.lemmas.List.{length-map}
 use Rattle.model_run.proofs.joined_round.JoinLaw.{ok_so, round_of, worked_of}
 use Rattle.model_run.proofs.joined_round.round.round_in_order.Goals as goal

@@ -1,4 +1,4 @@
-use Rattle.std.proofs.Common.{◌≡◌, ◌+◌, ◌<◌, ℕ, length, map, set, get_or, slice_get, Some, refl, sym, ap, ◌≤◌, ◌∙◌, subst, arith}
+use Rattle.std.proofs.Common.{◌≡◌, ◌+◌, ◌<◌, ℕ, length, map, set, slice_get, Some, refl, sym, ap, ◌≤◌, ◌∙◌, subst, arith}
 use Rattle.std.proofs.lemmas.List.{length-set, length-map}
 use Rattle.std.proofs.lemmas.Option.{slice_get_read}
 use Rattle.mail_core.proofs.Tied.{IsTied-at, tied-again}

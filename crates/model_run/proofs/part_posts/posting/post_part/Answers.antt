@@ -1,17 +1,16 @@
-use Rattle.std.proofs.Common.{sym, arith}
+use Rattle.std.proofs.Common.{◌≡◌, ℕ, length, sym, subst, arith}
 use Rattle.mail_core.proofs.Tied.{IsTied-step, StaysTied-step, StaysTied-refl}
-use Rattle.model_run.proofs.part_posts.PostLaw.{none_posted, one_posted, settle_read, message_read}
+use Rattle.model_run.specs.part_posts.Posting.{PostsUpTo}
+use Rattle.model_run.proofs.part_posts.PostLaw.{none_posted, one_posted, message_read}
 use Rattle.model_run.proofs.part_posts.posting.post_part.Goals as goal
 
 pub loop-at-init : goal.loop-at-init
-loop-at-init g c = record { posts = none_posted c.args.plant.now c.args.lines.now c.args.from c.args.environment.now (g.M.Mail.log c.args.end.now); tied = StaysTied-refl }
+loop-at-init g c = record { posts = none_posted c.args.plant.now c.args.part.now c.args.environment.now (g.M.Mail.log c.args.end.now); tied = StaysTied-refl }
 
-pub returns-in_default-clause-ok : goal.returns-in_default-clause-ok
-returns-in_default-clause-ok g c = record {
-  up_to = c.loop-at.invariant.posts;
-  within = omega arith;
-  ends = settle_read c.args.plant.now c.args.lines.now c.loop-at.at c.index-lines-at.result c.index-lines-at.is c.loop-at-test.true c.in_default.is;
-}
+pub returns-clause-ok : goal.returns-clause-ok
+returns-clause-ok g c =
+    let all : c.loop-at.at ≡ length c.args.part.now = omega arith in
+    subst (λ (z : ℕ). PostsUpTo c.args.plant.now c.args.part.now z c.args.environment.now c.loop-at.environment (g.M.Mail.log c.args.end.now) (g.M.Mail.log c.loop-at.end)) all c.loop-at.invariant.posts
 
 pub post-requires-clause-tied : goal.post-requires-clause-tied
 post-requires-clause-tied g c = IsTied-step c.requires.tied c.loop-at.invariant.tied (sym c.loop-at.invariant.posts.end.party)
@@ -21,11 +20,11 @@ returns-in_err-post-clause-tied g c = StaysTied-step c.loop-at.invariant.tied c.
 
 pub loop-at-preserved : goal.loop-at-preserved
 loop-at-preserved g c =
-    let here = message_read c.args.plant.now c.args.lines.now c.loop-at.at c.index-lines-at.result c.in-Message.target c.in-Message.signal c.in-Message.payload c.in-Message.prio c.in_ok-m.m
-    c.index-lines-at.is c.loop-at-test.true c.in-Message.is c.in_ok-m.ensures in
+    let here = message_read c.args.plant.now c.args.part.now c.loop-at.at c.index-part-at.result c.in-Message.target c.in-Message.signal c.in-Message.payload c.in-Message.prio c.in_ok-m.m
+    c.index-part-at.is c.loop-at-test.true c.in-Message.is c.in_ok-m.ensures in
     record {
-      posts = one_posted c.args.plant.now c.args.lines.now c.args.from c.loop-at.at c.index-lines-at.result.number c.args.environment.now c.loop-at.environment
-          (g.M.Mail.log c.args.end.now) (g.M.Mail.log c.loop-at.end) c.in_ok-m.m c.loop-at.invariant.posts here c.post.new.self (g.M.Mail.log c.post.new.end)
+      posts = one_posted c.args.plant.now c.args.part.now c.loop-at.at c.index-part-at.result.number c.args.environment.now c.loop-at.environment
+          (g.M.Mail.log c.args.end.now) (g.M.Mail.log c.loop-at.end) c.in_ok-m.m c.loop-at.invariant.posts here (omega arith) (omega arith) c.post.new.self (g.M.Mail.log c.post.new.end)
           c.in_ok-post.ensures.ok;
       tied = StaysTied-step c.loop-at.invariant.tied c.post.ensures.tied (sym c.loop-at.invariant.posts.end.party);
     }

@@ -1,18 +1,35 @@
-use Rattle.std.proofs.Common.{◌≡◌, ◌+◌, map, length, refl, sym, ◌∙◌, arith}
+use Rattle.std.proofs.Common.{List, map, refl, sym, ◌∙◌, subst}
 use Rattle.std.proofs.lemmas.List.{length-map}
+use Rattle.inject_reader.specs.declared.inject_lines.accepted.Line.{Line}
+use Rattle.model_run.specs.part_posts.Items.{items_of}
+use Rattle.model_run.specs.part_source.Parts.{IsPart}
+use Rattle.model_run.specs.run_loop.Plays.{PartPosted}
+use Rattle.model_run.proofs.part_source.CallsLaw.{grew_posts}
 use Rattle.model_run.proofs.run_loop.PlayLaw.{post_on}
 use Rattle.model_run.proofs.run_loop.rounds.begin_part.Goals as goal
 
-pub post_at_last-requires-clause-within : goal.post_at_last-requires-clause-within
-post_at_last-requires-clause-within g c = c.requires.before.within
+pub post_at_last-requires-clause-part : goal.post_at_last-requires-clause-part
+post_at_last-requires-clause-part g c = subst IsPart (sym c.part.ensures) c.requires.before.of
 
 pub returns-clause-begun : goal.returns-clause-begun
-returns-clause-begun g c = record {
-  stand = c.requires.before.so_far.stand;
-  in_part = refl;
-  goes_on = post_on c.args.plant.now c.args.lines.now c.args.fuel c.args.run.now.at c.in_ok-to.to c.args.run.now.controllers.items
-      c.args.run.now.environment c.post_at_last.new.environment (map g.M.Mail.log c.post_at_last.new.ends.items) c.requires.before c.in_ok-to.ensures.posted (λ same. grind (arith, same));
-}
+returns-clause-begun g c =
+    let plant = c.args.plant.now in
+    let run = c.args.run.now in
+    let lines = g.S.PartSource.stands_at c.args.source.now in
+    let logs = map g.M.Mail.log c.post_at_last.new.ends.items in
+    let posted : PartPosted plant lines run.environment c.post_at_last.new.environment logs =
+    subst (λ (z : List Line). PartPosted plant z run.environment c.post_at_last.new.environment logs) c.part.ensures c.in_ok-post_at_last.ensures.posted in
+    record {
+      stand = c.requires.before.so_far.stand;
+      in_part = refl;
+      goes_on = post_on plant c.args.fuel (items_of plant.wiring (g.S.PartSource.given c.args.source.now)) lines run.controllers.items run.environment c.post_at_last.new.environment logs
+          c.requires.before posted;
+    }
 
 pub returns-clause-count : goal.returns-clause-count
-returns-clause-count g c = sym (length-map c.post_at_last.new.ends.items g.M.Mail.log) ∙ c.in_ok-to.ensures.posted.ends.count
+returns-clause-count g c = sym (length-map c.post_at_last.new.ends.items g.M.Mail.log) ∙ c.in_ok-post_at_last.ensures.posted.ends.count
+
+pub returns-clause-grew : goal.returns-clause-grew
+returns-clause-grew g c =
+    let posted = c.in_ok-post_at_last.ensures.posted in
+    grew_posts c.args.run.now.controllers.items c.args.run.now.environment c.post_at_last.new.environment posted.part.entries posted.part.journal
