@@ -2,7 +2,7 @@
 use Rattle.std.specs.Prelude.{◌≡◌, ℕ, List, map}
 use Rattle.actor_merge.specs.Mail.{event_of}
 use Rattle.actor_merge.specs.Parties.{Plant}
-use Rattle.actor_merge.specs.World.{World, Placed, start, Runs}
+use Rattle.actor_merge.specs.World.{World, Placed, Runs}
 use Rattle.actor_merge.specs.Merge.{InOrder, entries_of}
 
 -- in two runs each party does the same events, in the same order
