@@ -2,7 +2,9 @@
 use Rattle.std.proofs.Common.{◌≡◌, ℕ, ◌≤◌, List, [], length, Option, Some, None, Result, Ok, Err, refl, sym, ap, ◌∙◌, subst}
 use Rattle.std.specs.Global.{Vec}
 use Rattle.room_lexer.specs.Cut.{Piece, CutTo, placed, FailsAt}
+use Rattle.room_lexer.specs.Cutting.{Gives, tokens as lexed, fault_at}
 use Rattle.room_lexer.specs.declared.piece.Cause.{Cause}
+use Rattle.room_lexer.specs.declared.piece.Cause.TheVariants.{BadByte, OpenString, OpenComment, NumberTooLarge}
 use Rattle.room_lexer.specs.declared.fault.LexFault.{LexFault}
 use Rattle.room_lexer.specs.declared.token.Token.{Token}
 use Rattle.room_ast.specs.Trees.{ModelTree}
@@ -37,6 +39,7 @@ use Rattle.binding_expand.specs.Answers.{Expands}
 use Rattle.binding_expand.specs.Faults.{number}
 use Rattle.binding_expand.specs.declared.fault.WiringFault.{WiringFault}
 use Rattle.binding_expand.specs.declared.fault.WiringFault.TheVariants as wiring_faults
+use Rattle.room_run.proofs.OneCut.{fails_within}
 use Rattle.room_run.specs.Models.{most_bytes, HasTokens, HasTree, IsSoundTree, IsSoundText, IsUncut, HasNoTree, BreaksRule, IsGoodWiring, SoundCauses, uncut, no_tree, breaks_rule, bad_wiring, bad_chart, no_memory}
 use Rattle.room_run.specs.Reading.{HasItsTokens, HasItsTree, ChartCauses, first_faulty, no_memory_for_charts, TreeCauses, breaks, miswired, faulty, no_memory_for_tree, fault_of}
 use Rattle.room_run.specs.declared.model_fault.ModelFault.{ModelFault}
@@ -55,8 +58,21 @@ tokens_found text tokens ps cut is only = record {
   names = subst (λ ts. HasNames (values text ts)) (sym is) (tokens_named text ps cut);
 }
 
-pub cut_fails : (text : List ℕ) (cause : Cause) (offset : ℕ) → length text ≤ most_bytes → FailsAt cause offset text → SoundCauses text (faults.Byte offset)
-cut_fails text cause offset short fails = uncut offset (record { short = short; cause = cause; fails = fails })
+-- a fault that was returned is the one that is read
+fault_read : (e : LexFault) (cause : Cause) (offset : ℕ) (read : Result (List Token) LexFault) → e ≡ fault_at cause offset → Gives (Err e) read
+    → read ≡ Err (fault_at cause offset)
+fault_read e cause offset read is h = by_cause cause (subst (λ (z : LexFault). Gives (Err z) read) is h)
+  where
+    by_cause : (c : Cause) → Gives (Err (fault_at c offset)) read → read ≡ Err (fault_at c offset)
+    by_cause BadByte k = k
+    by_cause OpenString k = k
+    by_cause OpenComment k = k
+    by_cause NumberTooLarge k = k
+
+pub cut_fails : (text : List ℕ) (cause : Cause) (offset : ℕ) (e : LexFault) → length text ≤ most_bytes → e ≡ fault_at cause offset → Gives (Err e) (lexed text)
+    → FailsAt cause offset text → SoundCauses text (faults.Byte offset)
+cut_fails text cause offset e short is read fails =
+    uncut offset (record { short = short; within = fails_within text cause offset (fault_read e cause offset (lexed text) is read); cause = cause; fails = fails })
 
 -- ---- the tree
 

@@ -1,3 +1,5 @@
+pub mod OneCut
+pub mod AnswerLaws
 pub mod settled
 pub mod JudgeLemmas
 pub mod CauseLemmas

@@ -13,7 +13,9 @@ use Rattle.named_runs.specs.Charts.{IsRunByCharts}
 use Rattle.named_runs.proofs.ByCharts.{by_charts}
 use Rattle.run_promises.proofs.PromisesLaw.{promises}
 use Rattle.world_agreement.specs.Settled.{LivesAgree}
+use Rattle.run_texts.specs.Texts.{TextTells}
 use Rattle.room_run.proofs.settled.Runs.{runs_agree}
+use Rattle.room_run.proofs.settled.Told.{text_tells}
 use Rattle.made_model.specs.Summaries.{summary_text}
 use Rattle.made_model.specs.declared.summary.Summary.{Summary}
 use Rattle.room_run.specs.Words.{Files, Made, asked_by, usual_fuel}
@@ -48,6 +50,14 @@ agreed_of (Some text) None p lines fuel j h k run = tt
 agreed_of (Some text) (Some injected) p lines fuel j h k run = λ done.
     runs_agree h.is.tree p h.charts lines fuel j h.is.sound.keeps h.is.sound.wired.wired h.is.sound.wired.flawless h.is.sound.faultless h.tables k.fit run done
 
+-- the text of its journals tells it
+determined_of : (model injections : Option (List ℕ)) (p : Plant) (lines : List Line) (fuel : ℕ) (j : Journals)
+    → IfSome model (λ text. IsModel text p) → IfSome injections (λ text. IsInjections p.wiring text lines) → IsRun p lines fuel j
+    → IfSome model (λ text. IfSome injections (λ injected. TextTells p lines j))
+determined_of None injections p lines fuel j h k run = tt
+determined_of (Some text) None p lines fuel j h k run = tt
+determined_of (Some text) (Some injected) p lines fuel j h k run = text_tells text p lines fuel j h k.fit run
+
 -- what a run of a plant is of the texts that it comes from
 pub run_of : (shelf : Shown) (files : Files) (fuel : ℕ) (p : Plant) (lines : List Line) (j : Journals) → AreOf shelf files p lines → IsRun p lines fuel j → IsRunOfFiles shelf files fuel p lines j
 run_of shelf files fuel p lines j texts run = record {
@@ -56,6 +66,7 @@ run_of shelf files fuel p lines j texts run = record {
   promises = promises p lines fuel j run;
   by_charts = is_by_charts shelf files p lines fuel j texts run;
   agreed = agreed_of (shelf.text files.model) (shelf.text files.injections) p lines fuel j texts.model_accepted texts.lines_accepted run;
+  determined = determined_of (shelf.text files.model) (shelf.text files.injections) p lines fuel j texts.model_accepted texts.lines_accepted run;
 }
 
 -- what is told of a run of a made model

@@ -1,3 +1,4 @@
 mod Compiled
 mod Open
 pub mod Runs
+pub mod Told

@@ -4,6 +4,7 @@ pub mod Models
 pub mod Reading
 pub mod Causes
 pub mod Outcome
+pub mod OneAnswer
 pub mod Finished
 pub mod MadeShelf
 pub mod model_plants

@@ -2,7 +2,7 @@
 -- `IsModel`: the text is that of a model which runs as this plant. It is short enough, it has
 -- tokens, a tree has their values, the tree keeps all rules, it has a wiring without a fault and
 -- charts; and the plant has its wiring, and for each actor class the tables that show its chart.
-use Rattle.std.specs.Prelude.{◌≡◌, ℕ, ◌≤◌, List, [], length, Option, Some, None}
+use Rattle.std.specs.Prelude.{◌≡◌, ℕ, ◌<◌, ◌≤◌, List, [], length, Option, Some, None}
 use Rattle.room_lexer.specs.Cut.{Piece, CutTo, placed, FailsAt}
 use Rattle.room_lexer.specs.declared.piece.Cause.{Cause}
 use Rattle.room_lexer.specs.declared.token.Token.{Token}
@@ -68,9 +68,10 @@ pub record IsModel (text : List ℕ) (plant : Plant) : Type 0 where
   pub is : IsSoundText text plant.wiring charts
   pub tables : ShowCharts plant.tables.items charts
 
--- the text can't be cut at this byte, before which it can
+-- the text can't be cut at this byte of it, before which it can
 pub record IsUncut (text : List ℕ) (offset : ℕ) : Type 0 where
   pub short : length text ≤ most_bytes
+  pub within : offset < length text
   pub cause : Cause
   pub fails : FailsAt cause offset text
 

@@ -5,6 +5,7 @@
 //! run of it. It is the exact answer of the check of a model and of the text of its wiring, too.
 #![tactic(auto)]
 
+pub mod answers;
 mod asked;
 mod judge;
 mod made;
@@ -16,6 +17,7 @@ mod refusal;
 mod status;
 mod top;
 
+pub use answers::{accepted_calls_end, one_answer};
 pub use judge::read_plant;
 pub use model_fault::ModelFault;
 pub use model_plants::plant_of;

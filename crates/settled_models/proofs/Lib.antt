@@ -6,8 +6,9 @@ mod Kept
 mod Programs
 mod Charts
 mod Plans
-mod Models
-mod Wired
+pub mod Weaker
+pub mod Models
+pub mod Wired
 pub mod Runs
 mod Chains
 mod Located

@@ -12,12 +12,12 @@ use Rattle.chart_run.specs.chart_tables.Tables.{ArrowTree, arrow_view, arrow_vie
 use Rattle.chart_run.specs.declared.chart_tables.tables.Row.{Row}
 use Rattle.chart_run.specs.declared.chart_tables.tables.Tables.{Tables}
 use Rattle.chart_run.specs.ByName.{Names, IsPath, IsTransition, Shows}
-use Rattle.chart_behaviour.specs.Asked.{is_open}
+use Rattle.settled_models.specs.Open.{is_worded}
 use Rattle.chart_behaviour.specs.chart_asks.Asking.{ProgramAsks, ArrowAsks, GoesOn, TablesAsk}
-use Rattle.settled_models.proofs.Charts.{StateOpen, TransitionOpen, GraphOpen, ChartOpen, each_both}
+use Rattle.settled_models.proofs.Charts.{StateWorded, TransitionWorded, GraphWorded, ChartWorded, each_both}
 
-abbrev pub PlacedOpen : Placed → Type 0
-PlacedOpen t = TransitionOpen t.transition
+abbrev pub PlacedWorded : Placed → Type 0
+PlacedWorded t = TransitionWorded t.transition
 
 -- what is found first in a list is like all in it
 found_like : {X : Type 0} (P : X → Type 0) (test : X → Bool) (xs : List X) (x : X) → Each P xs → first test xs ≡ Some x → P x
@@ -38,79 +38,79 @@ kept_like {X} P test (x ∷ xs) h = pick (test x) (kept_like P test xs h.1)
 
 -- ---- the plan of a chart
 
-module _ (chart : Chart) (quiet : ChartOpen chart) where
-  graph_open : (path : Path) (g : Graph) → graph_at chart path ≡ Some g → GraphOpen g
-  graph_open path g e = found_like GraphOpen (λ x. same_path x.owner path) chart.graphs g quiet e
+module _ (chart : Chart) (quiet : ChartWorded chart) where
+  graph_worded : (path : Path) (g : Graph) → graph_at chart path ≡ Some g → GraphWorded g
+  graph_worded path g e = found_like GraphWorded (λ x. same_path x.owner path) chart.graphs g quiet e
 
-  state_open : (path : Path) (s : State) → state_at chart path ≡ Some s → StateOpen s
-  state_open [] s e = absurd cc
-  state_open (n ∷ owner) s e = by_graph (graph_at chart owner) refl e
+  state_worded : (path : Path) (s : State) → state_at chart path ≡ Some s → StateWorded s
+  state_worded [] s e = absurd cc
+  state_worded (n ∷ owner) s e = by_graph (graph_at chart owner) refl e
     where
-      by_graph : (o : Option Graph) → graph_at chart owner ≡ o → option_map_or (λ (g : Graph). first (λ (d : State). same_name d.name n) g.states) o None ≡ Some s → StateOpen s
+      by_graph : (o : Option Graph) → graph_at chart owner ≡ o → option_map_or (λ (g : Graph). first (λ (d : State). same_name d.name n) g.states) o None ≡ Some s → StateWorded s
       by_graph None at k = absurd cc
-      by_graph (Some g) at k = found_like StateOpen (λ (d : State). same_name d.name n) g.states s (graph_open owner g at).0 k
+      by_graph (Some g) at k = found_like StateWorded (λ (d : State). same_name d.name n) g.states s (graph_worded owner g at).0 k
 
-  entry_open : (path : Path) → ProgramAsks is_open ((plan_of chart).entry path)
-  entry_open path = by_state (state_at chart path) refl
+  entry_worded : (path : Path) → ProgramAsks is_worded ((plan_of chart).entry path)
+  entry_worded path = by_state (state_at chart path) refl
     where
-      by_state : (o : Option State) → state_at chart path ≡ o → ProgramAsks is_open (option_map_or (λ (s : State). s.entry) o no_stmt)
+      by_state : (o : Option State) → state_at chart path ≡ o → ProgramAsks is_worded (option_map_or (λ (s : State). s.entry) o no_stmt)
       by_state None at = tt
-      by_state (Some s) at = (state_open path s at).0
+      by_state (Some s) at = (state_worded path s at).0
 
-  exit_open : (path : Path) → ProgramAsks is_open ((plan_of chart).exit path)
-  exit_open path = by_state (state_at chart path) refl
+  exit_worded : (path : Path) → ProgramAsks is_worded ((plan_of chart).exit path)
+  exit_worded path = by_state (state_at chart path) refl
     where
-      by_state : (o : Option State) → state_at chart path ≡ o → ProgramAsks is_open (option_map_or (λ (s : State). s.exit) o no_stmt)
+      by_state : (o : Option State) → state_at chart path ≡ o → ProgramAsks is_worded (option_map_or (λ (s : State). s.exit) o no_stmt)
       by_state None at = tt
-      by_state (Some s) at = (state_open path s at).1
+      by_state (Some s) at = (state_worded path s at).1
 
-  placed_open : (path : Path) (ts : List Transition) → Each TransitionOpen ts → Each PlacedOpen (map (λ (t : Transition). let p : Placed = record { graph = path; transition = t } in p) ts)
-  placed_open path [] h = tt
-  placed_open path (t ∷ ts) h = (h.0, placed_open path ts h.1)
+  placed_worded : (path : Path) (ts : List Transition) → Each TransitionWorded ts → Each PlacedWorded (map (λ (t : Transition). let p : Placed = record { graph = path; transition = t } in p) ts)
+  placed_worded path [] h = tt
+  placed_worded path (t ∷ ts) h = (h.0, placed_worded path ts h.1)
 
-  pub from_open : (test : Source → Bool) (path : Path) → Each PlacedOpen (from test chart path)
-  from_open test path = by_graph (graph_at chart path) refl
+  pub from_worded : (test : Source → Bool) (path : Path) → Each PlacedWorded (from test chart path)
+  from_worded test path = by_graph (graph_at chart path) refl
     where
       by_graph : (o : Option Graph) → graph_at chart path ≡ o
-          → Each PlacedOpen (map (λ (t : Transition). let p : Placed = record { graph = path; transition = t } in p) (filter (λ (t : Transition). test t.source) (option_map_or (λ (g : Graph). g.transitions) o [])))
+          → Each PlacedWorded (map (λ (t : Transition). let p : Placed = record { graph = path; transition = t } in p) (filter (λ (t : Transition). test t.source) (option_map_or (λ (g : Graph). g.transitions) o [])))
       by_graph None at = tt
-      by_graph (Some g) at = placed_open path (filter (λ (t : Transition). test t.source) g.transitions) (kept_like TransitionOpen (λ (t : Transition). test t.source) g.transitions (graph_open path g at).1)
+      by_graph (Some g) at = placed_worded path (filter (λ (t : Transition). test t.source) g.transitions) (kept_like TransitionWorded (λ (t : Transition). test t.source) g.transitions (graph_worded path g at).1)
 
-  tried_open : (path : Path) → Each PlacedOpen (tried chart path)
-  tried_open [] = tt
-  tried_open (s ∷ owner) = each_both PlacedOpen (from (is_from_state s) chart owner) (from is_from_point chart owner) (from_open (is_from_state s) owner) (from_open is_from_point owner)
+  tried_worded : (path : Path) → Each PlacedWorded (tried chart path)
+  tried_worded [] = tt
+  tried_worded (s ∷ owner) = each_both PlacedWorded (from (is_from_state s) chart owner) (from is_from_point chart owner) (from_worded (is_from_state s) owner) (from_worded is_from_point owner)
 
-  first_open : (path : Path) (make : Placed → Kind Path Placed) (ts : List Placed) → ((t : Placed) → PlacedOpen t → GoesOn PlacedOpen (make t)) → Each PlacedOpen ts → GoesOn PlacedOpen (by_first path make ts)
-  first_open path make [] each h = tt
-  first_open path make (t ∷ ts) each h = each t h.0
+  first_worded : (path : Path) (make : Placed → Kind Path Placed) (ts : List Placed) → ((t : Placed) → PlacedWorded t → GoesOn PlacedWorded (make t)) → Each PlacedWorded ts → GoesOn PlacedWorded (by_first path make ts)
+  first_worded path make [] each h = tt
+  first_worded path make (t ∷ ts) each h = each t h.0
 
-  node_open : (n : Node) → GoesOn PlacedOpen (kind_of chart n)
-  node_open (a_state path) = first_open path (λ t. Border path t) (from is_initial chart path) (λ t h. h) (from_open is_initial path)
-  node_open (a_choice graph c) =
-      let branches = from_open (is_from_choice c) graph in
-      first_open graph (λ d. Choice (filter has_condition (from (is_from_choice c) chart graph)) d) (filter has_none (from (is_from_choice c) chart graph))
-      (λ t h. (kept_like PlacedOpen has_condition (from (is_from_choice c) chart graph) branches, h))
-      (kept_like PlacedOpen has_none (from (is_from_choice c) chart graph) branches)
-  node_open (an_entry owner e) = first_open owner (λ t. Entry owner t) (from (is_from_entry e) chart owner) (λ t h. h) (from_open (is_from_entry e) owner)
-  node_open (an_exit [] x) = tt
-  node_open (an_exit (s ∷ owner) x) = first_open (s ∷ owner) (λ t. Exit (s ∷ owner) t) (from (is_from_exit x s) chart owner) (λ t h. h) (from_open (is_from_exit x s) owner)
+  node_worded : (n : Node) → GoesOn PlacedWorded (kind_of chart n)
+  node_worded (a_state path) = first_worded path (λ t. Border path t) (from is_initial chart path) (λ t h. h) (from_worded is_initial path)
+  node_worded (a_choice graph c) =
+      let branches = from_worded (is_from_choice c) graph in
+      first_worded graph (λ d. Choice (filter has_condition (from (is_from_choice c) chart graph)) d) (filter has_none (from (is_from_choice c) chart graph))
+      (λ t h. (kept_like PlacedWorded has_condition (from (is_from_choice c) chart graph) branches, h))
+      (kept_like PlacedWorded has_none (from (is_from_choice c) chart graph) branches)
+  node_worded (an_entry owner e) = first_worded owner (λ t. Entry owner t) (from (is_from_entry e) chart owner) (λ t h. h) (from_worded (is_from_entry e) owner)
+  node_worded (an_exit [] x) = tt
+  node_worded (an_exit (s ∷ owner) x) = first_worded (s ∷ owner) (λ t. Exit (s ∷ owner) t) (from (is_from_exit x s) chart owner) (λ t h. h) (from_worded (is_from_exit x s) owner)
 
   -- ---- tables that show it
 
   module _ (v : Tables) (names : Names) (shows : Shows v names chart) where
-    arrow_open : (a : ArrowTree) (t : Placed) → IsTransition names a t → PlacedOpen t → ArrowAsks is_open a
-    arrow_open a t is h = subst (ProgramAsks is_open) (sym is.action) h
+    arrow_worded : (a : ArrowTree) (t : Placed) → IsTransition names a t → PlacedWorded t → ArrowAsks is_worded a
+    arrow_worded a t is h = subst (ProgramAsks is_worded) (sym is.action) h
 
-    arrows_open : (arrows : List ArrowTree) (ts : List Placed) → EachSame (IsTransition names) arrows ts → Each PlacedOpen ts → Each (ArrowAsks is_open) arrows
-    arrows_open _ _ none h = tt
-    arrows_open _ _ (more {x} {y} {xs} {ys} r rs) h = (arrow_open x y r h.0, arrows_open xs ys rs h.1)
+    arrows_worded : (arrows : List ArrowTree) (ts : List Placed) → EachSame (IsTransition names) arrows ts → Each PlacedWorded ts → Each (ArrowAsks is_worded) arrows
+    arrows_worded _ _ none h = tt
+    arrows_worded _ _ (more {x} {y} {xs} {ys} r rs) h = (arrow_worded x y r h.0, arrows_worded xs ys rs h.1)
 
-    kind_open : (k : Kind ℕ ArrowTree) (l : Kind Path Placed) → SameKind (IsPath (length v.states.items) names) (IsTransition names) k l → GoesOn PlacedOpen l → GoesOn (ArrowAsks is_open) k
-    kind_open _ _ (simple r) h = tt
-    kind_open _ _ (border {s} {s'} {t} {t'} r q) h = arrow_open t t' q h
-    kind_open _ _ (choice {ts} {ts'} {t} {t'} rs q) h = (arrows_open ts ts' rs h.0, arrow_open t t' q h.1)
-    kind_open _ _ (entry {s} {s'} {t} {t'} r q) h = arrow_open t t' q h
-    kind_open _ _ (exit {s} {s'} {t} {t'} r q) h = arrow_open t t' q h
+    kind_worded : (k : Kind ℕ ArrowTree) (l : Kind Path Placed) → SameKind (IsPath (length v.states.items) names) (IsTransition names) k l → GoesOn PlacedWorded l → GoesOn (ArrowAsks is_worded) k
+    kind_worded _ _ (simple r) h = tt
+    kind_worded _ _ (border {s} {s'} {t} {t'} r q) h = arrow_worded t t' q h
+    kind_worded _ _ (choice {ts} {ts'} {t} {t'} rs q) h = (arrows_worded ts ts' rs h.0, arrow_worded t t' q h.1)
+    kind_worded _ _ (entry {s} {s'} {t} {t'} r q) h = arrow_worded t t' q h
+    kind_worded _ _ (exit {s} {s'} {t} {t'} r q) h = arrow_worded t t' q h
 
     -- a state that the tables have is one of the chart
     is_path : (s : ℕ) → s < length v.states.items → IsPath (length v.states.items) names s (names.paths s)
@@ -122,21 +122,21 @@ module _ (chart : Chart) (quiet : ChartOpen chart) where
       | inr past ↦ outside s past.1
     ]
 
-    pub tables_open : (start : Placed) → IsTransition names (arrow_view v.initial) start → PlacedOpen start → TablesAsk is_open v
-    tables_open start begins open_start = record {
-      entry = by_number (λ s. ProgramAsks is_open ((plan v).entry s))
-          (λ s there. subst (ProgramAsks is_open) (sym (shows.entry s (names.paths s) (is_path s there))) (entry_open (names.paths s)))
-          (λ s past. subst (λ (o : Option Row). ProgramAsks is_open (option_map_or (λ (r : Row). program_view r.entry) o no_stmt)) (sym past) tt);
-      exit = by_number (λ s. ProgramAsks is_open ((plan v).exit s))
-          (λ s there. subst (ProgramAsks is_open) (sym (shows.exit s (names.paths s) (is_path s there))) (exit_open (names.paths s)))
-          (λ s past. subst (λ (o : Option Row). ProgramAsks is_open (option_map_or (λ (r : Row). program_view r.exit) o no_stmt)) (sym past) tt);
-      tried = by_number (λ s. Each (ArrowAsks is_open) ((plan v).tried s))
-          (λ s there. arrows_open ((plan v).tried s) (tried chart (names.paths s)) (shows.tried s (names.paths s) (is_path s there)) (tried_open (names.paths s)))
+    pub tables_worded : (start : Placed) → IsTransition names (arrow_view v.initial) start → PlacedWorded start → TablesAsk is_worded v
+    tables_worded start begins open_start = record {
+      entry = by_number (λ s. ProgramAsks is_worded ((plan v).entry s))
+          (λ s there. subst (ProgramAsks is_worded) (sym (shows.entry s (names.paths s) (is_path s there))) (entry_worded (names.paths s)))
+          (λ s past. subst (λ (o : Option Row). ProgramAsks is_worded (option_map_or (λ (r : Row). program_view r.entry) o no_stmt)) (sym past) tt);
+      exit = by_number (λ s. ProgramAsks is_worded ((plan v).exit s))
+          (λ s there. subst (ProgramAsks is_worded) (sym (shows.exit s (names.paths s) (is_path s there))) (exit_worded (names.paths s)))
+          (λ s past. subst (λ (o : Option Row). ProgramAsks is_worded (option_map_or (λ (r : Row). program_view r.exit) o no_stmt)) (sym past) tt);
+      tried = by_number (λ s. Each (ArrowAsks is_worded) ((plan v).tried s))
+          (λ s there. arrows_worded ((plan v).tried s) (tried chart (names.paths s)) (shows.tried s (names.paths s) (is_path s there)) (tried_worded (names.paths s)))
           (λ s past. no_row (row_at v s) past);
-      nodes = λ n. kind_open ((plan v).node n) (kind_of chart (names.nodes n)) (shows.node n (names.nodes n) (record { is = refl })) (node_open (names.nodes n));
-      initial = arrow_open (arrow_view v.initial) start begins open_start;
+      nodes = λ n. kind_worded ((plan v).node n) (kind_of chart (names.nodes n)) (shows.node n (names.nodes n) (record { is = refl })) (node_worded (names.nodes n));
+      initial = arrow_worded (arrow_view v.initial) start begins open_start;
     }
       where
-        no_row : (o : Option Row) → o ≡ None → Each (ArrowAsks is_open) (option_map_or (λ (r : Row). arrow_views r.own.items) o [] ++ option_map_or (λ (r : Row). graph_arrows v r.graph) o [])
+        no_row : (o : Option Row) → o ≡ None → Each (ArrowAsks is_worded) (option_map_or (λ (r : Row). arrow_views r.own.items) o [] ++ option_map_or (λ (r : Row). graph_arrows v r.graph) o [])
         no_row None e = tt
         no_row (Some r) e = absurd cc

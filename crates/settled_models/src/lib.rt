@@ -9,7 +9,7 @@ pub mod wirings;
 
 ghost use Rattle.settled_models.specs.Agreeing.{ModelRunsAgree};
 ghost use Rattle.settled_models.specs.Living.{OthersLive};
-ghost use Rattle.settled_models.specs.Open.{ChartsAreOpen};
+ghost use Rattle.settled_models.specs.Open.{ChartsAreOpen, ChartsSendWorded};
 
 /// In the wiring of a model that keeps all rules the container of an optional slot, where another controller
 /// owns it, lives from the start.
@@ -17,8 +17,13 @@ pub fn others_live_from_start()
     ensures { OthersLive }
 {}
 
-/// No program of a model's chart sends at priority 0, which is the system's, and so neither do the tables
-/// that are compiled from the chart.
+/// The programs of a model's chart send at the priorities that have words, 1 to 5, alone, and so do the
+/// tables that are compiled from the chart.
+pub fn charts_send_worded()
+    ensures { ChartsSendWorded }
+{}
+
+/// So none of them sends at priority 0, which is the system's.
 pub fn charts_are_open()
     ensures { ChartsAreOpen }
 {}

@@ -1,0 +1,411 @@
+-- A call has one answer besides want of memory.
+use Rattle.std.proofs.Common.{◌≡◌, ℕ, ◌<◌, ◌≤◌, Bool, true, false, if◌then◌else◌, List, [], ◌∷◌, length, Option, Some, None, IfSome, Result, Ok, Err, refl, sym, ap, ◌∙◌, subst, arith, ◌⊎◌, inl, inr, ⊎_elim}
+use Rattle.std.proofs.lemmas.Bool.{cases_order}
+use Rattle.room_outside.specs.Shown.{Shown}
+use Rattle.room_outside.specs.Written.{Written, BreaksOff}
+use Rattle.room_ast.specs.Trees.{ModelTree}
+use Rattle.room_lexer.specs.declared.token.Token.{Token}
+use Rattle.token_reading.specs.Single.{values}
+use Rattle.room_parser.proofs.WhatParsingAnswers.{same_tokens_same_model}
+use Rattle.structure_check.specs.Rules.{Rule, first_broken, IsBroken, IsLowest}
+use Rattle.structure_check.specs.List.{all_rules}
+use Rattle.binding_expand.specs.Faults.{HasNoFault, IsLowestFault, number}
+use Rattle.binding_expand.specs.declared.fault.WiringFault.{WiringFault}
+use Rattle.binding_expand.proofs.one_wiring.Same.{same_wiring}
+use Rattle.chart_model.specs.Chart.{Chart}
+use Rattle.chart_reader.specs.model_charts.Charts.{HasFaultyChart}
+use Rattle.binding_expand.specs.Wirings.{IsWiringOf}
+use Rattle.chart_reader.proofs.model_charts.One.{are_one}
+use Rattle.room_wiring.specs.declared.tables.Tables.{Tables}
+use Rattle.inject_reader.specs.declared.inject_lines.accepted.Line.{Line}
+use Rattle.inject_reader.specs.Answer.{answer}
+use Rattle.controller_actors.specs.declared.plant.Plant.{Plant}
+use Rattle.made_model.specs.Texts.{model_text, injections_text}
+use Rattle.room_run.specs.Words.{Files, Asked, Check, Tree, Run, Made, asked_by}
+use Rattle.room_run.specs.MadeShelf.{made_files, made_shelf}
+use Rattle.room_run.specs.Models.{most_bytes, HasTokens, HasTree, IsSoundText, IsSound, IsModel, IsUncut, HasNoTree, BreaksRule, HasBadWiring, HasBadChart, SoundCauses, uncut, no_tree, breaks_rule, bad_wiring, bad_chart, no_memory}
+use Rattle.room_run.specs.Causes.{IsInjections, HasBadLine, TextIs, AreOf, RoseAt, UnreadCauses, model_unread, model_long, model_no_memory, ModelCauses, no_text, model_refused, LinesCauses, faulty_line, no_memory_for_lines, InjectionsCauses, injections_unread, injections_long, injections_refused, injections_no_memory, RunCauses, of_model, of_injections, run_no_memory, Causes, no_such_words, of_check, of_tree, of_run, of_made, status_of}
+use Rattle.room_run.specs.Outcome.{Answers, says_ok, says_tree, says_run, says_made, IsRunOfFiles, status_of_run, Streams, Outcome, whole, cut_short, refused, refused_unheard}
+use Rattle.room_run.specs.OneAnswer.{IsRead, AreRead, IsMemory, IsSyntax, SameRefusal, HasOneAnswer, CallsHaveOneAnswer, HasModel, HasFiles, AreAccepted, NoneFailed, IsEnd, AcceptedCallsEnd}
+use Rattle.room_run.specs.declared.model_fault.ModelFault.{ModelFault}
+use Rattle.room_run.specs.declared.model_fault.ModelFault.TheVariants as faults
+use Rattle.room_run.specs.declared.refusal.Refusal.{Refusal}
+use Rattle.room_run.specs.declared.refusal.Refusal.TheVariants as refusals
+use Rattle.room_run.specs.declared.status.Status.{Status}
+use Rattle.room_run.specs.declared.status.Status.TheVariants as statuses
+use Rattle.room_run.proofs.OneCut.{not_both_cut, one_fault, one_cut}
+
+-- ---- a text has one tree, and a tree one lowest fault
+
+same_tokens : (text : List ℕ) (a b : List Token) → HasTokens text a → HasTokens text b → a ≡ b
+same_tokens text a b h k = h.placed ∙ one_cut text h.pieces k.pieces h.cut k.cut ∙ sym k.placed
+
+same_tree : (text : List ℕ) (a b : ModelTree) → HasTree text a → HasTree text b → a ≡ b
+same_tree text a b h k = same_tokens_same_model a b (h.spelled ∙ ap (values text) (same_tokens text h.tokens k.tokens h.cut k.cut) ∙ sym k.spelled)
+
+no_tokens : (text : List ℕ) (offset : ℕ) (ts : List Token) → IsUncut text offset → HasTokens text ts → ⊥
+no_tokens text offset ts h k = not_both_cut text h.cause offset k.pieces h.fails h.within k.cut
+
+no_such_tree : (text : List ℕ) (tree : ModelTree) → HasNoTree text → HasTree text tree → ⊥
+no_such_tree text tree h k = h.none tree (k.spelled ∙ ap (values text) (same_tokens text k.tokens h.tokens k.cut h.cut))
+
+none_broken : (rs : List Rule) (m : ModelTree) (n : ℕ) → first_broken rs m ≡ None → IsBroken rs m n → ⊥
+none_broken [] m n e h = h
+none_broken (r ∷ rs) m n e h = go (r.keeps m) refl e h (λ k b. none_broken rs m n k b)
+  where
+    go : (b : Bool) → r.keeps m ≡ b → (if b then first_broken rs m else Some r.number) ≡ None → ((r.number ≡ n) × (r.keeps m ≡ false)) ⊎ IsBroken rs m n
+        → (first_broken rs m ≡ None → IsBroken rs m n → ⊥) → ⊥
+    go true is k (inl x) more = let no = x.1 in absurd cc
+    go true is k (inr x) more = more k x
+    go false is k x more = absurd cc
+
+breaks_none : (text : List ℕ) (rule : ℕ) (tree : ModelTree) → BreaksRule text rule → HasTree text tree → first_broken all_rules tree ≡ None → ⊥
+breaks_none text rule tree h k keeps =
+    none_broken all_rules h.tree rule (subst (λ (z : ModelTree). first_broken all_rules z ≡ None) (same_tree text tree h.tree k h.read) keeps) h.lowest.0
+
+wired_well : (text : List ℕ) (n : ℕ) (tree : ModelTree) → HasBadWiring text n → HasTree text tree → HasNoFault tree → ⊥
+wired_well text n tree h k none = (subst HasNoFault (same_tree text tree h.tree k h.read) none) h.fault h.lowest.has
+
+same_rule : (text : List ℕ) (a b : ℕ) → BreaksRule text a → BreaksRule text b → a ≡ b
+same_rule text a b h k =
+    let other = subst (λ (z : ModelTree). IsLowest all_rules z (Some b)) (same_tree text k.tree h.tree k.read h.read) k.lowest in
+    let below = h.lowest.1 b other.0 in
+    let above = other.1 a h.lowest.0 in
+    omega (arith, below, above)
+
+same_wiring_fault : (text : List ℕ) (a b : ℕ) → HasBadWiring text a → HasBadWiring text b → a ≡ b
+same_wiring_fault text a b h k = go (cases_order (number h.fault) (number k.fault))
+  where
+    other : IsLowestFault h.tree k.fault
+    other = subst (λ (z : ModelTree). IsLowestFault z k.fault) (same_tree text k.tree h.tree k.read h.read) k.lowest
+
+    go : (number h.fault ≡ number k.fault) ⊎ ((number h.fault < number k.fault) ⊎ (number k.fault < number h.fault)) → a ≡ b
+    go (inl is) = h.number_is ∙ is ∙ sym k.number_is
+    go (inr (inl less)) = absurd (other.lowest h.fault less h.lowest.has)
+    go (inr (inr more)) = absurd (h.lowest.lowest k.fault more other.has)
+
+-- ---- a text has one fault
+
+abbrev Syntax : ModelFault → Type 0
+Syntax f = (line : ℕ) × (f ≡ faults.Syntax line)
+
+-- one of two faults is want of memory, or they are one, but for the line of a text that has no tree
+abbrev OneFault : ModelFault → ModelFault → Type 0
+OneFault f g = (f ≡ faults.Memory) ⊎ ((g ≡ faults.Memory) ⊎ ((f ≡ g) ⊎ (Syntax f × Syntax g)))
+
+is_one : (f g : ModelFault) → f ≡ g → OneFault f g
+is_one f g e = inr (inr (inl e))
+
+module _ (text : List ℕ) where
+  one_byte : (offset : ℕ) → IsUncut text offset → (g : ModelFault) → SoundCauses text g → OneFault (faults.Byte offset) g
+  one_byte offset h _ (uncut place k) =
+      is_one (faults.Byte offset) (faults.Byte place) (ap (λ (n : ℕ). faults.Byte n) (one_fault text h.cause k.cause offset place h.fails h.within k.fails k.within))
+  one_byte offset h _ (no_tree line k) = absurd (no_tokens text offset k.tokens h k.cut)
+  one_byte offset h _ (breaks_rule rule k) = absurd (no_tokens text offset k.read.tokens h k.read.cut)
+  one_byte offset h _ (bad_wiring n k) = absurd (no_tokens text offset k.read.tokens h k.read.cut)
+  one_byte offset h _ (bad_chart class n k) = absurd (no_tokens text offset k.read.tokens h k.read.cut)
+  one_byte offset h _ no_memory = inr (inl refl)
+
+  one_syntax : (line : ℕ) → HasNoTree text → (g : ModelFault) → SoundCauses text g → OneFault (faults.Syntax line) g
+  one_syntax line h _ (uncut place k) = absurd (no_tokens text place h.tokens k h.cut)
+  one_syntax line h _ (no_tree other k) = inr (inr (inr ((line, refl), (other, refl))))
+  one_syntax line h _ (breaks_rule rule k) = absurd (no_such_tree text k.tree h k.read)
+  one_syntax line h _ (bad_wiring n k) = absurd (no_such_tree text k.tree h k.read)
+  one_syntax line h _ (bad_chart class n k) = absurd (no_such_tree text k.tree h k.read)
+  one_syntax line h _ no_memory = inr (inl refl)
+
+  one_rule : (rule : ℕ) → BreaksRule text rule → (g : ModelFault) → SoundCauses text g → OneFault (faults.Rule rule) g
+  one_rule rule h _ (uncut place k) = absurd (no_tokens text place h.read.tokens k h.read.cut)
+  one_rule rule h _ (no_tree other k) = absurd (no_such_tree text h.tree k h.read)
+  one_rule rule h _ (breaks_rule other k) = is_one (faults.Rule rule) (faults.Rule other) (ap (λ (n : ℕ). faults.Rule n) (same_rule text rule other h k))
+  one_rule rule h _ (bad_wiring n k) = absurd (breaks_none text rule k.tree h k.read k.keeps)
+  one_rule rule h _ (bad_chart class n k) = absurd (breaks_none text rule k.tree h k.read k.keeps)
+  one_rule rule h _ no_memory = inr (inl refl)
+
+  one_wiring : (n : ℕ) → HasBadWiring text n → (g : ModelFault) → SoundCauses text g → OneFault (faults.Wiring n) g
+  one_wiring n h _ (uncut place k) = absurd (no_tokens text place h.read.tokens k h.read.cut)
+  one_wiring n h _ (no_tree other k) = absurd (no_such_tree text h.tree k h.read)
+  one_wiring n h _ (breaks_rule rule k) = absurd (breaks_none text rule h.tree k h.read h.keeps)
+  one_wiring n h _ (bad_wiring other k) = is_one (faults.Wiring n) (faults.Wiring other) (ap (λ (z : ℕ). faults.Wiring z) (same_wiring_fault text n other h k))
+  one_wiring n h _ (bad_chart class m k) = absurd (wired_well text n k.tree h k.read k.wired.flawless)
+  one_wiring n h _ no_memory = inr (inl refl)
+
+  one_chart : (class : List ℕ) (n : ℕ) → HasBadChart text class n → (g : ModelFault) → SoundCauses text g → OneFault (faults.Chart class n) g
+  one_chart class n h _ (uncut place k) = absurd (no_tokens text place h.read.tokens k h.read.cut)
+  one_chart class n h _ (no_tree other k) = absurd (no_such_tree text h.tree k h.read)
+  one_chart class n h _ (breaks_rule rule k) = absurd (breaks_none text rule h.tree k h.read h.keeps)
+  one_chart class n h _ (bad_wiring other k) = absurd (wired_well text other h.tree k h.read h.wired.flawless)
+  one_chart class n h _ (bad_chart other m k) =
+      let there = subst (λ (z : ModelTree). HasFaultyChart z other m) (same_tree text k.tree h.tree k.read h.read) k.first in
+      let same = (are_one h.tree).first class other n m h.first there in
+      is_one (faults.Chart class n) (faults.Chart other m) (λ i. faults.Chart (same.0 i) (same.1 i))
+  one_chart class n h _ no_memory = inr (inl refl)
+
+  one_model_fault : (f g : ModelFault) → SoundCauses text f → SoundCauses text g → OneFault f g
+  one_model_fault _ g (uncut offset h) k = one_byte offset h g k
+  one_model_fault _ g (no_tree line h) k = one_syntax line h g k
+  one_model_fault _ g (breaks_rule rule h) k = one_rule rule h g k
+  one_model_fault _ g (bad_wiring n h) k = one_wiring n h g k
+  one_model_fault _ g (bad_chart class n h) k = one_chart class n h g k
+  one_model_fault _ g no_memory k = inl refl
+
+  -- a text with a fault but want of memory isn't that of a sound model
+  sound_has_none : (wiring : Tables) → IsSound text wiring → (f : ModelFault) → SoundCauses text f → f ≡ faults.Memory
+  sound_has_none wiring s _ (uncut place k) = absurd (no_tokens text place s.is.read.tokens k s.is.read.cut)
+  sound_has_none wiring s _ (no_tree other k) = absurd (no_such_tree text s.is.tree k s.is.read)
+  sound_has_none wiring s _ (breaks_rule rule k) = absurd (breaks_none text rule s.is.tree k s.is.read s.is.sound.keeps)
+  sound_has_none wiring s _ (bad_wiring n k) = absurd (wired_well text n s.is.tree k s.is.read s.is.sound.wired.flawless)
+  sound_has_none wiring s _ (bad_chart class n k) =
+      absurd ((are_one s.is.tree).not_both s.charts class n s.is.sound.faultless
+      (subst (λ (z : ModelTree). HasFaultyChart z class n) (same_tree text k.tree s.is.tree k.read s.is.read) k.first))
+  sound_has_none wiring s _ no_memory = refl
+
+  -- who has a fault but want of memory is short
+  short_unless : (f : ModelFault) → SoundCauses text f → (f ≡ faults.Memory) ⊎ (length text ≤ most_bytes)
+  short_unless _ (uncut place k) = inr k.short
+  short_unless _ (no_tree other k) = inr k.short
+  short_unless _ (breaks_rule rule k) = inr k.short
+  short_unless _ (bad_wiring n k) = inr k.short
+  short_unless _ (bad_chart class n k) = inr k.short
+  short_unless _ no_memory = inl refl
+
+  one_sound_wiring : (a b : Tables) → IsSound text a → IsSound text b → a ≡ b
+  one_sound_wiring a b s u =
+      same_wiring s.is.tree a b s.is.sound.wired.wired
+      (subst (λ (z : ModelTree). IsWiringOf z b) (same_tree text u.is.tree s.is.tree u.is.read s.is.read) u.is.sound.wired.wired)
+
+-- ---- what a text that was read may be refused for
+
+-- besides want of memory
+abbrev Once : Refusal → Refusal → Type 0
+Once why other = IsMemory why ⊎ (IsMemory other ⊎ SameRefusal why other)
+
+memory_is : (f : ModelFault) (why : Refusal) → f ≡ faults.Memory → why ≡ refusals.Model f → IsMemory why
+memory_is f why e is = ap status_of (is ∙ ap (λ (z : ModelFault). refusals.Model z) e)
+
+-- the text of a model is refused so
+data ModelSays (text : List ℕ) (why : Refusal) : Type 0 where
+  says_memory : IsMemory why → ModelSays text why
+  says_long : most_bytes < length text → why ≡ refusals.ModelTooLong → ModelSays text why
+  says_fault : (fault : ModelFault) → SoundCauses text fault → why ≡ refusals.Model fault → ModelSays text why
+
+-- what is said of the text that is told
+told_text : (shelf : Shown) (name text : List ℕ) (P : List ℕ → Type 0) → shelf.text name ≡ Some text → TextIs shelf name P → P text
+told_text shelf name text P told h = subst (λ (o : Option (List ℕ)). IfSome o P) told h
+
+model_says : (before after : Shown) (name : List ℕ) (why : Refusal) → (read : IsRead before after name) → ModelCauses before after name why → ModelSays read.text why
+model_says before after name _ read (no_text (model_unread h)) = absurd (read.unfailed h)
+model_says before after name _ read (no_text (model_long h)) = says_long (told_text before name read.text (λ t. most_bytes < length t) read.told h) refl
+model_says before after name _ read (no_text model_no_memory) = says_memory refl
+model_says before after name _ read (model_refused fault h) = says_fault fault (told_text before name read.text (λ t. SoundCauses t fault) read.told h) refl
+
+long_and_fault : (text : List ℕ) (f : ModelFault) (why : Refusal) → most_bytes < length text → SoundCauses text f → why ≡ refusals.Model f → IsMemory why
+long_and_fault text f why long h is =
+    ⊎_elim (λ e. memory_is f why e is) (λ short. absurd (omega (arith, long, short))) (short_unless text f h)
+
+once_fault : (f g : ModelFault) (why other : Refusal) → OneFault f g → why ≡ refusals.Model f → other ≡ refusals.Model g → Once why other
+once_fault f g why other (inl e) is are = inl (memory_is f why e is)
+once_fault f g why other (inr (inl e)) is are = inr (inl (memory_is g other e are))
+once_fault f g why other (inr (inr (inl e))) is are = inr (inr (inl (is ∙ ap (λ (z : ModelFault). refusals.Model z) e ∙ sym are)))
+once_fault f g why other (inr (inr (inr s))) is are =
+    inr (inr (inr ((s.0.0, is ∙ ap (λ (z : ModelFault). refusals.Model z) s.0.1), (s.1.0, are ∙ ap (λ (z : ModelFault). refusals.Model z) s.1.1))))
+
+model_once : (text : List ℕ) (why other : Refusal) → ModelSays text why → ModelSays text other → Once why other
+model_once text why other (says_memory e) k = inl e
+model_once text why other (says_long long is) (says_memory e) = inr (inl e)
+model_once text why other (says_long long is) (says_long also are) = inr (inr (inl (is ∙ sym are)))
+model_once text why other (says_long long is) (says_fault g k are) = inr (inl (long_and_fault text g other long k are))
+model_once text why other (says_fault f h is) (says_memory e) = inr (inl e)
+model_once text why other (says_fault f h is) (says_long long are) = inl (long_and_fault text f why long h is)
+model_once text why other (says_fault f h is) (says_fault g k are) = once_fault f g why other (one_model_fault text f g h k) is are
+
+-- a sound model is refused for want of memory alone
+sound_model : (text : List ℕ) (wiring : Tables) (why : Refusal) → IsSound text wiring → ModelSays text why → IsMemory why
+sound_model text wiring why s (says_memory e) = e
+sound_model text wiring why s (says_long long is) = let short = s.is.short in absurd (omega (arith, long, short))
+sound_model text wiring why s (says_fault f h is) = memory_is f why (sound_has_none text wiring s f h) is
+
+-- the text of injections is refused so
+data LinesSay (wiring : Tables) (text : List ℕ) (why : Refusal) : Type 0 where
+  lines_memory : IsMemory why → LinesSay wiring text why
+  lines_long : most_bytes < length text → why ≡ refusals.InjectionsTooLong → LinesSay wiring text why
+  lines_faulty : (n code : ℕ) → HasBadLine wiring text n code → why ≡ refusals.InjectionsLine n code → LinesSay wiring text why
+
+lines_cause : (wiring : Tables) (text : List ℕ) (why : Refusal) → LinesCauses wiring text why → LinesSay wiring text why
+lines_cause wiring text _ (faulty_line n c h) = lines_faulty n c h refl
+lines_cause wiring text _ no_memory_for_lines = lines_memory refl
+
+lines_say : (before after : Shown) (name : List ℕ) (wiring : Tables) (why : Refusal) → (read : IsRead before after name)
+    → InjectionsCauses before after name wiring why → LinesSay wiring read.text why
+lines_say before after name wiring why read (injections_unread h is) = absurd (read.unfailed h)
+lines_say before after name wiring why read (injections_long h is) = lines_long (told_text before name read.text (λ t. most_bytes < length t) read.told h) is
+lines_say before after name wiring why read (injections_refused h) = lines_cause wiring read.text why (told_text before name read.text (λ t. LinesCauses wiring t why) read.told h)
+lines_say before after name wiring why read (injections_no_memory is) = lines_memory (ap status_of is)
+
+err_pair : (a b : ℕ × ℕ) → ◌≡◌ {A = Result (List Line) (ℕ × ℕ)} (Err a) (Err b) → a ≡ b
+err_pair a b e = cc
+
+lines_once : (wiring : Tables) (text : List ℕ) (why other : Refusal) → LinesSay wiring text why → LinesSay wiring text other → Once why other
+lines_once wiring text why other (lines_memory e) k = inl e
+lines_once wiring text why other (lines_long long is) (lines_memory e) = inr (inl e)
+lines_once wiring text why other (lines_long long is) (lines_long also are) = inr (inr (inl (is ∙ sym are)))
+lines_once wiring text why other (lines_long long is) (lines_faulty n c h are) = let short = h.short in absurd (omega (arith, long, short))
+lines_once wiring text why other (lines_faulty n c h is) (lines_memory e) = inr (inl e)
+lines_once wiring text why other (lines_faulty n c h is) (lines_long long are) = let short = h.short in absurd (omega (arith, long, short))
+lines_once wiring text why other (lines_faulty n c h is) (lines_faulty m d k are) =
+    let same = err_pair (n, c) (m, d) (sym h.faulty ∙ k.faulty) in
+    inr (inr (inl (is ∙ ap (λ (z : ℕ × ℕ). refusals.InjectionsLine z.0 z.1) same ∙ sym are)))
+
+-- accepted injections are refused for want of memory alone
+sound_lines : (wiring : Tables) (text : List ℕ) (lines : List Line) (why : Refusal) → IsInjections wiring text lines → LinesSay wiring text why → IsMemory why
+sound_lines wiring text lines why s (lines_memory e) = e
+sound_lines wiring text lines why s (lines_long long is) = let short = s.short in absurd (omega (arith, long, short))
+sound_lines wiring text lines why s (lines_faulty n c h is) =
+    let both : ◌≡◌ {A = Result (List Line) (ℕ × ℕ)} (Ok lines) (Err (n, c)) = sym s.accepted ∙ h.faulty in absurd cc
+
+-- a run of two texts is refused so
+data RunSays (model injections : List ℕ) (why : Refusal) : Type 0 where
+  for_model : ModelSays model why → RunSays model injections why
+  for_lines : (wiring : Tables) → IsSound model wiring → LinesSay wiring injections why → RunSays model injections why
+
+is_sound : (text : List ℕ) (plant : Plant) → IsModel text plant → IsSound text plant.wiring
+is_sound text plant h = record { charts = h.charts; is = h.is }
+
+run_says : (before after : Shown) (files : Files) (why : Refusal) → (model : IsRead before after files.model) → (injections : IsRead before after files.injections)
+    → RunCauses before after files why → RunSays model.text injections.text why
+run_says before after files why model injections (of_model h) = for_model (model_says before after files.model why model h)
+run_says before after files why model injections (of_injections plant h k) =
+    for_lines plant.wiring (is_sound model.text plant (told_text before files.model model.text (λ t. IsModel t plant) model.told h))
+    (lines_say before after files.injections plant.wiring why injections k)
+run_says before after files why model injections (run_no_memory is) = for_model (says_memory (ap status_of is))
+
+run_once : (model injections : List ℕ) (why other : Refusal) → RunSays model injections why → RunSays model injections other → Once why other
+run_once model injections why other (for_model h) (for_model k) = model_once model why other h k
+run_once model injections why other (for_model h) (for_lines wiring s k) = inl (sound_model model wiring why s h)
+run_once model injections why other (for_lines wiring s h) (for_model k) = inr (inl (sound_model model wiring other s k))
+run_once model injections why other (for_lines wiring s h) (for_lines wired u k) =
+    lines_once wiring injections why other h (subst (λ (z : Tables). LinesSay z injections other) (one_sound_wiring model wired wiring u s) k)
+
+-- accepted texts are refused for want of memory alone
+sound_run : (model injections : List ℕ) (wiring : Tables) (lines : List Line) (why : Refusal) → IsSound model wiring → IsInjections wiring injections lines
+    → RunSays model injections why → IsMemory why
+sound_run model injections wiring lines why s i (for_model h) = sound_model model wiring why s h
+sound_run model injections wiring lines why s i (for_lines wired u k) =
+    sound_lines wiring injections lines why i (subst (λ (z : Tables). LinesSay z injections why) (one_sound_wiring model wired wiring u s) k)
+
+-- ---- by what words ask for
+
+made_model_read : (actors : ℕ) → IsRead (made_shelf actors) (made_shelf actors) made_files.model
+made_model_read actors = record { text = model_text actors; told = refl; unfailed = λ rose. let up = rose.higher (omega arith) in omega (arith, up) }
+
+made_lines_read : (actors : ℕ) → IsRead (made_shelf actors) (made_shelf actors) made_files.injections
+made_lines_read actors = record { text = injections_text actors; told = refl; unfailed = λ rose. let up = rose.higher (omega arith) in omega (arith, up) }
+
+abbrev CausesOf : Shown → Shown → Option Asked → Refusal → Type 0
+CausesOf before after None why = why ≡ refusals.Words
+CausesOf before after (Some (Check name)) why = ModelCauses before after name why
+CausesOf before after (Some (Tree name)) why = ModelCauses before after name why
+CausesOf before after (Some (Run files fuel)) why = RunCauses before after files why
+CausesOf before after (Some (Made actors)) why = RunCauses (made_shelf actors) (made_shelf actors) made_files why
+
+causes_of : (before after : Shown) (words : List (List ℕ)) (why : Refusal) → Causes before after words why → CausesOf before after (asked_by words) why
+causes_of before after words why (no_such_words e is) = subst (λ (o : Option Asked). CausesOf before after o why) (sym e) is
+causes_of before after words why (of_check name e h) = subst (λ (o : Option Asked). CausesOf before after o why) (sym e) h
+causes_of before after words why (of_tree name e h) = subst (λ (o : Option Asked). CausesOf before after o why) (sym e) h
+causes_of before after words why (of_run files fuel e h) = subst (λ (o : Option Asked). CausesOf before after o why) (sym e) h
+causes_of before after words why (of_made actors e h) = subst (λ (o : Option Asked). CausesOf before after o why) (sym e) h
+
+once_of : (before after : Shown) (o : Option Asked) (why other : Refusal) → AreRead before after o → CausesOf before after o why → CausesOf before after o other → Once why other
+once_of before after None why other read h k = inr (inr (inl (h ∙ sym k)))
+once_of before after (Some (Check name)) why other read h k = model_once read.text why other (model_says before after name why read h) (model_says before after name other read k)
+once_of before after (Some (Tree name)) why other read h k = model_once read.text why other (model_says before after name why read h) (model_says before after name other read k)
+once_of before after (Some (Run files fuel)) why other read h k =
+    run_once read.0.text read.1.text why other (run_says before after files why read.0 read.1 h) (run_says before after files other read.0 read.1 k)
+once_of before after (Some (Made actors)) why other read h k =
+    let shelf = made_shelf actors in
+    run_once (made_model_read actors).text (made_lines_read actors).text why other
+    (run_says shelf shelf made_files why (made_model_read actors) (made_lines_read actors) h)
+    (run_says shelf shelf made_files other (made_model_read actors) (made_lines_read actors) k)
+
+-- what is accepted is refused for want of memory alone
+same_told : (shelf : Shown) (name a b : List ℕ) → shelf.text name ≡ Some a → shelf.text name ≡ Some b → a ≡ b
+same_told shelf name a b h k = let both : Some a ≡ Some b = sym h ∙ k in cc
+
+model_memory : (before after : Shown) (name : List ℕ) (why : Refusal) (read : IsRead before after name) (wiring : Tables) → HasModel before name wiring
+    → ModelCauses before after name why → IsMemory why
+model_memory before after name why read wiring h k =
+    sound_model read.text wiring why (subst (λ (z : List ℕ). IsSound z wiring) (same_told before name h.text read.text h.told read.told) h.sound) (model_says before after name why read k)
+
+files_memory : (before after : Shown) (files : Files) (why : Refusal) (model : IsRead before after files.model) (injections : IsRead before after files.injections) → HasFiles before files
+    → RunCauses before after files why → IsMemory why
+files_memory before after files why model injections h k =
+    sound_run model.text injections.text h.wiring h.lines why
+    (subst (λ (z : List ℕ). IsSound z h.wiring) (same_told before files.model h.model.text model.text h.model.told model.told) h.model.sound)
+    (subst (λ (z : List ℕ). IsInjections h.wiring z h.lines) (same_told before files.injections h.text injections.text h.told injections.told) h.injections)
+    (run_says before after files why model injections k)
+
+memory_of : (before after : Shown) (o : Option Asked) (why : Refusal) → AreAccepted before o → AreRead before after o → CausesOf before after o why → IsMemory why
+memory_of before after None why h read k = absurd h
+memory_of before after (Some (Check name)) why h read k = model_memory before after name why read h.0 h.1 k
+memory_of before after (Some (Tree name)) why h read k = model_memory before after name why read h.0 h.1 k
+memory_of before after (Some (Run files fuel)) why h read k = files_memory before after files why read.0 read.1 h k
+memory_of before after (Some (Made actors)) why h read k =
+    files_memory (made_shelf actors) (made_shelf actors) made_files why (made_model_read actors) (made_lines_read actors) h k
+
+-- what has an answer is accepted
+files_accepted : (before after : Shown) (files : Files) (plant : Plant) (lines : List Line) → IsRead before after files.model → IsRead before after files.injections
+    → AreOf before files plant lines → HasFiles before files
+files_accepted before after files plant lines model injections h = record {
+  wiring = plant.wiring;
+  lines = lines;
+  model = record {
+    text = model.text;
+    told = model.told;
+    sound = is_sound model.text plant (told_text before files.model model.text (λ t. IsModel t plant) model.told h.model_accepted);
+  };
+  text = injections.text;
+  told = injections.told;
+  injections = told_text before files.injections injections.text (λ t. IsInjections plant.wiring t lines) injections.told h.lines_accepted;
+}
+
+accepted_of : (before after : Shown) (words : List (List ℕ)) (text : List ℕ) (status : Status) → AreRead before after (asked_by words) → Answers before words text status
+    → AreAccepted before (asked_by words)
+accepted_of before after words text status read (says_ok name e h is ends) =
+    let r : IsRead before after name = subst (AreRead before after) e read in
+    let sound = told_text before name r.text (λ t. (wiring : Tables) × IsSound t wiring) r.told h in
+    subst (AreAccepted before) (sym e) (sound.0, record { text = r.text; told = r.told; sound = sound.1 })
+accepted_of before after words text status read (says_tree name wiring e h is ends) =
+    let r : IsRead before after name = subst (AreRead before after) e read in
+    subst (AreAccepted before) (sym e) (wiring, record { text = r.text; told = r.told; sound = told_text before name r.text (λ t. IsSound t wiring) r.told h })
+accepted_of before after words text status read (says_run files fuel plant lines j e h is ends) =
+    let r : IsRead before after files.model × IsRead before after files.injections = subst (AreRead before after) e read in
+    subst (AreAccepted before) (sym e) (files_accepted before after files plant lines r.0 r.1 h.texts)
+accepted_of before after words text status read (says_made actors plant lines j e h is ends) =
+    subst (AreAccepted before) (sym e)
+    (files_accepted (made_shelf actors) (made_shelf actors) made_files plant lines (made_model_read actors) (made_lines_read actors) h.texts)
+
+pub calls_have_one_answer : CallsHaveOneAnswer
+calls_have_one_answer before after words read = record {
+  refused_once = λ why other h k. once_of before after (asked_by words) why other read (causes_of before after words why h) (causes_of before after words other k);
+  answered = λ why text status h k.
+      memory_of before after (asked_by words) why (accepted_of before after words text status read k) read (causes_of before after words why h);
+}
+
+-- ---- how accepted calls end
+
+run_ends : (done : Bool) (status : Status) → status ≡ status_of_run done → IsEnd status
+run_ends true status e = inl e
+run_ends false status e = inr (inl e)
+
+answer_ends : (shelf : Shown) (words : List (List ℕ)) (text : List ℕ) (status : Status) → Answers shelf words text status → IsEnd status
+answer_ends shelf words text status (says_ok name e h is ends) = inl ends
+answer_ends shelf words text status (says_tree name wiring e h is ends) = inl ends
+answer_ends shelf words text status (says_run files fuel plant lines j e h is ends) = run_ends j.done status ends
+answer_ends shelf words text status (says_made actors plant lines j e h is ends) = run_ends j.done status ends
+
+pub accepted_calls_end : AcceptedCallsEnd
+accepted_calls_end before after words streams status accepted read none (whole text h out notes) = answer_ends before words text status h
+accepted_calls_end before after words streams status accepted read none (cut_short text wanted h is breaks notes) = absurd (none.out breaks.place.fault)
+accepted_calls_end before after words streams status accepted read none (refused why h is out notes) =
+    inr (inr (is ∙ memory_of before after (asked_by words) why accepted read (causes_of before after words why h)))
+accepted_calls_end before after words streams status accepted read none (refused_unheard why h is out breaks) = absurd (none.notes breaks.place.fault)

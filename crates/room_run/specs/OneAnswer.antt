@@ -1,0 +1,94 @@
+-- A call has one answer, besides want of memory and what failed reads and writes leave open.
+-- Where the shelf tells the texts that the words name and no read of them failed, at most one refusal
+-- holds of them, and none where an answer does. So where they are accepted, and no write failed
+-- either, the call ends as done, spent, or for want of memory.
+use Rattle.std.specs.Prelude.{◌≡◌, ◌⊎◌, ℕ, List, Option, Some, None}
+use Rattle.room_outside.specs.Shown.{Shown}
+use Rattle.room_outside.specs.Faults.{Rose}
+use Rattle.room_outside.specs.Written.{Written}
+use Rattle.room_wiring.specs.declared.tables.Tables.{Tables}
+use Rattle.inject_reader.specs.declared.inject_lines.accepted.Line.{Line}
+use Rattle.room_run.specs.Words.{Files, Asked, Check, Tree, Run, Made, asked_by}
+use Rattle.room_run.specs.MadeShelf.{made_files, made_shelf}
+use Rattle.room_run.specs.Models.{IsSound}
+use Rattle.room_run.specs.Causes.{IsInjections, RoseAt, Causes, status_of}
+use Rattle.room_run.specs.Outcome.{Answers, Streams, Outcome}
+use Rattle.room_run.specs.declared.model_fault.ModelFault.TheVariants as faults
+use Rattle.room_run.specs.declared.refusal.Refusal.{Refusal}
+use Rattle.room_run.specs.declared.refusal.Refusal.TheVariants as refusals
+use Rattle.room_run.specs.declared.status.Status.{Status}
+use Rattle.room_run.specs.declared.status.Status.TheVariants as statuses
+
+-- the shelf tells the text under a name, and no read of it failed in the call
+pub record IsRead (before after : Shown) (name : List ℕ) : Type 0 where
+  pub text : List ℕ
+  pub told : before.text name ≡ Some text
+  pub unfailed : RoseAt before after name → ⊥
+
+-- so it is of each file that the words name
+abbrev pub AreRead : Shown → Shown → Option Asked → Type 0
+AreRead before after None = Unit {0}
+AreRead before after (Some (Check name)) = IsRead before after name
+AreRead before after (Some (Tree name)) = IsRead before after name
+AreRead before after (Some (Run files fuel)) = IsRead before after files.model × IsRead before after files.injections
+AreRead before after (Some (Made actors)) = Unit {0}
+
+-- want of memory
+abbrev pub IsMemory : Refusal → Type 0
+IsMemory why = status_of why ≡ statuses.Memory
+
+-- a text has no tree; nothing is said of the line that is told
+abbrev pub IsSyntax : Refusal → Type 0
+IsSyntax why = (line : ℕ) × (why ≡ refusals.Model (faults.Syntax line))
+
+-- two refusals are one, but for the line of a text that has no tree
+abbrev pub SameRefusal : Refusal → Refusal → Type 0
+SameRefusal why other = (why ≡ other) ⊎ (IsSyntax why × IsSyntax other)
+
+-- besides want of memory at most one refusal holds of these words, and none where they have an answer
+pub record HasOneAnswer (before after : Shown) (words : List (List ℕ)) : Type 0 where
+  pub refused_once : (why other : Refusal) → Causes before after words why → Causes before after words other
+      → IsMemory why ⊎ (IsMemory other ⊎ SameRefusal why other)
+  pub answered : (why : Refusal) (text : List ℕ) (status : Status) → Causes before after words why → Answers before words text status → IsMemory why
+
+-- over every shelf that tells the texts that the words name, where no read of them failed
+abbrev pub CallsHaveOneAnswer : Type 0
+CallsHaveOneAnswer = (before after : Shown) (words : List (List ℕ)) → AreRead before after (asked_by words) → HasOneAnswer before after words
+
+-- the text under a name is that of a model which keeps all rules and has no fault, with this wiring
+pub record HasModel (shelf : Shown) (name : List ℕ) (wiring : Tables) : Type 0 where
+  pub text : List ℕ
+  pub told : shelf.text name ≡ Some text
+  pub sound : IsSound text wiring
+
+-- the texts of two files are those of such a model, and of injections over its names
+pub record HasFiles (shelf : Shown) (files : Files) : Type 0 where
+  pub wiring : Tables
+  pub lines : List Line
+  pub model : HasModel shelf files.model wiring
+  pub text : List ℕ
+  pub told : shelf.text files.injections ≡ Some text
+  pub injections : IsInjections wiring text lines
+
+-- the words ask for something, and the texts that they name are accepted
+abbrev pub AreAccepted : Shown → Option Asked → Type 0
+AreAccepted shelf None = ⊥
+AreAccepted shelf (Some (Check name)) = (wiring : Tables) × HasModel shelf name wiring
+AreAccepted shelf (Some (Tree name)) = (wiring : Tables) × HasModel shelf name wiring
+AreAccepted shelf (Some (Run files fuel)) = HasFiles shelf files
+AreAccepted shelf (Some (Made actors)) = HasFiles (made_shelf actors) made_files
+
+-- no write failed in the call
+pub record NoneFailed (streams : Streams) : Type 0 where
+  pub out : Rose streams.out_before.faults streams.out_after.faults → ⊥
+  pub notes : Rose streams.notes_before.faults streams.notes_after.faults → ⊥
+
+-- done, spent, or want of memory
+abbrev pub IsEnd : Status → Type 0
+IsEnd status = (status ≡ statuses.Done) ⊎ ((status ≡ statuses.Spent) ⊎ (status ≡ statuses.Memory))
+
+-- over every call in which no read of a named file and no write failed, and whose texts are accepted
+abbrev pub AcceptedCallsEnd : Type 0
+AcceptedCallsEnd =
+    (before after : Shown) (words : List (List ℕ)) (streams : Streams) (status : Status) → AreAccepted before (asked_by words)
+    → AreRead before after (asked_by words) → NoneFailed streams → Outcome before after words streams status → IsEnd status

@@ -1,0 +1,16 @@
+//! That a call has one answer: the laws of what a call answers.
+//!
+//! No code: the laws.
+ghost use Rattle.room_run.specs.OneAnswer.{AcceptedCallsEnd, CallsHaveOneAnswer};
+
+/// Of the words and the texts that they name at most one refusal holds besides want of memory, and none
+/// where they have an answer, where the texts are told and no read of them failed.
+pub fn one_answer()
+    ensures { CallsHaveOneAnswer }
+{}
+
+/// A call whose words ask for something and whose texts are accepted ends as done, spent, or for want of
+/// memory, where no read of a named file and no write failed.
+pub fn accepted_calls_end()
+    ensures { AcceptedCallsEnd }
+{}

@@ -1,0 +1,9 @@
+pub mod OneRun
+pub mod Plain
+pub mod Rows
+pub mod Told
+pub mod Party
+pub mod SameRuns
+pub mod Sends
+pub mod Priorities
+pub mod TextsLaw
