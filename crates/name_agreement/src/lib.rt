@@ -9,5 +9,6 @@ mod registrations;
 
 pub use links::{links_agree, links_foretell, names_agree, tables_are_sound};
 pub use registrations::{
-    joined_users_have_no_name, names_are_of_the_created, registrations_are_in_rows, registrations_settle,
+    joined_users_have_no_name, names_are_of_the_created, registrations_are_in_rows,
+    registrations_settle,
 };
