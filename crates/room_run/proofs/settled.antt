@@ -1,3 +1,3 @@
 mod Compiled
-mod Open
+pub mod Fitting
 pub mod Runs
