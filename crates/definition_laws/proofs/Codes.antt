@@ -1,12 +1,11 @@
 -- The one program of a text.
-use Rattle.std.proofs.Common.{◌≡◌, ◌∙◌, ℕ, suc, ◌≤◌, ◌<◌, Bool, true, false, cond, List, Option, Some, None, sym, ap, subst, arith}
+use Rattle.std.proofs.Common.{◌≡◌, ◌∙◌, ℕ, ◌≤◌, cond, List, Some, None, ap, subst, arith}
 use Rattle.std.specs.Prelude.{option_and_then}
 use Rattle.std.proofs.lemmas.Option.{cond_some, option_and_then_some}
 use Rattle.token_reading.specs.Reader.{to_end}
-use Rattle.token_reading.specs.action_tokens.Values.{Value, action_values}
+use Rattle.token_reading.specs.action_tokens.Values.{action_values}
 use Rattle.action_program.specs.Named.{ExprTree, Stmts}
-use Rattle.action_parse.specs.action_reading.Tokens.{expr_tokens, stmts_tokens}
-use Rattle.action_parse.specs.action_reading.Written.{AreStmts, IsProgramOf, IsConditionOf, IsWithinLimits, expr_nesting, nesting, repeats_within}
+use Rattle.action_parse.specs.action_reading.Written.{IsProgramOf, IsConditionOf, IsWithinLimits, expr_nesting, repeats_within}
 use Rattle.action_parse.specs.action_reading.ExprReading.{expression}
 use Rattle.action_parse.specs.action_reading.StmtReading.{stmts_at, statement}
 use Rattle.action_parse.proofs.action_reading.Whole.{program_tokens, program_fits, program_again, one_program, condition_tokens, condition_fits, condition_again, one_condition}
@@ -22,11 +21,11 @@ has_program text p e =
     option_and_then_some (λ ts. option_and_then limited (to_end (stmts_at (statement 64)) ts)) (action_values text) p e
     (λ ts at is. option_and_then_some limited (to_end (stmts_at (statement 64)) ts) p is
     (λ t read fits.
-        let kept = cond_some (repeats_within t 2) t p fits in
-        let whole = program_fits 64 ts t read in
-        let deep = whole.1 in
-        subst (Found text) kept.1
-        (record { formed = whole.0; tokens = at ∙ ap (λ us. Some us) (program_tokens 64 ts t read) }, (omega (arith, deep), kept.0))))
+    let kept = cond_some (repeats_within t 2) t p fits in
+    let whole = program_fits 64 ts t read in
+    let deep = whole.1 in
+    subst (Found text) kept.1
+    (record { formed = whole.0; tokens = at ∙ ap (λ us. Some us) (program_tokens 64 ts t read) }, (omega (arith, deep), kept.0))))
 
 is_program : (text : List ℕ) (p : Stmts) → Found text p → program_of text ≡ Some p
 unfolding program_of Found
@@ -43,9 +42,9 @@ unfolding condition_of Condition
 has_condition text e h =
     option_and_then_some (λ ts. to_end (expression 64) ts) (action_values text) e h
     (λ ts at is.
-        let whole = condition_fits 64 ts e is in
-        let deep = whole.1 in
-        (record { formed = whole.0; tokens = at ∙ ap (λ us. Some us) (condition_tokens 64 ts e is) }, omega (arith, deep)))
+    let whole = condition_fits 64 ts e is in
+    let deep = whole.1 in
+    (record { formed = whole.0; tokens = at ∙ ap (λ us. Some us) (condition_tokens 64 ts e is) }, omega (arith, deep)))
 
 is_condition : (text : List ℕ) (e : ExprTree) → Condition text e → condition_of text ≡ Some e
 unfolding condition_of Condition

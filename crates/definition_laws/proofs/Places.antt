@@ -1,14 +1,14 @@
 -- Bindings pair the first places that are free.
-use Rattle.std.proofs.Common.{◌≡◌, ◌∙◌, ◌⊎◌, ◌↔◌, inl, inr, ℕ, zero, suc, ◌+◌, ◌≤◌, ◌<◌, ◌==◌, nat_lt, Bool, true, false, cond, List, [], ◌∷◌, Some, slice_get, refl, sym, ap, subst, arith}
-use Rattle.std.proofs.lemmas.Bool.{eqb-true, eq-eqb, ne_eqb}
+use Rattle.std.proofs.Common.{◌≡◌, ◌∙◌, ◌⊎◌, inl, inr, ℕ, zero, suc, ◌+◌, ◌≤◌, ◌<◌, ◌==◌, nat_lt, Bool, true, false, cond, List, [], ◌∷◌, Some, slice_get, refl, sym, ap, subst, arith}
+use Rattle.std.proofs.lemmas.Bool.{eqb-true, eq-eqb}
 use Rattle.std.proofs.lemmas.Bool.Decides.{nat_tests}
 use Rattle.std.proofs.lemmas.Option.{same_Some}
 use Rattle.wiring_plan.specs.declared.structure_plan.plan.BindingPlan.{BindingPlan}
 use Rattle.wiring_plan.specs.declared.structure_plan.plan.ClassPlan.{ClassPlan}
 use Rattle.wiring_plan.specs.declared.structure_plan.plan.StructurePlan.{StructurePlan}
 use Rattle.wiring_places.specs.declared.place_rules.stretch.Stretch.{Stretch}
-use Rattle.wiring_places.specs.place_rules.Stretches.{side_number, stretch, take_more, taken_after, stretches_from, stretches, none_taken, pair_count, supply}
-use Rattle.definition_laws.specs.Places.{IsAmong, Pairs, PairedBefore, TakesFree, BindingsTakeFreePlaces}
+use Rattle.wiring_places.specs.place_rules.Stretches.{side_number, stretch, take_more, taken_after, stretches_from, none_taken, pair_count, supply}
+use Rattle.definition_laws.specs.Places.{Pairs, PairedBefore, BindingsTakeFreePlaces}
 
 -- ---- what is taken of a side after one more binding
 
@@ -50,7 +50,7 @@ module _ (plan : StructurePlan) (class : ClassPlan) where
       → (side == side_number b.right) ≡ false → (side ≡ side_number b.right → ⊥) → Taken taken b side
   neither taken b side el nl er nr =
       let is : taken_after taken b (count taken b) side ≡ taken side =
-          more_there (take_more taken (side_number b.left) (count taken b)) (side_number b.right) (count taken b) side er ∙ more_there taken (side_number b.left) (count taken b) side el in
+      more_there (take_more taken (side_number b.left) (count taken b)) (side_number b.right) (count taken b) side er ∙ more_there taken (side_number b.left) (count taken b) side el in
       record {
         forth = λ place h. inl (subst (λ n. place < n) is h);
         back = λ place h. by_part is place h;
@@ -66,7 +66,7 @@ module _ (plan : StructurePlan) (class : ClassPlan) where
       → (side == side_number b.right) ≡ false → (side ≡ side_number b.right → ⊥) → Taken taken b side
   of_left taken b side el sl er nr =
       let is : taken_after taken b (count taken b) side ≡ taken side + count taken b =
-          more_there (take_more taken (side_number b.left) (count taken b)) (side_number b.right) (count taken b) side er ∙ more_here taken (side_number b.left) (count taken b) side el in
+      more_there (take_more taken (side_number b.left) (count taken b)) (side_number b.right) (count taken b) side er ∙ more_here taken (side_number b.left) (count taken b) side el in
       let from : taken (side_number b.left) ≡ taken side = ap taken (sym sl) in
       record {
         forth = λ place h. cut is from place (subst (λ n. place < n) is h);
@@ -84,15 +84,15 @@ module _ (plan : StructurePlan) (class : ClassPlan) where
       by_part : taken_after taken b (count taken b) side ≡ taken side + count taken b → taken (side_number b.left) ≡ taken side
           → (place : ℕ) → (place < taken side) ⊎ Pairs b (stretch plan class taken b) side place → place < taken_after taken b (count taken b) side
       by_part is from place (inl h) = subst (λ n. place < n) (sym is) (omega (arith, h))
-      by_part is from place (inr (inl p)) = let least = p.1 in let most = p.2 in subst (λ n. place < n) (sym is) (omega (arith, from, most))
+      by_part is from place (inr (inl p)) = let least = p.1.0 in let most = p.1.1 in subst (λ n. place < n) (sym is) (omega (arith, from, most))
       by_part is from place (inr (inr p)) = absurd (nr (sym p.0))
 
   of_right : (taken : ℕ → ℕ) (b : BindingPlan) (side : ℕ) → (side == side_number b.left) ≡ false → (side ≡ side_number b.left → ⊥)
       → (side == side_number b.right) ≡ true → side ≡ side_number b.right → Taken taken b side
   of_right taken b side el nl er sr =
       let is : taken_after taken b (count taken b) side ≡ taken side + count taken b =
-          more_here (take_more taken (side_number b.left) (count taken b)) (side_number b.right) (count taken b) side er
-          ∙ ap (λ n. n + count taken b) (more_there taken (side_number b.left) (count taken b) side el) in
+      more_here (take_more taken (side_number b.left) (count taken b)) (side_number b.right) (count taken b) side er
+      ∙ ap (λ n. n + count taken b) (more_there taken (side_number b.left) (count taken b) side el) in
       let from : taken (side_number b.right) ≡ taken side = ap taken (sym sr) in
       record {
         forth = λ place h. cut from place (subst (λ n. place < n) is h);
@@ -110,15 +110,15 @@ module _ (plan : StructurePlan) (class : ClassPlan) where
           → (place : ℕ) → (place < taken side) ⊎ Pairs b (stretch plan class taken b) side place → place < taken_after taken b (count taken b) side
       by_part is from place (inl h) = subst (λ n. place < n) (sym is) (omega (arith, h))
       by_part is from place (inr (inl p)) = absurd (nl (sym p.0))
-      by_part is from place (inr (inr p)) = let most = p.2 in subst (λ n. place < n) (sym is) (omega (arith, from, most))
+      by_part is from place (inr (inr p)) = let most = p.1.1 in subst (λ n. place < n) (sym is) (omega (arith, from, most))
 
   of_both : (taken : ℕ → ℕ) (b : BindingPlan) (side : ℕ) → (side == side_number b.left) ≡ true → side ≡ side_number b.left
       → (side == side_number b.right) ≡ true → side ≡ side_number b.right → Taken taken b side
   of_both taken b side el sl er sr =
       let none : count taken b ≡ 0 = none_itself taken b (eq-eqb (side_number b.left) (side_number b.right) (sym sl ∙ sr)) in
       let is : taken_after taken b (count taken b) side ≡ (taken side + count taken b) + count taken b =
-          more_here (take_more taken (side_number b.left) (count taken b)) (side_number b.right) (count taken b) side er
-          ∙ ap (λ n. n + count taken b) (more_here taken (side_number b.left) (count taken b) side el) in
+      more_here (take_more taken (side_number b.left) (count taken b)) (side_number b.right) (count taken b) side er
+      ∙ ap (λ n. n + count taken b) (more_here taken (side_number b.left) (count taken b) side el) in
       record {
         forth = λ place h. inl (omega (arith, none, is, h));
         back = λ place h. by_part none is place h;
@@ -127,8 +127,8 @@ module _ (plan : StructurePlan) (class : ClassPlan) where
       by_part : count taken b ≡ 0 → taken_after taken b (count taken b) side ≡ (taken side + count taken b) + count taken b
           → (place : ℕ) → (place < taken side) ⊎ Pairs b (stretch plan class taken b) side place → place < taken_after taken b (count taken b) side
       by_part none is place (inl h) = omega (arith, none, is, h)
-      by_part none is place (inr (inl p)) = let least = p.1 in let most = p.2 in absurd (omega (arith, none, least, most))
-      by_part none is place (inr (inr p)) = let least = p.1 in let most = p.2 in absurd (omega (arith, none, least, most))
+      by_part none is place (inr (inl p)) = let least = p.1.0 in let most = p.1.1 in absurd (omega (arith, none, least, most))
+      by_part none is place (inr (inr p)) = let least = p.1.0 in let most = p.1.1 in absurd (omega (arith, none, least, most))
 
   taken_is : (taken : ℕ → ℕ) (b : BindingPlan) (side : ℕ) → Taken taken b side
   taken_is taken b side = by_sides (same_or_not side (side_number b.left)) (same_or_not side (side_number b.right))

@@ -1,10 +1,11 @@
 //! Laws that say definitions which go along a list or a tree again, in the words of their subject: which
-//! program a text has, and which places a binding pairs.
+//! program a text has, which places a binding pairs, and who owns what stands at the end of a way.
 //!
 //! No code: the laws.
 #![tactic(auto)]
 
 ghost use Rattle.definition_laws.specs.Codes.{CodesHaveOneProgram};
+ghost use Rattle.definition_laws.specs.Owners.{OwnersHaveTheLongestMapping};
 ghost use Rattle.definition_laws.specs.Places.{BindingsTakeFreePlaces};
 
 /// The program of a code is the one whose tokens are those of its text, within the limits of the language; there
@@ -16,4 +17,10 @@ pub fn codes_have_one_program()
 /// A binding pairs the first places of its sides that no earlier binding of its class paired.
 pub fn bindings_take_free_places()
     ensures { BindingsTakeFreePlaces }
+{}
+
+/// The owner that is found by going along a way into references is the controller of the longest mapped path that
+/// leads there or to a container of it, of equally long ones the last declared; controller 0 where none does.
+pub fn owners_have_the_longest_mapping()
+    ensures { OwnersHaveTheLongestMapping }
 {}

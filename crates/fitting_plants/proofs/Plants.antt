@@ -1,5 +1,5 @@
 -- What is so of each plant that fits.
-use Rattle.std.proofs.Common.{◌≡◌, ℕ, zero, suc, List, [], ◌∷◌, Option, Some, None, refl, sym, ap, subst, map, slice_get}
+use Rattle.std.proofs.Common.{◌≡◌, ℕ, zero, suc, List, [], ◌∷◌, Option, Some, None, subst, slice_get}
 use Rattle.std.specs.Prelude.{All}
 use Rattle.std.proofs.lemmas.List.Elements.{All-head, All-tail}
 use Rattle.std.proofs.lemmas.Option.{same_Some}
@@ -7,7 +7,6 @@ use Rattle.room_wiring.specs.WellNamed.{IsWellNamed, IsWellNamedClass}
 use Rattle.room_wiring.specs.declared.names.ClassNames.{ClassNames}
 use Rattle.wiring_plan.specs.wiring_classes.Classes.{classes_of}
 use Rattle.chart_model.specs.Chart.{Chart}
-use Rattle.chart_model.specs.States.{states_of, state_label}
 use Rattle.chart_run.specs.chart_tables.Tables.{IsSound}
 use Rattle.chart_run.specs.declared.chart_tables.tables.Tables.{Tables}
 use Rattle.chart_behaviour.proofs.Charts.{are_modest, are_open}

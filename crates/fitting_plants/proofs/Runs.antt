@@ -1,5 +1,5 @@
 -- Runs of plants that fit.
-use Rattle.std.proofs.Common.{◌≡◌, ◌≢◌, ◌∙◌, ℕ, ◌≤◌, ◌<◌, true, List, [], ◌∷◌, ◌++◌, length, Contains, refl, sym, ap, subst, arith}
+use Rattle.std.proofs.Common.{◌≡◌, ◌≢◌, ◌∙◌, ℕ, ◌≤◌, ◌<◌, List, [], ◌∷◌, ◌++◌, length, Contains, refl, sym, ap, subst, arith}
 use Rattle.room_kinds.specs.declared.message.Msg.{Msg}
 use Rattle.room_kinds.specs.declared.note.Note.{Note}
 use Rattle.room_kinds.specs.declared.note.Note.TheVariants as notes
@@ -16,16 +16,14 @@ use Rattle.actor_merge.specs.Parties.{Line as Posted, State, Replays}
 use Rattle.actor_merge.specs.Merge.{entries_of}
 use Rattle.actor_merge.specs.World.{start}
 use Rattle.actor_merge.proofs.Back.{run_projects}
-use Rattle.actor_duties.specs.Lives.{is_live}
 use Rattle.actor_duties.specs.Words.{incarnation, owner_of}
 use Rattle.actor_world.specs.Behaviour.{Behaviour}
 use Rattle.actor_world.specs.Body.{Body}
-use Rattle.actor_world.specs.Directories.{AreOpen}
 use Rattle.actor_world.specs.Journals.{lines_of}
 use Rattle.actor_world.specs.Life.{TellsLives, created}
-use Rattle.actor_world.specs.Start.{plant_of, first_state, start_entries}
+use Rattle.actor_world.specs.Start.{start_entries}
 use Rattle.actor_world.specs.world_laws.OnePlace.{InOnePlace, InNoPlace, StandsOnce}
-use Rattle.actor_world.specs.world_laws.Whereabouts.{fetched, done_with}
+use Rattle.actor_world.specs.world_laws.Whereabouts.{fetched}
 use Rattle.actor_world.proofs.DirectoriesLaw.{tell_created}
 use Rattle.actor_world.proofs.RunsLaw.{runs_tell}
 use Rattle.actor_world.proofs.world_laws.Losing.{downs_tell}
@@ -35,7 +33,7 @@ use Rattle.controller_actors.specs.Plants.{model_of}
 use Rattle.controller_actors.specs.declared.plant.Plant.{Plant}
 use Rattle.model_run.specs.part_posts.Items.{items_of}
 use Rattle.model_run.specs.run_ends.Runs.{journal_of, IsRun}
-use Rattle.fitting_plants.specs.Plants.{PlantFits, IsFitting}
+use Rattle.fitting_plants.specs.Plants.{IsFitting}
 use Rattle.fitting_plants.specs.Runs.{running, begins_at, over_with, WasLost, Settles, FittingRunsSettle}
 use Rattle.fitting_plants.proofs.Lines.{lines_open}
 use Rattle.fitting_plants.proofs.Plants.{plants_fit}
@@ -107,7 +105,7 @@ module _ (plant : Plant) (lines : List Line) (fuel : ℕ) (j : Journals) (fittin
   lost c below before after stamp from sent what ns x n is there =
       let whole = (run_projects (running plant lines) (start (running plant lines)) run.lawful.run.merge run.lawful.run.end run.lawful.run.run).controllers c (below_n c below) in
       let split = front c (begins_at plant c) before (entry.Turn stamp from sent what ns ∷ after) (run.lawful.run.end.controllers c)
-          (subst (λ es. Replays (running plant lines) c (begins_at plant c) es (run.lawful.run.end.controllers c)) (happened c ∙ is) whole) in
+      (subst (λ es. Replays (running plant lines) c (begins_at plant c) es (run.lawful.run.end.controllers c)) (happened c ∙ is) whole) in
       let told = downs_tell model plant.wiring posted c fitting.modest fitting.tells_defers before split.0 split.2.0 stamp from sent what ns split.1 split.2.1 x n there in
       record { state = split.0; reached = split.1; lived = told.0; many = told.1 }
 

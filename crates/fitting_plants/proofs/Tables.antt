@@ -1,5 +1,5 @@
 -- Tables that show charts, class by class.
-use Rattle.std.proofs.Common.{◌≡◌, ℕ, zero, suc, List, [], ◌∷◌, Option, Some, None, refl, sym, ap, subst, slice_get}
+use Rattle.std.proofs.Common.{◌≡◌, ℕ, zero, suc, List, [], ◌∷◌, Option, Some, refl, subst, slice_get}
 use Rattle.std.proofs.lemmas.Option.{same_Some}
 use Rattle.chart_model.specs.Chart.{Chart}
 use Rattle.chart_run.specs.declared.chart_tables.tables.Tables.{Tables}

@@ -5,7 +5,7 @@
 -- the class has no chart.
 -- The law `plants_fit`: of every such plant `IsFitting` is so, field by field. So whoever is given a
 -- plant that fits may rely on each of these facts, and needs no premise of his own.
-use Rattle.std.specs.Prelude.{◌≡◌, ℕ, List, [], Option, Some, None, length, map, slice_get}
+use Rattle.std.specs.Prelude.{◌≡◌, ℕ, List, [], Option, Some, None, map, slice_get}
 use Rattle.room_ast.specs.Tokens.{model_tokens}
 use Rattle.room_ast.specs.Trees.{ModelTree}
 use Rattle.token_reading.specs.token_names.Names.{HasNames}

@@ -14,6 +14,7 @@ use Rattle.named_runs.proofs.ByCharts.{by_charts}
 use Rattle.run_promises.proofs.PromisesLaw.{promises}
 use Rattle.world_agreement.specs.Settled.{LivesAgree}
 use Rattle.run_texts.specs.Texts.{TextTells}
+use Rattle.room_run.proofs.settled.Fitting.{settles_of}
 use Rattle.room_run.proofs.settled.Runs.{runs_agree}
 use Rattle.room_run.proofs.settled.Told.{text_tells}
 use Rattle.made_model.specs.Summaries.{summary_text}
@@ -67,6 +68,7 @@ run_of shelf files fuel p lines j texts run = record {
   by_charts = is_by_charts shelf files p lines fuel j texts run;
   agreed = agreed_of (shelf.text files.model) (shelf.text files.injections) p lines fuel j texts.model_accepted texts.lines_accepted run;
   determined = determined_of (shelf.text files.model) (shelf.text files.injections) p lines fuel j texts.model_accepted texts.lines_accepted run;
+  settled = settles_of (shelf.text files.model) (shelf.text files.injections) p lines fuel j texts.model_accepted texts.lines_accepted run;
 }
 
 -- what is told of a run of a made model

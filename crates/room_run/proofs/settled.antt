@@ -1,4 +1,4 @@
 mod Compiled
-mod Open
+pub mod Fitting
 pub mod Runs
 pub mod Told

@@ -3,6 +3,7 @@ pub mod Statuses
 pub mod Models
 pub mod Reading
 pub mod Causes
+pub mod Fitting
 pub mod Outcome
 pub mod OneAnswer
 pub mod Finished

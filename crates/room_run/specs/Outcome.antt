@@ -28,6 +28,7 @@ use Rattle.room_run.specs.Words.{Files, Check, Tree, Run, Made, asked_by, usual_
 use Rattle.room_run.specs.MadeShelf.{made_files, made_shelf}
 use Rattle.room_run.specs.Models.{IsSound, IsSoundText}
 use Rattle.room_run.specs.Causes.{Causes, AreOf, TextIs, status_of, note_of}
+use Rattle.room_run.specs.Fitting.{SettlesWhenTold}
 use Rattle.room_run.specs.declared.prepare.Answer.{Answer}
 use Rattle.room_run.specs.declared.prepare.Answer.TheVariants as answers
 use Rattle.room_run.specs.declared.refusal.Refusal.{Refusal}
@@ -52,7 +53,7 @@ AgreesWhenDone shelf files plant lines fuel j run =
 abbrev pub IsToldByText : Shown → Files → Plant → List Line → Journals → Type 0
 IsToldByText shelf files plant lines j = TextIs shelf files.model (λ text. TextIs shelf files.injections (λ injected. TextTells plant lines j))
 
--- Plant, lines and journals are those of a run of the model of two files over the injections of the other, with so much fuel: the texts are those of a model which runs as this plant, and of injections with these lines; and the journals, one for each controller and one for the environment, are those of a run of the plant over the lines (`IsRun`: each controller's journal is the replay of its own fetches, run to completion; merged by stamp they are one run of the world; what is taken in each lane is a prefix of what was sent, and all of it where the run is done). What a reader may rely on is said sentence by sentence (`RunPromises`), the run is one of the model's charts (`IsByCharts`), where it is done all controllers agree on who lives (`AgreesWhenDone`), and its text tells it (`IsToldByText`).
+-- Plant, lines and journals are those of a run of the model of two files over the injections of the other, with so much fuel: the texts are those of a model which runs as this plant, and of injections with these lines; and the journals, one for each controller and one for the environment, are those of a run of the plant over the lines (`IsRun`: each controller's journal is the replay of its own fetches, run to completion; merged by stamp they are one run of the world; what is taken in each lane is a prefix of what was sent, and all of it where the run is done). What a reader may rely on is said sentence by sentence (`RunPromises`), the run is one of the model's charts (`IsByCharts`), and where it is done all controllers agree on who lives (`AgreesWhenDone`). What is so of every run of a plant that fits is so of it (`SettlesWhenTold`).
 pub record IsRunOfFiles (shelf : Shown) (files : Files) (fuel : ℕ) (plant : Plant) (lines : List Line) (journals : Journals) : Type 0 where
   pub texts : AreOf shelf files plant lines
   pub run : IsRun plant lines fuel journals
@@ -60,6 +61,7 @@ pub record IsRunOfFiles (shelf : Shown) (files : Files) (fuel : ℕ) (plant : Pl
   pub by_charts : IsByCharts shelf files plant lines fuel journals
   pub agreed : AgreesWhenDone shelf files plant lines fuel journals run
   pub determined : IsToldByText shelf files plant lines journals
+  pub settled : SettlesWhenTold shelf files plant lines fuel journals run
 
 -- how a run ended: done, or by its fuel
 abbrev pub status_of_run : Bool → Status

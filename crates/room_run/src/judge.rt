@@ -7,6 +7,7 @@ ghost use Rattle.structure_check.specs.List.{all_rules};
 ghost use Rattle.chart_reading.specs.chart_graphs.Views.{chart_view};
 ghost use Rattle.chart_reader.specs.model_charts.Charts.{AreValid, HasCharts};
 ghost use Rattle.controller_actors.specs.Plants.{IsPlant};
+ghost use Rattle.fitting_plants.specs.Plants.{PlantFits};
 ghost use Rattle.room_run.specs.Models.{IsGoodWiring, IsModel, IsSoundText, IsSoundTree, SoundCauses};
 ghost use Rattle.room_run.specs.Reading.{ChartCauses, HasItsTokens, HasItsTree, IsCheckedFor, TreeCauses, fault_of};
 
@@ -159,6 +160,7 @@ pub fn read_plant(alloc: Global, text: &[u8]) -> Result<Plant, ModelFault>
     requires { length text.now ≤ 1048576 }
     ensures ok { IfOk result (λ plant. IsModel text.now plant) }
     ensures plant { IfOk result (λ plant. IsPlant plant) }
+    ensures fits { IfOk result (λ plant. PlantFits plant) }
     ensures err { IfErr result (λ why. SoundCauses text.now why) }
 {
     let sound = match sound_model(alloc, text) {

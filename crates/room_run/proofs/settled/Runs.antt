@@ -19,7 +19,7 @@ use Rattle.named_runs.specs.Charts.{ShowCharts}
 use Rattle.world_agreement.specs.Settled.{LivesAgree}
 use Rattle.settled_models.proofs.Runs.{model_agrees}
 use Rattle.room_run.proofs.settled.Compiled.{all_compiled}
-use Rattle.room_run.proofs.settled.Open.{lines_open}
+use Rattle.fitting_plants.proofs.Lines.{lines_open}
 
 pub runs_agree : (m : ModelTree) (plant : Plant) (charts : List (Option Chart)) (lines : List Line) (fuel : ℕ) (j : Journals)
     → first_broken all_rules m ≡ None → IsWiringOf m plant.wiring → HasNoFault m → HasCharts m charts

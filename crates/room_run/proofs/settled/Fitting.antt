@@ -1,0 +1,46 @@
+-- The plant of a text fits, and so its runs settle.
+use Rattle.std.proofs.Common.{◌≡◌, ℕ, List, Option, Some, None, IfSome, refl, sym, subst}
+use Rattle.room_ast.specs.Trees.{ModelTree}
+use Rattle.room_ast.specs.Tokens.{model_tokens}
+use Rattle.token_reading.specs.Single.{values}
+use Rattle.token_reading.specs.token_names.Names.{HasNames}
+use Rattle.token_reading.proofs.token_names.NamesLaw.{named as tokens_named}
+use Rattle.chart_model.specs.Chart.{Chart}
+use Rattle.room_wiring.specs.declared.tables.Tables.{Tables}
+use Rattle.binding_expand.specs.Wirings.{IsWiringOf}
+use Rattle.journal.specs.declared.entry.Journals.{Journals}
+use Rattle.inject_reader.specs.declared.inject_lines.accepted.Line.{Line}
+use Rattle.controller_actors.specs.declared.plant.Plant.{Plant}
+use Rattle.model_run.specs.run_ends.Runs.{IsRun}
+use Rattle.named_runs.specs.Charts.{ShowCharts}
+use Rattle.fitting_plants.specs.Plants.{PlantFits}
+use Rattle.fitting_plants.specs.Runs.{Settles}
+use Rattle.fitting_plants.proofs.Runs.{runs_settle}
+use Rattle.room_run.specs.Models.{HasTree, IsSoundText, IsModel}
+use Rattle.room_run.specs.Causes.{IsInjections}
+
+-- the names in the tree of a text are names of the language
+names_read : (text : List ℕ) (tree : ModelTree) → HasTree text tree → HasNames (model_tokens tree)
+names_read text tree h =
+    subst HasNames (sym h.spelled) (subst (λ ts. HasNames (values text ts)) (sym h.cut.placed) (tokens_named text h.cut.pieces h.cut.cut))
+
+pub text_fits : (text : List ℕ) (wiring : Tables) (charts : List (Option Chart)) (p : Plant) → IsSoundText text wiring charts → p.wiring ≡ wiring → ShowCharts p.tables.items charts
+    → PlantFits p
+text_fits text wiring charts p is wired shown = record {
+  model = is.tree;
+  names = names_read text is.tree is.read;
+  keeps = is.sound.keeps;
+  wired = subst (IsWiringOf is.tree) (sym wired) is.sound.wired.wired;
+  flawless = is.sound.wired.flawless;
+  charts = charts;
+  faultless = is.sound.faultless;
+  tables = shown;
+}
+
+-- where both texts are told, the run is one of a plant that fits over lines that fit
+pub settles_of : (model injections : Option (List ℕ)) (p : Plant) (lines : List Line) (fuel : ℕ) (j : Journals)
+    → IfSome model (λ text. IsModel text p) → IfSome injections (λ text. IsInjections p.wiring text lines) → (run : IsRun p lines fuel j)
+    → IfSome model (λ text. IfSome injections (λ injected. Settles p lines fuel j run))
+settles_of None injections p lines fuel j h k run = tt
+settles_of (Some text) None p lines fuel j h k run = tt
+settles_of (Some text) (Some injected) p lines fuel j h k run = runs_settle p lines fuel j (text_fits text p.wiring h.charts p h.is refl h.tables) k.fit run
