@@ -25,8 +25,9 @@ use Rattle.room_run.specs.Words.{Files, Asked, Check, Tree, Run, Made, asked_by}
 use Rattle.room_run.specs.MadeShelf.{made_files, made_shelf}
 use Rattle.room_run.specs.Models.{most_bytes, HasTokens, HasTree, IsSoundText, IsSound, IsModel, IsUncut, HasNoTree, BreaksRule, HasBadWiring, HasBadChart, SoundCauses, uncut, no_tree, breaks_rule, bad_wiring, bad_chart, no_memory}
 use Rattle.room_run.specs.Causes.{IsInjections, HasBadLine, TextIs, AreOf, RoseAt, UnreadCauses, model_unread, model_long, model_no_memory, ModelCauses, no_text, model_refused, LinesCauses, faulty_line, no_memory_for_lines, InjectionsCauses, injections_unread, injections_long, injections_refused, injections_no_memory, RunCauses, of_model, of_injections, run_no_memory, Causes, no_such_words, of_check, of_tree, of_run, of_made, status_of}
-use Rattle.room_run.specs.Outcome.{Answers, says_ok, says_tree, says_run, says_made, IsRunOfFiles, status_of_run, Streams, Outcome, whole, cut_short, refused, refused_unheard}
-use Rattle.room_run.specs.OneAnswer.{IsRead, AreRead, IsMemory, IsSyntax, SameRefusal, HasOneAnswer, CallsHaveOneAnswer, HasModel, HasFiles, AreAccepted, NoneFailed, IsEnd, AcceptedCallsEnd}
+use Rattle.binding_expand.specs.tree_text.Text.{tree_text}
+use Rattle.room_run.specs.Outcome.{accepted, Answers, says_ok, says_tree, says_run, says_made, IsRunOfFiles, status_of_run, Streams, Outcome, whole, cut_short, refused, refused_unheard}
+use Rattle.room_run.specs.OneAnswer.{IsRead, AreRead, IsMemory, IsSyntax, SameRefusal, IsOfModel, HasOneAnswer, CallsHaveOneAnswer, HasModel, HasFiles, AreAccepted, NoneFailed, IsEnd, AcceptedCallsEnd}
 use Rattle.room_run.specs.declared.model_fault.ModelFault.{ModelFault}
 use Rattle.room_run.specs.declared.model_fault.ModelFault.TheVariants as faults
 use Rattle.room_run.specs.declared.refusal.Refusal.{Refusal}
@@ -384,11 +385,40 @@ accepted_of before after words text status read (says_made actors plant lines j 
     subst (AreAccepted before) (sym e)
     (files_accepted (made_shelf actors) (made_shelf actors) made_files plant lines (made_model_read actors) (made_lines_read actors) h.texts)
 
+-- ---- a model has one answer
+
+-- what is answered about a model
+abbrev AnswerIs : Shown → Option Asked → List ℕ → Status → Type 0
+AnswerIs shelf None text status = Unit {0}
+AnswerIs shelf (Some (Check name)) text status = (text ≡ accepted) × (status ≡ statuses.Done)
+AnswerIs shelf (Some (Tree name)) text status = (wiring : Tables) × TextIs shelf name (λ t. IsSound t wiring) × (text ≡ tree_text wiring) × (status ≡ statuses.Done)
+AnswerIs shelf (Some (Run files fuel)) text status = Unit {0}
+AnswerIs shelf (Some (Made actors)) text status = Unit {0}
+
+answer_is : (shelf : Shown) (words : List (List ℕ)) (text : List ℕ) (status : Status) → Answers shelf words text status → AnswerIs shelf (asked_by words) text status
+answer_is shelf words text status (says_ok name e h is ends) = subst (λ (o : Option Asked). AnswerIs shelf o text status) (sym e) (is, ends)
+answer_is shelf words text status (says_tree name wiring e h is ends) = subst (λ (o : Option Asked). AnswerIs shelf o text status) (sym e) (wiring, h, is, ends)
+answer_is shelf words text status (says_run files fuel plant lines j e h is ends) = subst (λ (o : Option Asked). AnswerIs shelf o text status) (sym e) tt
+answer_is shelf words text status (says_made actors plant lines j e h is ends) = subst (λ (o : Option Asked). AnswerIs shelf o text status) (sym e) tt
+
+same_answer : (before after : Shown) (o : Option Asked) (text other : List ℕ) (status also : Status) → IsOfModel o → AreRead before after o
+    → AnswerIs before o text status → AnswerIs before o other also → (text ≡ other) × (status ≡ also)
+same_answer before after None text other status also model read h k = absurd model
+same_answer before after (Some (Check name)) text other status also model read h k = (h.0 ∙ sym k.0, h.1 ∙ sym k.1)
+same_answer before after (Some (Tree name)) text other status also model read h k =
+    let a = told_text before name read.text (λ t. IsSound t h.0) read.told h.1 in
+    let b = told_text before name read.text (λ t. IsSound t k.0) read.told k.1 in
+    (h.2 ∙ ap tree_text (one_sound_wiring read.text h.0 k.0 a b) ∙ sym k.2, h.3 ∙ sym k.3)
+same_answer before after (Some (Run files fuel)) text other status also model read h k = absurd model
+same_answer before after (Some (Made actors)) text other status also model read h k = absurd model
+
 pub calls_have_one_answer : CallsHaveOneAnswer
 calls_have_one_answer before after words read = record {
   refused_once = λ why other h k. once_of before after (asked_by words) why other read (causes_of before after words why h) (causes_of before after words other k);
   answered = λ why text status h k.
       memory_of before after (asked_by words) why (accepted_of before after words text status read k) read (causes_of before after words why h);
+  answered_once = λ model text other status also h k.
+      same_answer before after (asked_by words) text other status also model read (answer_is before words text status h) (answer_is before words other also k);
 }
 
 -- ---- how accepted calls end
@@ -404,8 +434,8 @@ answer_ends shelf words text status (says_run files fuel plant lines j e h is en
 answer_ends shelf words text status (says_made actors plant lines j e h is ends) = run_ends j.done status ends
 
 pub accepted_calls_end : AcceptedCallsEnd
-accepted_calls_end before after words streams status accepted read none (whole text h out notes) = answer_ends before words text status h
-accepted_calls_end before after words streams status accepted read none (cut_short text wanted h is breaks notes) = absurd (none.out breaks.place.fault)
-accepted_calls_end before after words streams status accepted read none (refused why h is out notes) =
-    inr (inr (is ∙ memory_of before after (asked_by words) why accepted read (causes_of before after words why h)))
-accepted_calls_end before after words streams status accepted read none (refused_unheard why h is out breaks) = absurd (none.notes breaks.place.fault)
+accepted_calls_end before after words streams status taken read none (whole text h out notes) = answer_ends before words text status h
+accepted_calls_end before after words streams status taken read none (cut_short text wanted h is breaks notes) = absurd (none.out breaks.place.fault)
+accepted_calls_end before after words streams status taken read none (refused why h is out notes) =
+    inr (inr (is ∙ memory_of before after (asked_by words) why taken read (causes_of before after words why h)))
+accepted_calls_end before after words streams status taken read none (refused_unheard why h is out breaks) = absurd (none.notes breaks.place.fault)

@@ -4,6 +4,7 @@ use Rattle.room_outside.specs.Shown.{Shown}
 use Rattle.room_outside.specs.Written.{Written}
 use Rattle.room_outside.proofs.SinkLemmas.{Appends-none}
 use Rattle.journal.specs.Text.{text_of}
+use Rattle.inject_reader.specs.Fitting.{FitLines}
 use Rattle.inject_reader.specs.declared.inject_lines.accepted.Line.{Line}
 use Rattle.controller_actors.specs.declared.plant.Plant.{Plant}
 use Rattle.journal.specs.declared.entry.Journals.{Journals}
@@ -16,7 +17,8 @@ use Rattle.world_agreement.specs.Settled.{LivesAgree}
 use Rattle.run_texts.specs.Texts.{TextTells}
 use Rattle.room_run.proofs.settled.Fitting.{settles_of}
 use Rattle.room_run.proofs.settled.Runs.{runs_agree}
-use Rattle.room_run.proofs.settled.Told.{text_tells}
+use Rattle.run_texts.specs.Fetches.{FetchesFit}
+use Rattle.room_run.proofs.settled.Told.{text_tells, model_fetches_fit}
 use Rattle.made_model.specs.Summaries.{summary_text}
 use Rattle.made_model.specs.declared.summary.Summary.{Summary}
 use Rattle.room_run.specs.Words.{Files, Made, asked_by, usual_fuel}
@@ -51,13 +53,13 @@ agreed_of (Some text) None p lines fuel j h k run = tt
 agreed_of (Some text) (Some injected) p lines fuel j h k run = λ done.
     runs_agree h.is.tree p h.charts lines fuel j h.is.sound.keeps h.is.sound.wired.wired h.is.sound.wired.flawless h.is.sound.faultless h.tables k.fit run done
 
--- the text of its journals tells it
-determined_of : (model injections : Option (List ℕ)) (p : Plant) (lines : List Line) (fuel : ℕ) (j : Journals)
-    → IfSome model (λ text. IsModel text p) → IfSome injections (λ text. IsInjections p.wiring text lines) → IsRun p lines fuel j
-    → IfSome model (λ text. IfSome injections (λ injected. TextTells p lines j))
-determined_of None injections p lines fuel j h k run = tt
-determined_of (Some text) None p lines fuel j h k run = tt
-determined_of (Some text) (Some injected) p lines fuel j h k run = text_tells text p lines fuel j h k.fit run
+-- what is said of a run of a model over injections, where both texts are told
+of_texts : (model injections : Option (List ℕ)) (p : Plant) (lines : List Line) (P : Type 0)
+    → IfSome model (λ text. IsModel text p) → IfSome injections (λ text. IsInjections p.wiring text lines)
+    → ((text : List ℕ) → IsModel text p → FitLines p.wiring lines → P) → IfSome model (λ text. IfSome injections (λ injected. P))
+of_texts None injections p lines P h k make = tt
+of_texts (Some text) None p lines P h k make = tt
+of_texts (Some text) (Some injected) p lines P h k make = make text h k.fit
 
 -- what a run of a plant is of the texts that it comes from
 pub run_of : (shelf : Shown) (files : Files) (fuel : ℕ) (p : Plant) (lines : List Line) (j : Journals) → AreOf shelf files p lines → IsRun p lines fuel j → IsRunOfFiles shelf files fuel p lines j
@@ -67,7 +69,10 @@ run_of shelf files fuel p lines j texts run = record {
   promises = promises p lines fuel j run;
   by_charts = is_by_charts shelf files p lines fuel j texts run;
   agreed = agreed_of (shelf.text files.model) (shelf.text files.injections) p lines fuel j texts.model_accepted texts.lines_accepted run;
-  determined = determined_of (shelf.text files.model) (shelf.text files.injections) p lines fuel j texts.model_accepted texts.lines_accepted run;
+  fetches = of_texts (shelf.text files.model) (shelf.text files.injections) p lines (FetchesFit p j) texts.model_accepted texts.lines_accepted
+      (λ text model fit. model_fetches_fit text p lines fuel j model fit run);
+  determined = of_texts (shelf.text files.model) (shelf.text files.injections) p lines (TextTells p lines j) texts.model_accepted texts.lines_accepted
+      (λ text model fit. text_tells text p lines fuel j model fit run);
   settled = settles_of (shelf.text files.model) (shelf.text files.injections) p lines fuel j texts.model_accepted texts.lines_accepted run;
 }
 

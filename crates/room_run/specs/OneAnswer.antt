@@ -45,11 +45,22 @@ IsSyntax why = (line : ℕ) × (why ≡ refusals.Model (faults.Syntax line))
 abbrev pub SameRefusal : Refusal → Refusal → Type 0
 SameRefusal why other = (why ≡ other) ⊎ (IsSyntax why × IsSyntax other)
 
--- besides want of memory at most one refusal holds of these words, and none where they have an answer
+-- the words ask about a model and for no run
+abbrev pub IsOfModel : Option Asked → Type 0
+IsOfModel None = ⊥
+IsOfModel (Some (Check name)) = Unit {0}
+IsOfModel (Some (Tree name)) = Unit {0}
+IsOfModel (Some (Run files fuel)) = ⊥
+IsOfModel (Some (Made actors)) = ⊥
+
+-- besides want of memory at most one refusal holds of these words, and none where they have an answer; and `check` and
+-- `tree` have one answer, with one text
 pub record HasOneAnswer (before after : Shown) (words : List (List ℕ)) : Type 0 where
   pub refused_once : (why other : Refusal) → Causes before after words why → Causes before after words other
       → IsMemory why ⊎ (IsMemory other ⊎ SameRefusal why other)
   pub answered : (why : Refusal) (text : List ℕ) (status : Status) → Causes before after words why → Answers before words text status → IsMemory why
+  pub answered_once : IsOfModel (asked_by words) → (text other : List ℕ) (status also : Status) → Answers before words text status
+      → Answers before words other also → (text ≡ other) × (status ≡ also)
 
 -- over every shelf that tells the texts that the words name, where no read of them failed
 abbrev pub CallsHaveOneAnswer : Type 0

@@ -128,7 +128,7 @@ module _ (plant : Plant) (lines : List Asked) (fuel : ℕ) (j : Journals) (run :
   all_happened party = run_events plan party run.lawful.run.merge (start plan) run.lawful.run.end run.lawful.run.run
 
   -- who is told as a message's sender is a party
-  is_party : (party : ℕ) (m : Msg) → Contains (fetched (journal_of j party)) m → m.from.0 ≤ n
+  pub is_party : (party : ℕ) (m : Msg) → Contains (fetched (journal_of j party)) m → m.from.0 ≤ n
   is_party party m h = go (cases_order m.from.0 n)
     where
       was_posted : Contains (posted (journal_of j m.from.0)) m

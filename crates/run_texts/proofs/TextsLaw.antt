@@ -1,6 +1,9 @@
--- The text of each run tells it.
+-- The text of each run tells it, and what it fetches fits.
 use Rattle.chart_behaviour.proofs.Charts.{asks_only}
 use Rattle.run_texts.specs.Texts.{is_ranked, TextsTellRuns}
+use Rattle.run_texts.specs.Fetches.{RunsFetchWhatFits}
+use Rattle.run_promises.proofs.PromisesLaw.{promises}
+use Rattle.run_texts.proofs.Party.{is_party}
 use Rattle.run_texts.proofs.Priorities.{at_six}
 use Rattle.run_texts.proofs.SameRuns.{one_journal}
 
@@ -9,3 +12,10 @@ texts_tell plant lines consistent named classes fit fuel j run other_fuel other 
     let asks = asks_only plant.wiring plant.tables.items is_ranked classes in
     one_journal plant lines other_fuel fuel other j other_run run consistent named
     (at_six plant lines other_fuel other other_run asks fit) (at_six plant lines fuel j run asks fit) one_text
+
+pub fetches_fit : RunsFetchWhatFits
+fetches_fit plant lines classes fit fuel j run c m h = record {
+  from = is_party plant lines fuel j run c m h;
+  to = ((promises plant lines fuel j run).mail.fetched_was_posted c m h).0;
+  priority = at_six plant lines fuel j run (asks_only plant.wiring plant.tables.items is_ranked classes) fit c m h;
+}

@@ -4,6 +4,7 @@
 #![tactic(auto)]
 
 ghost use Rattle.run_texts.specs.Events.{EventsTellRuns};
+ghost use Rattle.run_texts.specs.Fetches.{RunsFetchWhatFits};
 ghost use Rattle.run_texts.specs.Texts.{TextsTellRuns};
 
 /// A run of the world is told by which events each party does, in its own order: where they are the same
@@ -16,4 +17,10 @@ pub fn events_tell_runs<B>()
 /// whose names tell things apart.
 pub fn texts_tell_runs()
     ensures { TextsTellRuns }
+{}
+
+/// What the controllers of a run fetch comes from a party, to the controller that fetches it, at one of the
+/// six priorities.
+pub fn runs_fetch_what_fits()
+    ensures { RunsFetchWhatFits }
 {}

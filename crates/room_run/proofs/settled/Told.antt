@@ -17,7 +17,8 @@ use Rattle.chart_behaviour.specs.Asked.{ClassesAsk}
 use Rattle.controller_actors.specs.declared.plant.Plant.{Plant}
 use Rattle.model_run.specs.run_ends.Runs.{IsRun}
 use Rattle.run_texts.specs.Texts.{is_ranked, TextTells}
-use Rattle.run_texts.proofs.TextsLaw.{texts_tell}
+use Rattle.run_texts.specs.Fetches.{FetchesFit}
+use Rattle.run_texts.proofs.TextsLaw.{texts_tell, fetches_fit}
 use Rattle.settled_models.specs.Open.{is_worded}
 use Rattle.settled_models.proofs.Weaker.{tables_weaker}
 use Rattle.settled_models.proofs.Models.{models_worded}
@@ -39,15 +40,22 @@ worded_ranked commands.RecallAll h = refl
 worded_ranked (commands.Frame c) h = refl
 worded_ranked (commands.Name c) h = refl
 
+-- the programs of a model send at the six priorities
+classes_ranked : (text : List ℕ) (plant : Plant) → IsModel text plant → ClassesAsk is_ranked plant.tables.items
+classes_ranked text plant model k v e =
+    let shown = all_compiled plant.tables.items model.charts model.tables k v e in
+    tables_weaker is_worded is_ranked worded_ranked v (models_worded model.is.tree model.charts model.is.sound.faultless k shown.0 v shown.1 shown.2)
+
 pub text_tells : (text : List ℕ) (plant : Plant) (lines : List Line) (fuel : ℕ) (j : Journals) → IsModel text plant → FitLines plant.wiring lines → IsRun plant lines fuel j
     → TextTells plant lines j
 text_tells text plant lines fuel j model fit run =
     let tree = model.is.tree in
     let sound = model.is.sound in
-    let classes : ClassesAsk is_ranked plant.tables.items =
-    λ k v e.
-    let shown = all_compiled plant.tables.items model.charts model.tables k v e in
-    tables_weaker is_worded is_ranked worded_ranked v (models_worded tree model.charts sound.faultless k shown.0 v shown.1 shown.2) in
     texts_tell plant lines (wiring_consistent tree plant.wiring sound.wired.wired sound.keeps sound.wired.flawless)
     (sound_well_named tree plant.wiring model.charts sound.keeps (names_of text tree model.is.read) sound.faultless sound.wired.wired)
-    classes fit fuel j run
+    (classes_ranked text plant model) fit fuel j run
+
+-- what a run of a model fetches fits
+pub model_fetches_fit : (text : List ℕ) (plant : Plant) (lines : List Line) (fuel : ℕ) (j : Journals) → IsModel text plant → FitLines plant.wiring lines → IsRun plant lines fuel j
+    → FetchesFit plant j
+model_fetches_fit text plant lines fuel j model fit run = fetches_fit plant lines (classes_ranked text plant model) fit fuel j run
