@@ -12,8 +12,7 @@ ghost use Rattle.room_run.specs.Outcome.{Answers, answer_status, answer_text};
 ghost use Rattle.room_run.specs.Finished.{Finishes};
 
 use crate::asked::{Asked, Files, asked_by};
-use crate::judge;
-use crate::judge::read_plant;
+use crate::judge::{read_plant, sound_model};
 use crate::made::run_made;
 use crate::refusal::Refusal;
 use controller::Plant;
@@ -73,8 +72,8 @@ fn read_wiring<S: Shelf>(alloc: Global, shelf: &mut S, name: &str) -> Result<Wir
         Ok(text) => text,
         Err(why) => return Err(why),
     };
-    match judge::read_wiring(alloc, text.as_slice()) {
-        Ok(wiring) => Ok(wiring),
+    match sound_model(alloc, text.as_slice()) {
+        Ok(sound) => Ok(sound.wiring),
         Err(fault) => Err(Refusal::Model(fault)),
     }
 }
