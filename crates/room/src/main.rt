@@ -1,11 +1,8 @@
 //! The program `room`: runs models of real-time actors and prints their journals.
 #![tactic(auto)]
 
-mod stack;
-
-use crate::stack::{LEAST, stack_for};
 use room_outside::{FileShelf, OpenGate, OutSink, read_whole, write_whole};
-use room_run::{Status, room_top};
+use room_run::{LEAST_STACK, Status, room_top, stack_for};
 use std::process::ExitCode;
 use std::rt::Env;
 use std::thread::{Builder, Threads};
@@ -45,11 +42,11 @@ fn model_file(words: &[String]) -> Option<&str> {
 /// How large a stack the work takes that words ask for.
 fn stack_of_words(rt: HostRuntime, words: &[String]) -> usize {
     let Some(name) = model_file(words) else {
-        return LEAST;
+        return LEAST_STACK;
     };
     match read_whole(rt.alloc(), &mut FileShelf::new(rt), name) {
         Ok(text) => stack_for(&text),
-        Err(_) => LEAST,
+        Err(_) => LEAST_STACK,
     }
 }
 

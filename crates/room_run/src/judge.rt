@@ -8,7 +8,7 @@ ghost use Rattle.chart_reading.specs.chart_graphs.Views.{chart_view};
 ghost use Rattle.chart_reader.specs.model_charts.Charts.{AreValid, HasCharts};
 ghost use Rattle.controller_actors.specs.Plants.{IsPlant};
 ghost use Rattle.fitting_plants.specs.Plants.{PlantFits};
-ghost use Rattle.room_run.specs.Models.{IsGoodWiring, IsModel, IsSoundText, IsSoundTree, SoundCauses};
+ghost use Rattle.room_run.specs.Models.{IsGoodWiring, IsModel, IsSound, IsSoundText, IsSoundTree, SoundCauses};
 ghost use Rattle.room_run.specs.Reading.{ChartCauses, HasItsTokens, HasItsTree, IsCheckedFor, TreeCauses, fault_of};
 
 use crate::model_fault::ModelFault;
@@ -150,6 +150,18 @@ pub(crate) fn sound_model(alloc: Global, text: &[u8]) -> Result<SoundModel, Mode
     };
     match judge_tree(alloc, &tree) {
         Ok(sound) => Ok(sound),
+        Err(why) => Err(why),
+    }
+}
+
+/// The wiring of the model of a text, where it keeps all rules and its wiring and charts have no fault.
+pub fn read_wiring(alloc: Global, text: &[u8]) -> Result<Wiring, ModelFault>
+    requires { length text.now ≤ 1048576 }
+    ensures ok { IfOk result (λ w. IsSound text.now w) }
+    ensures err { IfErr result (λ why. SoundCauses text.now why) }
+{
+    match sound_model(alloc, text) {
+        Ok(sound) => Ok(sound.wiring),
         Err(why) => Err(why),
     }
 }

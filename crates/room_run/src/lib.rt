@@ -14,14 +14,16 @@ pub mod model_plants;
 mod note;
 mod prepare;
 mod refusal;
+mod stack;
 mod status;
 mod top;
 
 pub use answers::{accepted_calls_end, one_answer};
-pub use judge::read_plant;
+pub use judge::{read_plant, read_wiring};
 pub use model_fault::ModelFault;
 pub use model_plants::plant_of;
 pub use model_run::{run_local, run_model};
 pub use refusal::Refusal;
+pub use stack::{LEAST_STACK, stack_for};
 pub use status::Status;
 pub use top::room_top;

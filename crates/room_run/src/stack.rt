@@ -2,7 +2,7 @@
 ghost use Rattle.std.specs.Prelude.{◌≡◌, ◌+◌, ◌*◌, ◌==◌, min, count_by};
 
 /// The stack of a text without braces.
-pub const LEAST: usize = 8 << 20;
+pub const LEAST_STACK: usize = 8 << 20;
 
 /// What a brace adds. Reading a model, checking it and letting go of its tree call themselves as deep
 /// as its graphs and mappings nest, and nothing else does so without a limit of its own. A graph in a
@@ -16,8 +16,8 @@ const MOST_BRACES: usize = 131_072;
 /// How large a stack the work on the text of a model takes at most. It is so many addresses: a page of
 /// it takes memory once it is used.
 pub fn stack_for(text: &[u8]) -> usize
-    ensures { result ≡ LEAST + min (count_by (λ b. b == 123) text.now) MOST_BRACES * FOR_A_BRACE }
+    ensures { result ≡ LEAST_STACK + min (count_by (λ b. b == 123) text.now) MOST_BRACES * FOR_A_BRACE }
 {
     let braces = text.iter().filter(|b| **b == b'{').count();
-    LEAST + braces.min(MOST_BRACES) * FOR_A_BRACE
+    LEAST_STACK + braces.min(MOST_BRACES) * FOR_A_BRACE
 }

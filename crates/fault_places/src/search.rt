@@ -1,0 +1,289 @@
+//! The parts of a text whose absence mends a fault.
+use crate::draft::Draft;
+use crate::items::{Item, parts_of, tokens_of};
+use room_lexer::{Token, TokenKind, Word};
+use std::alloc::{AllocError, Global};
+
+/// The most causes that are told.
+const MOST_CAUSES: usize = 12;
+
+/// How deep parts stand in parts at most, where they are looked for.
+const MOST_DEEP: usize = 40;
+
+/// A list of parts is halved so often at most.
+const MOST_HALVES: u32 = 24;
+
+/// How many bytes are read in the trials of a search, of which there are at least so few, and at most so many.
+const MOST_READ: usize = 96 << 20;
+
+const LEAST_TRIES: usize = 60;
+
+const MOST_TRIES: usize = 1_500;
+
+/// What a search found.
+#[derive(Debug, Drop)]
+pub struct Causes {
+    /// The causes, in the order of the text: parts whose absence mends the fault, alone or together.
+    pub items: Vec<Item>,
+    /// Whether the search ended before all was tried.
+    pub is_cut: bool,
+}
+
+/// Who knows whether a text has a fault.
+pub trait Judge {
+    /// Whether the fault is gone from a text, and none before it has come.
+    fn is_mended(&self, text: &[u8]) -> Result<bool, AllocError>;
+}
+
+/// A search for the causes of a fault.
+#[derive(Drop)]
+struct Search<'a, J: Judge> {
+    alloc: Global,
+    judge: &'a J,
+    draft: Draft<'a>,
+    tries: usize,
+    found: Vec<Item>,
+}
+
+impl<'a, J: Judge> Search<'a, J> {
+    /// Whether the fault is gone from the draft, and none before it has come.
+    fn is_mended(&mut self) -> Result<bool, AllocError> {
+        if self.tries == 0 {
+            return Ok(false);
+        }
+        self.tries -= 1;
+        self.judge.is_mended(self.draft.bytes())
+    }
+
+    /// Whether the fault is gone where these parts are.
+    fn is_mended_without(&mut self, items: &[Item]) -> Result<bool, AllocError> {
+        self.draft.blank_all(items);
+        let mended = self.is_mended()?;
+        self.draft.restore_all(items);
+        Ok(mended)
+    }
+
+    /// Looks for causes among parts of which it isn't known whether their absence mends the fault.
+    fn seek(&mut self, items: &[Item], halves: u32) -> Result<(), AllocError> {
+        if halves == 0 || items.is_empty() || self.found.len() >= MOST_CAUSES {
+            return Ok(());
+        }
+        if self.is_mended_without(items)? {
+            return self.seek_causes(items, halves);
+        }
+        if items.len() > 1 {
+            let (left, right) = items.split_at(items.len() / 2);
+            self.seek(left, halves - 1)?;
+            self.seek(right, halves - 1)?;
+        }
+        Ok(())
+    }
+
+    /// Looks for the causes among parts whose absence mends the fault.
+    fn seek_causes(&mut self, items: &[Item], halves: u32) -> Result<(), AllocError> {
+        if halves == 0 || self.found.len() >= MOST_CAUSES {
+            return Ok(());
+        }
+        if let [only] = items {
+            return Ok(self.found.push(*only)?);
+        }
+        let (left, right) = items.split_at(items.len() / 2);
+        let by_left = self.is_mended_without(left)?;
+        let by_right = self.is_mended_without(right)?;
+        if by_left || by_right {
+            if by_left {
+                self.seek_causes(left, halves - 1)?;
+            }
+            if by_right {
+                self.seek_causes(right, halves - 1)?;
+            }
+            return Ok(());
+        }
+        self.draft.blank_all(right);
+        self.seek_causes(left, halves - 1)?;
+        self.draft.restore_all(right);
+        self.draft.blank_all(left);
+        self.seek_causes(right, halves - 1)?;
+        self.draft.restore_all(left);
+        Ok(())
+    }
+
+    /// The causes among these parts.
+    fn causes_among(&mut self, items: &[Item]) -> Result<Vec<Item>, AllocError> {
+        self.found = Vec::new(self.alloc);
+        self.seek(items, MOST_HALVES)?;
+        let none = Vec::new(self.alloc);
+        Ok(std::mem::replace(&mut self.found, none))
+    }
+
+    /// The parts inside parts.
+    fn parts(&self, items: &[Item]) -> Result<Vec<Item>, AllocError> {
+        let mut all = Vec::new(self.alloc);
+        for item in items {
+            all.append(&mut parts_of(self.alloc, self.draft.tokens(), *item)?)?;
+        }
+        Ok(all)
+    }
+
+    /// The causes on the first level, from some parts inwards, on which there are any.
+    fn outermost(&mut self, items: Vec<Item>) -> Result<Vec<Item>, AllocError> {
+        let mut level = items;
+        for _deep in 0..MOST_DEEP {
+            let found = self.causes_among(level.as_slice())?;
+            if !found.is_empty() {
+                return Ok(found);
+            }
+            level = self.parts(level.as_slice())?;
+            if level.is_empty() {
+                break;
+            }
+        }
+        Ok(Vec::new(self.alloc))
+    }
+
+    /// The causes inside a cause, or it itself where none of its parts is one. Where the fault stands without the
+    /// other causes too, these are away meanwhile.
+    fn inside(&mut self, cause: Item, others: &[Item]) -> Result<Vec<Item>, AllocError> {
+        let parts = parts_of(self.alloc, self.draft.tokens(), cause)?;
+        self.draft.blank_all(others);
+        let apart = !self.is_mended()?;
+        if !apart {
+            self.draft.restore_all(others);
+        }
+        let mut found = self.causes_among(parts.as_slice())?;
+        if apart {
+            self.draft.restore_all(others);
+        }
+        if found.is_empty() {
+            found.push(cause)?;
+        }
+        Ok(found)
+    }
+
+    /// The causes inside causes.
+    fn all_inside(&mut self, causes: &[Item]) -> Result<Vec<Item>, AllocError> {
+        let mut all = Vec::new(self.alloc);
+        for cause in causes {
+            let mut others = Vec::new(self.alloc);
+            for other in causes {
+                if other != cause {
+                    others.push(*other)?;
+                }
+            }
+            all.append(&mut self.inside(*cause, others.as_slice())?)?;
+        }
+        Ok(all)
+    }
+}
+
+/// The class of this name among the parts of a model.
+fn class_named(
+    alloc: Global,
+    tokens: &[Token],
+    text: &[u8],
+    items: &[Item],
+    name: &[u8],
+) -> Result<Vec<Item>, AllocError> {
+    let mut found = Vec::new(alloc);
+    for item in items {
+        if declares_class(tokens, text, *item, name) {
+            found.push(*item)?;
+        }
+    }
+    Ok(found)
+}
+
+/// Whether a part is the actor class of this name.
+fn declares_class(tokens: &[Token], text: &[u8], item: Item, name: &[u8]) -> bool {
+    let mut is_class = false;
+    for token in tokens_of(tokens, item) {
+        if is_class {
+            return text.get(token.start..token.end) == Some(name);
+        }
+        is_class = token.kind == TokenKind::Ident(Some(Word::ActorClass));
+    }
+    false
+}
+
+/// Whether a part says which actors the system begins with: without them most faults are gone, and so it is looked
+/// into last.
+fn begins_system(tokens: &[Token], item: Item) -> bool {
+    match tokens_of(tokens, item) {
+        [first, ..] => matches!(
+            first.kind,
+            TokenKind::Ident(Some(Word::LogicalSystem | Word::SubSystemClass))
+        ),
+        [] => false,
+    }
+}
+
+/// Those of some parts that don't say which actors the system begins with.
+fn without_system(
+    alloc: Global,
+    tokens: &[Token],
+    items: &[Item],
+) -> Result<Vec<Item>, AllocError> {
+    let mut others = Vec::new(alloc);
+    for item in items {
+        if !begins_system(tokens, *item) {
+            others.push(*item)?;
+        }
+    }
+    Ok(others)
+}
+
+/// The parts among which the causes of a fault are looked for: those of a model, or the class of this name.
+fn suspects(
+    alloc: Global,
+    text: &[u8],
+    tokens: &[Token],
+    class: Option<&[u8]>,
+) -> Result<Vec<Item>, AllocError> {
+    let whole = Item {
+        first: 0,
+        end: tokens.len(),
+    };
+    let classes = parts_of(alloc, tokens, whole)?;
+    match class {
+        Some(name) => class_named(alloc, tokens, text, classes.as_slice(), name),
+        None => Ok(classes),
+    }
+}
+
+/// The causes of a fault of a model whose text has these tokens; of one of an actor class, those in the class of this
+/// name.
+pub fn find_causes<J: Judge>(
+    alloc: Global,
+    text: &[u8],
+    tokens: &[Token],
+    class: Option<&[u8]>,
+    judge: &J,
+) -> Result<Causes, AllocError> {
+    let tries = (MOST_READ / text.len().max(1)).clamp(LEAST_TRIES, MOST_TRIES);
+    let mut search = Search {
+        alloc,
+        judge,
+        draft: Draft::of(alloc, text, tokens)?,
+        tries,
+        found: Vec::new(alloc),
+    };
+    let list = suspects(alloc, text, tokens, class)?;
+    let others = without_system(alloc, tokens, list.as_slice())?;
+    let mut found = search.outermost(others)?;
+    if found.is_empty() {
+        search.tries = tries;
+        found = search.outermost(list)?;
+    }
+    for _deep in 0..MOST_DEEP {
+        let inner = search.all_inside(found.as_slice())?;
+        let is_same = inner.as_slice() == found.as_slice();
+        found = inner;
+        if is_same {
+            break;
+        }
+    }
+    Ok(Causes {
+        items: found,
+        is_cut: search.tries == 0,
+    })
+}

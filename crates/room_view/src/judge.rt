@@ -1,0 +1,52 @@
+//! Whether a fault is gone from a text.
+use fault_places::Judge;
+use room_outside::MAX_TEXT;
+use room_run::{ModelFault, read_wiring};
+use std::alloc::{AllocError, Global};
+
+/// Where in the order of the faults a fault stands, and which of its kind it is.
+fn rank(fault: &ModelFault) -> (u8, u8) {
+    match fault {
+        ModelFault::Memory => (0, 0),
+        ModelFault::Byte(_) => (1, 0),
+        ModelFault::Syntax { .. } => (2, 0),
+        ModelFault::Rule(number) => (3, *number),
+        ModelFault::Wiring(number) => (4, *number),
+        ModelFault::Chart { number, .. } => (5, *number),
+    }
+}
+
+/// Whether a fault is told only of a model that doesn't have the other one.
+fn comes_after(fault: &ModelFault, other: &ModelFault) -> bool {
+    let (kind, number) = rank(fault);
+    let (other_kind, other_number) = rank(other);
+    if kind != other_kind {
+        return kind > other_kind;
+    }
+    match (fault, other) {
+        (ModelFault::Chart { class, .. }, ModelFault::Chart { class: before, .. }) => {
+            number > other_number || !class.is(before.as_bytes())
+        }
+        _ => number > other_number,
+    }
+}
+
+/// Who knows whether a text has a fault of a model.
+#[derive(Clone, Copy)]
+pub(crate) struct FaultOf<'a> {
+    pub alloc: Global,
+    pub fault: &'a ModelFault,
+}
+
+impl<'a> Judge for FaultOf<'a> {
+    fn is_mended(&self, text: &[u8]) -> Result<bool, AllocError> {
+        if text.len() as u64 > MAX_TEXT {
+            return Ok(false);
+        }
+        match read_wiring(self.alloc, text) {
+            Ok(_) => Ok(true),
+            Err(ModelFault::Memory) => Err(AllocError),
+            Err(other) => Ok(comes_after(&other, self.fault)),
+        }
+    }
+}

@@ -1,0 +1,249 @@
+//! Why a line of injections is refused, and what would be right there.
+use crate::page::{Named, Page};
+use crate::why::tell_meaning;
+use fault_places::line_meaning;
+use inject_reader::InjectFault;
+use room_kinds::{NumberType, PortKind, ReferenceKind, SlotId};
+use room_wiring::{ClassNames, PortNames, SignalNames, Wiring};
+use std::alloc::AllocError;
+
+/// The most names that are listed.
+const MOST_LISTED: usize = 30;
+
+/// The parts of a line: the path of a slot, the port with its place, and the signal.
+#[derive(Clone, Copy)]
+struct Parts<'a> {
+    path: &'a [u8],
+    port: &'a [u8],
+    signal: &'a [u8],
+}
+
+fn is_blank(byte: u8) -> bool {
+    byte == b' ' || byte == b'\t'
+}
+
+/// The fields of a line, of which blanks are the ends.
+fn field(line: &[u8], number: usize) -> &[u8] {
+    line.split(|byte| is_blank(*byte))
+        .filter(|field| !field.is_empty())
+        .nth(number)
+        .unwrap_or(&[])
+}
+
+fn parts_of(line: &[u8]) -> Parts<'_> {
+    let place = field(line, 0);
+    let (path, port) = match place.iter().rposition(|byte| *byte == b'.') {
+        Some(dot) => {
+            let (path, rest) = place.split_at(dot);
+            (path, rest.get(1..).unwrap_or(&[]))
+        }
+        None => (place, &[] as &[u8]),
+    };
+    let name = match port.iter().position(|byte| *byte == b'[') {
+        Some(bracket) => port.get(..bracket).unwrap_or(port),
+        None => port,
+    };
+    Parts {
+        path,
+        port: name,
+        signal: field(line, 1),
+    }
+}
+
+/// The bytes of a line of this number, from 1: the first, and the one behind the last.
+fn span_of(text: &[u8], number: u32) -> (usize, usize) {
+    let mut start = 0usize;
+    let mut left = number;
+    for line in text.split(|byte| *byte == b'\n') {
+        if left <= 1 {
+            return (start, start.saturating_add(line.len()));
+        }
+        left -= 1;
+        start = start.saturating_add(line.len()).saturating_add(1);
+    }
+    (text.len(), text.len())
+}
+
+/// The slot of a path.
+fn slot_of(wiring: &Wiring, path: &[u8]) -> Option<SlotId> {
+    match std::str::from_utf8(path) {
+        Ok(path) => wiring.find(path),
+        Err(_) => None,
+    }
+}
+
+/// Paths like this one: those of the slots whose path begins with its front up to the last `/`.
+fn tell_paths(page: &mut Page, wiring: &Wiring, path: &[u8]) -> Result<(), AllocError> {
+    let front = match path.iter().rposition(|byte| *byte == b'/') {
+        Some(slash) => path.get(..slash).unwrap_or(&[]),
+        None => &[],
+    };
+    page.put_line(b"paths of slots:")?;
+    let mut told = 0usize;
+    for number in 0..wiring.slot_count() {
+        let Some(slot) = wiring.get_slot(SlotId(number as u16)) else {
+            continue;
+        };
+        let here = slot.path.as_bytes();
+        let is_like = here.starts_with(front) && slot.kind != ReferenceKind::Imported;
+        if is_like && told < MOST_LISTED {
+            page.put(b"    ")?;
+            page.put_line(here)?;
+            told += 1;
+        }
+    }
+    Ok(())
+}
+
+fn type_name(number: NumberType) -> &'static [u8] {
+    match number {
+        NumberType::Int8 => b"int8",
+        NumberType::Int16 => b"int16",
+        NumberType::Int32 => b"int32",
+        NumberType::Uint8 => b"uint8",
+        NumberType::Uint16 => b"uint16",
+        NumberType::Uint32 => b"uint32",
+        NumberType::Boolean => b"boolean",
+        NumberType::Plain => b"number",
+    }
+}
+
+/// A signal with the types of its numbers.
+fn tell_signal(page: &mut Page, signal: &SignalNames) -> Result<(), AllocError> {
+    page.put(b"    ")?;
+    page.put(signal.name.as_bytes())?;
+    for number in signal.numbers.as_slice() {
+        page.put(b" ")?;
+        page.put(type_name(*number))?;
+    }
+    page.end_line()
+}
+
+/// The signals that come in at a port.
+fn incoming(port: &PortNames) -> &[SignalNames] {
+    if port.conjugated {
+        port.outgoing.as_slice()
+    } else {
+        port.incoming.as_slice()
+    }
+}
+
+fn is_end(port: &PortNames) -> bool {
+    matches!(port.kind, PortKind::End | PortKind::Internal)
+}
+
+/// How many places a port of a slot has; none where there is no such port.
+fn place_count(wiring: &Wiring, slot: SlotId, port: usize) -> u32 {
+    if u32::from(slot.0) >= wiring.slot_count() || port >= wiring.port_count(slot) {
+        return 0;
+    }
+    match u16::try_from(port) {
+        Ok(port) => wiring.places(slot, port),
+        Err(_) => 0,
+    }
+}
+
+/// The end ports of a class, with their places at a slot.
+fn tell_ports(
+    page: &mut Page,
+    wiring: &Wiring,
+    slot: SlotId,
+    class: &ClassNames,
+) -> Result<(), AllocError> {
+    page.put_line(b"end ports, with the number of their places:")?;
+    for (number, port) in class.ports.as_slice().iter().enumerate() {
+        if is_end(port) {
+            page.put(b"    ")?;
+            page.put(port.name.as_bytes())?;
+            page.put(b" ")?;
+            page.put_number(u64::from(place_count(wiring, slot, number)))?;
+            page.end_line()?;
+        }
+    }
+    if !class.ports.as_slice().iter().any(is_end) {
+        page.put_line(b"    none")?;
+    }
+    Ok(())
+}
+
+/// The signals that come in at the port of a class that has this name.
+fn tell_signals(page: &mut Page, class: &ClassNames, name: &[u8]) -> Result<(), AllocError> {
+    page.put_line(b"messages that come in there, with the types of their numbers:")?;
+    for port in class.ports.as_slice() {
+        if port.name.is(name) {
+            for signal in incoming(port) {
+                tell_signal(page, signal)?;
+            }
+        }
+    }
+    Ok(())
+}
+
+/// What would be right in place of the part that a code is about.
+fn tell_right(page: &mut Page, wiring: &Wiring, line: &[u8], code: u8) -> Result<(), AllocError> {
+    let parts = parts_of(line);
+    if code == 2 {
+        page.end_line()?;
+        return tell_paths(page, wiring, parts.path);
+    }
+    let Some(slot) = slot_of(wiring, parts.path) else {
+        return Ok(());
+    };
+    let Some(class) = wiring.class_of(slot) else {
+        return Ok(());
+    };
+    match code {
+        3 => {
+            page.end_line()?;
+            tell_ports(page, wiring, slot, class)
+        }
+        4 | 5 => {
+            page.end_line()?;
+            tell_signals(page, class, parts.port)
+        }
+        _ => Ok(()),
+    }
+}
+
+/// The bytes of the part of a line that a code is about, counted in the line.
+fn marked(line: &[u8], code: u8) -> (usize, usize) {
+    let lead = line.iter().position(|byte| !is_blank(*byte)).unwrap_or(0);
+    let parts = parts_of(line);
+    let path = lead.saturating_add(parts.path.len());
+    let place = lead.saturating_add(field(line, 0).len());
+    let behind = line.get(place..).unwrap_or(&[]);
+    let gap = behind.iter().position(|byte| !is_blank(*byte)).unwrap_or(0);
+    let signal = place.saturating_add(gap);
+    match code {
+        2 => (lead, path),
+        3 => (path.saturating_add(1), place),
+        4 => (signal, signal.saturating_add(parts.signal.len())),
+        5 => (signal, line.len()),
+        _ => (0, line.len()),
+    }
+}
+
+/// Tells why injections are refused.
+pub(crate) fn tell_lines(
+    page: &mut Page,
+    named: Named<'_>,
+    wiring: &Wiring,
+    fault: InjectFault,
+) -> Result<(), AllocError> {
+    let InjectFault::Code { line, code } = fault else {
+        return Err(AllocError);
+    };
+    page.put(named.name.as_bytes())?;
+    page.put(b" is refused: line ")?;
+    page.put_number(u64::from(line))?;
+    page.put(b", code ")?;
+    page.put_number(u64::from(code))?;
+    page.end_line()?;
+    tell_meaning(page, line_meaning(code))?;
+    page.end_line()?;
+    let (start, end) = span_of(named.text, line);
+    let bytes = named.text.get(start..end).unwrap_or(&[]);
+    let (from, to) = marked(bytes, code);
+    page.put_part(named, start.saturating_add(from), start.saturating_add(to))?;
+    tell_right(page, wiring, bytes, code)
+}

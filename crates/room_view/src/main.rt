@@ -1,0 +1,187 @@
+//! The program `room_view`: tells people why a text is refused, and where.
+//!
+//! `why MODEL [INJECT]` writes a page to standard output. The status is that of `room` for these files: 0 where
+//! nothing is refused, 1 where the words have another form, 2 where the model is refused, 3 where the injections
+//! are, 5 for want of memory, 6 where a file wasn't read, 7 where the page wasn't written.
+#![tactic(auto)]
+
+mod judge;
+mod lines;
+mod page;
+mod why;
+
+use crate::lines::tell_lines;
+use crate::page::{Named, Page};
+use crate::why::{tell_model, tell_refused};
+use inject_reader::read_injections;
+use room_outside::{FileShelf, OutSink, ReadRefused, read_whole, write_whole};
+use room_run::{LEAST_STACK, stack_for};
+use std::alloc::AllocError;
+use std::process::ExitCode;
+use std::rt::Env;
+use std::thread::Builder;
+use std::{env, io};
+
+/// How a call ended.
+#[derive(Clone, Copy)]
+enum Status {
+    Done,
+    WordsRefused,
+    ModelRefused,
+    InjectionsRefused,
+    Memory,
+    ReadFault,
+    WriteFault,
+}
+
+impl Status {
+    fn number(self) -> u8 {
+        match self {
+            Status::Done => 0,
+            Status::WordsRefused => 1,
+            Status::ModelRefused => 2,
+            Status::InjectionsRefused => 3,
+            Status::Memory => 5,
+            Status::ReadFault => 6,
+            Status::WriteFault => 7,
+        }
+    }
+}
+
+/// The files that words name: that of a model, and that of injections or none.
+#[derive(Clone, Copy)]
+struct Files<'a> {
+    model: &'a str,
+    injections: Option<&'a str>,
+}
+
+/// The words behind the program's name; none at all where one of them is no text.
+fn words_of<R: Env + AllocGlobal>(rt: &R) -> io::Result<Vec<String>> {
+    let mut words = match env::args(rt) {
+        Ok(words) => words,
+        Err(e) if e.kind() == io::ErrorKind::InvalidData => return Ok(Vec::new(rt.alloc())),
+        Err(e) => return Err(e),
+    };
+    let _ = words.next();
+    Ok(words.collect(rt.alloc())?)
+}
+
+fn files_of(words: &[String]) -> Option<Files<'_>> {
+    match words {
+        [command, model] if command.as_str() == "why" => Some(Files {
+            model: model.as_str(),
+            injections: None,
+        }),
+        [command, model, injections] if command.as_str() == "why" => Some(Files {
+            model: model.as_str(),
+            injections: Some(injections.as_str()),
+        }),
+        _ => None,
+    }
+}
+
+/// The text of a file, or what is told of it and the status.
+fn read(
+    rt: HostRuntime,
+    page: &mut Page,
+    name: &str,
+    long: Status,
+) -> Result<Result<Vec<u8>, Status>, AllocError> {
+    match read_whole(rt.alloc(), &mut FileShelf::new(rt), name) {
+        Ok(text) => Ok(Ok(text)),
+        Err(ReadRefused::Memory) => Err(AllocError),
+        Err(ReadRefused::ReadFault) => {
+            page.put(name.as_bytes())?;
+            page.put_line(b" was not read")?;
+            Ok(Err(Status::ReadFault))
+        }
+        Err(ReadRefused::TooLong) => {
+            let named = Named { name, text: &[] };
+            tell_refused(page, named, b"it has more than 1,048,576 bytes")?;
+            Ok(Err(long))
+        }
+    }
+}
+
+/// The page for files, and the status.
+fn tell(rt: HostRuntime, page: &mut Page, files: Files<'_>) -> Result<Status, AllocError> {
+    let alloc = rt.alloc();
+    let text = match read(rt, page, files.model, Status::ModelRefused)? {
+        Ok(text) => text,
+        Err(status) => return Ok(status),
+    };
+    let model = Named {
+        name: files.model,
+        text: text.as_slice(),
+    };
+    let Some(wiring) = tell_model(alloc, page, model)? else {
+        return Ok(Status::ModelRefused);
+    };
+    let Some(name) = files.injections else {
+        page.put_line(b"ok")?;
+        return Ok(Status::Done);
+    };
+    let lines = match read(rt, page, name, Status::InjectionsRefused)? {
+        Ok(lines) => lines,
+        Err(status) => return Ok(status),
+    };
+    let named = Named {
+        name,
+        text: lines.as_slice(),
+    };
+    match read_injections(alloc, named.text, &wiring) {
+        Ok(_) => {
+            page.put_line(b"ok")?;
+            Ok(Status::Done)
+        }
+        Err(fault) => {
+            tell_lines(page, named, &wiring, fault)?;
+            Ok(Status::InjectionsRefused)
+        }
+    }
+}
+
+/// Writes the page for words.
+fn work(rt: HostRuntime, words: &[String]) -> Status {
+    let mut notes = OutSink::errors(rt.stderr());
+    let Some(files) = files_of(words) else {
+        let _ = write_whole(
+            &mut notes,
+            b"room_view: words refused; why MODEL [INJECT]\n",
+        );
+        return Status::WordsRefused;
+    };
+    let mut page = Page::new(rt.alloc());
+    let Ok(status) = tell(rt, &mut page, files) else {
+        let _ = write_whole(&mut notes, b"room_view: memory\n");
+        return Status::Memory;
+    };
+    match write_whole(&mut OutSink::output(rt.stdout()), page.bytes()) {
+        Ok(()) => status,
+        Err(_) => Status::WriteFault,
+    }
+}
+
+/// How large a stack the work takes that words ask for.
+fn stack_of_words(rt: HostRuntime, words: &[String]) -> usize {
+    let Some(files) = files_of(words) else {
+        return LEAST_STACK;
+    };
+    match read_whole(rt.alloc(), &mut FileShelf::new(rt), files.model) {
+        Ok(text) => stack_for(&text),
+        Err(_) => LEAST_STACK,
+    }
+}
+
+/// Does the work on a thread of its own, whose stack the model's text can't exhaust.
+fn main(rt: HostRuntime) -> ExitCode {
+    let Ok(words) = words_of(&rt) else {
+        return ExitCode::from(Status::Memory.number());
+    };
+    let thread = Builder::new().stack_size(stack_of_words(rt, &words));
+    let status = match thread.spawn(&rt, move || work(rt, &words)) {
+        Ok(thread) => thread.join(&rt),
+        Err(_) => Status::Memory,
+    };
+    ExitCode::from(status.number())
+}

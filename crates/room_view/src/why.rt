@@ -1,0 +1,241 @@
+//! Why a text is refused, and where.
+use crate::judge::FaultOf;
+use crate::page::{Named, Page};
+use fault_places::{
+    Causes, Item, Meaning, Unread, chart_meaning, could_stand, find_causes, named_by, rule_meaning,
+    wiring_meaning,
+};
+use room_lexer::{LexFault, Mark, Token, TokenKind, lex};
+use room_outside::MAX_TEXT;
+use room_run::{ModelFault, read_wiring};
+use room_wiring::Wiring;
+use std::alloc::{AllocError, Global};
+
+/// What a fault is and how it is mended.
+pub(crate) fn tell_meaning(page: &mut Page, meaning: Meaning) -> Result<(), AllocError> {
+    page.put_line(meaning.fault.as_bytes())?;
+    page.put(b"cure: ")?;
+    page.put_line(meaning.cure.as_bytes())
+}
+
+pub(crate) fn tell_refused(page: &mut Page, named: Named<'_>, by: &[u8]) -> Result<(), AllocError> {
+    page.put(named.name.as_bytes())?;
+    page.put(b" is refused: ")?;
+    page.put_line(by)
+}
+
+/// A fault with a number.
+fn tell_numbered(
+    page: &mut Page,
+    named: Named<'_>,
+    what: &[u8],
+    number: u8,
+    meaning: Meaning,
+) -> Result<(), AllocError> {
+    page.put(named.name.as_bytes())?;
+    page.put(b" is refused: ")?;
+    page.put(what)?;
+    page.put_number(u64::from(number))?;
+    page.end_line()?;
+    tell_meaning(page, meaning)
+}
+
+/// A text that can't be cut into tokens.
+fn tell_bytes(page: &mut Page, named: Named<'_>, fault: LexFault) -> Result<(), AllocError> {
+    let (at, what, cure): (usize, &[u8], &[u8]) = match fault {
+        LexFault::BadByte(at) => (
+            at,
+            b"no token begins with this byte",
+            b"cure: take it away; a comment begins with // or /*",
+        ),
+        LexFault::OpenString(at) => (
+            at,
+            b"what is opened here isn't closed: a string ends on its line, a block with ''', documentation with ]",
+            b"cure: close it; a code of several lines has a string for each line",
+        ),
+        LexFault::OpenComment(at) => (
+            at,
+            b"this comment isn't closed",
+            b"cure: write */ at its end",
+        ),
+        LexFault::NumberTooLarge(at) => (
+            at,
+            b"this number is above 9223372036854775807",
+            b"cure: a smaller number",
+        ),
+        LexFault::Memory => return Err(AllocError),
+    };
+    tell_refused(page, named, b"a byte")?;
+    page.put_line(what)?;
+    page.put_line(cure)?;
+    page.end_line()?;
+    page.put_part(named, at, at.saturating_add(1))
+}
+
+/// What could have stood in a place.
+fn tell_could_stand(page: &mut Page, could_stand: &[&'static [u8]]) -> Result<(), AllocError> {
+    page.put(b"here could stand:")?;
+    for token in could_stand {
+        page.put(b" ")?;
+        page.put(token)?;
+    }
+    page.end_line()
+}
+
+/// A text whose tokens no model has.
+fn tell_syntax(
+    page: &mut Page,
+    named: Named<'_>,
+    tokens: &[Token],
+    unread: &Unread,
+) -> Result<(), AllocError> {
+    tell_refused(page, named, b"syntax")?;
+    page.put_line(b"no model goes on with what stands here")?;
+    tell_could_stand(page, unread.could_stand.as_slice())?;
+    page.end_line()?;
+    match tokens.get(unread.token) {
+        Some(token) => page.put_part(named, token.start, token.end),
+        None => {
+            page.put_line(b"at the end of the text, behind")?;
+            match tokens.last() {
+                Some(last) => page.put_part(named, last.start, last.end),
+                None => page.put_part(named, 0, 0),
+            }
+        }
+    }
+}
+
+/// The bytes of the head of a part: up to its first brace, or whole.
+fn head_of(tokens: &[Token], item: Item) -> (usize, usize) {
+    let inside = tokens.get(item.first..item.end).unwrap_or(&[]);
+    let [first, rest @ ..] = inside else {
+        return (0, 0);
+    };
+    let mut end = first.end;
+    for token in rest {
+        if token.kind == TokenKind::Mark(Mark::OpenBrace) {
+            break;
+        }
+        end = token.end;
+    }
+    (first.start, end)
+}
+
+fn tell_items(
+    page: &mut Page,
+    named: Named<'_>,
+    tokens: &[Token],
+    items: &[Item],
+) -> Result<(), AllocError> {
+    for item in items {
+        let (start, end) = head_of(tokens, *item);
+        page.put_part(named, start, end)?;
+    }
+    Ok(())
+}
+
+/// Where the causes of a fault stand, and what they name.
+fn tell_causes(
+    alloc: Global,
+    page: &mut Page,
+    named: Named<'_>,
+    tokens: &[Token],
+    found: &Causes,
+) -> Result<(), AllocError> {
+    page.end_line()?;
+    if found.items.is_empty() {
+        return page.put_line(b"no single part of the text is its cause");
+    }
+    tell_items(page, named, tokens, found.items.as_slice())?;
+    let declared = named_by(alloc, named.text, tokens, found.items.as_slice())?;
+    if !declared.is_empty() {
+        page.end_line()?;
+        page.put_line(b"what it names:")?;
+        tell_items(page, named, tokens, declared.as_slice())?;
+    }
+    Ok(())
+}
+
+/// What is told of a fault first: which it is, what it means, and its cure.
+fn tell_head(
+    alloc: Global,
+    page: &mut Page,
+    named: Named<'_>,
+    fault: &ModelFault,
+) -> Result<(), AllocError> {
+    match fault {
+        ModelFault::Rule(rule) => {
+            tell_numbered(page, named, b"rule ", *rule, rule_meaning(*rule))
+        }
+        ModelFault::Wiring(number) => {
+            tell_numbered(page, named, b"wiring ", *number, wiring_meaning(*number))
+        }
+        ModelFault::Chart { class, number } => {
+            let mut what = Vec::new(alloc);
+            what.extend_from_slice(b"chart ")?;
+            what.extend_from_slice(class.as_bytes())?;
+            what.push(b' ')?;
+            tell_numbered(
+                page,
+                named,
+                what.as_slice(),
+                *number,
+                chart_meaning(*number),
+            )
+        }
+        ModelFault::Byte(_) | ModelFault::Syntax { .. } | ModelFault::Memory => Ok(()),
+    }
+}
+
+/// The actor class that a fault is about, if it is about one.
+fn class_of(fault: &ModelFault) -> Option<&[u8]> {
+    match fault {
+        ModelFault::Chart { class, .. } => Some(class.as_bytes()),
+        _ => None,
+    }
+}
+
+/// A model that breaks a rule, or whose wiring or chart has a fault.
+fn tell_fault(
+    alloc: Global,
+    page: &mut Page,
+    named: Named<'_>,
+    tokens: &[Token],
+    fault: &ModelFault,
+) -> Result<(), AllocError> {
+    tell_head(alloc, page, named, fault)?;
+    let judge = FaultOf { alloc, fault };
+    let found = find_causes(alloc, named.text, tokens, class_of(fault), &judge)?;
+    tell_causes(alloc, page, named, tokens, &found)
+}
+
+/// Tells why the text of a model is refused; gives its wiring where it isn't.
+pub(crate) fn tell_model(
+    alloc: Global,
+    page: &mut Page,
+    named: Named<'_>,
+) -> Result<Option<Wiring>, AllocError> {
+    if named.text.len() as u64 > MAX_TEXT {
+        tell_refused(page, named, b"too long")?;
+        return Ok(None);
+    }
+    let tokens = match lex(alloc, named.text) {
+        Ok(tokens) => tokens,
+        Err(fault) => {
+            tell_bytes(page, named, fault)?;
+            return Ok(None);
+        }
+    };
+    if let Some(unread) = could_stand(alloc, named.text, tokens.as_slice())? {
+        tell_syntax(page, named, tokens.as_slice(), &unread)?;
+        return Ok(None);
+    }
+    match read_wiring(alloc, named.text) {
+        Ok(wiring) => Ok(Some(wiring)),
+        Err(ModelFault::Memory) => Err(AllocError),
+        Err(fault) => {
+            tell_fault(alloc, page, named, tokens.as_slice(), &fault)?;
+            Ok(None)
+        }
+    }
+}
