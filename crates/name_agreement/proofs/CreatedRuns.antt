@@ -110,7 +110,7 @@ pub record IsNamed {M : Type 0} (t : Tables) (w : World (Body M)) : Type 0 where
   pub tables : (c : ℕ) → TableIs t (WasCreated (last_at t w)) (w.controllers c).body.table
 
 -- every behaviour asks somehow
-ask_somehow : {M : Type 0} (model : Behaviour M) → AsksSo (λ x c. Unit {0}) model
+pub ask_somehow : {M : Type 0} (model : Behaviour M) → AsksSo (λ x c. Unit {0}) model
 ask_somehow model = record { begin = λ x. each (model.begin x).commands; handle = λ x machine m. each (model.handle x machine m).commands }
   where
     each : (cs : List Command) → AllAsk (λ (c : NameCommand). Unit {0}) cs

@@ -10,3 +10,4 @@ pub mod Ending
 pub mod RowTurns
 pub mod RowRuns
 pub mod Quiet
+pub mod Forms
