@@ -26,7 +26,7 @@ use Rattle.actor_world.proofs.LifeSteps.{down_parts}
 use Rattle.world_agreement.proofs.Lists.{all_append, all_map, all_filter, all_passed, all_reverse}
 use Rattle.world_agreement.proofs.Telling.{own_owner}
 use Rattle.name_agreement.specs.Created.{asker_by, asker, hearer_by, hearer, told_of_by, told_of}
-use Rattle.name_agreement.specs.Registrations.{is_reply, RepliesOne}
+use Rattle.name_agreement.specs.Registrations.{is_asking_kind, is_asking, is_reply, RepliesOne}
 use Rattle.name_agreement.proofs.Standing.{own_reply}
 use Rattle.name_agreement.proofs.OffNames.{is_name_kind, IsOffNames, AllOffNames}
 use Rattle.name_agreement.proofs.Naming.{LivesBy, stays, makes, ends, all_ended, IsNameWalk, IsOf, Turns, treats, hears, leads}
@@ -61,6 +61,17 @@ off_nobody m h = record { asks = one (m.prio.0 == 0) h; tells = two (m.prio.0 ==
     three : (a : Bool) → (a && is_name_kind (slice_get all_kinds m.signal)) ≡ false → (if a then told_of_by (slice_get all_kinds m.signal) m.source else None) ≡ None
     three true q = (none (slice_get all_kinds m.signal) q).2
     three false q = refl
+
+-- what isn't a Register or a Withdraw asks nobody
+pub asks_none : (m : Msg) → is_asking m ≡ false → asker m ≡ None
+asks_none m h = go (m.prio.0 == 0) (slice_get all_kinds m.signal) h
+  where
+    go : (a : Bool) (o : Option SysKind) → (a && is_asking_kind o) ≡ false → (if a then asker_by o m.source else None) ≡ None
+    go false o q = refl
+    go true None q = refl
+    go true (Some kinds.Register) q = absurd cc
+    go true (Some kinds.Withdraw) q = absurd cc
+    go true (Some kind) q = refl
 
 -- registrations and links send nothing on names
 module _ (t : Tables) (me : ℕ) where
@@ -129,7 +140,7 @@ module _ (t : Tables) (Q : Incarnation → Type 0) where
 
   -- what the table tells a point, which asks nobody
   abbrev IsTold : Msg → Type 0
-  IsTold m = IsSent 0 m × (asker m ≡ None) × RepliesOne m
+  IsTold m = IsSent 0 m × (is_asking m ≡ false) × RepliesOne m
 
   abbrev AllTold : List Msg → Type 0
   AllTold ms = AllByRecursion IsTold ms
@@ -138,7 +149,7 @@ module _ (t : Tables) (Q : Incarnation → Type 0) where
   all_told_sent [] h = tt
   all_told_sent (m ∷ ms) h = (h.0.0, all_told_sent ms h.1)
 
-  pub all_told_ask : (ms : List Msg) → AllTold ms → AllByRecursion (λ (m : Msg). asker m ≡ None) ms
+  pub all_told_ask : (ms : List Msg) → AllTold ms → AllByRecursion (λ (m : Msg). is_asking m ≡ false) ms
   all_told_ask [] h = tt
   all_told_ask (m ∷ ms) h = (h.0.1, all_told_ask ms h.1)
 
@@ -147,16 +158,16 @@ module _ (t : Tables) (Q : Incarnation → Type 0) where
   all_told_reply (m ∷ ms) h = (h.0.2, all_told_reply ms h.1)
 
   -- what the table tells a point of a peer
-  told_sent : (peer e : Endpoint) (m : Msg) → m.to.0 ≡ owner_of t e.slot.0 → asker m ≡ None → hearer m ≡ Some e → told_of m ≡ Some peer
+  told_sent : (peer e : Endpoint) (m : Msg) → m.to.0 ≡ owner_of t e.slot.0 → is_asking m ≡ false → hearer m ≡ Some e → told_of m ≡ Some peer
       → Q (whose peer) → Q (whose e) → RepliesOne m → IsTold m
-  told_sent peer e m to none tells of q r reply = (
+  told_sent peer e m to plain tells of q r reply = (
     record {
-      asks = λ x k. (let n : None ≡ Some x = sym none ∙ k in absurd cc);
+      asks = λ x k. (let n : None ≡ Some x = sym (asks_none m plain) ∙ k in absurd cc);
       tells = λ x k. (let n : Some e ≡ Some x = sym tells ∙ k in let same : e ≡ x = cc in
           subst (λ (z : Endpoint). (◌≡◌ {A = ℕ} 0 0) × (owner_of t z.slot.0 ≡ m.to.0) × Q (whose z)) same (refl, sym to, r));
       peers = λ x k. (let n : Some peer ≡ Some x = sym of ∙ k in let same : peer ≡ x = cc in subst (λ (z : Endpoint). Q (whose z)) same q);
     },
-    none,
+    plain,
     reply,
   )
 
@@ -294,7 +305,7 @@ module _ (t : Tables) (Q : Incarnation → Type 0) where
   pub record DutyDone (me : ℕ) (r : Done NameTable) : Type 0 where
     pub now : TableIs r.now
     pub sent : AllSent me r.sent
-    pub asks : AllByRecursion (λ (m : Msg). asker m ≡ None) r.sent
+    pub asks : AllByRecursion (λ (m : Msg). is_asking m ≡ false) r.sent
     pub replies : AllByRecursion RepliesOne r.sent
 
   at_zero : (me : ℕ) (e target : Endpoint) → is_name_request t me e target ≡ true → 0 ≡ me
@@ -481,8 +492,15 @@ module _ (t : Tables) (me : ℕ) (table : NameTable) (k : SysKind) (m : Msg) whe
   any_table [] = tt
   any_table (s ∷ table) = ((any_provider s.provider, any_users s.users), any_table table)
 
+  pub table_plain : AllByRecursion (λ (m : Msg). is_asking m ≡ false) (table_duty t me table k m).sent
+  table_plain = (table_is t (λ x. Unit {0}) me table k m (any_table table) (λ x q. tt)).asks
+
+  all_none : (ms : List Msg) → AllByRecursion (λ (m : Msg). is_asking m ≡ false) ms → AllByRecursion (λ (m : Msg). asker m ≡ None) ms
+  all_none [] h = tt
+  all_none (m ∷ ms) h = (asks_none m h.0, all_none ms h.1)
+
   pub table_asks : AllByRecursion (λ (m : Msg). asker m ≡ None) (table_duty t me table k m).sent
-  table_asks = (table_is t (λ x. Unit {0}) me table k m (any_table table) (λ x q. tt)).asks
+  table_asks = all_none (table_duty t me table k m).sent table_plain
 
   pub table_replies : AllByRecursion RepliesOne (table_duty t me table k m).sent
   table_replies = (table_is t (λ x. Unit {0}) me table k m (any_table table) (λ x q. tt)).replies

@@ -4,7 +4,6 @@ use Rattle.std.specs.List.{AllByRecursion, Contains}
 use Rattle.std.proofs.lemmas.List.Elements.{All-from_recursion, All-contains}
 use Rattle.room_kinds.specs.declared.message.Msg.{Msg}
 use Rattle.room_kinds.specs.declared.numbers.Incarnation.{Incarnation}
-use Rattle.room_kinds.specs.declared.numbers.Endpoint.{Endpoint}
 use Rattle.room_kinds.specs.declared.system.SysKind.{SysKind}
 use Rattle.room_kinds.specs.declared.system.SysKind.TheVariants as kinds
 use Rattle.room_kinds.specs.declared.command.NameCommand.{NameCommand}
@@ -30,10 +29,10 @@ use Rattle.world_agreement.proofs.Lists.{all_append, all_later, all_map, all_fil
 use Rattle.world_agreement.proofs.Moving.{turn_from, world_after, controller_moves}
 use Rattle.world_agreement.proofs.Agreeing.{IsForetold, start_foretold, controller_foretold, environment_foretold, environment_moves, fresh_trail}
 use Rattle.name_agreement.specs.Created.{asker}
-use Rattle.name_agreement.specs.Registrations.{asked, replied, is_reply_kind, is_reply, RepliesOne, HasForm}
+use Rattle.name_agreement.specs.Registrations.{asked, is_asking_kind, is_asking, is_reply_kind, is_reply, RepliesOne, HasForm}
 use Rattle.name_agreement.proofs.OffNames.{is_name_kind, IsOffNames, AllOffNames}
 use Rattle.name_agreement.proofs.Naming.{all_ended, IsNameWalk, Turns, treats, hears, leads, treat_turns, start_asks}
-use Rattle.name_agreement.proofs.Creating.{off_nobody, links_off, table_asks, table_replies}
+use Rattle.name_agreement.proofs.Creating.{links_off, table_plain, table_replies}
 use Rattle.name_agreement.proofs.CreatedRuns.{ask_somehow}
 use Rattle.name_agreement.proofs.Standing.{self_endpoint}
 
@@ -41,23 +40,28 @@ use Rattle.name_agreement.proofs.Standing.{self_endpoint}
 abbrev AllForm : List Msg → Type 0
 AllForm ms = AllByRecursion HasForm ms
 
--- who asks nobody
-form_of : (m : Msg) → asker m ≡ None → RepliesOne m → HasForm m
-form_of m none replies = record { asks = λ e q. (let n : None ≡ Some e = sym none ∙ q in absurd cc); replies = replies }
+-- what asks nothing
+form_of : (m : Msg) → is_asking m ≡ false → RepliesOne m → HasForm m
+form_of m plain replies = record { asks = λ h. (let q : true ≡ false = sym h ∙ plain in absurd cc); replies = replies }
 
 off_form : (m : Msg) → IsOffNames m → HasForm m
-off_form m off = form_of m (off_nobody m off).asks (λ h. absurd_by (m.prio.0 == 0) (slice_get all_kinds m.signal) off h)
+off_form m off =
+    let k = apart (m.prio.0 == 0) (slice_get all_kinds m.signal) off in
+    form_of m k.0 (λ h. (let q : true ≡ false = sym h ∙ k.1 in absurd cc))
   where
-    absurd_by : (a : Bool) (o : Option SysKind) → (a && is_name_kind o) ≡ false → (a && is_reply_kind o) ≡ true → (code : ℕ) × (replied m.target m ≡ code ∷ [])
-    absurd_by true (Some kinds.NameReply) n h = absurd cc
-    absurd_by true o n h = absurd cc
-    absurd_by false o n h = absurd cc
+    apart : (a : Bool) (o : Option SysKind) → (a && is_name_kind o) ≡ false → ((a && is_asking_kind o) ≡ false) × ((a && is_reply_kind o) ≡ false)
+    apart false o n = (refl, refl)
+    apart true None n = (refl, refl)
+    apart true (Some kinds.Register) n = absurd cc
+    apart true (Some kinds.Withdraw) n = absurd cc
+    apart true (Some kinds.NameReply) n = absurd cc
+    apart true (Some kind) n = (refl, refl)
 
 all_off_form : (ms : List Msg) → AllOffNames ms → AllForm ms
 all_off_form [] h = tt
 all_off_form (m ∷ ms) h = (off_form m h.0, all_off_form ms h.1)
 
-told_form : (ms : List Msg) → AllByRecursion (λ (m : Msg). asker m ≡ None) ms → AllByRecursion RepliesOne ms → AllForm ms
+told_form : (ms : List Msg) → AllByRecursion (λ (m : Msg). is_asking m ≡ false) ms → AllByRecursion RepliesOne ms → AllForm ms
 told_form [] h k = tt
 told_form (m ∷ ms) h k = (form_of m h.0 k.0, told_form ms h.1 k.1)
 
@@ -70,8 +74,7 @@ module _ (t : Tables) (me : ℕ) where
       → HasForm (system me 0 kind (point_of x p) (point_of x p) payload)
   asks_form x p kind payload is none token =
       record {
-        asks = λ e q. (let n : Some (point_of x p) ≡ Some e = sym is ∙ q in let same : point_of x p ≡ e = cc in
-            subst (λ (z : Endpoint). (k : SysKind) × (asked z (system me 0 kind (point_of x p) (point_of x p) payload) ≡ k ∷ [])) same (kind, token ∙ one));
+        asks = λ h. (point_of x p, kind, is, token ∙ one);
         replies = λ h. (let q : true ≡ false = sym h ∙ none in absurd cc);
       }
     where
@@ -130,7 +133,7 @@ module _ (t : Tables) (me : ℕ) where
     turn_forms b m = go (treat model t me b m) (treat_turns t me (λ x c. Unit {0}) FormsAll forms_all model clear (ask_somehow model) b m)
       where
         go : (r : Treated (Body M)) → Turns t me (λ x c. Unit {0}) FormsAll b m r → AllForm r.sent
-        go r (treats kind test is body sent) = subst AllForm (sym sent) (told_form _ (table_asks t me b.table kind m) (table_replies t me b.table kind m))
+        go r (treats kind test is body sent) = subst AllForm (sym sent) (told_form _ (table_plain t me b.table kind m) (table_replies t me b.table kind m))
         go r (hears kind test is body sent) = subst AllForm (sym sent) (all_off_form _ (links_off t me b.links _ kind m))
         go r (leads d apart deals off f) =
             subst AllForm (sym f.sends)

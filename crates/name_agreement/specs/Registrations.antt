@@ -92,6 +92,16 @@ replied_by e _ _ target _ = []
 abbrev pub replied : Endpoint → Msg → List ℕ
 replied e m = if m.prio.0 == 0 then replied_by e (slice_get all_kinds m.signal) m.source m.target m.payload else []
 
+-- whether a kind is Register or Withdraw
+abbrev pub is_asking_kind : Option SysKind → Bool
+is_asking_kind (Some kinds.Register) = true
+is_asking_kind (Some kinds.Withdraw) = true
+is_asking_kind _ = false
+
+-- whether a message is a Register or a Withdraw
+abbrev pub is_asking : Msg → Bool
+is_asking m = (m.prio.0 == 0) && is_asking_kind (slice_get all_kinds m.signal)
+
 -- whether a kind is NameReply
 abbrev pub is_reply_kind : Option SysKind → Bool
 is_reply_kind (Some kinds.NameReply) = true
@@ -105,10 +115,10 @@ is_reply m = (m.prio.0 == 0) && is_reply_kind (slice_get all_kinds m.signal)
 abbrev pub RepliesOne : Msg → Type 0
 RepliesOne m = is_reply m ≡ true → (code : ℕ) × (replied m.target m ≡ code ∷ [])
 
--- each Register and Withdraw asks for the endpoint that sent it, and each NameReply replies to its target; so
+-- each Register and Withdraw asks for an endpoint, its source, and each NameReply replies to its target; so
 -- `asked` and `replied` miss none
 pub record HasForm (m : Msg) : Type 0 where
-  pub asks : (e : Endpoint) → asker m ≡ Some e → (kind : SysKind) × (asked e m ≡ kind ∷ [])
+  pub asks : is_asking m ≡ true → (e : Endpoint) × (kind : SysKind) × (asker m ≡ Some e) × (asked e m ≡ kind ∷ [])
   pub replies : RepliesOne m
 
 -- how often an endpoint stands among users
