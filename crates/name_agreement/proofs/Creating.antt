@@ -15,7 +15,7 @@ use Rattle.room_wiring.specs.Places.{place_count}
 use Rattle.actor_merge.specs.Parties.{Treated}
 use Rattle.actor_duties.specs.Words.{owner_of, whose, is_own, is_endpoint, is_sap, is_spp, protocol_of, joined_at, is_joined, ports_of, slots_of}
 use Rattle.actor_duties.specs.State.{Lives, Links, Registration, Unnamed, Asked, Registered, Leaving, User, Provider, Service, NameTable, Done}
-use Rattle.actor_duties.specs.Messages.{coded, NameTaken}
+use Rattle.actor_duties.specs.Messages.{to_owner, coded, NameTaken}
 use Rattle.actor_duties.specs.Lives.{last_of, comes_up, lives_made, lives_ended, ended_slots, goes_down}
 use Rattle.actor_duties.specs.Frame.{FrameDone}
 use Rattle.actor_duties.specs.Names.{name_reply_to, both_told, at_place, same_table, Linking, linked_users, linked_first, meet_with, meet, provide, use_service, unmet, in_service, register_spp, register_sap, links_ended, link_ended, user_ended, is_user, waiting, leave, unprovide, unuse, is_provider, stands_in, withdraw, register, is_name_request, table_duty_of, table_duty_from, table_duty}
@@ -26,6 +26,8 @@ use Rattle.actor_world.proofs.LifeSteps.{down_parts}
 use Rattle.world_agreement.proofs.Lists.{all_append, all_map, all_filter, all_passed, all_reverse}
 use Rattle.world_agreement.proofs.Telling.{own_owner}
 use Rattle.name_agreement.specs.Created.{asker_by, asker, hearer_by, hearer, told_of_by, told_of}
+use Rattle.name_agreement.specs.Registrations.{is_asking_kind, is_asking, is_reply, RepliesOne}
+use Rattle.name_agreement.proofs.Standing.{own_reply}
 use Rattle.name_agreement.proofs.OffNames.{is_name_kind, IsOffNames, AllOffNames}
 use Rattle.name_agreement.proofs.Naming.{LivesBy, stays, makes, ends, all_ended, IsNameWalk, IsOf, Turns, treats, hears, leads}
 
@@ -59,6 +61,17 @@ off_nobody m h = record { asks = one (m.prio.0 == 0) h; tells = two (m.prio.0 ==
     three : (a : Bool) → (a && is_name_kind (slice_get all_kinds m.signal)) ≡ false → (if a then told_of_by (slice_get all_kinds m.signal) m.source else None) ≡ None
     three true q = (none (slice_get all_kinds m.signal) q).2
     three false q = refl
+
+-- what isn't a Register or a Withdraw asks nobody
+pub asks_none : (m : Msg) → is_asking m ≡ false → asker m ≡ None
+asks_none m h = go (m.prio.0 == 0) (slice_get all_kinds m.signal) h
+  where
+    go : (a : Bool) (o : Option SysKind) → (a && is_asking_kind o) ≡ false → (if a then asker_by o m.source else None) ≡ None
+    go false o q = refl
+    go true None q = refl
+    go true (Some kinds.Register) q = absurd cc
+    go true (Some kinds.Withdraw) q = absurd cc
+    go true (Some kind) q = refl
 
 -- registrations and links send nothing on names
 module _ (t : Tables) (me : ℕ) where
@@ -127,7 +140,7 @@ module _ (t : Tables) (Q : Incarnation → Type 0) where
 
   -- what the table tells a point, which asks nobody
   abbrev IsTold : Msg → Type 0
-  IsTold m = IsSent 0 m × (asker m ≡ None)
+  IsTold m = IsSent 0 m × (is_asking m ≡ false) × RepliesOne m
 
   abbrev AllTold : List Msg → Type 0
   AllTold ms = AllByRecursion IsTold ms
@@ -136,36 +149,44 @@ module _ (t : Tables) (Q : Incarnation → Type 0) where
   all_told_sent [] h = tt
   all_told_sent (m ∷ ms) h = (h.0.0, all_told_sent ms h.1)
 
-  pub all_told_ask : (ms : List Msg) → AllTold ms → AllByRecursion (λ (m : Msg). asker m ≡ None) ms
+  pub all_told_ask : (ms : List Msg) → AllTold ms → AllByRecursion (λ (m : Msg). is_asking m ≡ false) ms
   all_told_ask [] h = tt
   all_told_ask (m ∷ ms) h = (h.0.1, all_told_ask ms h.1)
 
+  pub all_told_reply : (ms : List Msg) → AllTold ms → AllByRecursion RepliesOne ms
+  all_told_reply [] h = tt
+  all_told_reply (m ∷ ms) h = (h.0.2, all_told_reply ms h.1)
+
   -- what the table tells a point of a peer
-  told_sent : (kind : SysKind) (peer e : Endpoint) (payload : List ℤ) (m : Msg) → m.to.0 ≡ owner_of t e.slot.0 → asker m ≡ None → hearer m ≡ Some e → told_of m ≡ Some peer
-      → Q (whose peer) → Q (whose e) → IsTold m
-  told_sent kind peer e payload m to none tells of q r = (
+  told_sent : (peer e : Endpoint) (m : Msg) → m.to.0 ≡ owner_of t e.slot.0 → is_asking m ≡ false → hearer m ≡ Some e → told_of m ≡ Some peer
+      → Q (whose peer) → Q (whose e) → RepliesOne m → IsTold m
+  told_sent peer e m to plain tells of q r reply = (
     record {
-      asks = λ x k. (let n : None ≡ Some x = sym none ∙ k in absurd cc);
+      asks = λ x k. (let n : None ≡ Some x = sym (asks_none m plain) ∙ k in absurd cc);
       tells = λ x k. (let n : Some e ≡ Some x = sym tells ∙ k in let same : e ≡ x = cc in
           subst (λ (z : Endpoint). (◌≡◌ {A = ℕ} 0 0) × (owner_of t z.slot.0 ≡ m.to.0) × Q (whose z)) same (refl, sym to, r));
       peers = λ x k. (let n : Some peer ≡ Some x = sym of ∙ k in let same : peer ≡ x = cc in subst (λ (z : Endpoint). Q (whose z)) same q);
     },
-    none,
+    plain,
+    reply,
   )
 
-  reply_sent : (e : Endpoint) (code : List ℤ) → Q (whose e) → IsTold (name_reply_to t e code)
-  reply_sent e code q = told_sent kinds.NameReply e e code (name_reply_to t e code) refl refl refl refl q q
+  reply_sent : (e : Endpoint) (code : ℕ) → Q (whose e) → IsTold (name_reply_to t e (pos code ∷ []))
+  reply_sent e code q = told_sent e e (name_reply_to t e (pos code ∷ [])) refl refl refl refl q q (λ h. (code, own_reply t e code))
+
+  no_reply : (m : Msg) → is_reply m ≡ false → RepliesOne m
+  no_reply m none h = (let q : true ≡ false = sym h ∙ none in absurd cc)
 
   bound_sent : (provider : Endpoint) (k : ℕ) (user : Endpoint) → Q (whose provider) → Q (whose user) → AllTold (both_told t kinds.Bound provider k user)
   bound_sent provider k user q r = (
-    told_sent kinds.Bound user (at_place provider k) [] _ refl refl refl refl r q,
-    (told_sent kinds.Bound (at_place provider k) user [] _ refl refl refl refl q r, tt),
+    told_sent user (at_place provider k) _ refl refl refl refl r q (no_reply (to_owner t 0 kinds.Bound user (at_place provider k) []) refl),
+    (told_sent (at_place provider k) user _ refl refl refl refl q r (no_reply (to_owner t 0 kinds.Bound (at_place provider k) user []) refl), tt),
   )
 
   ended_sent : (provider : Endpoint) (k : ℕ) (user : Endpoint) → Q (whose provider) → Q (whose user) → AllTold (both_told t kinds.Ended provider k user)
   ended_sent provider k user q r = (
-    told_sent kinds.Ended user (at_place provider k) [] _ refl refl refl refl r q,
-    (told_sent kinds.Ended (at_place provider k) user [] _ refl refl refl refl q r, tt),
+    told_sent user (at_place provider k) _ refl refl refl refl r q (no_reply (to_owner t 0 kinds.Ended user (at_place provider k) []) refl),
+    (told_sent (at_place provider k) user _ refl refl refl refl q r (no_reply (to_owner t 0 kinds.Ended (at_place provider k) user []) refl), tt),
   )
 
   -- what a step of a service, and of the table, leads to
@@ -207,17 +228,17 @@ module _ (t : Tables) (Q : Incarnation → Type 0) where
           else
           let r = meet t (record s { provider = Some (record { at = e; next = base }) }) in
           record { now = r.now; sent = name_reply_to t e (pos 0 ∷ []) ∷ r.sent })
-      go true = (h, (reply_sent e (coded NameTaken) q, tt))
+      go true = (h, (reply_sent e 8 q, tt))
       go false =
           let r = meet_is (record s { provider = Some (record { at = e; next = base }) }) (q, h.1) in
-          (r.0, (reply_sent e (pos 0 ∷ []) q, r.1))
+          (r.0, (reply_sent e 0 q, r.1))
 
   use_is : (e : Endpoint) → Q (whose e) → (s : Service) → ServiceIs s → ServiceDone (use_service t e s)
   unfolding use_service
   use_is e q s h =
       let u : User = record { at = e; linked = None } in
       let r = meet_is (record s { users = s.users ++ u ∷ [] }) (h.0, all_append (λ (u : User). Q (whose u.at)) s.users (u ∷ []) h.1 (q, tt)) in
-      (r.0, (reply_sent e (pos 0 ∷ []) q, r.1))
+      (r.0, (reply_sent e 0 q, r.1))
 
   in_service_is : (name protocol : ℕ) (step : Service → Done Service) → ((s : Service) → ServiceIs s → ServiceDone (step s)) → (table : NameTable) → TableIs table
       → TableDone (in_service name protocol step table)
@@ -257,7 +278,7 @@ module _ (t : Tables) (Q : Incarnation → Type 0) where
 
   withdraw_is : (e : Endpoint) → Q (whose e) → (table : NameTable) → TableIs table → TableDone (withdraw t e table)
   unfolding withdraw
-  withdraw_is e q [] h = (tt, (reply_sent e _ q, tt))
+  withdraw_is e q [] h = (tt, (reply_sent e 9 q, tt))
   withdraw_is e q (s ∷ rest) h = go (stands_in e s) (withdraw_is e q rest h.1)
     where
       go : (b : Bool) → TableDone (withdraw t e rest) → TableDone (
@@ -266,7 +287,7 @@ module _ (t : Tables) (Q : Incarnation → Type 0) where
           else (let r = withdraw t e rest in record { now = s ∷ r.now; sent = r.sent }))
       go true k =
           (let r = leave_is e q s h.0 in
-          ((r.0, h.1), all_append (IsTold) (leave t e s).sent (name_reply_to t e (pos 0 ∷ []) ∷ []) r.1 (reply_sent e (pos 0 ∷ []) q, tt)))
+          ((r.0, h.1), all_append (IsTold) (leave t e s).sent (name_reply_to t e (pos 0 ∷ []) ∷ []) r.1 (reply_sent e 0 q, tt)))
       go false k = ((h.0, k.0), k.1)
 
   register_is : (e : Endpoint) → Q (whose e) → (name : ℕ) (table : NameTable) → TableIs table → TableDone (register t e name table)
@@ -284,7 +305,8 @@ module _ (t : Tables) (Q : Incarnation → Type 0) where
   pub record DutyDone (me : ℕ) (r : Done NameTable) : Type 0 where
     pub now : TableIs r.now
     pub sent : AllSent me r.sent
-    pub asks : AllByRecursion (λ (m : Msg). asker m ≡ None) r.sent
+    pub asks : AllByRecursion (λ (m : Msg). is_asking m ≡ false) r.sent
+    pub replies : AllByRecursion RepliesOne r.sent
 
   at_zero : (me : ℕ) (e target : Endpoint) → is_name_request t me e target ≡ true → 0 ≡ me
   at_zero me e target h =
@@ -297,8 +319,8 @@ module _ (t : Tables) (Q : Incarnation → Type 0) where
   requested me e target r table h k true is =
       let zero : 0 ≡ me = at_zero me e target is in
       let d = k zero in
-      record { now = d.0; sent = subst (λ n. AllSent n r.sent) zero (all_told_sent r.sent d.1); asks = all_told_ask r.sent d.1 }
-  requested me e target r table h k false is = record { now = h; sent = tt; asks = tt }
+      record { now = d.0; sent = subst (λ n. AllSent n r.sent) zero (all_told_sent r.sent d.1); asks = all_told_ask r.sent d.1; replies = all_told_reply r.sent d.1 }
+  requested me e target r table h k false is = record { now = h; sent = tt; asks = tt; replies = tt }
 
   table_of_is : (me : ℕ) (table : NameTable) (k : SysKind) (e target : Endpoint) (payload : List ℤ) → TableIs table
       → ((x : Endpoint) → asker_by (Some k) (Some e) ≡ Some x → Q (whose x)) → DutyDone me (table_duty_of t me table k e target payload)
@@ -306,11 +328,11 @@ module _ (t : Tables) (Q : Incarnation → Type 0) where
       requested me e target (register t e name table) table h (λ z. register_is e (q e refl) name table h) (is_name_request t me e target) refl
   table_of_is me table kinds.Withdraw e target [] h q =
       requested me e target (withdraw t e table) table h (λ z. withdraw_is e (q e refl) table h) (is_name_request t me e target) refl
-  table_of_is me table _ e target _ h q = record { now = h; sent = tt; asks = tt }
+  table_of_is me table _ e target _ h q = record { now = h; sent = tt; asks = tt; replies = tt }
 
   table_from_is : (me : ℕ) (table : NameTable) (k : SysKind) (o : Option Endpoint) (m : Msg) → TableIs table
       → ((x : Endpoint) → asker_by (Some k) o ≡ Some x → Q (whose x)) → DutyDone me (table_duty_from t me table k o m)
-  table_from_is me table k None m h q = record { now = h; sent = tt; asks = tt }
+  table_from_is me table k None m h q = record { now = h; sent = tt; asks = tt; replies = tt }
   table_from_is me table k (Some e) m h q = table_of_is me table k e m.target m.payload h q
 
   pub table_is : (me : ℕ) (table : NameTable) (k : SysKind) (m : Msg) → TableIs table
@@ -456,18 +478,29 @@ module _ (t : Tables) (Q : Incarnation → Type 0) where
       turn_rises Asks R r (leads d apart deals off f) s =
           subst (λ (z : Lives). b.frame.lives.generation s ≤ z.generation s) (sym f.lives) (lives_rise d deals.lives s)
 
--- what a name table sends asks nobody
-pub table_asks : (t : Tables) (me : ℕ) (table : NameTable) (k : SysKind) (m : Msg) → AllByRecursion (λ (m : Msg). asker m ≡ None) (table_duty t me table k m).sent
-table_asks t me table k m = (table_is t (λ x. Unit {0}) me table k m (each table) (λ x q. tt)).asks
-  where
-    users : (us : List User) → UsersAre t (λ x. Unit {0}) us
-    users [] = tt
-    users (u ∷ us) = (tt, users us)
+-- what a name table sends asks nobody, and replies one code with each NameReply
+module _ (t : Tables) (me : ℕ) (table : NameTable) (k : SysKind) (m : Msg) where
+  any_users : (us : List User) → UsersAre t (λ x. Unit {0}) us
+  any_users [] = tt
+  any_users (u ∷ us) = (tt, any_users us)
 
-    provider : (o : Option Provider) → ProviderIs t (λ x. Unit {0}) o
-    provider None = tt
-    provider (Some p) = tt
+  any_provider : (o : Option Provider) → ProviderIs t (λ x. Unit {0}) o
+  any_provider None = tt
+  any_provider (Some p) = tt
 
-    each : (table : NameTable) → TableIs t (λ x. Unit {0}) table
-    each [] = tt
-    each (s ∷ table) = ((provider s.provider, users s.users), each table)
+  any_table : (table : NameTable) → TableIs t (λ x. Unit {0}) table
+  any_table [] = tt
+  any_table (s ∷ table) = ((any_provider s.provider, any_users s.users), any_table table)
+
+  pub table_plain : AllByRecursion (λ (m : Msg). is_asking m ≡ false) (table_duty t me table k m).sent
+  table_plain = (table_is t (λ x. Unit {0}) me table k m (any_table table) (λ x q. tt)).asks
+
+  all_none : (ms : List Msg) → AllByRecursion (λ (m : Msg). is_asking m ≡ false) ms → AllByRecursion (λ (m : Msg). asker m ≡ None) ms
+  all_none [] h = tt
+  all_none (m ∷ ms) h = (asks_none m h.0, all_none ms h.1)
+
+  pub table_asks : AllByRecursion (λ (m : Msg). asker m ≡ None) (table_duty t me table k m).sent
+  table_asks = all_none (table_duty t me table k m).sent table_plain
+
+  pub table_replies : AllByRecursion RepliesOne (table_duty t me table k m).sent
+  table_replies = (table_is t (λ x. Unit {0}) me table k m (any_table table) (λ x q. tt)).replies

@@ -90,9 +90,6 @@ module _ (t : Tables) (e : Endpoint) (me : ℕ) (l : Lives) (a : Links) (names_h
       lives_on s p (inr some) true = inr (refl, some.1)
       lives_on s p (inr some) false = inr some
 
-      last : ℕ
-      last = l.generation e.slot.0
-
       new : l.lives e.slot.0 ≡ false → (a.registrations e.slot.0 e.port ≡ Unnamed) ⊎ ((l.lives e.slot.0 ≡ true) × (is_point_port t e.slot.0 e.port ≡ true))
           → KeepsRow (stage_by (is_point t e) (l.lives e.slot.0 && (l.generation e.slot.0 == e.generation.0)) (nat_le e.generation.0 (l.generation e.slot.0)) (a.registrations e.slot.0 e.port)) []
           (stage_by (is_point t e) (l.generation e.slot.0 + 1 == e.generation.0) (nat_le e.generation.0 (l.generation e.slot.0 + 1)) (a.registrations e.slot.0 e.port))
@@ -208,9 +205,6 @@ module _ (t : Tables) (e : Endpoint) (me : ℕ) where
   unfolding end_of
   end_asks a x points = go (Hits x) refl
     where
-      entered : ℕ → Bool
-      entered p = is_entered (a.registrations x.slot.0 p)
-
       inside : is_entered (a.registrations x.slot.0 e.port) ≡ true → (a.registrations x.slot.0 e.port ≡ Unnamed) ⊎ (is_point_port t x.slot.0 e.port ≡ true) → e.port < port_count t x.slot.0
       inside is (inl none) = (let q : false ≡ true = sym (ap is_entered none) ∙ is in absurd cc)
       inside is (inr point) = point_inside t x.slot.0 e.port point

@@ -19,3 +19,4 @@ pub mod LinkRuns
 pub mod LinkAgreeing
 pub mod LinkLaws
 pub mod Unjoined
+pub mod Forms

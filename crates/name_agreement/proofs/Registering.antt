@@ -92,9 +92,6 @@ module _ (t : Tables) where
   unfolding is_sap is_spp port_at class_of is_own owner_of
   point_own s p h = go (slot_at t s) h
     where
-      port_of : Option Slot → Option PortNames
-      port_of o = option_and_then (λ (c : ClassNames). slice_get c.ports p) (option_and_then (λ (x : Slot). class_at t x.class) o)
-
       go : (o : Option Slot)
           → (option_map_or (λ (x : PortNames). is_sap_kind x.kind) (option_and_then (λ (c : ClassNames). slice_get c.ports p) (option_and_then (λ (x : Slot). class_at t x.class) o)) false
           || option_map_or (λ (x : PortNames). is_spp_kind x.kind) (option_and_then (λ (c : ClassNames). slice_get c.ports p) (option_and_then (λ (x : Slot). class_at t x.class) o)) false) ≡ true

@@ -135,7 +135,7 @@ module _ (t : Tables) (e : Endpoint) where
     pub codes : Replies r.sent ≡ code ∷ []
     pub stood : n ≡ 1 → code ≡ 0
 
-  own_reply : (code : ℕ) → replied e (name_reply_to t e (pos code ∷ [])) ≡ code ∷ []
+  pub own_reply : (code : ℕ) → replied e (name_reply_to t e (pos code ∷ [])) ≡ code ∷ []
   own_reply code = go (is_endpoint e e) (self_endpoint e)
     where
       go : (b : Bool) → b ≡ true → (if b && b then code ∷ [] else []) ≡ code ∷ []

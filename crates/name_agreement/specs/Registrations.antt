@@ -4,7 +4,7 @@
 -- table (`stands`); and back, the codes of the replies to it on the trail from there (`replied`).
 -- The law `registrations_are_in_rows`: at every moment these four are one of the rows of `IsRow`. So no
 -- endpoint stands twice in the table; and of an actor that has ended it stands there only where its
--- Withdraw alone is on the way.
+-- Withdraw alone is on the way. What is on its way has its form (`HasForm`), so the row leaves out nothing.
 -- The law `registrations_settle`: in every run of the world that is quiet at its end, every user and every
 -- provider in the table is of a live actor and registered at its owner; and every registration of a live
 -- actor is none or registered, and registered exactly where it stands in the table, once.
@@ -36,6 +36,7 @@ use Rattle.actor_world.specs.Directories.{IsOpen, AreOpen}
 use Rattle.world_agreement.specs.Trails.{RunsTo, trail}
 use Rattle.world_agreement.specs.Imports.{OwnersAreThere}
 use Rattle.name_agreement.specs.Asking.{AllAsk}
+use Rattle.name_agreement.specs.Created.{asker}
 
 -- whether a port of a slot is a service point
 abbrev pub is_point_port : Tables → ℕ → ℕ → Bool
@@ -91,6 +92,35 @@ replied_by e _ _ target _ = []
 abbrev pub replied : Endpoint → Msg → List ℕ
 replied e m = if m.prio.0 == 0 then replied_by e (slice_get all_kinds m.signal) m.source m.target m.payload else []
 
+-- whether a kind is Register or Withdraw
+abbrev pub is_asking_kind : Option SysKind → Bool
+is_asking_kind (Some kinds.Register) = true
+is_asking_kind (Some kinds.Withdraw) = true
+is_asking_kind _ = false
+
+-- whether a message is a Register or a Withdraw
+abbrev pub is_asking : Msg → Bool
+is_asking m = (m.prio.0 == 0) && is_asking_kind (slice_get all_kinds m.signal)
+
+-- whether a kind is NameReply
+abbrev pub is_reply_kind : Option SysKind → Bool
+is_reply_kind (Some kinds.NameReply) = true
+is_reply_kind _ = false
+
+-- whether a message is a NameReply
+abbrev pub is_reply : Msg → Bool
+is_reply m = (m.prio.0 == 0) && is_reply_kind (slice_get all_kinds m.signal)
+
+-- a NameReply replies one code to its target
+abbrev pub RepliesOne : Msg → Type 0
+RepliesOne m = is_reply m ≡ true → (code : ℕ) × (replied m.target m ≡ code ∷ [])
+
+-- each Register and Withdraw asks for an endpoint, its source, and each NameReply replies to its target; so
+-- `asked` and `replied` miss none
+pub record HasForm (m : Msg) : Type 0 where
+  pub asks : is_asking m ≡ true → (e : Endpoint) × (kind : SysKind) × (asker m ≡ Some e) × (asked e m ≡ kind ∷ [])
+  pub replies : RepliesOne m
+
 -- how often an endpoint stands among users
 abbrev pub uses : Endpoint → List User → ℕ
 uses e [] = 0
@@ -136,6 +166,13 @@ AreInRows t w =
     (e : Endpoint)
     → IsRow (stage_in t w e) (flat_map (asked e) (trail w (owner_of t e.slot.0) 0)) (stands e (w.controllers 0).body.table) (flat_map (replied e) (trail w 0 (owner_of t e.slot.0)))
 
+-- over every run of the world: what is on its way on names has its form
+abbrev pub RunsKeepForms : Type 0 → Type 0
+RunsKeepForms M =
+    (model : Behaviour M) (t : Tables) (lines : List Line) → IsOpen model → AreOpen lines
+    → (xs : List Placed) (end : World (Body M)) → RunsTo model t lines xs end
+    → (a b : ℕ) (m : Msg) → Contains (trail end a b) m → HasForm m
+
 -- over every run of the world: each endpoint is in one of the rows
 abbrev pub RunsKeepRows : Type 0 → Type 0
 RunsKeepRows M =
@@ -143,6 +180,19 @@ RunsKeepRows M =
     → RegistersPoints t model
     → (xs : List Placed) (end : World (Body M)) → RunsTo model t lines xs end
     → AreInRows t end
+
+-- at a controller only service points of live actors have registrations
+abbrev pub RegistersTheLiving : {M : Type 0} → Tables → Body M → Type 0
+RegistersTheLiving t b =
+    (s p : ℕ) → (b.links.registrations s p ≡ Unnamed) ⊎ ((b.frame.lives.lives s ≡ true) × (is_point_port t s p ≡ true))
+
+-- over every run of the world: each controller registers the living
+abbrev pub RunsRegisterTheLiving : Type 0 → Type 0
+RunsRegisterTheLiving M =
+    (model : Behaviour M) (t : Tables) (lines : List Line) → IsOpen model → AreOpen lines
+    → RegistersPoints t model
+    → (xs : List Placed) (end : World (Body M)) → RunsTo model t lines xs end
+    → (c : ℕ) → RegistersTheLiving t (end.controllers c).body
 
 -- the registration of a port, at the owner of the endpoint's slot
 abbrev pub registration_in : {M : Type 0} → Tables → World (Body M) → Endpoint → Registration

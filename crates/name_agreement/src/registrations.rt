@@ -1,7 +1,7 @@
 //! Registrations: who asks the name table, who stands in it, and who was told so.
 
 ghost use Rattle.name_agreement.specs.Created.{RunsNameTheCreated};
-ghost use Rattle.name_agreement.specs.Registrations.{RunsKeepRows, QuietRegistrationsSettle};
+ghost use Rattle.name_agreement.specs.Registrations.{RunsKeepForms, RunsKeepRows, RunsRegisterTheLiving, QuietRegistrationsSettle};
 ghost use Rattle.name_agreement.specs.Unjoined.{RunsLeaveJoinedUnnamed};
 
 /// At every moment, what is on its way between service points and the name table goes between the
@@ -13,10 +13,13 @@ pub fn names_are_of_the_created<M>()
 
 /// At every moment, what the owner of a service point says of its registration, what the point asks on the
 /// way to the name table, how often it stands there, and what is replied to it on the way back, fit together
-/// as a row of `IsRow` says. So none stands in the table twice. Premise: actors register service points
-/// alone.
+/// as a row of `IsRow` says. So none stands in the table twice. `forms`: what is on its way is counted there,
+/// whatever actors register. `rows`: the rows, where actors register service points alone. `living`: only
+/// service points of live actors have registrations then.
 pub fn registrations_are_in_rows<M>()
-    ensures { RunsKeepRows M }
+    ensures forms { RunsKeepForms M }
+    ensures rows { RunsKeepRows M }
+    ensures living { RunsRegisterTheLiving M }
 {}
 
 /// Where a run is quiet at its end, registrations are settled: who stands in the name table is of a live

@@ -1,5 +1,11 @@
-use Rattle.name_agreement.proofs.RowRuns.{runs_keep_rows}
+use Rattle.name_agreement.proofs.Forms.{runs_keep_forms}
+use Rattle.name_agreement.proofs.RowRuns.{runs_rowed, runs_keep_rows}
 use Rattle.name_agreement.proofs.registrations.registrations_are_in_rows.Goals as goal
 
 pub returns : goal.returns
-returns g c = λ model t lines clear clear_lines points xs end r e. runs_keep_rows model clear t points lines clear_lines xs end r e
+returns g c =
+    record {
+      forms = λ model t lines clear clear_lines xs end r a b m there. runs_keep_forms model clear t lines clear_lines xs end r a b m there;
+      rows = λ model t lines clear clear_lines points xs end r e. runs_keep_rows model clear t points lines clear_lines xs end r e;
+      living = λ model t lines clear clear_lines points xs end r n s p. (runs_rowed model clear t points lines clear_lines xs end r).here n s p;
+    }
