@@ -9,7 +9,7 @@ use Rattle.room_wiring.specs.declared.tables.Tables.{Tables}
 use Rattle.inject_reader.specs.declared.inject_lines.accepted.Line.{Line as Accepted}
 use Rattle.inject_reader.specs.declared.inject_lines.accepted.What.{What}
 use Rattle.inject_reader.specs.declared.inject_lines.accepted.What.TheVariants as whats
-use Rattle.inject_reader.specs.Fitting.{FitsWhat, FitLines}
+use Rattle.inject_reader.specs.Fitting.{FitsWhat}
 use Rattle.fitting_plants.specs.Lines.{has_end_places, WhatFits, LinesFit, ReadLinesFit}
 use Rattle.actor_merge.specs.Parties.{Line}
 use Rattle.actor_world.specs.Journals.{lines_from, lines_of}
