@@ -1,3 +1,4 @@
 mod Codes
 mod Owners
 mod Places
+mod Slots

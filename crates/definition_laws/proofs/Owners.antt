@@ -98,11 +98,11 @@ module _ (mappings : List MappingPlan) where
   steps_at : ℕ → List StepPlan
   steps_at i = option_map_or (λ (m : MappingPlan). m.steps) (slice_get mappings i) []
 
-  kept : Way → ℕ → Option Trail
+  pub kept : Way → ℕ → Option Trail
   kept w i = cond (follows w (steps_at i)) (Some (record { mapping = i; steps = length w })) None
 
   -- of so many mappings those that lead on from the end of a way
-  abbrev trails_for : Way → ℕ → ℕ → List Trail
+  abbrev pub trails_for : Way → ℕ → ℕ → List Trail
   trails_for w a n = filter_map (kept w) (range_with_len a n)
 
   goes_kept : (w : Way) (x : ℕ × ℕ) (i : ℕ) (o : Option MappingPlan) → slice_get mappings i ≡ o → follows w (steps_at i) ≡ true
@@ -142,12 +142,12 @@ module _ (mappings : List MappingPlan) where
       by_test false e =
           ap (λ b. cons_option (cond b (Some (record { mapping = i; steps = length (w ++ x ∷ []) })) None) (filter_map (goes_on mappings x.0 x.1) rest)) (sym (follow_less w x (steps_at i) e))
 
-  all_kept : (w : Way) (x : ℕ × ℕ) (a n : ℕ) → trails_at mappings x.0 x.1 (trails_for w a n) ≡ trails_for (w ++ x ∷ []) a n
+  pub all_kept : (w : Way) (x : ℕ × ℕ) (a n : ℕ) → trails_at mappings x.0 x.1 (trails_for w a n) ≡ trails_for (w ++ x ∷ []) a n
   unfolding trails_at
   all_kept w x a zero = refl
   all_kept w x a (suc n) = one_kept w x a (trails_for w (a + 1) n) ∙ ap (cons_option (kept (w ++ x ∷ []) a)) (all_kept w x (a + 1) n)
 
-  all_begin : (a n : ℕ) → map (λ i. let t : Trail = record { mapping = i; steps = 0 } in t) (range_with_len a n) ≡ trails_for [] a n
+  pub all_begin : (a n : ℕ) → map (λ i. let t : Trail = record { mapping = i; steps = 0 } in t) (range_with_len a n) ≡ trails_for [] a n
   unfolding kept
   all_begin a zero = refl
   all_begin a (suc n) = ap (λ ts. (record { mapping = a; steps = 0 }) ∷ ts) (all_begin (a + 1) n)
@@ -306,18 +306,25 @@ module _ (mappings : List MappingPlan) where
         by_test j n e true h = let both : true ≡ false = sym (led none.0 j n e h) ∙ never.0 j n e in absurd cc
         by_test j n e false h = refl
 
+  -- a slot that is reached one step further has the owner that stands there
+  pub owned_next : (w : Way) (x : ℕ × ℕ) (owner : ControllerId) → IsOwnerOf mappings w owner
+      → IsOwnerOf mappings (w ++ x ∷ []) (owner_at mappings owner (trails_for (w ++ x ∷ []) 0 (length mappings)))
+  owned_next w x owner h =
+      let next = trails_for (w ++ x ∷ []) 0 (length mappings) in
+      let all : 0 + length mappings ≡ length mappings = omega arith in
+      goes_further w x owner (owner_at mappings owner next) h
+      (subst (λ b. IsLast (w ++ x ∷ []) owner 0 b (owner_at mappings owner next)) all (last_of (w ++ x ∷ []) owner 0 (length mappings)))
+
   along : (way so_far : Way) (owner : ControllerId) → IsOwnerOf mappings so_far owner
       → IsOwnerOf mappings (so_far ++ way) (owner_along mappings owner (trails_for so_far 0 (length mappings)) way)
   along [] so_far owner h = subst (λ v. IsOwnerOf mappings v owner) (sym (append-nil so_far)) h
   along (x ∷ way) so_far owner h =
       let next = trails_for (so_far ++ x ∷ []) 0 (length mappings) in
-      let all : 0 + length mappings ≡ length mappings = omega arith in
-      let last = subst (λ b. IsLast (so_far ++ x ∷ []) owner 0 b (owner_at mappings owner next)) all (last_of (so_far ++ x ∷ []) owner 0 (length mappings)) in
-      let there = along way (so_far ++ x ∷ []) (owner_at mappings owner next) (goes_further so_far x owner (owner_at mappings owner next) h last) in
+      let there = along way (so_far ++ x ∷ []) (owner_at mappings owner next) (owned_next so_far x owner h) in
       subst (λ ts. IsOwnerOf mappings (so_far ++ x ∷ way) (owner_along mappings (owner_at mappings owner ts) ts way)) (sym (all_kept so_far x 0 (length mappings)))
       (subst (λ v. IsOwnerOf mappings v (owner_along mappings (owner_at mappings owner next) next way)) (append_assoc so_far (x ∷ []) way) there)
 
-  nowhere : NoneLeads mappings []
+  pub nowhere : NoneLeads mappings []
   nowhere j n e = none n.steps
     where
       none : (ss : List StepPlan) → leads_along ss [] ≡ false

@@ -2,13 +2,20 @@
 -- path that leads there or to a container of it, of equally long ones the last declared; controller 0 where none does.
 -- The slots of a model are made by going into references, one after another: the mappings that lead on are
 -- kept, and the last of those that end at a slot gives its owner, else its container's owner stays
--- (`owner_along`). The law `owners_have_the_longest_mapping`.
-use Rattle.std.specs.Prelude.{◌≡◌, ◌⊎◌, ℕ, ◌≤◌, Bool, true, false, ◌&&◌, nat_le, List, [], ◌∷◌, Some, length, map, slice_get}
-use Rattle.std.specs.List.{range_with_len}
+-- (`owner_along`). The laws `owners_have_the_longest_mapping`: so it is along every way, and of every slot of a structure.
+use Rattle.std.specs.Prelude.{◌≡◌, ◌⊎◌, ℕ, zero, suc, ◌≤◌, Bool, true, false, ◌&&◌, nat_le, List, [], ◌∷◌, ◌++◌, Some, length, map, slice_get, if◌then◌else◌}
+use Rattle.std.specs.List.{enumerate_from, flat_map, range_with_len}
 use Rattle.room_kinds.specs.declared.numbers.ControllerId.{ControllerId}
+use Rattle.room_kinds.specs.declared.structure.ReferenceKind.{ReferenceKind}
+use Rattle.room_kinds.specs.Structure.{is_imported}
+use Rattle.room_wiring.specs.declared.slot.Slot.{Slot}
+use Rattle.wiring_plan.specs.declared.structure_plan.plan.ReferencePlan.{ReferencePlan}
+use Rattle.wiring_plan.specs.declared.structure_plan.plan.StructurePlan.{StructurePlan}
 use Rattle.wiring_slots.specs.declared.slot_tree.names.MappingPlan.{MappingPlan}
 use Rattle.wiring_slots.specs.declared.slot_tree.names.StepPlan.{StepPlan}
+use Rattle.wiring_slots.specs.declared.slot_tree.names.SlotNames.{SlotNames}
 use Rattle.wiring_slots.specs.slot_tree.Owners.{step_fits, trails_at, owner_at}
+use Rattle.wiring_slots.specs.slot_tree.Slots.{references_of_class, slots_of}
 
 -- a way from the subsystem class down: references by number, each with an index
 abbrev pub Way : Type 0
@@ -61,3 +68,42 @@ owner_along mappings owner trails (w ∷ way) =
 abbrev pub OwnersHaveTheLongestMapping : Type 0
 OwnersHaveTheLongestMapping =
     (mappings : List MappingPlan) (way : Way) → IsOwnerOf mappings way (owner_along mappings (record { 0 = 0 }) (all_trails mappings) way)
+
+-- ---- slots
+
+-- where a slot of a structure stands: the way to it and to its container, and its kind
+pub record Stand : Type 0 where
+  pub way : Way
+  pub container : Way
+  pub kind : ReferenceKind
+
+-- the references of a class with their numbers and indexes, in order of declaration and index
+abbrev pub steps_into : List ReferencePlan → List ((ℕ × ℕ) × ReferencePlan)
+steps_into references = flat_map (λ (r : ℕ × ReferencePlan). map (λ i. ((r.0, i), r.1)) (range_with_len 0 r.1.count)) (enumerate_from 0 references)
+
+-- a slot and those inside it, looked into so deep; an imported slot has none
+abbrev pub stands_below : StructurePlan → ℕ → Way → (ℕ × ℕ) × ReferencePlan → List Stand
+stands_below plan zero container c = record { way = container ++ c.0 ∷ []; container = container; kind = c.1.kind } ∷ []
+stands_below plan (suc depth) container c =
+    record { way = container ++ c.0 ∷ []; container = container; kind = c.1.kind }
+    ∷ (if is_imported c.1.kind then [] else flat_map (stands_below plan depth (container ++ c.0 ∷ [])) (steps_into (references_of_class plan c.1.class)))
+
+-- all slots of a structure, depth first, in order of declaration and index
+abbrev pub stands_of : StructurePlan → List Stand
+stands_of plan = flat_map (stands_below plan (length plan.classes) []) (steps_into plan.subsystem.references)
+
+-- an imported slot has its container's owner
+abbrev pub owning_way : Stand → Way
+owning_way s = if is_imported s.kind then s.container else s.way
+
+-- slot by slot, the owners are those of the longest mapped paths
+abbrev pub AreOwned : List MappingPlan → List Slot → List Stand → Type 0
+AreOwned mappings [] [] = Unit {0}
+AreOwned mappings [] (s ∷ ss) = ⊥
+AreOwned mappings (x ∷ xs) [] = ⊥
+AreOwned mappings (x ∷ xs) (s ∷ ss) = IsOwnerOf mappings (owning_way s) x.owner × AreOwned mappings xs ss
+
+-- over every structure, whatever its names and mappings
+abbrev pub SlotsAreOwned : Type 0
+SlotsAreOwned =
+    (plan : StructurePlan) (names : SlotNames) (mappings : List MappingPlan) → AreOwned mappings (slots_of plan names mappings) (stands_of plan)

@@ -5,7 +5,7 @@
 #![tactic(auto)]
 
 ghost use Rattle.definition_laws.specs.Codes.{CodesHaveOneProgram};
-ghost use Rattle.definition_laws.specs.Owners.{OwnersHaveTheLongestMapping};
+ghost use Rattle.definition_laws.specs.Owners.{OwnersHaveTheLongestMapping, SlotsAreOwned};
 ghost use Rattle.definition_laws.specs.Places.{BindingsTakeFreePlaces};
 
 /// The program of a code is the one whose tokens are those of its text, within the limits of the language; there
@@ -20,7 +20,9 @@ pub fn bindings_take_free_places()
 {}
 
 /// The owner that is found by going along a way into references is the controller of the longest mapped path that
-/// leads there or to a container of it, of equally long ones the last declared; controller 0 where none does.
+/// leads there or to a container of it, of equally long ones the last declared; controller 0 where none does. So it
+/// is of every slot of a structure; an imported one has its container's owner.
 pub fn owners_have_the_longest_mapping()
-    ensures { OwnersHaveTheLongestMapping }
+    ensures ways { OwnersHaveTheLongestMapping }
+    ensures slots { SlotsAreOwned }
 {}

@@ -10,7 +10,6 @@ use Rattle.journal.specs.declared.entry.Did.{Did}
 use Rattle.journal.specs.declared.entry.Entry.{Entry}
 use Rattle.journal.specs.declared.entry.Entry.TheVariants as entry
 use Rattle.journal.specs.declared.entry.Journals.{Journals}
-use Rattle.inject_reader.specs.Fitting.{FitLines}
 use Rattle.inject_reader.specs.declared.inject_lines.accepted.Line.{Line}
 use Rattle.actor_merge.specs.Parties.{Line as Posted, State, Replays}
 use Rattle.actor_merge.specs.Merge.{entries_of}
@@ -33,12 +32,13 @@ use Rattle.controller_actors.specs.Plants.{model_of}
 use Rattle.controller_actors.specs.declared.plant.Plant.{Plant}
 use Rattle.model_run.specs.part_posts.Items.{items_of}
 use Rattle.model_run.specs.run_ends.Runs.{journal_of, IsRun}
+use Rattle.fitting_plants.specs.Lines.{LinesFit}
 use Rattle.fitting_plants.specs.Plants.{IsFitting}
 use Rattle.fitting_plants.specs.Runs.{running, begins_at, over_with, WasLost, Settles, FittingRunsSettle}
 use Rattle.fitting_plants.proofs.Lines.{lines_open}
 use Rattle.fitting_plants.proofs.Plants.{plants_fit}
 
-module _ (plant : Plant) (lines : List Line) (fuel : ℕ) (j : Journals) (fitting : IsFitting plant) (fit : FitLines plant.wiring lines) (run : IsRun plant lines fuel j) where
+module _ (plant : Plant) (lines : List Line) (fuel : ℕ) (j : Journals) (fitting : IsFitting plant) (fit : LinesFit plant.wiring lines) (run : IsRun plant lines fuel j) where
   abbrev model : Behaviour Actor
   model = model_of plant
 

@@ -14,7 +14,6 @@ use Rattle.journal.specs.declared.entry.Did.{Did}
 use Rattle.journal.specs.declared.entry.Entry.{Entry}
 use Rattle.journal.specs.declared.entry.Entry.TheVariants as entry
 use Rattle.journal.specs.declared.entry.Journals.{Journals}
-use Rattle.inject_reader.specs.Fitting.{FitLines}
 use Rattle.inject_reader.specs.declared.inject_lines.accepted.Line.{Line}
 use Rattle.actor_merge.specs.Parties.{Plant as RunPlant, State, Replays}
 use Rattle.actor_duties.specs.Lives.{is_live}
@@ -31,6 +30,7 @@ use Rattle.controller_actors.specs.Plants.{model_of}
 use Rattle.controller_actors.specs.declared.plant.Plant.{Plant}
 use Rattle.model_run.specs.part_posts.Items.{items_of}
 use Rattle.model_run.specs.run_ends.Runs.{journal_of, IsRun}
+use Rattle.fitting_plants.specs.Lines.{LinesFit}
 use Rattle.fitting_plants.specs.Plants.{PlantFits}
 
 -- a plant with the lines that it runs over
@@ -74,5 +74,5 @@ pub record Settles (plant : Plant) (lines : List Line) (fuel : ℕ) (j : Journal
 -- so it is of every run of a plant that fits over lines that fit
 abbrev pub FittingRunsSettle : Type 0
 FittingRunsSettle =
-    (plant : Plant) (lines : List Line) (fuel : ℕ) (j : Journals) → PlantFits plant → FitLines plant.wiring lines
+    (plant : Plant) (lines : List Line) (fuel : ℕ) (j : Journals) → PlantFits plant → LinesFit plant.wiring lines
     → (run : IsRun plant lines fuel j) → Settles plant lines fuel j run

@@ -4,6 +4,7 @@
 //! No code: the laws.
 #![tactic(auto)]
 
+ghost use Rattle.fitting_plants.specs.Lines.{ReadLinesFit};
 ghost use Rattle.fitting_plants.specs.Plants.{PlantsFit};
 ghost use Rattle.fitting_plants.specs.Runs.{FittingRunsSettle};
 
@@ -13,6 +14,11 @@ ghost use Rattle.fitting_plants.specs.Runs.{FittingRunsSettle};
 /// that a message is deferred exactly where they defer it.
 pub fn plants_fit()
     ensures { PlantsFit }
+{}
+
+/// The lines that an injection text is read as name what the wiring has.
+pub fn read_lines_fit()
+    ensures { ReadLinesFit }
 {}
 
 /// Of every run of a plant that fits, over lines that name what its wiring has: each controller's journal tells

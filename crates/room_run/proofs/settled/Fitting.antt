@@ -15,6 +15,7 @@ use Rattle.model_run.specs.run_ends.Runs.{IsRun}
 use Rattle.named_runs.specs.Charts.{ShowCharts}
 use Rattle.fitting_plants.specs.Plants.{PlantFits}
 use Rattle.fitting_plants.specs.Runs.{Settles}
+use Rattle.fitting_plants.proofs.Lines.{read_fit}
 use Rattle.fitting_plants.proofs.Runs.{runs_settle}
 use Rattle.room_run.specs.Models.{HasTree, IsSoundText, IsModel}
 use Rattle.room_run.specs.Causes.{IsInjections}
@@ -43,4 +44,4 @@ pub settles_of : (model injections : Option (List ℕ)) (p : Plant) (lines : Lis
     → IfSome model (λ text. IfSome injections (λ injected. Settles p lines fuel j run))
 settles_of None injections p lines fuel j h k run = tt
 settles_of (Some text) None p lines fuel j h k run = tt
-settles_of (Some text) (Some injected) p lines fuel j h k run = runs_settle p lines fuel j (text_fits text p.wiring h.charts p h.is refl h.tables) k.fit run
+settles_of (Some text) (Some injected) p lines fuel j h k run = runs_settle p lines fuel j (text_fits text p.wiring h.charts p h.is refl h.tables) (read_fit p.wiring lines k.fit) run

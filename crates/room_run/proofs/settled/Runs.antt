@@ -19,7 +19,7 @@ use Rattle.named_runs.specs.Charts.{ShowCharts}
 use Rattle.world_agreement.specs.Settled.{LivesAgree}
 use Rattle.settled_models.proofs.Runs.{model_agrees}
 use Rattle.room_run.proofs.settled.Compiled.{all_compiled}
-use Rattle.fitting_plants.proofs.Lines.{lines_open}
+use Rattle.fitting_plants.proofs.Lines.{lines_open, read_fit}
 
 pub runs_agree : (m : ModelTree) (plant : Plant) (charts : List (Option Chart)) (lines : List Line) (fuel : ℕ) (j : Journals)
     → first_broken all_rules m ≡ None → IsWiringOf m plant.wiring → HasNoFault m → HasCharts m charts
@@ -27,5 +27,5 @@ pub runs_agree : (m : ModelTree) (plant : Plant) (charts : List (Option Chart)) 
     → (run : IsRun plant lines fuel j) → j.done ≡ true → LivesAgree plant.wiring run.world
 runs_agree m plant charts lines fuel j keeps wiring flawless has shown fit run done =
     model_agrees m plant.wiring charts plant.tables.items (lines_of (items_of plant.wiring lines)) keeps wiring flawless has
-    (all_compiled plant.tables.items charts shown) (lines_open plant.wiring lines fit) (model_depth_first m plant.wiring wiring.slots)
+    (all_compiled plant.tables.items charts shown) (lines_open plant.wiring lines (read_fit plant.wiring lines fit)) (model_depth_first m plant.wiring wiring.slots)
     fuel (journal_of j) j.left j.unposted run.world run.lawful (run.ended.is_done done)
