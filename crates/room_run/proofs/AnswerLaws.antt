@@ -2,7 +2,6 @@
 use Rattle.std.proofs.Common.{◌≡◌, ℕ, ◌<◌, ◌≤◌, Bool, true, false, if◌then◌else◌, List, [], ◌∷◌, length, Option, Some, None, IfSome, Result, Ok, Err, refl, sym, ap, ◌∙◌, subst, arith, ◌⊎◌, inl, inr, ⊎_elim}
 use Rattle.std.proofs.lemmas.Bool.{cases_order}
 use Rattle.room_outside.specs.Shown.{Shown}
-use Rattle.room_outside.specs.Written.{Written, BreaksOff}
 use Rattle.room_ast.specs.Trees.{ModelTree}
 use Rattle.room_lexer.specs.declared.token.Token.{Token}
 use Rattle.token_reading.specs.Single.{values}
@@ -10,24 +9,21 @@ use Rattle.room_parser.proofs.WhatParsingAnswers.{same_tokens_same_model}
 use Rattle.structure_check.specs.Rules.{Rule, first_broken, IsBroken, IsLowest}
 use Rattle.structure_check.specs.List.{all_rules}
 use Rattle.binding_expand.specs.Faults.{HasNoFault, IsLowestFault, number}
-use Rattle.binding_expand.specs.declared.fault.WiringFault.{WiringFault}
 use Rattle.binding_expand.proofs.one_wiring.Same.{same_wiring}
-use Rattle.chart_model.specs.Chart.{Chart}
 use Rattle.chart_reader.specs.model_charts.Charts.{HasFaultyChart}
 use Rattle.binding_expand.specs.Wirings.{IsWiringOf}
 use Rattle.chart_reader.proofs.model_charts.One.{are_one}
 use Rattle.room_wiring.specs.declared.tables.Tables.{Tables}
 use Rattle.inject_reader.specs.declared.inject_lines.accepted.Line.{Line}
-use Rattle.inject_reader.specs.Answer.{answer}
 use Rattle.controller_actors.specs.declared.plant.Plant.{Plant}
 use Rattle.made_model.specs.Texts.{model_text, injections_text}
 use Rattle.room_run.specs.Words.{Files, Asked, Check, Tree, Run, Made, asked_by}
 use Rattle.room_run.specs.MadeShelf.{made_files, made_shelf}
-use Rattle.room_run.specs.Models.{most_bytes, HasTokens, HasTree, IsSoundText, IsSound, IsModel, IsUncut, HasNoTree, BreaksRule, HasBadWiring, HasBadChart, SoundCauses, uncut, no_tree, breaks_rule, bad_wiring, bad_chart, no_memory}
-use Rattle.room_run.specs.Causes.{IsInjections, HasBadLine, TextIs, AreOf, RoseAt, UnreadCauses, model_unread, model_long, model_no_memory, ModelCauses, no_text, model_refused, LinesCauses, faulty_line, no_memory_for_lines, InjectionsCauses, injections_unread, injections_long, injections_refused, injections_no_memory, RunCauses, of_model, of_injections, run_no_memory, Causes, no_such_words, of_check, of_tree, of_run, of_made, status_of}
+use Rattle.room_run.specs.Models.{most_bytes, HasTokens, HasTree, IsSound, IsModel, IsUncut, HasNoTree, BreaksRule, HasBadWiring, HasBadChart, SoundCauses, uncut, no_tree, breaks_rule, bad_wiring, bad_chart, no_memory}
+use Rattle.room_run.specs.Causes.{IsInjections, HasBadLine, TextIs, AreOf, model_unread, model_long, model_no_memory, ModelCauses, no_text, model_refused, LinesCauses, faulty_line, no_memory_for_lines, InjectionsCauses, injections_unread, injections_long, injections_refused, injections_no_memory, RunCauses, of_model, of_injections, run_no_memory, Causes, no_such_words, of_check, of_tree, of_run, of_made, status_of}
 use Rattle.binding_expand.specs.tree_text.Text.{tree_text}
-use Rattle.room_run.specs.Outcome.{accepted, Answers, says_ok, says_tree, says_run, says_made, IsRunOfFiles, status_of_run, Streams, Outcome, whole, cut_short, refused, refused_unheard}
-use Rattle.room_run.specs.OneAnswer.{IsRead, AreRead, IsMemory, IsSyntax, SameRefusal, IsOfModel, HasOneAnswer, CallsHaveOneAnswer, HasModel, HasFiles, AreAccepted, NoneFailed, IsEnd, AcceptedCallsEnd}
+use Rattle.room_run.specs.Outcome.{accepted, Answers, says_ok, says_tree, says_run, says_made, status_of_run, whole, cut_short, refused, refused_unheard}
+use Rattle.room_run.specs.OneAnswer.{IsRead, AreRead, IsMemory, SameRefusal, IsOfModel, CallsHaveOneAnswer, HasModel, HasFiles, AreAccepted, IsEnd, AcceptedCallsEnd}
 use Rattle.room_run.specs.declared.model_fault.ModelFault.{ModelFault}
 use Rattle.room_run.specs.declared.model_fault.ModelFault.TheVariants as faults
 use Rattle.room_run.specs.declared.refusal.Refusal.{Refusal}
@@ -42,7 +38,8 @@ same_tokens : (text : List ℕ) (a b : List Token) → HasTokens text a → HasT
 same_tokens text a b h k = h.placed ∙ one_cut text h.pieces k.pieces h.cut k.cut ∙ sym k.placed
 
 same_tree : (text : List ℕ) (a b : ModelTree) → HasTree text a → HasTree text b → a ≡ b
-same_tree text a b h k = same_tokens_same_model a b (h.spelled ∙ ap (values text) (same_tokens text h.tokens k.tokens h.cut k.cut) ∙ sym k.spelled)
+same_tree text a b h k =
+    same_tokens_same_model a b (h.spelled ∙ ap (values text) (same_tokens text h.tokens k.tokens h.cut k.cut) ∙ sym k.spelled)
 
 no_tokens : (text : List ℕ) (offset : ℕ) (ts : List Token) → IsUncut text offset → HasTokens text ts → ⊥
 no_tokens text offset ts h k = not_both_cut text h.cause offset k.pieces h.fails h.within k.cut
@@ -54,13 +51,15 @@ none_broken : (rs : List Rule) (m : ModelTree) (n : ℕ) → first_broken rs m �
 none_broken [] m n e h = h
 none_broken (r ∷ rs) m n e h = go (r.keeps m) refl e h (λ k b. none_broken rs m n k b)
   where
-    go : (b : Bool) → r.keeps m ≡ b → (if b then first_broken rs m else Some r.number) ≡ None → ((r.number ≡ n) × (r.keeps m ≡ false)) ⊎ IsBroken rs m n
+    go : (b : Bool) → r.keeps m ≡ b → (if b then first_broken rs m else Some r.number) ≡ None
+        → ((r.number ≡ n) × (r.keeps m ≡ false)) ⊎ IsBroken rs m n
         → (first_broken rs m ≡ None → IsBroken rs m n → ⊥) → ⊥
     go true is k (inl x) more = let no = x.1 in absurd cc
     go true is k (inr x) more = more k x
     go false is k x more = absurd cc
 
-breaks_none : (text : List ℕ) (rule : ℕ) (tree : ModelTree) → BreaksRule text rule → HasTree text tree → first_broken all_rules tree ≡ None → ⊥
+breaks_none : (text : List ℕ) (rule : ℕ) (tree : ModelTree) → BreaksRule text rule → HasTree text tree
+    → first_broken all_rules tree ≡ None → ⊥
 breaks_none text rule tree h k keeps =
     none_broken all_rules h.tree rule (subst (λ (z : ModelTree). first_broken all_rules z ≡ None) (same_tree text tree h.tree k h.read) keeps) h.lowest.0
 
@@ -118,7 +117,8 @@ module _ (text : List ℕ) where
   one_rule : (rule : ℕ) → BreaksRule text rule → (g : ModelFault) → SoundCauses text g → OneFault (faults.Rule rule) g
   one_rule rule h _ (uncut place k) = absurd (no_tokens text place h.read.tokens k h.read.cut)
   one_rule rule h _ (no_tree other k) = absurd (no_such_tree text h.tree k h.read)
-  one_rule rule h _ (breaks_rule other k) = is_one (faults.Rule rule) (faults.Rule other) (ap (λ (n : ℕ). faults.Rule n) (same_rule text rule other h k))
+  one_rule rule h _ (breaks_rule other k) =
+      is_one (faults.Rule rule) (faults.Rule other) (ap (λ (n : ℕ). faults.Rule n) (same_rule text rule other h k))
   one_rule rule h _ (bad_wiring n k) = absurd (breaks_none text rule k.tree h k.read k.keeps)
   one_rule rule h _ (bad_chart class n k) = absurd (breaks_none text rule k.tree h k.read k.keeps)
   one_rule rule h _ no_memory = inr (inl refl)
@@ -127,11 +127,13 @@ module _ (text : List ℕ) where
   one_wiring n h _ (uncut place k) = absurd (no_tokens text place h.read.tokens k h.read.cut)
   one_wiring n h _ (no_tree other k) = absurd (no_such_tree text h.tree k h.read)
   one_wiring n h _ (breaks_rule rule k) = absurd (breaks_none text rule h.tree k h.read h.keeps)
-  one_wiring n h _ (bad_wiring other k) = is_one (faults.Wiring n) (faults.Wiring other) (ap (λ (z : ℕ). faults.Wiring z) (same_wiring_fault text n other h k))
+  one_wiring n h _ (bad_wiring other k) =
+      is_one (faults.Wiring n) (faults.Wiring other) (ap (λ (z : ℕ). faults.Wiring z) (same_wiring_fault text n other h k))
   one_wiring n h _ (bad_chart class m k) = absurd (wired_well text n k.tree h k.read k.wired.flawless)
   one_wiring n h _ no_memory = inr (inl refl)
 
-  one_chart : (class : List ℕ) (n : ℕ) → HasBadChart text class n → (g : ModelFault) → SoundCauses text g → OneFault (faults.Chart class n) g
+  one_chart : (class : List ℕ) (n : ℕ) → HasBadChart text class n → (g : ModelFault) → SoundCauses text g
+      → OneFault (faults.Chart class n) g
   one_chart class n h _ (uncut place k) = absurd (no_tokens text place h.read.tokens k h.read.cut)
   one_chart class n h _ (no_tree other k) = absurd (no_such_tree text h.tree k h.read)
   one_chart class n h _ (breaks_rule rule k) = absurd (breaks_none text rule h.tree k h.read h.keeps)
@@ -194,13 +196,17 @@ data ModelSays (text : List ℕ) (why : Refusal) : Type 0 where
 told_text : (shelf : Shown) (name text : List ℕ) (P : List ℕ → Type 0) → shelf.text name ≡ Some text → TextIs shelf name P → P text
 told_text shelf name text P told h = subst (λ (o : Option (List ℕ)). IfSome o P) told h
 
-model_says : (before after : Shown) (name : List ℕ) (why : Refusal) → (read : IsRead before after name) → ModelCauses before after name why → ModelSays read.text why
+model_says : (before after : Shown) (name : List ℕ) (why : Refusal) → (read : IsRead before after name)
+    → ModelCauses before after name why → ModelSays read.text why
 model_says before after name _ read (no_text (model_unread h)) = absurd (read.unfailed h)
-model_says before after name _ read (no_text (model_long h)) = says_long (told_text before name read.text (λ t. most_bytes < length t) read.told h) refl
+model_says before after name _ read (no_text (model_long h)) =
+    says_long (told_text before name read.text (λ t. most_bytes < length t) read.told h) refl
 model_says before after name _ read (no_text model_no_memory) = says_memory refl
-model_says before after name _ read (model_refused fault h) = says_fault fault (told_text before name read.text (λ t. SoundCauses t fault) read.told h) refl
+model_says before after name _ read (model_refused fault h) =
+    says_fault fault (told_text before name read.text (λ t. SoundCauses t fault) read.told h) refl
 
-long_and_fault : (text : List ℕ) (f : ModelFault) (why : Refusal) → most_bytes < length text → SoundCauses text f → why ≡ refusals.Model f → IsMemory why
+long_and_fault : (text : List ℕ) (f : ModelFault) (why : Refusal) → most_bytes < length text → SoundCauses text f
+    → why ≡ refusals.Model f → IsMemory why
 long_and_fault text f why long h is =
     ⊎_elim (λ e. memory_is f why e is) (λ short. absurd (omega (arith, long, short))) (short_unless text f h)
 
@@ -239,14 +245,17 @@ lines_cause wiring text _ no_memory_for_lines = lines_memory refl
 lines_say : (before after : Shown) (name : List ℕ) (wiring : Tables) (why : Refusal) → (read : IsRead before after name)
     → InjectionsCauses before after name wiring why → LinesSay wiring read.text why
 lines_say before after name wiring why read (injections_unread h is) = absurd (read.unfailed h)
-lines_say before after name wiring why read (injections_long h is) = lines_long (told_text before name read.text (λ t. most_bytes < length t) read.told h) is
-lines_say before after name wiring why read (injections_refused h) = lines_cause wiring read.text why (told_text before name read.text (λ t. LinesCauses wiring t why) read.told h)
+lines_say before after name wiring why read (injections_long h is) =
+    lines_long (told_text before name read.text (λ t. most_bytes < length t) read.told h) is
+lines_say before after name wiring why read (injections_refused h) =
+    lines_cause wiring read.text why (told_text before name read.text (λ t. LinesCauses wiring t why) read.told h)
 lines_say before after name wiring why read (injections_no_memory is) = lines_memory (ap status_of is)
 
 err_pair : (a b : ℕ × ℕ) → ◌≡◌ {A = Result (List Line) (ℕ × ℕ)} (Err a) (Err b) → a ≡ b
 err_pair a b e = cc
 
-lines_once : (wiring : Tables) (text : List ℕ) (why other : Refusal) → LinesSay wiring text why → LinesSay wiring text other → Once why other
+lines_once : (wiring : Tables) (text : List ℕ) (why other : Refusal) → LinesSay wiring text why → LinesSay wiring text other
+    → Once why other
 lines_once wiring text why other (lines_memory e) k = inl e
 lines_once wiring text why other (lines_long long is) (lines_memory e) = inr (inl e)
 lines_once wiring text why other (lines_long long is) (lines_long also are) = inr (inr (inl (is ∙ sym are)))
@@ -258,7 +267,8 @@ lines_once wiring text why other (lines_faulty n c h is) (lines_faulty m d k are
     inr (inr (inl (is ∙ ap (λ (z : ℕ × ℕ). refusals.InjectionsLine z.0 z.1) same ∙ sym are)))
 
 -- accepted injections are refused for want of memory alone
-sound_lines : (wiring : Tables) (text : List ℕ) (lines : List Line) (why : Refusal) → IsInjections wiring text lines → LinesSay wiring text why → IsMemory why
+sound_lines : (wiring : Tables) (text : List ℕ) (lines : List Line) (why : Refusal) → IsInjections wiring text lines
+    → LinesSay wiring text why → IsMemory why
 sound_lines wiring text lines why s (lines_memory e) = e
 sound_lines wiring text lines why s (lines_long long is) = let short = s.short in absurd (omega (arith, long, short))
 sound_lines wiring text lines why s (lines_faulty n c h is) =
@@ -272,7 +282,8 @@ data RunSays (model injections : List ℕ) (why : Refusal) : Type 0 where
 is_sound : (text : List ℕ) (plant : Plant) → IsModel text plant → IsSound text plant.wiring
 is_sound text plant h = record { charts = h.charts; is = h.is }
 
-run_says : (before after : Shown) (files : Files) (why : Refusal) → (model : IsRead before after files.model) → (injections : IsRead before after files.injections)
+run_says : (before after : Shown) (files : Files) (why : Refusal) → (model : IsRead before after files.model)
+    → (injections : IsRead before after files.injections)
     → RunCauses before after files why → RunSays model.text injections.text why
 run_says before after files why model injections (of_model h) = for_model (model_says before after files.model why model h)
 run_says before after files why model injections (of_injections plant h k) =
@@ -280,7 +291,8 @@ run_says before after files why model injections (of_injections plant h k) =
     (lines_say before after files.injections plant.wiring why injections k)
 run_says before after files why model injections (run_no_memory is) = for_model (says_memory (ap status_of is))
 
-run_once : (model injections : List ℕ) (why other : Refusal) → RunSays model injections why → RunSays model injections other → Once why other
+run_once : (model injections : List ℕ) (why other : Refusal) → RunSays model injections why → RunSays model injections other
+    → Once why other
 run_once model injections why other (for_model h) (for_model k) = model_once model why other h k
 run_once model injections why other (for_model h) (for_lines wiring s k) = inl (sound_model model wiring why s h)
 run_once model injections why other (for_lines wiring s h) (for_model k) = inr (inl (sound_model model wiring other s k))
@@ -288,7 +300,8 @@ run_once model injections why other (for_lines wiring s h) (for_lines wired u k)
     lines_once wiring injections why other h (subst (λ (z : Tables). LinesSay z injections other) (one_sound_wiring model wired wiring u s) k)
 
 -- accepted texts are refused for want of memory alone
-sound_run : (model injections : List ℕ) (wiring : Tables) (lines : List Line) (why : Refusal) → IsSound model wiring → IsInjections wiring injections lines
+sound_run : (model injections : List ℕ) (wiring : Tables) (lines : List Line) (why : Refusal) → IsSound model wiring
+    → IsInjections wiring injections lines
     → RunSays model injections why → IsMemory why
 sound_run model injections wiring lines why s i (for_model h) = sound_model model wiring why s h
 sound_run model injections wiring lines why s i (for_lines wired u k) =
@@ -297,10 +310,12 @@ sound_run model injections wiring lines why s i (for_lines wired u k) =
 -- ---- by what words ask for
 
 made_model_read : (actors : ℕ) → IsRead (made_shelf actors) (made_shelf actors) made_files.model
-made_model_read actors = record { text = model_text actors; told = refl; unfailed = λ rose. let up = rose.higher (omega arith) in omega (arith, up) }
+made_model_read actors =
+    record { text = model_text actors; told = refl; unfailed = λ rose. let up = rose.higher (omega arith) in omega (arith, up) }
 
 made_lines_read : (actors : ℕ) → IsRead (made_shelf actors) (made_shelf actors) made_files.injections
-made_lines_read actors = record { text = injections_text actors; told = refl; unfailed = λ rose. let up = rose.higher (omega arith) in omega (arith, up) }
+made_lines_read actors =
+    record { text = injections_text actors; told = refl; unfailed = λ rose. let up = rose.higher (omega arith) in omega (arith, up) }
 
 abbrev CausesOf : Shown → Shown → Option Asked → Refusal → Type 0
 CausesOf before after None why = why ≡ refusals.Words
@@ -309,17 +324,21 @@ CausesOf before after (Some (Tree name)) why = ModelCauses before after name why
 CausesOf before after (Some (Run files fuel)) why = RunCauses before after files why
 CausesOf before after (Some (Made actors)) why = RunCauses (made_shelf actors) (made_shelf actors) made_files why
 
-causes_of : (before after : Shown) (words : List (List ℕ)) (why : Refusal) → Causes before after words why → CausesOf before after (asked_by words) why
+causes_of : (before after : Shown) (words : List (List ℕ)) (why : Refusal) → Causes before after words why
+    → CausesOf before after (asked_by words) why
 causes_of before after words why (no_such_words e is) = subst (λ (o : Option Asked). CausesOf before after o why) (sym e) is
 causes_of before after words why (of_check name e h) = subst (λ (o : Option Asked). CausesOf before after o why) (sym e) h
 causes_of before after words why (of_tree name e h) = subst (λ (o : Option Asked). CausesOf before after o why) (sym e) h
 causes_of before after words why (of_run files fuel e h) = subst (λ (o : Option Asked). CausesOf before after o why) (sym e) h
 causes_of before after words why (of_made actors e h) = subst (λ (o : Option Asked). CausesOf before after o why) (sym e) h
 
-once_of : (before after : Shown) (o : Option Asked) (why other : Refusal) → AreRead before after o → CausesOf before after o why → CausesOf before after o other → Once why other
+once_of : (before after : Shown) (o : Option Asked) (why other : Refusal) → AreRead before after o → CausesOf before after o why
+    → CausesOf before after o other → Once why other
 once_of before after None why other read h k = inr (inr (inl (h ∙ sym k)))
-once_of before after (Some (Check name)) why other read h k = model_once read.text why other (model_says before after name why read h) (model_says before after name other read k)
-once_of before after (Some (Tree name)) why other read h k = model_once read.text why other (model_says before after name why read h) (model_says before after name other read k)
+once_of before after (Some (Check name)) why other read h k =
+    model_once read.text why other (model_says before after name why read h) (model_says before after name other read k)
+once_of before after (Some (Tree name)) why other read h k =
+    model_once read.text why other (model_says before after name why read h) (model_says before after name other read k)
 once_of before after (Some (Run files fuel)) why other read h k =
     run_once read.0.text read.1.text why other (run_says before after files why read.0 read.1 h) (run_says before after files other read.0 read.1 k)
 once_of before after (Some (Made actors)) why other read h k =
@@ -332,7 +351,8 @@ once_of before after (Some (Made actors)) why other read h k =
 same_told : (shelf : Shown) (name a b : List ℕ) → shelf.text name ≡ Some a → shelf.text name ≡ Some b → a ≡ b
 same_told shelf name a b h k = let both : Some a ≡ Some b = sym h ∙ k in cc
 
-model_memory : (before after : Shown) (name : List ℕ) (why : Refusal) (read : IsRead before after name) (wiring : Tables) → HasModel before name wiring
+model_memory : (before after : Shown) (name : List ℕ) (why : Refusal) (read : IsRead before after name) (wiring : Tables)
+    → HasModel before name wiring
     → ModelCauses before after name why → IsMemory why
 model_memory before after name why read wiring h k =
     sound_model read.text wiring why (subst (λ (z : List ℕ). IsSound z wiring) (same_told before name h.text read.text h.told read.told) h.sound) (model_says before after name why read k)
@@ -345,7 +365,8 @@ files_memory before after files why model injections h k =
     (subst (λ (z : List ℕ). IsInjections h.wiring z h.lines) (same_told before files.injections h.text injections.text h.told injections.told) h.injections)
     (run_says before after files why model injections k)
 
-memory_of : (before after : Shown) (o : Option Asked) (why : Refusal) → AreAccepted before o → AreRead before after o → CausesOf before after o why → IsMemory why
+memory_of : (before after : Shown) (o : Option Asked) (why : Refusal) → AreAccepted before o → AreRead before after o
+    → CausesOf before after o why → IsMemory why
 memory_of before after None why h read k = absurd h
 memory_of before after (Some (Check name)) why h read k = model_memory before after name why read h.0 h.1 k
 memory_of before after (Some (Tree name)) why h read k = model_memory before after name why read h.0 h.1 k
@@ -354,7 +375,8 @@ memory_of before after (Some (Made actors)) why h read k =
     files_memory (made_shelf actors) (made_shelf actors) made_files why (made_model_read actors) (made_lines_read actors) h k
 
 -- what has an answer is accepted
-files_accepted : (before after : Shown) (files : Files) (plant : Plant) (lines : List Line) → IsRead before after files.model → IsRead before after files.injections
+files_accepted : (before after : Shown) (files : Files) (plant : Plant) (lines : List Line) → IsRead before after files.model
+    → IsRead before after files.injections
     → AreOf before files plant lines → HasFiles before files
 files_accepted before after files plant lines model injections h = record {
   wiring = plant.wiring;
@@ -369,7 +391,8 @@ files_accepted before after files plant lines model injections h = record {
   injections = told_text before files.injections injections.text (λ t. IsInjections plant.wiring t lines) injections.told h.lines_accepted;
 }
 
-accepted_of : (before after : Shown) (words : List (List ℕ)) (text : List ℕ) (status : Status) → AreRead before after (asked_by words) → Answers before words text status
+accepted_of : (before after : Shown) (words : List (List ℕ)) (text : List ℕ) (status : Status) → AreRead before after (asked_by words)
+    → Answers before words text status
     → AreAccepted before (asked_by words)
 accepted_of before after words text status read (says_ok name e h is ends) =
     let r : IsRead before after name = subst (AreRead before after) e read in
@@ -391,15 +414,20 @@ accepted_of before after words text status read (says_made actors plant lines j 
 abbrev AnswerIs : Shown → Option Asked → List ℕ → Status → Type 0
 AnswerIs shelf None text status = Unit {0}
 AnswerIs shelf (Some (Check name)) text status = (text ≡ accepted) × (status ≡ statuses.Done)
-AnswerIs shelf (Some (Tree name)) text status = (wiring : Tables) × TextIs shelf name (λ t. IsSound t wiring) × (text ≡ tree_text wiring) × (status ≡ statuses.Done)
+AnswerIs shelf (Some (Tree name)) text status =
+    (wiring : Tables) × TextIs shelf name (λ t. IsSound t wiring) × (text ≡ tree_text wiring) × (status ≡ statuses.Done)
 AnswerIs shelf (Some (Run files fuel)) text status = Unit {0}
 AnswerIs shelf (Some (Made actors)) text status = Unit {0}
 
-answer_is : (shelf : Shown) (words : List (List ℕ)) (text : List ℕ) (status : Status) → Answers shelf words text status → AnswerIs shelf (asked_by words) text status
+answer_is : (shelf : Shown) (words : List (List ℕ)) (text : List ℕ) (status : Status) → Answers shelf words text status
+    → AnswerIs shelf (asked_by words) text status
 answer_is shelf words text status (says_ok name e h is ends) = subst (λ (o : Option Asked). AnswerIs shelf o text status) (sym e) (is, ends)
-answer_is shelf words text status (says_tree name wiring e h is ends) = subst (λ (o : Option Asked). AnswerIs shelf o text status) (sym e) (wiring, h, is, ends)
-answer_is shelf words text status (says_run files fuel plant lines j e h is ends) = subst (λ (o : Option Asked). AnswerIs shelf o text status) (sym e) tt
-answer_is shelf words text status (says_made actors plant lines j e h is ends) = subst (λ (o : Option Asked). AnswerIs shelf o text status) (sym e) tt
+answer_is shelf words text status (says_tree name wiring e h is ends) =
+    subst (λ (o : Option Asked). AnswerIs shelf o text status) (sym e) (wiring, h, is, ends)
+answer_is shelf words text status (says_run files fuel plant lines j e h is ends) =
+    subst (λ (o : Option Asked). AnswerIs shelf o text status) (sym e) tt
+answer_is shelf words text status (says_made actors plant lines j e h is ends) =
+    subst (λ (o : Option Asked). AnswerIs shelf o text status) (sym e) tt
 
 same_answer : (before after : Shown) (o : Option Asked) (text other : List ℕ) (status also : Status) → IsOfModel o → AreRead before after o
     → AnswerIs before o text status → AnswerIs before o other also → (text ≡ other) × (status ≡ also)
@@ -435,7 +463,9 @@ answer_ends shelf words text status (says_made actors plant lines j e h is ends)
 
 pub accepted_calls_end : AcceptedCallsEnd
 accepted_calls_end before after words streams status taken read none (whole text h out notes) = answer_ends before words text status h
-accepted_calls_end before after words streams status taken read none (cut_short text wanted h is breaks notes) = absurd (none.out breaks.place.fault)
+accepted_calls_end before after words streams status taken read none (cut_short text wanted h is breaks notes) =
+    absurd (none.out breaks.place.fault)
 accepted_calls_end before after words streams status taken read none (refused why h is out notes) =
     inr (inr (is ∙ memory_of before after (asked_by words) why taken read (causes_of before after words why h)))
-accepted_calls_end before after words streams status taken read none (refused_unheard why h is out breaks) = absurd (none.notes breaks.place.fault)
+accepted_calls_end before after words streams status taken read none (refused_unheard why h is out breaks) =
+    absurd (none.notes breaks.place.fault)

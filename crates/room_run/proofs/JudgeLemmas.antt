@@ -1,6 +1,5 @@
 -- What was read from a text, and what it says of the text.
 use Rattle.std.proofs.Common.{◌≡◌, ℕ, ◌≤◌, List, [], length, Option, Some, None, Result, Ok, Err, refl, sym, ap, ◌∙◌, subst}
-use Rattle.std.specs.Global.{Vec}
 use Rattle.room_lexer.specs.Cut.{Piece, CutTo, placed, FailsAt}
 use Rattle.room_lexer.specs.Cutting.{Gives, tokens as lexed, fault_at}
 use Rattle.room_lexer.specs.declared.piece.Cause.{Cause}
@@ -8,7 +7,6 @@ use Rattle.room_lexer.specs.declared.piece.Cause.TheVariants.{BadByte, OpenStrin
 use Rattle.room_lexer.specs.declared.fault.LexFault.{LexFault}
 use Rattle.room_lexer.specs.declared.token.Token.{Token}
 use Rattle.room_ast.specs.Trees.{ModelTree}
-use Rattle.room_ast.specs.Tokens.{model_tokens}
 use Rattle.token_reading.specs.Single.{values}
 use Rattle.token_reading.specs.token_names.Names.{HasNames}
 use Rattle.token_reading.proofs.token_names.NamesLaw.{named as tokens_named}
@@ -30,7 +28,7 @@ use Rattle.structure_check.specs.Checks.{TellsLowest}
 use Rattle.structure_check.specs.declared.fault.CheckFault.{CheckFault}
 use Rattle.structure_check.specs.declared.fault.CheckFault.TheVariants as check_faults
 use Rattle.chart_model.specs.Chart.{Chart}
-use Rattle.chart_reader.specs.model_charts.Charts.{HasCharts, HasFaultyChart}
+use Rattle.chart_reader.specs.model_charts.Charts.{HasFaultyChart}
 use Rattle.chart_reader.specs.model_charts.Reads.{ReadsCharts}
 use Rattle.chart_reader.specs.declared.model_charts.fault.ChartsFault.{ChartsFault}
 use Rattle.chart_reader.specs.declared.model_charts.fault.ChartsFault.TheVariants as chart_faults
@@ -40,7 +38,7 @@ use Rattle.binding_expand.specs.Faults.{number}
 use Rattle.binding_expand.specs.declared.fault.WiringFault.{WiringFault}
 use Rattle.binding_expand.specs.declared.fault.WiringFault.TheVariants as wiring_faults
 use Rattle.room_run.proofs.OneCut.{fails_within}
-use Rattle.room_run.specs.Models.{most_bytes, HasTokens, HasTree, IsSoundTree, IsSoundText, IsUncut, HasNoTree, BreaksRule, IsGoodWiring, SoundCauses, uncut, no_tree, breaks_rule, bad_wiring, bad_chart, no_memory}
+use Rattle.room_run.specs.Models.{most_bytes, IsSoundTree, IsSoundText, IsGoodWiring, SoundCauses, uncut, no_tree, breaks_rule, bad_wiring, bad_chart, no_memory}
 use Rattle.room_run.specs.Reading.{HasItsTokens, HasItsTree, ChartCauses, first_faulty, no_memory_for_charts, TreeCauses, breaks, miswired, faulty, no_memory_for_tree, fault_of}
 use Rattle.room_run.specs.declared.model_fault.ModelFault.{ModelFault}
 use Rattle.room_run.specs.declared.model_fault.ModelFault.TheVariants as faults

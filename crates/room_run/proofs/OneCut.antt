@@ -1,13 +1,13 @@
 -- A text is cut in one way: it has tokens, or one byte at which it can't be cut.
-use Rattle.std.proofs.Common.{◌≡◌, ◌≢◌, ℕ, zero, suc, ◌+◌, ◌<◌, ◌≤◌, nat_le, true, false, List, [], ◌∷◌, ◌++◌, length, take, drop, Option, Some, None, Result, Ok, Err, inl, inr, refl, sym, ap, ◌∙◌, subst, length-append, length-drop, arith}
+use Rattle.std.proofs.Common.{◌≡◌, ◌≢◌, ℕ, zero, suc, ◌+◌, ◌<◌, nat_le, true, false, List, [], ◌∷◌, ◌++◌, length, take, drop, Option, Some, None, Result, Ok, Err, inl, inr, refl, sym, ap, ◌∙◌, subst, length-append, length-drop, arith}
 use Rattle.std.specs.List.{prefix_len}
 use Rattle.std.proofs.lemmas.List.{take_at, drop_at, take-append-drop}
 use Rattle.std.proofs.lemmas.Bool.{lt-leb}
 use Rattle.std.proofs.lemmas.Bool.Decides.{nat_tests}
 use Rattle.room_lexer.specs.Front.{front, is_digit, is_letter, max_number, value, number_of, number_front, enclosed}
-use Rattle.room_lexer.specs.Enclosed.{is_blank, Closes, closed_len, begins_string}
+use Rattle.room_lexer.specs.Enclosed.{is_blank, Closes, closed_len}
 use Rattle.room_lexer.specs.Cutting.{cut, tokens, go_on, map_ok, tokens_of, fault_at}
-use Rattle.room_lexer.specs.Cut.{Piece, CutTo, placed, end_of, IsRun, StaysOpen, IsOpenText, Offends, FailsAt}
+use Rattle.room_lexer.specs.Cut.{Piece, CutTo, placed, end_of, IsRun, IsOpenText, Offends, FailsAt}
 use Rattle.room_lexer.specs.declared.enclosed.Place.{Place}
 use Rattle.room_lexer.specs.declared.enclosed.Place.TheVariants as places
 use Rattle.room_lexer.specs.declared.piece.Kind.{Kind}
@@ -46,14 +46,16 @@ map_err f (Err x) e h = h
 
 -- ---- a fault stands at a byte
 
-cut_within : (n at : ℕ) (bytes : List ℕ) (cause : Cause) (place : ℕ) → cut n at bytes ≡ Err (fault_at cause place) → place < at + length bytes
+cut_within : (n at : ℕ) (bytes : List ℕ) (cause : Cause) (place : ℕ) → cut n at bytes ≡ Err (fault_at cause place)
+    → place < at + length bytes
 unfolding cut
 cut_within zero at bytes cause place h = absurd cc
 cut_within (suc n) at [] cause place h = absurd cc
 cut_within (suc n) at (b ∷ bs) cause place h =
     go (front (b ∷ bs)) refl h (λ len k. cut_within n (at + len) (drop len (b ∷ bs)) cause place k)
   where
-    go : (r : Result (Kind × ℕ) Cause) → front (b ∷ bs) ≡ r → go_on (λ len. cut n (at + len) (drop len (b ∷ bs))) at r ≡ Err (fault_at cause place)
+    go : (r : Result (Kind × ℕ) Cause) → front (b ∷ bs) ≡ r
+        → go_on (λ len. cut n (at + len) (drop len (b ∷ bs))) at r ≡ Err (fault_at cause place)
         → ((len : ℕ) → cut n (at + len) (drop len (b ∷ bs)) ≡ Err (fault_at cause place) → place < at + len + length (drop len (b ∷ bs)))
         → place < at + length (b ∷ bs)
     go (Err f) is k more =
@@ -70,7 +72,8 @@ fails_within text cause at h = let within = cut_within (length text + 1) 0 text 
 
 -- ---- where a text offends, no piece begins
 
-never_closed : (place : Place) (more : List ℕ) → ((inside after : List ℕ) → Closes place inside → more ≢ inside ++ after) → closed_len place more ≡ None
+never_closed : (place : Place) (more : List ℕ) → ((inside after : List ℕ) → Closes place inside → more ≢ inside ++ after)
+    → closed_len place more ≡ None
 never_closed place more never = go (closed_len place more) refl
   where
     go : (o : Option ℕ) → closed_len place more ≡ o → o ≡ None
@@ -103,7 +106,8 @@ digit_not_letter b h = grind (arith, nat_tests)
 
 too_large : (n : ℕ) (ds : List ℕ) → n ≡ value ds → max_number < n → number_of ds ≡ None
 unfolding number_of
-too_large n ds e large = let above : nat_le (value ds) max_number ≡ false = lt-leb (value ds) max_number (omega (arith, e, large)) in rw above refl
+too_large n ds e large =
+    let above : nat_le (value ds) max_number ≡ false = lt-leb (value ds) max_number (omega (arith, e, large)) in rw above refl
 
 not_number : (rest : List ℕ) (x : Kind × ℕ) → Offends NumberTooLarge rest → front rest ≡ Ok x → ⊥
 unfolding front
@@ -141,7 +145,8 @@ record Stops (r : Result (List Token) LexFault) (at : ℕ) : Type 0 where
   cause : Cause
   is : r ≡ Err (fault_at cause at)
 
-cut_stops : (ps : List Piece) (n at : ℕ) (bytes rest : List ℕ) (cause : Cause) → length bytes < n → CutTo bytes ps rest → 0 < length rest → Offends cause rest
+cut_stops : (ps : List Piece) (n at : ℕ) (bytes rest : List ℕ) (cause : Cause) → length bytes < n → CutTo bytes ps rest
+    → 0 < length rest → Offends cause rest
     → Stops (cut n at bytes) (end_of at ps)
 unfolding cut
 cut_stops [] zero at bytes rest cause lt h some o = absurd (omega arith)
@@ -177,7 +182,8 @@ fault_read text cause at h within =
     subst (Stops (cut (length text + 1) 0 text)) (sym h.3) (cut_stops h.0 (length text + 1) 0 text h.1 cause (omega arith) h.2 (omega (arith, long, place, within)) h.4)
 
 -- a text that can't be cut at a byte has no tokens
-pub not_both_cut : (text : List ℕ) (cause : Cause) (at : ℕ) (ps : List Piece) → FailsAt cause at text → at < length text → CutTo text ps [] → ⊥
+pub not_both_cut : (text : List ℕ) (cause : Cause) (at : ℕ) (ps : List Piece) → FailsAt cause at text → at < length text
+    → CutTo text ps [] → ⊥
 unfolding tokens
 not_both_cut text cause at ps h within whole =
     let fault = fault_read text cause at h within in
@@ -185,7 +191,8 @@ not_both_cut text cause at ps h within whole =
     let is = fault.is in cc
 
 -- and it can't be cut at one byte alone
-pub one_fault : (text : List ℕ) (cause other : Cause) (at place : ℕ) → FailsAt cause at text → at < length text → FailsAt other place text → place < length text → at ≡ place
+pub one_fault : (text : List ℕ) (cause other : Cause) (at place : ℕ) → FailsAt cause at text → at < length text
+    → FailsAt other place text → place < length text → at ≡ place
 one_fault text cause other at place h within k inside =
     let a = fault_read text cause at h within in
     let b = fault_read text other place k inside in

@@ -5,7 +5,6 @@
 use Rattle.std.specs.Prelude.{◌≡◌, ◌⊎◌, ℕ, List, Option, Some, None}
 use Rattle.room_outside.specs.Shown.{Shown}
 use Rattle.room_outside.specs.Faults.{Rose}
-use Rattle.room_outside.specs.Written.{Written}
 use Rattle.room_wiring.specs.declared.tables.Tables.{Tables}
 use Rattle.inject_reader.specs.declared.inject_lines.accepted.Line.{Line}
 use Rattle.room_run.specs.Words.{Files, Asked, Check, Tree, Run, Made, asked_by}

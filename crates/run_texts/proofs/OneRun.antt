@@ -46,7 +46,8 @@ not_both x y a b =
     ]
 
 -- the first of entries whose first event is this one
-first_of_events : (v : Event) (k : List Event) (es : List Entry) → v ∷ k ≡ map event_of es → (f : Entry) × (rest : List Entry) × (es ≡ f ∷ rest) × (event_of f ≡ v)
+first_of_events : (v : Event) (k : List Event) (es : List Entry) → v ∷ k ≡ map event_of es
+    → (f : Entry) × (rest : List Entry) × (es ≡ f ∷ rest) × (event_of f ≡ v)
 first_of_events v k [] h = absurd cc
 first_of_events v k (f ∷ rest) h = (f, rest, refl, cc)
 
@@ -64,7 +65,8 @@ same_tail x y xs ys e same p = go (cases_eq p x.party)
         let both : event_of x.entry ∷ map event_of (entries_of p xs) ≡ event_of y.entry ∷ map event_of (entries_of p ys) =
         ap (map event_of) (sym (first_here p x xs own)) ∙ same p ∙ ap (map event_of) (first_here p y ys (own ∙ e)) in
         cc
-    go (inr other) = ap (map event_of) (sym (first_other p x xs other)) ∙ same p ∙ ap (map event_of) (first_other p y ys (λ k. other (k ∙ sym e)))
+    go (inr other) =
+        ap (map event_of) (sym (first_other p x xs other)) ∙ same p ∙ ap (map event_of) (first_other p y ys (λ k. other (k ∙ sym e)))
 
 -- ---- what a quiet world forbids
 
@@ -74,7 +76,8 @@ lowest_none pending at zero empty = refl
 lowest_none pending at (suc k) empty = rw (empty at) (lowest_none pending (at + 1) k empty)
 
 -- a fetch takes the same front from a lane that grew
-front_stays : {B : Type 0} (s : State B) (ms more : List Msg) (r : State B × Entry) → fetch_front s ms ≡ Some r → fetch_front s (ms ++ more) ≡ Some r
+front_stays : {B : Type 0} (s : State B) (ms more : List Msg) (r : State B × Entry) → fetch_front s ms ≡ Some r
+    → fetch_front s (ms ++ more) ≡ Some r
 front_stays s [] more r h = absurd cc
 front_stays s (m ∷ ms) more r h = h
 
@@ -105,7 +108,8 @@ module _ {B : Type 0} (plant : Plant B) where
     does : happens plant w party (event_of e) ≡ Some (next, e)
     ready : IsReady plant w party
 
-  as_controller : (w : World B) (c : ℕ) (e : Entry) (s : State B) → c < plant.controllers → controller_does plant w c (event_of e) ≡ Some (s, e) → May w c e
+  as_controller : (w : World B) (c : ℕ) (e : Entry) (s : State B) → c < plant.controllers
+      → controller_does plant w c (event_of e) ≡ Some (s, e) → May w c e
   unfolding happens
   as_controller w c e s below does = record {
     next = (controller_after w c (event_of e) (s, e)).0;
@@ -113,7 +117,8 @@ module _ {B : Type 0} (plant : Plant B) where
     ready = λ is begun. absurd (omega (arith, is, below));
   }
 
-  as_environment : (w : World B) (e : Entry) (v : Environment) → environment_does plant w (event_of e) ≡ Some (v, e) → IsReady plant w plant.controllers
+  as_environment : (w : World B) (e : Entry) (v : Environment) → environment_does plant w (event_of e) ≡ Some (v, e)
+      → IsReady plant w plant.controllers
       → May w plant.controllers e
   unfolding happens
   as_environment w e v does ready = record {
@@ -163,7 +168,8 @@ module _ {B : Type 0} (plant : Plant B) where
       → environment_does plant w (event_of e) ≡ Some (v, e) → May next plant.controllers e
   environment_stays w next q f e v other h ready does = go (happened plant w (record { party = q; entry = f }) next h)
     where
-      same_part : next.environment ≡ w.environment → begins plant w.environment.posted ≡ false → (g : Entry) → environment_does plant w (event_of g) ≡ Some (v, g)
+      same_part : next.environment ≡ w.environment → begins plant w.environment.posted ≡ false → (g : Entry)
+          → environment_does plant w (event_of g) ≡ Some (v, g)
           → May next plant.controllers g
       same_part kept none (entry.Start who state notes) k = absurd cc
       same_part kept none (entry.Fetch stamp m) k = absurd cc
@@ -182,7 +188,8 @@ module _ {B : Type 0} (plant : Plant B) where
           by_part true begun = absurd (nobody_does w q f s below (ready refl begun) did)
           by_part false none = same_part (ap (λ (z : World B). z.environment) same) none e does
 
-  stays : (w next : World B) (q : ℕ) (f : Entry) (p : ℕ) (e : Entry) → (p ≡ q → ⊥) → happens plant w q (event_of f) ≡ Some (next, f) → IsReady plant w q
+  stays : (w next : World B) (q : ℕ) (f : Entry) (p : ℕ) (e : Entry) → (p ≡ q → ⊥) → happens plant w q (event_of f) ≡ Some (next, f)
+      → IsReady plant w q
       → May w p e → May next p e
   stays w next q f p e other h ready may = go (happened plant w (record { party = p; entry = e }) may.next may.does)
     where
@@ -192,7 +199,8 @@ module _ {B : Type 0} (plant : Plant B) where
           subst (λ (z : ℕ). May next z e) (sym is) (environment_stays w next q f e v (λ k. other (is ∙ k)) h (λ k begun. may.ready is begun) does)
 
   -- the first entry of a party in a run is the one of the event that it may do before it
-  first_is : (p : ℕ) (e f : Entry) (rest : List Entry) (xs : List Placed) (w end : World B) → Runs plant w xs end → May w p e → entries_of p xs ≡ f ∷ rest
+  first_is : (p : ℕ) (e f : Entry) (rest : List Entry) (xs : List Placed) (w end : World B) → Runs plant w xs end → May w p e
+      → entries_of p xs ≡ f ∷ rest
       → event_of f ≡ event_of e → f ≡ e
   first_is p e f rest [] w end r may is same = absurd cc
   first_is p e f rest (x ∷ xs) w end r may is same =
@@ -209,7 +217,8 @@ module _ {B : Type 0} (plant : Plant B) where
       go (inr other) later = later other (sym (first_other p x xs other) ∙ is)
 
   -- where two parties go first in two runs with the same events, each goes before the other
-  goes_before : (x y : Placed) (xs ys : List Placed) (w end other : World B) → (x.party ≡ y.party → ⊥) → Runs plant w (x ∷ xs) end → Runs plant w (y ∷ ys) other
+  goes_before : (x y : Placed) (xs ys : List Placed) (w end other : World B) → (x.party ≡ y.party → ⊥) → Runs plant w (x ∷ xs) end
+      → Runs plant w (y ∷ ys) other
       → IsBeforeAll y ys → SameEvents (x ∷ xs) (y ∷ ys) → IsBefore y x
   goes_before x y xs ys w end other apart r s before same =
       let events : event_of x.entry ∷ map event_of (entries_of x.party xs) ≡ map event_of (entries_of x.party ys) =
@@ -232,7 +241,8 @@ module _ {B : Type 0} (plant : Plant B) where
       let entries : x.entry ≡ y.entry = ap (λ (z : World B × Entry). z.1) both in
       ((λ i. record { party = e i; entry = entries i }), ap (λ (z : World B × Entry). z.0) both)
 
-  pub one_run : (xs ys : List Placed) (w end other : World B) → InOrder xs → InOrder ys → Runs plant w xs end → Runs plant w ys other → SameEvents xs ys
+  pub one_run : (xs ys : List Placed) (w end other : World B) → InOrder xs → InOrder ys → Runs plant w xs end → Runs plant w ys other
+      → SameEvents xs ys
       → (xs ≡ ys) × (end ≡ other)
   one_run [] [] w end other a b r s same = (refl, r ∙ sym s)
   one_run [] (y ∷ ys) w end other a b r s same =

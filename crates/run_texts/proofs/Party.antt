@@ -39,7 +39,8 @@ AllHappen (e ∷ es) = (is_event e ≡ true) × AllHappen es
 
 -- nobody starts in a run
 module _ {B : Type 0} (plant : RunPlant B) where
-  controller_event : (w : World B) (c : ℕ) (s : State B) (e : Entry) → controller_does plant w c (event_of e) ≡ Some (s, e) → is_event e ≡ true
+  controller_event : (w : World B) (c : ℕ) (s : State B) (e : Entry) → controller_does plant w c (event_of e) ≡ Some (s, e)
+      → is_event e ≡ true
   controller_event w c s (entry.Start who state ns) h = absurd cc
   controller_event w c s (entry.Fetch stamp m) h = refl
   controller_event w c s (entry.Turn stamp from sent did ns) h = refl
@@ -57,15 +58,18 @@ module _ {B : Type 0} (plant : RunPlant B) where
 
   run_events : (party : ℕ) (xs : List Placed) (w end : World B) → Runs plant w xs end → AllHappen (entries_of party xs)
   run_events party [] w end r = tt
-  run_events party (x ∷ xs) w end r = go (cases_eq party x.party) (step_event w r.0 x (happened plant w x r.0 r.2)) (run_events party xs r.0 end r.3)
+  run_events party (x ∷ xs) w end r =
+      go (cases_eq party x.party) (step_event w r.0 x (happened plant w x r.0 r.2)) (run_events party xs r.0 end r.3)
     where
-      go : (party ≡ x.party) ⊎ (party ≡ x.party → ⊥) → is_event x.entry ≡ true → AllHappen (entries_of party xs) → AllHappen (entries_of party (x ∷ xs))
+      go : (party ≡ x.party) ⊎ (party ≡ x.party → ⊥) → is_event x.entry ≡ true → AllHappen (entries_of party xs)
+          → AllHappen (entries_of party (x ∷ xs))
       go (inl own) first rest = rw (eq-eqb party x.party own) (first, rest)
       go (inr other) first rest = rw (ne_eqb party x.party other) rest
 
 all_happen : (es : List Entry) → AllHappen es → filter is_event es ≡ es
 all_happen [] h = refl
-all_happen (e ∷ es) h = ap (λ (b : Bool). cond b (e ∷ filter is_event es) (filter is_event es)) h.0 ∙ ap (λ (z : List Entry). e ∷ z) (all_happen es h.1)
+all_happen (e ∷ es) h =
+    ap (λ (b : Bool). cond b (e ∷ filter is_event es) (filter is_event es)) h.0 ∙ ap (λ (z : List Entry). e ∷ z) (all_happen es h.1)
 
 -- what an entry that happened tells, where each fetched message is from a party and has a priority
 all_tell : (t : Tables) (es : List Entry) → AllHappen es
@@ -122,7 +126,8 @@ module _ (plant : Plant) (lines : List Asked) (fuel : ℕ) (j : Journals) (run :
 
   -- a journal is the starts and then what happened
   pub journal_is : (party : ℕ) → journal_of j party ≡ starts party ++ did party
-  journal_is party = whole (model_of plant) plant.wiring (lines_of (items_of plant.wiring lines)) fuel (journal_of j) j.left run.world run.lawful nobody party
+  journal_is party =
+      whole (model_of plant) plant.wiring (lines_of (items_of plant.wiring lines)) fuel (journal_of j) j.left run.world run.lawful nobody party
 
   all_happened : (party : ℕ) → AllHappen (did party)
   all_happened party = run_events plan party run.lawful.run.merge (start plan) run.lawful.run.end run.lawful.run.run
@@ -151,7 +156,8 @@ module _ (plant : Plant) (lines : List Asked) (fuel : ℕ) (j : Journals) (run :
       each m h = (is_party party m (here m h), six party m (here m h))
 
   -- the lines of its events are those of what happened
-  pub lines_are : (party : ℕ) → rows plant.wiring (journal_of j party) ≡ rows plant.wiring (starts party) ++ map (row plant.wiring) (did party)
+  pub lines_are : (party : ℕ)
+      → rows plant.wiring (journal_of j party) ≡ rows plant.wiring (starts party) ++ map (row plant.wiring) (did party)
   lines_are party =
       ap (rows plant.wiring) (journal_is party) ∙ rows_append plant.wiring (starts party) (did party)
       ∙ ap (λ (z : List Entry). rows plant.wiring (starts party) ++ map (row plant.wiring) z) (all_happen (did party) (all_happened party))

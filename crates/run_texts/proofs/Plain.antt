@@ -149,7 +149,8 @@ signal_in_plain : (p : PortNames) (n : ℕ) → IsWellNamedPort p → lacks 10 (
 unfolding signal_of_port_text
 signal_in_plain p n well = go (slice_get (signals_of p) n) refl
   where
-    go : (o : Option SignalNames) → slice_get (signals_of p) n ≡ o → lacks 10 (unwrap_or (option_map (λ (x : SignalNames). x.name) o) []) ≡ true
+    go : (o : Option SignalNames) → slice_get (signals_of p) n ≡ o
+        → lacks 10 (unwrap_or (option_map (λ (x : SignalNames). x.name) o) []) ≡ true
     go None e = refl
     go (Some x) e = ident_plain x.name (all_at (λ (y : SignalNames). IsIdent y.name) (signals_of p) n x well.signals e)
 
@@ -160,7 +161,8 @@ module _ (t : Tables) (named : IsWellNamed t) where
     where
       go : (o : Option Slot) → slot_at t s ≡ o → lacks 10 (unwrap_or (option_map (λ (x : Slot). x.path) o) []) ≡ true
       go None e = refl
-      go (Some x) e = lacks_kind path_byte 10 x.path (path_bytes x.path (all_at (λ (y : Slot). IsPath y.path) t.slots s x named.paths e)) refl
+      go (Some x) e =
+          lacks_kind path_byte 10 x.path (path_bytes x.path (all_at (λ (y : Slot). IsPath y.path) t.slots s x named.paths e)) refl
 
   -- a port that a slot has is well named
   port_well : (s p : ℕ) (x : PortNames) → port_at t s p ≡ Some x → IsWellNamedPort x
@@ -181,7 +183,8 @@ module _ (t : Tables) (named : IsWellNamed t) where
   unfolding port_signal_text
   port_signal_plain s p n = go (port_at t s p) refl
     where
-      go : (o : Option PortNames) → port_at t s p ≡ o → lacks 10 (unwrap_or (option_map (λ (x : PortNames). signal_of_port_text x n) o) []) ≡ true
+      go : (o : Option PortNames) → port_at t s p ≡ o
+          → lacks 10 (unwrap_or (option_map (λ (x : PortNames). signal_of_port_text x n) o) []) ≡ true
       go None e = refl
       go (Some x) e = signal_in_plain x n (port_well s p x e)
 
@@ -189,11 +192,14 @@ module _ (t : Tables) (named : IsWellNamed t) where
   unfolding state_text
   state_plain s n = go (class_of t s) refl
     where
-      label : (c : ClassNames) → class_of t s ≡ Some c → (o : Option (List ℕ)) → slice_get c.states n ≡ o → lacks 10 (unwrap_or o (codes "-")) ≡ true
+      label : (c : ClassNames) → class_of t s ≡ Some c → (o : Option (List ℕ)) → slice_get c.states n ≡ o
+          → lacks 10 (unwrap_or o (codes "-")) ≡ true
       label c is None e = refl
-      label c is (Some x) e = lacks_kind label_byte 10 x (label_bytes x (all_at IsStateLabel c.states n x (class_named t s c named is).states e)) refl
+      label c is (Some x) e =
+          lacks_kind label_byte 10 x (label_bytes x (all_at IsStateLabel c.states n x (class_named t s c named is).states e)) refl
 
-      go : (o : Option ClassNames) → class_of t s ≡ o → lacks 10 (unwrap_or (option_and_then (λ (c : ClassNames). slice_get c.states n) o) (codes "-")) ≡ true
+      go : (o : Option ClassNames) → class_of t s ≡ o
+          → lacks 10 (unwrap_or (option_and_then (λ (c : ClassNames). slice_get c.states n) o) (codes "-")) ≡ true
       go None e = refl
       go (Some c) e = label c e (slice_get c.states n) refl
 

@@ -44,7 +44,8 @@ use Rattle.run_texts.proofs.Party.{did, nobody}
 -- ---- what actors and services send
 
 module _ {M : Type 0} (t : Tables) (me : ℕ) where
-  apply_ranked : (x : Incarnation) (m : Option Msg) (d : Doing M) (c : Command) → is_ranked c ≡ true → AllRanked d.sent → AllRanked (apply t me x m d c).sent
+  apply_ranked : (x : Incarnation) (m : Option Msg) (d : Doing M) (c : Command) → is_ranked c ≡ true → AllRanked d.sent
+      → AllRanked (apply t me x m d c).sent
   apply_ranked x m d (commands.Send p (Some k) signal payload prio) h s =
       ranked_append d.sent _ s (ranked_send t me d.body.frame d.body.links x p k (record { signal = signal; payload = payload; prio = prio }) h)
   apply_ranked x m d (commands.Send p None signal payload prio) h s =
@@ -72,7 +73,8 @@ module _ {M : Type 0} (t : Tables) (me : ℕ) where
 module _ {M : Type 0} (model : Behaviour M) (asks : AsksOnly is_ranked model) (t : Tables) (me : ℕ) where
   all_begun_ranked : (xs : List Incarnation) (d : Doing M) → AllRanked d.sent → AllRanked (all_begun model t me xs d).sent
   all_begun_ranked [] d s = s
-  all_begun_ranked (x ∷ xs) d s = all_begun_ranked xs (begun model t me x d) (all_ranked t me x None (model.begin x).commands _ (asks.begin x) s)
+  all_begun_ranked (x ∷ xs) d s =
+      all_begun_ranked xs (begun model t me x d) (all_ranked t me x None (model.begin x).commands _ (asks.begin x) s)
 
   with_frame_ranked : (b : Body M) (r : FrameDone) → FrameRanked r → AllRanked (with_frame model t me b r).sent
   with_frame_ranked b r h = closing_ranked t me _ r.last (all_gone_ranked t me r.ended _ (all_begun_ranked r.made _ h.sent)) h.last
@@ -125,13 +127,16 @@ module _ {M : Type 0} (model : Behaviour M) (asks : AsksOnly is_ranked model) (t
   unfolding treat
   treat_ranked b m = go (m.prio.0 == 0)
     where
-      go : (x : Bool) → AllRanked (if x then treated (system_done model t me b m (slice_get all_kinds m.signal)) did.Duty else dispatch model t me b m).sent
+      go : (x : Bool)
+          → AllRanked (if x then treated (system_done model t me b m (slice_get all_kinds m.signal)) did.Duty else dispatch model t me b m).sent
       go true = system_ranked b m (slice_get all_kinds m.signal)
       go false = dispatch_ranked b m
 
-  all_started_ranked : (xs : List Incarnation) (s : Starting M) → AllRanked s.doing.sent → AllRanked (all_started model t me xs s).doing.sent
+  all_started_ranked : (xs : List Incarnation) (s : Starting M) → AllRanked s.doing.sent
+      → AllRanked (all_started model t me xs s).doing.sent
   all_started_ranked [] s h = h
-  all_started_ranked (x ∷ xs) s h = all_started_ranked xs (started model t me s x) (all_ranked t me x None (model.begin x).commands _ (asks.begin x) h)
+  all_started_ranked (x ∷ xs) s h =
+      all_started_ranked xs (started model t me s x) (all_ranked t me x None (model.begin x).commands _ (asks.begin x) h)
 
   starting_ranked : AllRanked (starting model t me).doing.sent
   unfolding starting
@@ -168,7 +173,8 @@ module _ {M : Type 0} (model : Behaviour M) (asks : AsksOnly is_ranked model) (t
   unfolding fetch
   fetch_ranked s m r h e = subst StepRanked e (tt, h)
 
-  step_ranked : (s next : State (Body M)) (e : Entry) → Does plan c s e next → AllRanked s.outbox → AllRanked (posts e) × AllRanked next.outbox
+  step_ranked : (s next : State (Body M)) (e : Entry) → Does plan c s e next → AllRanked s.outbox
+      → AllRanked (posts e) × AllRanked next.outbox
   step_ranked s next (entry.Start who state ns) d h = absurd d
   step_ranked s next (entry.Fetch stamp m) d h = fetch_ranked s m (next, entry.Fetch stamp m) h d
   step_ranked s next (entry.Turn stamp from sent what ns) d h = turn_ranked s (next, entry.Turn stamp from sent what ns) d
@@ -194,11 +200,13 @@ lines_ranked : (t : Tables) (lines : List Asked) (part : ℕ) → FitLines t lin
 lines_ranked t [] part h = tt
 lines_ranked t (x ∷ lines) part h = go x.what h.0 (λ p. lines_ranked t lines p h.1)
   where
-    go : (w : What) → FitsWhat t w → ((p : ℕ) → LinesRanked (lines_from p (items_of t lines))) → LinesRanked (lines_from part (item_of t x.number w ∷ items_of t lines))
+    go : (w : What) → FitsWhat t w → ((p : ℕ) → LinesRanked (lines_from p (items_of t lines)))
+        → LinesRanked (lines_from part (item_of t x.number w ∷ items_of t lines))
     go whats.Settle f rest = rest (part + 1)
     go (whats.Message target signal payload prio) f rest = (le-leb prio.0 5 f.most, rest part)
 
-environment_ranked : {B : Type 0} (plant : RunPlant B) (es : List Entry) (at end : ℕ) → LinesRanked plant.lines → PostsLines plant at es end → AllRanked (posted es)
+environment_ranked : {B : Type 0} (plant : RunPlant B) (es : List Entry) (at end : ℕ) → LinesRanked plant.lines
+    → PostsLines plant at es end → AllRanked (posted es)
 environment_ranked plant [] at end h p = tt
 environment_ranked plant (e ∷ es) at end h p =
     let own : AllRanked (posts e) = subst (λ (z : Entry). AllRanked (posts z)) (sym p.0.is) (line_at plant.lines at p.0.line h p.0.there, tt) in

@@ -114,7 +114,8 @@ record Journal (t : Tables) (es : List Entry) (text : List ℕ) : Type 0 where
   are : AreOf t es ws
 
 note_of : (parts : List (List ℕ)) → AllPlain (codes "note " ∷ parts) → Notes (line (codes "note " ∷ parts))
-note_of parts h = record { ws = concat (codes "note " ∷ parts) ∷ []; lines = one_line (codes "note " ∷ parts) h; kept = refl; each = (refl, tt) }
+note_of parts h =
+    record { ws = concat (codes "note " ∷ parts) ∷ []; lines = one_line (codes "note " ∷ parts) h; kept = refl; each = (refl, tt) }
 
 more_notes : (x y : List ℕ) → Notes x → Notes y → Notes (x ++ y)
 more_notes x y h k = record {
@@ -166,7 +167,8 @@ module _ (t : Tables) (named : IsWellNamed t) where
       more_notes (note_line t speaker n) (note_lines t duty (speaker_after duty speaker n) ns) (one_note speaker n) (notes_of duty ns (speaker_after duty speaker n))
 
   -- an event's line, with notes behind it
-  event_lines : (e : Entry) (parts : List (List ℕ)) (text : List ℕ) → is_event e ≡ true → row t e ≡ concat parts → AllPlain parts → begins_digit (concat parts) ≡ true
+  event_lines : (e : Entry) (parts : List (List ℕ)) (text : List ℕ) → is_event e ≡ true → row t e ≡ concat parts → AllPlain parts
+      → begins_digit (concat parts) ≡ true
       → Notes text → Journal t (e ∷ []) (line parts ++ text)
   event_lines e parts text event same h digit ns = record {
     ws = concat parts ∷ ns.ws;
@@ -240,12 +242,15 @@ Stops [] = Unit {0}
 Stops (w ∷ ws) = is_entry_line w ≡ false
 
 -- a journal's lines end where others begin
-cut_here : (a b r s : List (List ℕ)) → EachLine is_entry_line a → EachLine is_entry_line b → Stops r → Stops s → a ++ r ≡ b ++ s → (a ≡ b) × (r ≡ s)
+cut_here : (a b r s : List (List ℕ)) → EachLine is_entry_line a → EachLine is_entry_line b → Stops r → Stops s → a ++ r ≡ b ++ s
+    → (a ≡ b) × (r ≡ s)
 cut_here [] [] r s h k x y e = (refl, e)
 cut_here [] (w ∷ b) [] s h k x y e = absurd cc
-cut_here [] (w ∷ b) (v ∷ r) s h k x y e = let same : v ≡ w = cc in let both : is_entry_line v ≡ is_entry_line w = ap is_entry_line same in absurd cc
+cut_here [] (w ∷ b) (v ∷ r) s h k x y e =
+    let same : v ≡ w = cc in let both : is_entry_line v ≡ is_entry_line w = ap is_entry_line same in absurd cc
 cut_here (w ∷ a) [] r [] h k x y e = absurd cc
-cut_here (w ∷ a) [] r (v ∷ s) h k x y e = let same : w ≡ v = cc in let both : is_entry_line w ≡ is_entry_line v = ap is_entry_line same in absurd cc
+cut_here (w ∷ a) [] r (v ∷ s) h k x y e =
+    let same : w ≡ v = cc in let both : is_entry_line w ≡ is_entry_line v = ap is_entry_line same in absurd cc
 cut_here (w ∷ a) (v ∷ b) r s h k x y e =
     let head : w ≡ v = cc in
     let tail : a ++ r ≡ b ++ s = cc in
@@ -292,7 +297,8 @@ stops_before t (es ∷ ess) ws r h x = subst (λ (z : List (List ℕ)). Stops (z
 same_journal : (t : Tables) (es fs : List Entry) (a b : List (List ℕ)) → AreOf t es a → AreOf t fs b → a ≡ b → rows t es ≡ rows t fs
 same_journal t es fs a b h k e = sym h.kept ∙ ap (filter begins_digit) e ∙ k.kept
 
-same_controllers : (t : Tables) (ess fss : List (List Entry)) (a b r s : List (List ℕ)) → length ess ≡ length fss → AreOfAll t ess a → AreOfAll t fss b → Stops r → Stops s
+same_controllers : (t : Tables) (ess fss : List (List Entry)) (a b r s : List (List ℕ)) → length ess ≡ length fss → AreOfAll t ess a
+    → AreOfAll t fss b → Stops r → Stops s
     → a ++ r ≡ b ++ s → SameRows t ess fss × (r ≡ s)
 same_controllers t [] [] a b r s n h k x y e =
     (tt, ap (λ (z : List (List ℕ)). z ++ r) (sym h) ∙ e ∙ ap (λ (z : List (List ℕ)). z ++ s) k)
@@ -316,7 +322,8 @@ record Tail (text : List ℕ) : Type 0 where
   stops : Stops ws
 
 -- a line, and more
-tail_line : (parts : List (List ℕ)) (text : List ℕ) → AllPlain parts → is_entry_line (concat parts) ≡ false → Tail text → Tail (line parts ++ text)
+tail_line : (parts : List (List ℕ)) (text : List ℕ) → AllPlain parts → is_entry_line (concat parts) ≡ false → Tail text
+    → Tail (line parts ++ text)
 tail_line parts text h stop more = record {
   ws = concat parts ∷ more.ws;
   lines = more_lines (concat parts ∷ []) more.ws (line parts) text (one_line parts h) more.lines;

@@ -27,7 +27,8 @@ use Rattle.run_texts.proofs.Rows.{rows, SameRows, same_rows}
 use Rattle.run_texts.proofs.Told.{same_events}
 use Rattle.run_texts.proofs.Party.{plan, did, starts, nobody, outside, inside, journal_is, tells, lines_are}
 
-rows_at : (t : Tables) (ess fss : List (List Entry)) (c : ℕ) → SameRows t ess fss → rows t (slice_index_or ess c []) ≡ rows t (slice_index_or fss c [])
+rows_at : (t : Tables) (ess fss : List (List Entry)) (c : ℕ) → SameRows t ess fss
+    → rows t (slice_index_or ess c []) ≡ rows t (slice_index_or fss c [])
 rows_at t [] [] c h = refl
 rows_at t [] (fs ∷ fss) c h = absurd h
 rows_at t (es ∷ ess) [] c h = absurd h
@@ -47,7 +48,8 @@ flat_map_same f g h (x ∷ xs) = ap₂ (λ (a b : List _). a ++ b) (h x) (flat_m
 flat_map_below : {C : Type 0} (f g : ℕ → List C) (n : ℕ) → ((c : ℕ) → c < n → f c ≡ g c) → (k a : ℕ) → a + k ≤ n
     → flat_map f (range_with_len a k) ≡ flat_map g (range_with_len a k)
 flat_map_below f g n h zero a within = refl
-flat_map_below f g n h (suc k) a within = ap₂ (λ (x y : List _). x ++ y) (h a (omega arith)) (flat_map_below f g n h k (a + 1) (omega arith))
+flat_map_below f g n h (suc k) a within =
+    ap₂ (λ (x y : List _). x ++ y) (h a (omega arith)) (flat_map_below f g n h k (a + 1) (omega arith))
 
 module _ {B : Type 0} (plant : RunPlant B) (w v : World B) (controllers : (c : ℕ) → c < plant.controllers → w.controllers c ≡ v.controllers c)
     (lanes : (l : Lane) → w.lanes l ≡ v.lanes l) where

@@ -63,12 +63,14 @@ pub ranked_create_refused : (t : Tables) (me : ℕ) (o x : Endpoint) (code : ℤ
 unfolding create_refused
 ranked_create_refused t me o x code = ranked_if (is_code Occupied code || is_code NotHere code) _ _ (refl, tt) tt
 
-pub ranked_import : (t : Tables) (me : ℕ) (l : Lives) (plugs : ℕ → List Incarnation) (m : Msg) (i h : Endpoint) → AllRanked (import t me l plugs m i h).sent
+pub ranked_import : (t : Tables) (me : ℕ) (l : Lives) (plugs : ℕ → List Incarnation) (m : Msg) (i h : Endpoint)
+    → AllRanked (import t me l plugs m i h).sent
 unfolding import
 ranked_import t me l plugs m i h =
     done_if (not (is_live l (whose h))) _ _ (refl, tt) (done_if (is_port_taken t (plugs h.slot.0) (whose i) (whose h)) _ _ (refl, tt) (refl, tt))
 
-pub ranked_deport : (me : ℕ) (l : Lives) (plugs : ℕ → List Incarnation) (m : Msg) (i h : Endpoint) → AllRanked (deport me l plugs m i h).sent
+pub ranked_deport : (me : ℕ) (l : Lives) (plugs : ℕ → List Incarnation) (m : Msg) (i h : Endpoint)
+    → AllRanked (deport me l plugs m i h).sent
 unfolding deport
 ranked_deport me l plugs m i h = (refl, tt)
 
@@ -76,19 +78,23 @@ ranked_heard : (t : Tables) (l : Lives) (places : ℕ → ImportPlace) (i : Endp
     → IsRanked m → AllRanked (heard t l places i fits next m).sent
 ranked_heard t l places i fits next m h = done_if (is_container_live t l i && fits) _ _ (h, tt) tt
 
-pub ranked_import_done : (t : Tables) (me : ℕ) (l : Lives) (places : ℕ → ImportPlace) (h i : Endpoint) → AllRanked (import_done t me l places h i).sent
+pub ranked_import_done : (t : Tables) (me : ℕ) (l : Lives) (places : ℕ → ImportPlace) (h i : Endpoint)
+    → AllRanked (import_done t me l places h i).sent
 unfolding import_done
 ranked_import_done t me l places h i = ranked_heard t l places i _ _ _ refl
 
-pub ranked_import_refused : (t : Tables) (me : ℕ) (l : Lives) (places : ℕ → ImportPlace) (h i : Endpoint) (code : ℤ) → AllRanked (import_refused t me l places h i code).sent
+pub ranked_import_refused : (t : Tables) (me : ℕ) (l : Lives) (places : ℕ → ImportPlace) (h i : Endpoint) (code : ℤ)
+    → AllRanked (import_refused t me l places h i code).sent
 unfolding import_refused
 ranked_import_refused t me l places h i code = ranked_heard t l places i _ _ _ refl
 
-pub ranked_import_ended : (t : Tables) (me : ℕ) (l : Lives) (places : ℕ → ImportPlace) (h i : Endpoint) → AllRanked (import_ended t me l places h i).sent
+pub ranked_import_ended : (t : Tables) (me : ℕ) (l : Lives) (places : ℕ → ImportPlace) (h i : Endpoint)
+    → AllRanked (import_ended t me l places h i).sent
 unfolding import_ended
 ranked_import_ended t me l places h i = ranked_heard t l places i _ _ _ refl
 
-pub ranked_deport_done : (t : Tables) (me : ℕ) (l : Lives) (places : ℕ → ImportPlace) (h i : Endpoint) → AllRanked (deport_done t me l places h i).sent
+pub ranked_deport_done : (t : Tables) (me : ℕ) (l : Lives) (places : ℕ → ImportPlace) (h i : Endpoint)
+    → AllRanked (deport_done t me l places h i).sent
 unfolding deport_done
 ranked_deport_done t me l places h i = ranked_heard t l places i _ _ _ refl
 
@@ -117,7 +123,8 @@ ranked_import_with t me places x reference index i None None = (refl, tt)
 ranked_import_into : (t : Tables) (me : ℕ) (places : ℕ → ImportPlace) (x : Incarnation) (reference : ℕ) (index id : ℤ) (o : Option ℕ)
     → AllRanked (import_into t me places x reference index id o).sent
 ranked_import_into t me places x reference index id None = (refl, tt)
-ranked_import_into t me places x reference index id (Some i) = ranked_import_with t me places x reference index i (of_id id) (import_code t places i (of_id id))
+ranked_import_into t me places x reference index id (Some i) =
+    ranked_import_with t me places x reference index i (of_id id) (import_code t places i (of_id id))
 
 ranked_deport_from : (t : Tables) (me : ℕ) (places : ℕ → ImportPlace) (x : Incarnation) (reference : ℕ) (index : ℤ) (i : ℕ) (place : ImportPlace)
     → AllRanked (deport_from t me places x reference index i place).sent
@@ -133,12 +140,17 @@ ranked_deport_of t me places x reference index (Some i) = ranked_deport_from t m
 
 pub ranked_request : (t : Tables) (me : ℕ) (f : Frame) (x : Incarnation) (c : FrameCommand) → AllRanked (frame_request t me f x c).sent
 unfolding incarnate destroy_command import_command deport_command
-ranked_request t me f x (frames.Incarnate reference index) = ((ranked_asked t me x reference index (part_at t x.slot.0 reference index)).0, tt)
-ranked_request t me f x (frames.Destroy reference index) = ((ranked_asked t me x reference index (part_at t x.slot.0 reference index)).1, tt)
-ranked_request t me f x (frames.Import reference index id) = ranked_import_into t me f.places x reference index id (part_at t x.slot.0 reference index)
-ranked_request t me f x (frames.Deport reference index) = ranked_deport_of t me f.places x reference index (part_at t x.slot.0 reference index)
+ranked_request t me f x (frames.Incarnate reference index) =
+    ((ranked_asked t me x reference index (part_at t x.slot.0 reference index)).0, tt)
+ranked_request t me f x (frames.Destroy reference index) =
+    ((ranked_asked t me x reference index (part_at t x.slot.0 reference index)).1, tt)
+ranked_request t me f x (frames.Import reference index id) =
+    ranked_import_into t me f.places x reference index id (part_at t x.slot.0 reference index)
+ranked_request t me f x (frames.Deport reference index) =
+    ranked_deport_of t me f.places x reference index (part_at t x.slot.0 reference index)
 
-ranked_register_from : (me : ℕ) (l : Links) (x : Incarnation) (p name : ℕ) (r : Registration) → AllRanked (register_from me l x p name r).sent
+ranked_register_from : (me : ℕ) (l : Links) (x : Incarnation) (p name : ℕ) (r : Registration)
+    → AllRanked (register_from me l x p name r).sent
 ranked_register_from me l x p name Unnamed = (refl, tt)
 ranked_register_from me l x p name Asked = (refl, tt)
 ranked_register_from me l x p name Registered = (refl, tt)
@@ -166,14 +178,17 @@ ranked_replied me l e code LeavingName = (refl, tt)
 ranked_replied me l e code Unnamed = tt
 ranked_replied me l e code Registered = tt
 
-ranked_links_of : (t : Tables) (me : ℕ) (l : Links) (k : SysKind) (a b : Endpoint) (payload : List ℤ) → AllRanked (links_duty_of t me l k a b payload).sent
+ranked_links_of : (t : Tables) (me : ℕ) (l : Links) (k : SysKind) (a b : Endpoint) (payload : List ℤ)
+    → AllRanked (links_duty_of t me l k a b payload).sent
 unfolding name_reply
 ranked_links_of t me l kinds.Bound a b [] = done_if (is_own_point t me b) _ _ tt tt
 ranked_links_of t me l kinds.Ended a b [] = done_if (is_own_point t me b) _ _ tt tt
-ranked_links_of t me l kinds.NameReply a b (pos code ∷ []) = done_if (is_own_point t me b && is_endpoint a b && (b.place == 0)) (name_reply me l b code) (same_links l) (ranked_replied me l b code (l.registrations b.slot.0 b.port)) tt
+ranked_links_of t me l kinds.NameReply a b (pos code ∷ []) =
+    done_if (is_own_point t me b && is_endpoint a b && (b.place == 0)) (name_reply me l b code) (same_links l) (ranked_replied me l b code (l.registrations b.slot.0 b.port)) tt
 ranked_links_of t me l _ a b _ = tt
 
-ranked_links_from : (t : Tables) (me : ℕ) (l : Links) (k : SysKind) (o : Option Endpoint) (m : Msg) → AllRanked (links_duty_from t me l k o m).sent
+ranked_links_from : (t : Tables) (me : ℕ) (l : Links) (k : SysKind) (o : Option Endpoint) (m : Msg)
+    → AllRanked (links_duty_from t me l k o m).sent
 ranked_links_from t me l k None m = tt
 ranked_links_from t me l k (Some a) m = ranked_links_of t me l k a m.target m.payload
 
@@ -181,14 +196,16 @@ pub ranked_links : (t : Tables) (me : ℕ) (l : Links) (live : Bool) (k : SysKin
 unfolding links_duty
 ranked_links t me l live k m = done_if live _ _ (ranked_links_from t me l k m.source m) tt
 
-ranked_linked_first : (t : Tables) (provider : Endpoint) (next : ℕ) (u : User) (o : Option ℕ) (rest : ℕ → Linking) → ((n : ℕ) → AllRanked (rest n).sent)
+ranked_linked_first : (t : Tables) (provider : Endpoint) (next : ℕ) (u : User) (o : Option ℕ) (rest : ℕ → Linking)
+    → ((n : ℕ) → AllRanked (rest n).sent)
     → AllRanked (linked_first t provider next u o rest).sent
 ranked_linked_first t provider next u (Some k) rest h = h next
 ranked_linked_first t provider next u None rest h = (refl, (refl, h (next + 1)))
 
 ranked_linked : (t : Tables) (provider : Endpoint) (us : List User) (next : ℕ) → AllRanked (linked_users t provider us next).sent
 ranked_linked t provider [] next = tt
-ranked_linked t provider (u ∷ us) next = ranked_linked_first t provider next u u.linked (linked_users t provider us) (λ n. ranked_linked t provider us n)
+ranked_linked t provider (u ∷ us) next =
+    ranked_linked_first t provider next u u.linked (linked_users t provider us) (λ n. ranked_linked t provider us n)
 
 ranked_meet_with : (t : Tables) (s : Service) (o : Option Provider) → AllRanked (meet_with t s o).sent
 ranked_meet_with t s None = tt
@@ -212,13 +229,15 @@ ranked_in_service name protocol step h [] = h _
 ranked_in_service name protocol step h (s ∷ rest) =
     done_if ((s.name == name) && (s.protocol == protocol)) _ _ (h s) (ranked_in_service name protocol step h rest)
 
-ranked_link_ended : (t : Tables) (provider : Endpoint) (u : User) (o : Option ℕ) → AllRanked (option_map_or (λ k. both_told t kinds.Ended provider k u.at) o [])
+ranked_link_ended : (t : Tables) (provider : Endpoint) (u : User) (o : Option ℕ)
+    → AllRanked (option_map_or (λ k. both_told t kinds.Ended provider k u.at) o [])
 ranked_link_ended t provider u None = tt
 ranked_link_ended t provider u (Some k) = (refl, (refl, tt))
 
 ranked_links_ended : (t : Tables) (provider : Endpoint) (us : List User) → AllRanked (links_ended t provider us)
 ranked_links_ended t provider [] = tt
-ranked_links_ended t provider (u ∷ us) = ranked_append (link_ended t provider u) (links_ended t provider us) (ranked_link_ended t provider u u.linked) (ranked_links_ended t provider us)
+ranked_links_ended t provider (u ∷ us) =
+    ranked_append (link_ended t provider u) (links_ended t provider us) (ranked_link_ended t provider u u.linked) (ranked_links_ended t provider us)
 
 ranked_user_ended : (t : Tables) (e : Endpoint) (o : Option Provider) (us : List User) → AllRanked (user_ended t e o us)
 ranked_user_ended t e None us = tt
@@ -240,12 +259,16 @@ ranked_register t e name table =
     (ranked_in_service name (protocol_of t e.slot.0 e.port) (provide t (place_count t e.slot.0 e.port) e) (λ s. ranked_provide t (place_count t e.slot.0 e.port) e s) table)
     (ranked_in_service name (protocol_of t e.slot.0 e.port) (use_service t e) (λ s. ranked_use t e s) table)
 
-ranked_table_of : (t : Tables) (me : ℕ) (table : NameTable) (k : SysKind) (e b : Endpoint) (payload : List ℤ) → AllRanked (table_duty_of t me table k e b payload).sent
-ranked_table_of t me table kinds.Register e b (pos name ∷ []) = done_if (is_name_request t me e b) (register t e name table) (same_table table) (ranked_register t e name table) tt
-ranked_table_of t me table kinds.Withdraw e b [] = done_if (is_name_request t me e b) (withdraw t e table) (same_table table) (ranked_withdraw t e table) tt
+ranked_table_of : (t : Tables) (me : ℕ) (table : NameTable) (k : SysKind) (e b : Endpoint) (payload : List ℤ)
+    → AllRanked (table_duty_of t me table k e b payload).sent
+ranked_table_of t me table kinds.Register e b (pos name ∷ []) =
+    done_if (is_name_request t me e b) (register t e name table) (same_table table) (ranked_register t e name table) tt
+ranked_table_of t me table kinds.Withdraw e b [] =
+    done_if (is_name_request t me e b) (withdraw t e table) (same_table table) (ranked_withdraw t e table) tt
 ranked_table_of t me table _ e b _ = tt
 
-ranked_table_from : (t : Tables) (me : ℕ) (table : NameTable) (k : SysKind) (o : Option Endpoint) (m : Msg) → AllRanked (table_duty_from t me table k o m).sent
+ranked_table_from : (t : Tables) (me : ℕ) (table : NameTable) (k : SysKind) (o : Option Endpoint) (m : Msg)
+    → AllRanked (table_duty_from t me table k o m).sent
 ranked_table_from t me table k None m = tt
 ranked_table_from t me table k (Some a) m = ranked_table_of t me table k a m.target m.payload
 
@@ -254,21 +277,26 @@ unfolding table_duty
 ranked_table t me table k m = ranked_table_from t me table k m.source m
 
 -- ---- what actors send
-ranked_send_to : (t : Tables) (me : ℕ) (source : Endpoint) (c : Content) → nat_le c.prio.0 5 ≡ true → (o : Option Endpoint) → AllRanked (send_to t me source c o).messages
+ranked_send_to : (t : Tables) (me : ℕ) (source : Endpoint) (c : Content) → nat_le c.prio.0 5 ≡ true → (o : Option Endpoint)
+    → AllRanked (send_to t me source c o).messages
 ranked_send_to t me source c h None = tt
 ranked_send_to t me source c h (Some target) = (h, tt)
 
-pub ranked_send : (t : Tables) (me : ℕ) (f : Frame) (l : Links) (x : Incarnation) (p : ℕ) (k : ℤ) (c : Content) → nat_le c.prio.0 5 ≡ true → AllRanked (send t me f l x p k c).messages
+pub ranked_send : (t : Tables) (me : ℕ) (f : Frame) (l : Links) (x : Incarnation) (p : ℕ) (k : ℤ) (c : Content)
+    → nat_le c.prio.0 5 ≡ true → AllRanked (send t me f l x p k c).messages
 unfolding send
-ranked_send t me f l x p (pos k) c h = ranked_send_to t me (endpoint x.slot.0 x.generation.0 p k) c h (peer t me f l (endpoint x.slot.0 x.generation.0 p k))
+ranked_send t me f l x p (pos k) c h =
+    ranked_send_to t me (endpoint x.slot.0 x.generation.0 p k) c h (peer t me f l (endpoint x.slot.0 x.generation.0 p k))
 ranked_send t me f l x p (negsuc k) c h = tt
 
-ranked_send_each : (t : Tables) (me : ℕ) (f : Frame) (l : Links) (x : Incarnation) (p : ℕ) (c : Content) → nat_le c.prio.0 5 ≡ true → (ks : List ℕ) → AllRanked (send_each t me f l x p c ks).messages
+ranked_send_each : (t : Tables) (me : ℕ) (f : Frame) (l : Links) (x : Incarnation) (p : ℕ) (c : Content) → nat_le c.prio.0 5 ≡ true
+    → (ks : List ℕ) → AllRanked (send_each t me f l x p c ks).messages
 ranked_send_each t me f l x p c h [] = tt
 ranked_send_each t me f l x p c h (k ∷ ks) =
     ranked_append (send t me f l x p (pos k) c).messages (send_each t me f l x p c ks).messages (ranked_send t me f l x p (pos k) c h) (ranked_send_each t me f l x p c h ks)
 
-pub ranked_broadcast : (t : Tables) (me : ℕ) (f : Frame) (l : Links) (x : Incarnation) (p : ℕ) (c : Content) → nat_le c.prio.0 5 ≡ true → AllRanked (broadcast t me f l x p c).messages
+pub ranked_broadcast : (t : Tables) (me : ℕ) (f : Frame) (l : Links) (x : Incarnation) (p : ℕ) (c : Content) → nat_le c.prio.0 5 ≡ true
+    → AllRanked (broadcast t me f l x p c).messages
 unfolding broadcast
 ranked_broadcast t me f l x p c h = ranked_send_each t me f l x p c h (broadcast_places t l x.slot.0 p)
 
@@ -357,12 +385,14 @@ destroy_ranked t me f m o x = go (not (counts_as_live t me f.lives (whose x)) ||
     go true = record { sent = tt; last = refl }
     go false = end_set_ranked t me f o _ refl
 
-plainly_ranked : (f : Frame) (fits : Bool) (payload : List ℤ) (done : FrameDone) → FrameRanked done → FrameRanked (plainly f fits payload done)
+plainly_ranked : (f : Frame) (fits : Bool) (payload : List ℤ) (done : FrameDone) → FrameRanked done
+    → FrameRanked (plainly f fits payload done)
 plainly_ranked f true [] done h = h
 plainly_ranked f false [] done h = nothing_ranked f
 plainly_ranked f fits (n ∷ ns) done h = nothing_ranked f
 
-number_ranked : (f : Frame) (fits : Bool) (payload : List ℤ) (done : ℤ → FrameDone) → ((n : ℤ) → FrameRanked (done n)) → FrameRanked (with_number f fits payload done)
+number_ranked : (f : Frame) (fits : Bool) (payload : List ℤ) (done : ℤ → FrameDone) → ((n : ℤ) → FrameRanked (done n))
+    → FrameRanked (with_number f fits payload done)
 number_ranked f fits [] done h = nothing_ranked f
 number_ranked f true (n ∷ []) done h = h n
 number_ranked f false (n ∷ []) done h = nothing_ranked f
@@ -372,13 +402,15 @@ natural_ranked : (f : Frame) (n : ℤ) (done : ℕ → FrameDone) → ((k : ℕ)
 natural_ranked f (pos n) done h = h n
 natural_ranked f (negsuc n) done h = nothing_ranked f
 
-frame_duty_of_ranked : (t : Tables) (me : ℕ) (f : Frame) (m : Msg) (kind : SysKind) (a b : Endpoint) → FrameRanked (frame_duty_of t me f m kind a b)
+frame_duty_of_ranked : (t : Tables) (me : ℕ) (f : Frame) (m : Msg) (kind : SysKind) (a b : Endpoint)
+    → FrameRanked (frame_duty_of t me f m kind a b)
 unfolding part_end
 frame_duty_of_ranked t me f m kinds.Create x o =
     plainly_ranked f (is_request t me x o) m.payload _ (let r = create_ranked t me f.lives m o.slot.0 x in record { sent = r.sent; last = r.last })
 frame_duty_of_ranked t me f m kinds.Destroy x o = plainly_ranked f (is_request t me x o) m.payload _ (destroy_ranked t me f m o.slot.0 x)
 frame_duty_of_ranked t me f m kinds.CreateDone a b = plainly_ranked f _ m.payload _ (sends_ranked f _ (ranked_create_done t me a b))
-frame_duty_of_ranked t me f m kinds.CreateRefused a b = number_ranked f _ m.payload _ (λ n. sends_ranked f _ (ranked_create_refused t me a b n))
+frame_duty_of_ranked t me f m kinds.CreateRefused a b =
+    number_ranked f _ m.payload _ (λ n. sends_ranked f _ (ranked_create_refused t me a b n))
 frame_duty_of_ranked t me f m kinds.DestroyDone a b =
     number_ranked f _ m.payload _ (λ n. natural_ranked f n _ (λ k. sends_ranked f _ (ranked_destroy_done t me a b k)))
 frame_duty_of_ranked t me f m kinds.Import a b =
@@ -389,10 +421,12 @@ frame_duty_of_ranked t me f m kinds.ImportRefused a b =
     number_ranked f _ m.payload _ (λ n. record { sent = ranked_import_refused t me f.lives f.places a b n; last = tt })
 frame_duty_of_ranked t me f m kinds.ImportEnded a b =
     plainly_ranked f _ m.payload _ (record { sent = ranked_import_ended t me f.lives f.places a b; last = tt })
-frame_duty_of_ranked t me f m kinds.Deport a b = plainly_ranked f _ m.payload _ (record { sent = ranked_deport me f.lives f.plugs m a b; last = tt })
+frame_duty_of_ranked t me f m kinds.Deport a b =
+    plainly_ranked f _ m.payload _ (record { sent = ranked_deport me f.lives f.plugs m a b; last = tt })
 frame_duty_of_ranked t me f m kinds.DeportDone a b =
     plainly_ranked f _ m.payload _ (record { sent = ranked_deport_done t me f.lives f.places a b; last = tt })
-frame_duty_of_ranked t me f m kinds.Announce a b = number_ranked f _ m.payload _ (λ n. natural_ranked f n _ (λ k. record { sent = tt; last = tt }))
+frame_duty_of_ranked t me f m kinds.Announce a b =
+    number_ranked f _ m.payload _ (λ n. natural_ranked f n _ (λ k. record { sent = tt; last = tt }))
 frame_duty_of_ranked t me f m kinds.Register a b = nothing_ranked f
 frame_duty_of_ranked t me f m kinds.Withdraw a b = nothing_ranked f
 frame_duty_of_ranked t me f m kinds.Bound a b = nothing_ranked f
@@ -402,7 +436,8 @@ frame_duty_of_ranked t me f m kinds.PartMake a b =
     plainly_ranked f _ m.payload _ (let r = part_make_ranked t me f.lives a.slot.0 in record { sent = r.sent; last = r.last })
 frame_duty_of_ranked t me f m kinds.PartEnd a b = plainly_ranked f _ m.payload _ (end_set_ranked t me f a.slot.0 None tt)
 
-frame_duty_from_ranked : (t : Tables) (me : ℕ) (f : Frame) (m : Msg) (kind : SysKind) (o : Option Endpoint) → FrameRanked (frame_duty_from t me f m kind o)
+frame_duty_from_ranked : (t : Tables) (me : ℕ) (f : Frame) (m : Msg) (kind : SysKind) (o : Option Endpoint)
+    → FrameRanked (frame_duty_from t me f m kind o)
 frame_duty_from_ranked t me f m kind None = nothing_ranked f
 frame_duty_from_ranked t me f m kind (Some a) = frame_duty_of_ranked t me f m kind a m.target
 

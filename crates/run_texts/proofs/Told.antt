@@ -29,7 +29,8 @@ not_environment a e =
     let word : begins_digit (decimal a ++ []) ≡ false = ap (λ (w : List ℕ). begins_digit (w ++ [])) e in
     absurd cc
 
-party_same : (t : Tables) (a b : ℕ) → length t.controllers ≤ 255 → a ≤ length t.controllers → b ≤ length t.controllers → party_text t a ≡ party_text t b → a ≡ b
+party_same : (t : Tables) (a b : ℕ) → length t.controllers ≤ 255 → a ≤ length t.controllers → b ≤ length t.controllers
+    → party_text t a ≡ party_text t b → a ≡ b
 party_same t a b few p q e = go (nat_lt a (length t.controllers)) refl (nat_lt b (length t.controllers)) refl e
   where
     go : (x : Bool) → nat_lt a (length t.controllers) ≡ x → (y : Bool) → nat_lt b (length t.controllers) ≡ y
@@ -71,14 +72,16 @@ behind t (entry.Post stamp m) = post_behind t m
 behind_is : (t : Tables) (e : Entry) → CanTell t e → past 32 (row t e) ≡ behind t e
 behind_is t (entry.Start who state ns) h = absurd h
 behind_is t (entry.Fetch stamp m) h = past_at 32 (decimal stamp.0) (fetch_behind t m) (number_lacks 32 stamp.0 refl)
-behind_is t (entry.Turn stamp from sent did ns) h = past_at 32 (decimal stamp.0) (turn_behind t from.0 sent.0 did) (number_lacks 32 stamp.0 refl)
+behind_is t (entry.Turn stamp from sent did ns) h =
+    past_at 32 (decimal stamp.0) (turn_behind t from.0 sent.0 did) (number_lacks 32 stamp.0 refl)
 behind_is t (entry.Post stamp m) h = past_at 32 (decimal stamp.0) (post_behind t m) (number_lacks 32 stamp.0 refl)
 
 other_words : (c : ℕ) (x y : List ℕ) → begins c x ≡ true → begins c y ≡ false → x ≡ y → ⊥
 other_words c x y h k e = let both : begins c x ≡ begins c y = ap (begins c) e in absurd cc
 
 -- whose message a fetch's line tells
-same_fetch : (t : Tables) (m k : Msg) → length t.controllers ≤ 255 → m.from.0 ≤ length t.controllers → m.prio.0 ≤ 5 → k.from.0 ≤ length t.controllers → k.prio.0 ≤ 5
+same_fetch : (t : Tables) (m k : Msg) → length t.controllers ≤ 255 → m.from.0 ≤ length t.controllers → m.prio.0 ≤ 5
+    → k.from.0 ≤ length t.controllers → k.prio.0 ≤ 5
     → fetch_behind t m ≡ fetch_behind t k → (m.from.0 ≡ k.from.0) × (m.prio.0 ≡ k.prio.0)
 same_fetch t m k few a p b q e =
     let m_end : List ℕ = decimal m.prio.0 ++ 32 ∷ fetch_end t m in
@@ -97,19 +100,27 @@ same_fetch t m k few a p b q e =
     ∙ upto_at 32 (decimal k.prio.0) (fetch_end t k) (number_lacks 32 k.prio.0 refl) in
     (party_same t m.from.0 k.from.0 few a b from, decimals_same m.prio.0 k.prio.0 (omega arith) (omega arith) prio)
 
-same_behind : (t : Tables) (d e : Entry) → length t.controllers ≤ 255 → CanTell t d → CanTell t e → behind t d ≡ behind t e → event_of d ≡ event_of e
+same_behind : (t : Tables) (d e : Entry) → length t.controllers ≤ 255 → CanTell t d → CanTell t e → behind t d ≡ behind t e
+    → event_of d ≡ event_of e
 same_behind t (entry.Start who state ns) e few h k is = absurd h
 same_behind t (entry.Fetch stamp m) (entry.Start who state ns) few h k is = absurd k
-same_behind t (entry.Fetch stamp m) (entry.Fetch other y) few h k is = let same = same_fetch t m y few h.0 h.1 k.0 k.1 is in ap₂ Fetch same.0 same.1
-same_behind t (entry.Fetch stamp m) (entry.Turn other from sent did ns) few h k is = absurd (other_words 102 (fetch_behind t m) (turn_behind t from.0 sent.0 did) refl refl is)
-same_behind t (entry.Fetch stamp m) (entry.Post other y) few h k is = absurd (other_words 102 (fetch_behind t m) (post_behind t y) refl refl is)
+same_behind t (entry.Fetch stamp m) (entry.Fetch other y) few h k is =
+    let same = same_fetch t m y few h.0 h.1 k.0 k.1 is in ap₂ Fetch same.0 same.1
+same_behind t (entry.Fetch stamp m) (entry.Turn other from sent did ns) few h k is =
+    absurd (other_words 102 (fetch_behind t m) (turn_behind t from.0 sent.0 did) refl refl is)
+same_behind t (entry.Fetch stamp m) (entry.Post other y) few h k is =
+    absurd (other_words 102 (fetch_behind t m) (post_behind t y) refl refl is)
 same_behind t (entry.Turn stamp from sent did ns) (entry.Start who state others) few h k is = absurd k
-same_behind t (entry.Turn stamp from sent did ns) (entry.Fetch other y) few h k is = absurd (other_words 116 (turn_behind t from.0 sent.0 did) (fetch_behind t y) refl refl is)
+same_behind t (entry.Turn stamp from sent did ns) (entry.Fetch other y) few h k is =
+    absurd (other_words 116 (turn_behind t from.0 sent.0 did) (fetch_behind t y) refl refl is)
 same_behind t (entry.Turn stamp from sent did ns) (entry.Turn other f s d others) few h k is = refl
-same_behind t (entry.Turn stamp from sent did ns) (entry.Post other y) few h k is = absurd (other_words 116 (turn_behind t from.0 sent.0 did) (post_behind t y) refl refl is)
+same_behind t (entry.Turn stamp from sent did ns) (entry.Post other y) few h k is =
+    absurd (other_words 116 (turn_behind t from.0 sent.0 did) (post_behind t y) refl refl is)
 same_behind t (entry.Post stamp m) (entry.Start who state ns) few h k is = absurd k
-same_behind t (entry.Post stamp m) (entry.Fetch other y) few h k is = absurd (other_words 112 (post_behind t m) (fetch_behind t y) refl refl is)
-same_behind t (entry.Post stamp m) (entry.Turn other from sent did ns) few h k is = absurd (other_words 112 (post_behind t m) (turn_behind t from.0 sent.0 did) refl refl is)
+same_behind t (entry.Post stamp m) (entry.Fetch other y) few h k is =
+    absurd (other_words 112 (post_behind t m) (fetch_behind t y) refl refl is)
+same_behind t (entry.Post stamp m) (entry.Turn other from sent did ns) few h k is =
+    absurd (other_words 112 (post_behind t m) (turn_behind t from.0 sent.0 did) refl refl is)
 same_behind t (entry.Post stamp m) (entry.Post other y) few h k is = refl
 
 abbrev pub AllTell : Tables → List Entry → Type 0
@@ -117,7 +128,8 @@ AllTell t [] = Unit {0}
 AllTell t (e ∷ es) = CanTell t e × AllTell t es
 
 -- entries with the same lines are of the same events
-pub same_events : (t : Tables) (ds es : List Entry) → length t.controllers ≤ 255 → AllTell t ds → AllTell t es → map (row t) ds ≡ map (row t) es → map event_of ds ≡ map event_of es
+pub same_events : (t : Tables) (ds es : List Entry) → length t.controllers ≤ 255 → AllTell t ds → AllTell t es
+    → map (row t) ds ≡ map (row t) es → map event_of ds ≡ map event_of es
 same_events t [] [] few h k e = refl
 same_events t [] (y ∷ es) few h k e = absurd cc
 same_events t (x ∷ ds) [] few h k e = absurd cc

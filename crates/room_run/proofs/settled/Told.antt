@@ -46,7 +46,8 @@ classes_ranked text plant model k v e =
     let shown = all_compiled plant.tables.items model.charts model.tables k v e in
     tables_weaker is_worded is_ranked worded_ranked v (models_worded model.is.tree model.charts model.is.sound.faultless k shown.0 v shown.1 shown.2)
 
-pub text_tells : (text : List ℕ) (plant : Plant) (lines : List Line) (fuel : ℕ) (j : Journals) → IsModel text plant → FitLines plant.wiring lines → IsRun plant lines fuel j
+pub text_tells : (text : List ℕ) (plant : Plant) (lines : List Line) (fuel : ℕ) (j : Journals) → IsModel text plant
+    → FitLines plant.wiring lines → IsRun plant lines fuel j
     → TextTells plant lines j
 text_tells text plant lines fuel j model fit run =
     let tree = model.is.tree in
@@ -56,6 +57,7 @@ text_tells text plant lines fuel j model fit run =
     (classes_ranked text plant model) fit fuel j run
 
 -- what a run of a model fetches fits
-pub model_fetches_fit : (text : List ℕ) (plant : Plant) (lines : List Line) (fuel : ℕ) (j : Journals) → IsModel text plant → FitLines plant.wiring lines → IsRun plant lines fuel j
+pub model_fetches_fit : (text : List ℕ) (plant : Plant) (lines : List Line) (fuel : ℕ) (j : Journals) → IsModel text plant
+    → FitLines plant.wiring lines → IsRun plant lines fuel j
     → FetchesFit plant j
 model_fetches_fit text plant lines fuel j model fit run = fetches_fit plant lines (classes_ranked text plant model) fit fuel j run
