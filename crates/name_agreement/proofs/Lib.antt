@@ -19,3 +19,5 @@ pub mod LinkRuns
 pub mod LinkAgreeing
 pub mod LinkLaws
 pub mod Unjoined
+pub mod FreePlaces
+pub mod AllAgreed

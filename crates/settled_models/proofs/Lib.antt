@@ -15,3 +15,5 @@ mod Owners
 mod Joins
 mod Ports
 mod Mutual
+mod Registers
+pub mod Settled
