@@ -20,3 +20,5 @@ pub mod LinkAgreeing
 pub mod LinkLaws
 pub mod Unjoined
 pub mod Forms
+pub mod FreePlaces
+pub mod AllAgreed

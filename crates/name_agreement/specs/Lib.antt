@@ -3,3 +3,4 @@ pub mod Created
 pub mod Registrations
 pub mod Links
 pub mod Unjoined
+pub mod Agreed

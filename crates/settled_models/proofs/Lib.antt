@@ -16,3 +16,5 @@ mod Owners
 mod Joins
 mod Ports
 mod Mutual
+mod Registers
+pub mod Settled

@@ -7,6 +7,7 @@
 
 pub mod wirings;
 
+ghost use Rattle.settled_models.specs.Agreed.{ModelsRegisterPoints, ModelRunsAreAgreed};
 ghost use Rattle.settled_models.specs.Agreeing.{ModelRunsAgree};
 ghost use Rattle.settled_models.specs.Living.{OthersLive};
 ghost use Rattle.settled_models.specs.Open.{ChartsAreOpen, ChartsSendWorded};
@@ -33,4 +34,15 @@ pub fn charts_are_open()
 /// has a live container.
 pub fn done_runs_agree()
     ensures { ModelRunsAgree }
+{}
+
+/// The actors of a model that keeps all rules and has no fault register service points alone.
+pub fn models_register_points()
+    ensures { ModelsRegisterPoints }
+{}
+
+/// In the world that the journals of a done run of a model lead to, all controllers agree: on who lives, on
+/// imports, on who is linked by name, and on peers.
+pub fn done_runs_are_agreed()
+    ensures { ModelRunsAreAgreed }
 {}

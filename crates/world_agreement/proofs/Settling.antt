@@ -32,7 +32,7 @@ use Rattle.world_agreement.proofs.Agreeing.{quiet_agree}
 use Rattle.world_agreement.proofs.Parting.{IsWholeWorld, optional_there, runs_whole, quiet_bodies, containers_live}
 
 -- a world that is the same to every party is as quiet
-same_quiet : {M : Type 0} (model : Behaviour M) (t : Tables) (lines : List Line) (end w : World (Body M)) → IsSame (plant_of model t lines) end w
+pub same_quiet : {M : Type 0} (model : Behaviour M) (t : Tables) (lines : List Line) (end w : World (Body M)) → IsSame (plant_of model t lines) end w
     → IsQuiet (plant_of model t lines) w → IsQuiet (plant_of model t lines) end
 same_quiet {M} model t lines end w same quiet =
     record {
