@@ -1,3 +1,3 @@
-mod Compiled
+pub mod Compiled
 mod Open
 pub mod Runs

@@ -6,7 +6,7 @@ use Rattle.room_ast.specs.declared.chart.Transition.{Transition as TransitionTre
 use Rattle.room_ast.specs.declared.scope.Scope.{Scope}
 use Rattle.room_ast.specs.ChartTree.{GraphItemTree, AState, AChoice, APoint, ATransition, StateTree, StateOf, BodyTree, no_body, body, SubgraphTree, no_subgraph, subgraph, GraphItems, no_items, item}
 use Rattle.chart_model.specs.Chart.{Name, Path, Transition, State, Graph, Chart}
-use Rattle.chart_behaviour.specs.Asked.{is_open}
+use Rattle.settled_models.specs.Open.{is_of_actors}
 use Rattle.chart_behaviour.specs.chart_asks.Asking.{ProgramAsks}
 use Rattle.chart_reading.specs.Around.{Around, around, list_of}
 use Rattle.chart_reading.specs.Reading.{before_action, transition_of, state_of, Piece, begun, graphs_of, with_actions, with_transition, with_inner, action_in, with_item, with_state, with_body, with_subgraph, with_items, at_first, chart_of}
@@ -14,10 +14,10 @@ use Rattle.chart_reading.specs.chart_codes.Progress.{Progress, after_action}
 use Rattle.settled_models.proofs.Programs.{action_open}
 
 abbrev pub StateOpen : State → Type 0
-StateOpen s = ProgramAsks is_open s.entry × ProgramAsks is_open s.exit
+StateOpen s = ProgramAsks is_of_actors s.entry × ProgramAsks is_of_actors s.exit
 
 abbrev pub TransitionOpen : Transition → Type 0
-TransitionOpen t = ProgramAsks is_open t.action
+TransitionOpen t = ProgramAsks is_of_actors t.action
 
 abbrev pub GraphOpen : Graph → Type 0
 GraphOpen g = Each StateOpen g.states × Each TransitionOpen g.transitions

@@ -6,6 +6,7 @@ mod Kept
 mod Programs
 mod Charts
 mod Plans
-mod Models
-mod Wired
+mod Weaker
+pub mod Models
+pub mod Wired
 pub mod Runs

@@ -12,7 +12,7 @@ use Rattle.chart_run.specs.chart_tables.Tables.{ArrowTree, arrow_view, arrow_vie
 use Rattle.chart_run.specs.declared.chart_tables.tables.Row.{Row}
 use Rattle.chart_run.specs.declared.chart_tables.tables.Tables.{Tables}
 use Rattle.chart_run.specs.ByName.{Names, IsPath, IsTransition, Shows}
-use Rattle.chart_behaviour.specs.Asked.{is_open}
+use Rattle.settled_models.specs.Open.{is_of_actors}
 use Rattle.chart_behaviour.specs.chart_asks.Asking.{ProgramAsks, ArrowAsks, GoesOn, TablesAsk}
 use Rattle.settled_models.proofs.Charts.{StateOpen, TransitionOpen, GraphOpen, ChartOpen, each_both}
 
@@ -50,17 +50,17 @@ module _ (chart : Chart) (quiet : ChartOpen chart) where
       by_graph None at k = absurd cc
       by_graph (Some g) at k = found_like StateOpen (λ (d : State). same_name d.name n) g.states s (graph_open owner g at).0 k
 
-  entry_open : (path : Path) → ProgramAsks is_open ((plan_of chart).entry path)
+  entry_open : (path : Path) → ProgramAsks is_of_actors ((plan_of chart).entry path)
   entry_open path = by_state (state_at chart path) refl
     where
-      by_state : (o : Option State) → state_at chart path ≡ o → ProgramAsks is_open (option_map_or (λ (s : State). s.entry) o no_stmt)
+      by_state : (o : Option State) → state_at chart path ≡ o → ProgramAsks is_of_actors (option_map_or (λ (s : State). s.entry) o no_stmt)
       by_state None at = tt
       by_state (Some s) at = (state_open path s at).0
 
-  exit_open : (path : Path) → ProgramAsks is_open ((plan_of chart).exit path)
+  exit_open : (path : Path) → ProgramAsks is_of_actors ((plan_of chart).exit path)
   exit_open path = by_state (state_at chart path) refl
     where
-      by_state : (o : Option State) → state_at chart path ≡ o → ProgramAsks is_open (option_map_or (λ (s : State). s.exit) o no_stmt)
+      by_state : (o : Option State) → state_at chart path ≡ o → ProgramAsks is_of_actors (option_map_or (λ (s : State). s.exit) o no_stmt)
       by_state None at = tt
       by_state (Some s) at = (state_open path s at).1
 
@@ -98,14 +98,14 @@ module _ (chart : Chart) (quiet : ChartOpen chart) where
   -- ---- tables that show it
 
   module _ (v : Tables) (names : Names) (shows : Shows v names chart) where
-    arrow_open : (a : ArrowTree) (t : Placed) → IsTransition names a t → PlacedOpen t → ArrowAsks is_open a
-    arrow_open a t is h = subst (ProgramAsks is_open) (sym is.action) h
+    arrow_open : (a : ArrowTree) (t : Placed) → IsTransition names a t → PlacedOpen t → ArrowAsks is_of_actors a
+    arrow_open a t is h = subst (ProgramAsks is_of_actors) (sym is.action) h
 
-    arrows_open : (arrows : List ArrowTree) (ts : List Placed) → EachSame (IsTransition names) arrows ts → Each PlacedOpen ts → Each (ArrowAsks is_open) arrows
+    arrows_open : (arrows : List ArrowTree) (ts : List Placed) → EachSame (IsTransition names) arrows ts → Each PlacedOpen ts → Each (ArrowAsks is_of_actors) arrows
     arrows_open _ _ none h = tt
     arrows_open _ _ (more {x} {y} {xs} {ys} r rs) h = (arrow_open x y r h.0, arrows_open xs ys rs h.1)
 
-    kind_open : (k : Kind ℕ ArrowTree) (l : Kind Path Placed) → SameKind (IsPath (length v.states.items) names) (IsTransition names) k l → GoesOn PlacedOpen l → GoesOn (ArrowAsks is_open) k
+    kind_open : (k : Kind ℕ ArrowTree) (l : Kind Path Placed) → SameKind (IsPath (length v.states.items) names) (IsTransition names) k l → GoesOn PlacedOpen l → GoesOn (ArrowAsks is_of_actors) k
     kind_open _ _ (simple r) h = tt
     kind_open _ _ (border {s} {s'} {t} {t'} r q) h = arrow_open t t' q h
     kind_open _ _ (choice {ts} {ts'} {t} {t'} rs q) h = (arrows_open ts ts' rs h.0, arrow_open t t' q h.1)
@@ -122,21 +122,21 @@ module _ (chart : Chart) (quiet : ChartOpen chart) where
       | inr past ↦ outside s past.1
     ]
 
-    pub tables_open : (start : Placed) → IsTransition names (arrow_view v.initial) start → PlacedOpen start → TablesAsk is_open v
+    pub tables_open : (start : Placed) → IsTransition names (arrow_view v.initial) start → PlacedOpen start → TablesAsk is_of_actors v
     tables_open start begins open_start = record {
-      entry = by_number (λ s. ProgramAsks is_open ((plan v).entry s))
-          (λ s there. subst (ProgramAsks is_open) (sym (shows.entry s (names.paths s) (is_path s there))) (entry_open (names.paths s)))
-          (λ s past. subst (λ (o : Option Row). ProgramAsks is_open (option_map_or (λ (r : Row). program_view r.entry) o no_stmt)) (sym past) tt);
-      exit = by_number (λ s. ProgramAsks is_open ((plan v).exit s))
-          (λ s there. subst (ProgramAsks is_open) (sym (shows.exit s (names.paths s) (is_path s there))) (exit_open (names.paths s)))
-          (λ s past. subst (λ (o : Option Row). ProgramAsks is_open (option_map_or (λ (r : Row). program_view r.exit) o no_stmt)) (sym past) tt);
-      tried = by_number (λ s. Each (ArrowAsks is_open) ((plan v).tried s))
+      entry = by_number (λ s. ProgramAsks is_of_actors ((plan v).entry s))
+          (λ s there. subst (ProgramAsks is_of_actors) (sym (shows.entry s (names.paths s) (is_path s there))) (entry_open (names.paths s)))
+          (λ s past. subst (λ (o : Option Row). ProgramAsks is_of_actors (option_map_or (λ (r : Row). program_view r.entry) o no_stmt)) (sym past) tt);
+      exit = by_number (λ s. ProgramAsks is_of_actors ((plan v).exit s))
+          (λ s there. subst (ProgramAsks is_of_actors) (sym (shows.exit s (names.paths s) (is_path s there))) (exit_open (names.paths s)))
+          (λ s past. subst (λ (o : Option Row). ProgramAsks is_of_actors (option_map_or (λ (r : Row). program_view r.exit) o no_stmt)) (sym past) tt);
+      tried = by_number (λ s. Each (ArrowAsks is_of_actors) ((plan v).tried s))
           (λ s there. arrows_open ((plan v).tried s) (tried chart (names.paths s)) (shows.tried s (names.paths s) (is_path s there)) (tried_open (names.paths s)))
           (λ s past. no_row (row_at v s) past);
       nodes = λ n. kind_open ((plan v).node n) (kind_of chart (names.nodes n)) (shows.node n (names.nodes n) (record { is = refl })) (node_open (names.nodes n));
       initial = arrow_open (arrow_view v.initial) start begins open_start;
     }
       where
-        no_row : (o : Option Row) → o ≡ None → Each (ArrowAsks is_open) (option_map_or (λ (r : Row). arrow_views r.own.items) o [] ++ option_map_or (λ (r : Row). graph_arrows v r.graph) o [])
+        no_row : (o : Option Row) → o ≡ None → Each (ArrowAsks is_of_actors) (option_map_or (λ (r : Row). arrow_views r.own.items) o [] ++ option_map_or (λ (r : Row). graph_arrows v r.graph) o [])
         no_row None e = tt
         no_row (Some r) e = absurd cc

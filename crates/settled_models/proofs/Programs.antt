@@ -1,8 +1,8 @@
 -- The programs of codes send at priorities 1 to 5 alone.
-use Rattle.std.proofs.Common.{◌≡◌, ℕ, ◌==◌, Bool, true, false, not, cond, List, Option, Some, None, refl, ap, subst, arith}
+use Rattle.std.proofs.Common.{◌≡◌, ℕ, ◌==◌, Bool, true, false, not, ◌&&◌, nat_lt, cond, List, Option, Some, None, refl, ap, subst, arith}
 use Rattle.std.specs.Prelude.{option_and_then, is_none}
 use Rattle.std.specs.Option.{option_map_or}
-use Rattle.std.proofs.lemmas.Bool.{ne_eqb}
+use Rattle.std.proofs.lemmas.Bool.{ne_eqb, lt-ltb}
 use Rattle.std.proofs.lemmas.Option.{cond_some, option_and_then_some}
 use Rattle.room_kinds.specs.declared.numbers.Priority.{Priority}
 use Rattle.room_ast.specs.declared.chart.Code.{Code}
@@ -16,17 +16,23 @@ use Rattle.action_parse.specs.action_reading.StmtReading.{stmts_at, statement}
 use Rattle.action_parse.proofs.action_reading.Whole.{program_fits}
 use Rattle.action_lang.specs.action_check.Faults.{stmts_fault}
 use Rattle.action_lang.specs.action_check.Numbering.{priority_of, stmt_names, stmts_names, branches_names, numbered_stmt, numbered_stmts, numbered_branches, numbered_else}
-use Rattle.chart_behaviour.specs.Asked.{is_open}
+use Rattle.settled_models.specs.Open.{is_of_actors}
 use Rattle.chart_behaviour.specs.chart_asks.Asking.{StatementAsks, ProgramAsks, BranchesAsk}
 use Rattle.chart_reading.specs.chart_codes.Codes.{code_bytes, limited, program_of, bound_of, action_of}
 
 -- a priority that has a word, or general where none is written
-prio_open : (p : Option Priority) → IsPrio p → not ((priority_of p).0 == 0) ≡ true
+prio_open : (p : Option Priority) → IsPrio p → not ((priority_of p).0 == 0) && nat_lt (priority_of p).0 6 ≡ true
 prio_open None h = refl
-prio_open (Some p) h = let least = h.0 in ap not (ne_eqb p.0 0 (λ e. omega (arith, least, e)))
+prio_open (Some p) h =
+    let least = h.0 in
+    let most = h.1 in
+    both (not (p.0 == 0)) (nat_lt p.0 6) (ap not (ne_eqb p.0 0 (λ e. omega (arith, least, e)))) (lt-ltb p.0 6 (omega (arith, most)))
+  where
+    both : (a b : Bool) → a ≡ true → b ≡ true → a && b ≡ true
+    both a b e f = rw (e, f) refl
 
 mutual
-  stmt_open : (scope : Scope) (names : List (List ℕ)) (s : named.StmtTree) → IsStmt s → StatementAsks is_open (numbered_stmt scope names s)
+  stmt_open : (scope : Scope) (names : List (List ℕ)) (s : named.StmtTree) → IsStmt s → StatementAsks is_of_actors (numbered_stmt scope names s)
   stmt_open scope names named.empty h = tt
   stmt_open scope names (named.assign path e) h = tt
   stmt_open scope names (named.choose branches otherwise) h = (branches_open scope names branches h.1, else_open scope (branches_names branches names) otherwise h.2)
@@ -40,15 +46,15 @@ mutual
   stmt_open scope names (named.register port name) h = refl
   stmt_open scope names (named.withdraw port) h = refl
 
-  stmts_open : (scope : Scope) (names : List (List ℕ)) (ss : named.Stmts) → AreStmts ss → ProgramAsks is_open (numbered_stmts scope names ss)
+  stmts_open : (scope : Scope) (names : List (List ℕ)) (ss : named.Stmts) → AreStmts ss → ProgramAsks is_of_actors (numbered_stmts scope names ss)
   stmts_open scope names named.no_stmt h = tt
   stmts_open scope names (named.a_stmt s rest) h = (stmt_open scope names s h.0, stmts_open scope (stmt_names s names) rest h.1)
 
-  branches_open : (scope : Scope) (names : List (List ℕ)) (bs : named.Branches) → AreBranches bs → BranchesAsk is_open (numbered_branches scope names bs)
+  branches_open : (scope : Scope) (names : List (List ℕ)) (bs : named.Branches) → AreBranches bs → BranchesAsk is_of_actors (numbered_branches scope names bs)
   branches_open scope names named.no_branch h = tt
   branches_open scope names (named.a_branch e body rest) h = (stmts_open scope names body h.1, branches_open scope (stmts_names body names) rest h.2)
 
-  else_open : (scope : Scope) (names : List (List ℕ)) (o : named.Otherwise) → IsElse o → ProgramAsks is_open (numbered_else scope names o)
+  else_open : (scope : Scope) (names : List (List ℕ)) (o : named.Otherwise) → IsElse o → ProgramAsks is_of_actors (numbered_else scope names o)
   else_open scope names named.no_else h = tt
   else_open scope names (named.an_else body) h = stmts_open scope names body h
 
@@ -61,16 +67,16 @@ program_is bytes p e =
     (λ t read fits. subst AreStmts (cond_some (repeats_within t 2) t p fits).1 (program_fits 64 ts t read).0))
 
 -- so an action sends at no other priority
-pub action_open : (scope : Scope) (names : Option (List (List ℕ))) (code : Option Code) → ProgramAsks is_open (action_of scope names code)
+pub action_open : (scope : Scope) (names : Option (List (List ℕ))) (code : Option Code) → ProgramAsks is_of_actors (action_of scope names code)
 action_open scope None None = tt
 action_open scope (Some names) None = tt
 action_open scope None (Some code) = tt
 action_open scope (Some names) (Some code) = by_program (program_of (code_bytes code)) refl
   where
-    bound : (p : named.Stmts) → AreStmts p → (b : Bool) → ProgramAsks is_open (cond b (numbered_stmts scope names p) numbered.no_stmt)
+    bound : (p : named.Stmts) → AreStmts p → (b : Bool) → ProgramAsks is_of_actors (cond b (numbered_stmts scope names p) numbered.no_stmt)
     bound p h true = stmts_open scope names p h
     bound p h false = tt
 
-    by_program : (o : Option named.Stmts) → program_of (code_bytes code) ≡ o → ProgramAsks is_open (option_map_or (bound_of scope names) o numbered.no_stmt)
+    by_program : (o : Option named.Stmts) → program_of (code_bytes code) ≡ o → ProgramAsks is_of_actors (option_map_or (bound_of scope names) o numbered.no_stmt)
     by_program None e = tt
     by_program (Some p) e = bound p (program_is (code_bytes code) p e) (is_none (stmts_fault scope p))

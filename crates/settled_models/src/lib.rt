@@ -7,7 +7,7 @@
 
 ghost use Rattle.settled_models.specs.Agreeing.{ModelRunsAgree};
 ghost use Rattle.settled_models.specs.Living.{OthersLive};
-ghost use Rattle.settled_models.specs.Open.{ChartsAreOpen};
+ghost use Rattle.settled_models.specs.Open.{ChartsAreOpen, ChartsAreRanked};
 
 /// In the wiring of a model that keeps all rules the container of an optional slot, where another controller
 /// owns it, lives from the start.
@@ -19,6 +19,12 @@ pub fn others_live_from_start()
 /// that are compiled from the chart.
 pub fn charts_are_open()
     ensures { ChartsAreOpen }
+{}
+
+/// Each program of a model's chart sends at one of the six priorities, and so do the tables that are compiled
+/// from the chart.
+pub fn charts_are_ranked()
+    ensures { ChartsAreRanked }
 {}
 
 /// In the world that the journals of a done run of a model lead to, all controllers agree on which actors
