@@ -1,5 +1,5 @@
 -- What a controller does is events of its own.
-use Rattle.std.proofs.Common.{◌≡◌, ℕ, ◌+◌, ◌==◌, max, true, false, cond, if◌then◌else◌, List, [], ◌∷◌, ◌++◌, map, inl, inr, refl, sym, ap, ◌∙◌, subst, arith, append-nil}
+use Rattle.std.proofs.Common.{◌≡◌, ℕ, ◌+◌, ◌==◌, max, true, false, cond, if◌then◌else◌, List, [], ◌∷◌, ◌++◌, map, length, inl, inr, refl, sym, ap, ◌∙◌, subst, arith, append-nil}
 use Rattle.std.proofs.lemmas.Bool.{cases_Bool}
 use Rattle.std.proofs.lemmas.List.Elements.{All-map}
 use Rattle.room_kinds.specs.declared.message.Msg.{Msg}
@@ -13,6 +13,7 @@ use Rattle.actor_world.specs.Journals.{fetches_since}
 use Rattle.actor_world.specs.Turns.{treat}
 use Rattle.controller_mail.specs.MailState.{MailState, TurnDone, state_of, with_body}
 use Rattle.controller_mail.specs.Steps.{TakesNext, EndsTurn}
+use Rattle.controller_mail.specs.Within.{AreWithin}
 use Rattle.controller_mail.specs.controller_moves.Moves.{FetchesEach, PostsFrom, PollsInto, count_at}
 use Rattle.controller_mail.proofs.controller_moves.Looked.{Took-boxes}
 use Rattle.controller_mail.proofs.controller_moves.Prompt.{count_at-cons}
@@ -21,7 +22,7 @@ use Rattle.controller_actors.specs.Plants.{model_of}
 use Rattle.controller_actors.specs.Bodies.{body_of}
 use Rattle.controller_actors.specs.declared.plant.Plant.{Plant}
 use Rattle.controller.specs.Controllers.{Goes, EndGoes, run_plant, state_in}
-use Rattle.controller.specs.Calls.{is_post, AreFetches, no_fetches, one_more, PostsAll, Polls, FetchesLeft, Turns, took_one}
+use Rattle.controller.specs.Calls.{is_post, AreFetches, no_fetches, one_more, PostsAll, PostsWithin, Polls, FetchesLeft, Turns, took_one}
 use Rattle.controller.specs.declared.controller.Controller.{Controller}
 
 -- only the mail changed
@@ -68,15 +69,21 @@ end_takes c clock k in_box log log' ms looks =
       took = λ s p. took.taken s p ∙ ap (λ z. log.taken s p ++ z) (sym (taken-of c s p clock ms));
     }
 
+-- the entries of posts that go to controllers do
+posts_within : (n : ℕ) (ms : List Msg) → AreWithin n ms → PostsWithin n (map posted_as ms)
+posts_within n [] h = tt
+posts_within n (m ∷ ms) h = (h.0, posts_within n ms h.1)
+
 -- all of the outbox was posted
-pub posts_all : (plant : Plant) (old new : Controller) (log log' : EndLog) → SameActors old new → PostsFrom old.me.0 old.mail new.mail log log' → new.mail.outbox ≡ []
-    → PostsAll plant old new log log'
-posts_all plant old new log log' same f empty = record {
+pub posts_all : (plant : Plant) (old new : Controller) (log log' : EndLog) (controllers : ℕ) → SameActors old new → controllers ≡ length plant.wiring.controllers
+    → PostsFrom old.me.0 controllers old.mail new.mail log log' → new.mail.outbox ≡ [] → PostsAll plant old new log log'
+posts_all plant old new log log' controllers same count f empty = record {
   entries = map posted_as f.messages;
   goes = goes_by_mail plant old new (map posted_as f.messages) same (PostsEach-journal old.me.0 old.mail new.mail f.messages f.posts)
       (λ lines. PostsEach-replays (run_plant plant lines) old.me.0 old.mail new.mail f.messages (body_of plant old.me.0 old.actors) f.posts);
   end = end_posts old.me.0 log log' f.messages f.logged;
   posts = All-map (λ e. is_post e ≡ true) posted_as f.messages (λ k d h. refl);
+  within = posts_within (length plant.wiring.controllers) f.messages (subst (λ n. AreWithin n f.messages) count f.within);
   empty = empty;
 }
 

@@ -1,3 +1,5 @@
 pub mod Going
 pub mod Doing
+pub mod Making
+pub mod Waits
 pub mod Standing

@@ -12,6 +12,7 @@ use Rattle.actor_merge.specs.Parties.{next_of, stamped}
 use Rattle.actor_world.specs.Journals.{is_turn, fetches_since}
 use Rattle.controller_mail.specs.MailState.{EnvironmentState, pending_of}
 use Rattle.controller_mail.specs.Steps.{environment_after}
+use Rattle.controller_mail.specs.Within.{IsWithin}
 use Rattle.controller_actors.specs.declared.plant.Plant.{Plant}
 use Rattle.controller.specs.Controllers.{Goes, EndGoes}
 use Rattle.controller.specs.declared.controller.Controller.{Controller}
@@ -35,12 +36,25 @@ pub data AreFetches : List Msg → List Entry → Type 0 where
   no_fetches : AreFetches [] []
   one_more : {ms : List Msg} {es : List Entry} (e : Entry) (m : Msg) → (s : _) × (e ≡ entry.Fetch s m) → AreFetches ms es → AreFetches (m ∷ ms) (e ∷ es)
 
--- all of the outbox was posted
+-- an entry that posts does so to one of so many controllers, at one of the six priorities
+abbrev pub IsPostWithin : ℕ → Entry → Type 0
+IsPostWithin controllers (entry.Post stamp m) = IsWithin controllers m
+IsPostWithin controllers (entry.Fetch stamp m) = Unit {0}
+IsPostWithin controllers (entry.Turn stamp from sent did notes) = Unit {0}
+IsPostWithin controllers (entry.Start who state notes) = Unit {0}
+
+-- the same of each of these entries
+abbrev pub PostsWithin : ℕ → List Entry → Type 0
+PostsWithin controllers [] = Unit {0}
+PostsWithin controllers (e ∷ es) = IsPostWithin controllers e × PostsWithin controllers es
+
+-- all of the outbox was posted, to controllers that there are
 pub record PostsAll (plant : Plant) (old new : Controller) (log log' : EndLog) : Type 0 where
   pub entries : List Entry
   pub goes : Goes plant old new entries
   pub end : EndGoes old.me.0 log log' entries
   pub posts : All (λ e. is_post e ≡ true) entries
+  pub within : PostsWithin (length plant.wiring.controllers) entries
   pub empty : new.mail.outbox ≡ []
 
 -- a poll of so many boxes: the messages that it gave were fetched; at each priority the end has taken

@@ -14,6 +14,7 @@ use Rattle.actor_world.specs.Body.{Body}
 use Rattle.actor_world.specs.Start.{plant_of, first_state, start_entries}
 use Rattle.chart_behaviour.specs.ModelCharts.{Actor}
 use Rattle.controller_mail.specs.MailState.{state_of}
+use Rattle.controller_mail.specs.Within.{WaitsWithin}
 use Rattle.controller_actors.specs.Plants.{model_of}
 use Rattle.controller_actors.specs.Bodies.{IsWell, body_of}
 use Rattle.controller_actors.specs.declared.plant.Plant.{Plant}
@@ -31,10 +32,12 @@ state_in plant k = state_of k.mail (body_of plant k.me.0 k.actors)
 abbrev pub state_at : Plant → List Controller → ℕ → State (Body Actor)
 state_at plant ks c = option_map_or (λ (k : Controller). state_in plant k) (slice_get ks c) (first_state (model_of plant) plant.wiring c)
 
--- the controller is one of this plant; one that has failed answers want of memory alone
+-- the controller is one of this plant, and what waits to be posted goes to controllers that there are; one
+-- that has failed answers want of memory alone
 pub record IsOf (plant : Plant) (k : Controller) : Type 0 where
   pub me : k.me.0 < length plant.wiring.controllers
   pub well : k.failed ≡ false → IsWell plant k.me.0 k.actors
+  pub waits : k.failed ≡ false → WaitsWithin (length plant.wiring.controllers) k.mail
 
 -- the controller has just started
 pub record Begins (plant : Plant) (me : ControllerId) (fuel : ℕ) (k : Controller) : Type 0 where

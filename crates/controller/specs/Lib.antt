@@ -1,3 +1,4 @@
 pub mod Controllers
 pub mod Calls
+pub mod States
 pub mod quiet_counts

@@ -3,7 +3,6 @@ ghost use Rattle.std.specs.Prelude.{◌≡◌, ◌+◌, ◌<◌, ◌==◌, ◌�
 ghost use Rattle.std.specs.List.{list_any};
 ghost use Rattle.controller_mail.specs.MailState.{HasPriority, has_messages, messages_in};
 ghost use Rattle.mail_core.specs.Tied.{IsTied, StaysTied};
-ghost use Rattle.controller_actors.specs.Plants.{IsPlant};
 ghost use Rattle.controller.specs.Controllers.{IsOf, Begins};
 ghost use Rattle.controller.specs.Calls.{PostsAll, Polls, FetchesLeft, Turns};
 
@@ -35,7 +34,6 @@ impl Controller {
         me: ControllerId,
         fuel: u64,
     ) -> Result<Controller, AllocError>
-        requires plant { IsPlant plant.now }
         requires me { me.0 < length plant.now.wiring.controllers }
         ensures begins { IfOk result (λ k. Begins plant.now me fuel k) }
         ensures of { IfOk result (λ k. IsOf plant.now k) }
@@ -59,7 +57,6 @@ impl Controller {
         office: &mut M::Office,
         end: &mut M,
     ) -> Result<(), AllocError>
-        requires plant { IsPlant plant.now }
         requires of { IsOf plant.now self.old }
         requires party { (M.log end.old).party ≡ self.old.me.0 }
         requires parties { (M.log end.old).parties ≡ length plant.now.wiring.controllers + 1 }
@@ -74,8 +71,7 @@ impl Controller {
             return Err(AllocError);
         }
         self.failed = true;
-        let controllers = plant.wiring.controller_count();
-        post_outbox(&mut self.mail, self.me, controllers, office, end)?;
+        post_outbox(&mut self.mail, self.me, office, end)?;
         self.failed = false;
         Ok(())
     }
@@ -88,7 +84,6 @@ impl Controller {
         office: &mut M::Office,
         end: &mut M,
     ) -> Result<u32, AllocError>
-        requires plant { IsPlant plant.now }
         requires of { IsOf plant.now self.old }
         requires party { (M.log end.old).party ≡ self.old.me.0 }
         requires parties { (M.log end.old).parties ≡ length plant.now.wiring.controllers + 1 }
@@ -103,7 +98,8 @@ impl Controller {
             return Err(AllocError);
         }
         self.failed = true;
-        let count = poll_boxes(self.alloc, &mut self.mail, office, end)?;
+        let controllers = plant.wiring.controller_count();
+        let count = poll_boxes(self.alloc, &mut self.mail, controllers, office, end)?;
         self.failed = false;
         Ok(count)
     }
@@ -121,7 +117,7 @@ impl Controller {
             return Err(AllocError);
         }
         self.failed = true;
-        fetch_all(&mut self.mail, left)?;
+        fetch_all(&mut self.mail, plant.wiring.controller_count(), left)?;
         self.failed = false;
         Ok(())
     }
@@ -129,7 +125,6 @@ impl Controller {
     /// Takes a turn: of the pending lists from priority 0 to 5 the first that isn't empty gives its front,
     /// which is treated to completion. False exactly where all pending lists are empty.
     pub fn turn(&mut self, plant: &Plant) -> Result<bool, AllocError>
-        requires plant { IsPlant plant.now }
         requires of { IsOf plant.now self.old }
         requires outbox { self.old.mail.outbox ≡ [] }
         ensures ok { IfOk result (λ took. Turns plant.now self.old self.new took) }

@@ -6,10 +6,12 @@
 #![tactic(auto)]
 
 mod controller;
+mod controller_state;
 mod environment;
 pub mod quiet_counts;
 
 pub use controller::Controller;
 pub use controller_actors::Plant;
+pub use controller_state::{ControllerState, Started};
 pub use environment::Environment;
 pub use quiet_counts::{has_message, is_quiet};

@@ -18,7 +18,7 @@ use Rattle.actor_world.specs.Body.{Body, Doing}
 use Rattle.actor_world.specs.Start.{Starting as WorldStarting, all_started, started, starting, first_state, start_entries, first_body, first_frame, first_lives, first_links, first_actors}
 use Rattle.chart_behaviour.specs.ModelCharts.{Actor, tables_at, begins, state_number}
 use Rattle.actor_commands.proofs.command_sends.Broadcasting.{range-more}
-use Rattle.controller_mail.specs.MailState.{HasPriority}
+use Rattle.controller_mail.specs.MailState.{IsForActors}
 use Rattle.frame_service.specs.State.{frame_in}
 use Rattle.controller_actors.specs.Served.{Serves, links_in}
 use Rattle.controller_actors.specs.declared.actor_slots.actor_slot.ActorSlot.{ActorSlot}
@@ -188,7 +188,7 @@ module _ (p : Plant) (me : ℕ) where
             serves = serves;
             each = λ n.
                 subst (λ (x : ActorSlot). SlotFits (last_of (lives_of s.actors) n) (tables_at p.wiring p.tables.items n) x)
-                (sym (nobody n)) (record { of = tt; tables = tt; kept = All-nil HasPriority });
+                (sym (nobody n)) (record { of = tt; tables = tt; kept = All-nil IsForActors });
             count = ap length slots ∙ length-replicate (length p.wiring.slots) vacant;
           };
           empty = λ n dead out. ap (λ (x : ActorSlot). x.occupant) (nobody n);

@@ -23,8 +23,8 @@ use Rattle.frame_service.specs.State.{frame_in}
 use Rattle.frame_service.specs.declared.state.FrameState.{FrameState}
 use Rattle.frame_service.specs.Done.{IsDone}
 use Rattle.layer_service.specs.layer_links.Kept.{links_of}
-use Rattle.controller_mail.specs.MailState.{HasPriority, with_body}
-use Rattle.controller_mail.specs.declared.controller_mail.TurnResult.{TurnResult}
+use Rattle.controller_mail.specs.MailState.{IsForActors, with_body}
+use Rattle.controller_mail.specs.declared.mail_queues.TurnResult.{TurnResult}
 use Rattle.controller_actors.specs.declared.actor_slots.occupant.Occupant.{Occupant}
 use Rattle.controller_actors.specs.declared.actor_slots.occupant.Occupant.TheVariants as occupants
 use Rattle.controller_actors.specs.declared.actor_slots.actor_slot.ActorSlot.{ActorSlot}
@@ -76,8 +76,8 @@ module _ (p : Plant) (me : ℕ) where
             ∙ ap (λ (x : TurnResult). with_body (done_of x) (body_of p me new)) (sym d);
         well = record { has_slots = both.has_slots; empty = empty };
         back =
-            subst (λ (x : TurnResult). All HasPriority x.back) (sym d)
-            (subst (λ (ms : List Msg). All HasPriority ms) (sym c.back) (both.back (subst (λ (ms : List Msg). All HasPriority ms) (sym back) (All-nil HasPriority))));
+            subst (λ (x : TurnResult). All IsForActors x.back) (sym d)
+            (subst (λ (ms : List Msg). All IsForActors ms) (sym c.back) (both.back (subst (λ (ms : List Msg). All IsForActors ms) (sym back) (All-nil IsForActors))));
       }
     where
       begins : first.output.messages ≡ sent → first.output.notes ≡ [] → first.back ≡ [] → record (doing (body_of p me old)) { sent = sent } ≡ doing_of p me old first false
@@ -86,7 +86,7 @@ module _ (p : Plant) (me : ℕ) where
 -- ---- after a duty of the frame service
 
 -- nobody fits everywhere
-nobody_fits : (x : Incarnation) (o : Option ChartTables) (actor_slot : ActorSlot) → actor_slot.occupant ≡ occupants.Nobody → All HasPriority actor_slot.deferred → SlotFits x o actor_slot
+nobody_fits : (x : Incarnation) (o : Option ChartTables) (actor_slot : ActorSlot) → actor_slot.occupant ≡ occupants.Nobody → All IsForActors actor_slot.deferred → SlotFits x o actor_slot
 nobody_fits x o actor_slot e kept = record {
   of = subst (λ (s : Occupant). IsOf x s) (sym e) tt;
   tables = subst (λ (s : Occupant). HasTables o s) (sym e) tt;

@@ -11,7 +11,7 @@ use Rattle.actor_duties.specs.Links.{end_of}
 use Rattle.actor_world.specs.Body.{Body, Doing}
 use Rattle.actor_world.specs.Turns.{begun, all_begun, gone, all_gone}
 use Rattle.chart_behaviour.specs.ModelCharts.{Actor, begins, tables_at}
-use Rattle.controller_mail.specs.MailState.{HasPriority}
+use Rattle.controller_mail.specs.MailState.{IsForActors}
 use Rattle.frame_service.specs.declared.state.FrameState.{FrameState}
 use Rattle.frame_service.specs.State.{IsFrameOf, frame_in}
 use Rattle.controller_actors.specs.declared.actor_slots.actor_slot.ActorSlot.{ActorSlot}
@@ -125,9 +125,9 @@ module _ (p : Plant) (me : ℕ) where
       } in
       record {
         on = λ held. (held, same_doing body (sym sent) (sym back) (sym told) held);
-        has_slots = has_slots_set p me old new s vacant l lives slots serves has_slots (record { of = tt; tables = tt; kept = All-nil HasPriority });
+        has_slots = has_slots_set p me old new s vacant l lives slots serves has_slots (record { of = tt; tables = tt; kept = All-nil IsForActors });
         lives = lives;
-        back = λ all. subst (λ (ms : List Msg). All HasPriority ms) (sym back) all;
+        back = λ all. subst (λ (ms : List Msg). All IsForActors ms) (sym back) all;
       }
 
   last_gone : (t : Wiring) (xs : List Incarnation) (x : Incarnation) (d : Doing Actor) → all_gone t me (xs ++ x ∷ []) d ≡ gone t me x (all_gone t me xs d)

@@ -18,8 +18,8 @@ use Rattle.actor_world.specs.Body.{Body, Doing}
 use Rattle.actor_world.specs.Turns.{duty, links_done, treated, with_links, with_table}
 use Rattle.chart_behaviour.specs.ModelCharts.{Actor}
 use Rattle.layer_service.specs.layer_links.Kept.{PointState, links_of}
-use Rattle.controller_mail.specs.MailState.{HasPriority, with_body}
-use Rattle.controller_mail.specs.declared.controller_mail.TurnResult.{TurnResult}
+use Rattle.controller_mail.specs.MailState.{IsForActors, with_body}
+use Rattle.controller_mail.specs.declared.mail_queues.TurnResult.{TurnResult}
 use Rattle.controller_actors.specs.declared.plant.Plant.{Plant}
 use Rattle.controller_actors.specs.declared.actors.Actors.{Actors}
 use Rattle.controller_actors.specs.declared.duties.Service.TheVariants as services
@@ -83,8 +83,8 @@ module _ (model : Behaviour Actor) (t : Tables) (me : ℕ) (b : Body Actor) (m :
 
 module _ (p : Plant) (me : ℕ) (m : Msg) (kind : SysKind) (old : Actors) (done : TurnResult) (well : IsWell p me old) where
   -- nothing comes back
-  none_back : (sent : List Msg) → done ≡ record { sent = sent; back = []; did = did.Duty; notes = [] } → All HasPriority done.back
-  none_back sent is = rw is (All-nil HasPriority)
+  none_back : (sent : List Msg) → done ≡ record { sent = sent; back = []; did = did.Duty; notes = [] } → All IsForActors done.back
+  none_back sent is = rw is (All-nil IsForActors)
 
   -- another name table
   pub has_table : (now : NameTable) (sent : List Msg) → service_of kind ≡ services.NameTable

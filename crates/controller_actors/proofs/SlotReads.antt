@@ -8,8 +8,8 @@ use Rattle.actor_duties.specs.Words.{whose}
 use Rattle.actor_duties.specs.Lives.{last_of}
 use Rattle.chart_run.specs.declared.chart_tables.tables.Tables.{Tables}
 use Rattle.chart_behaviour.specs.ModelCharts.{tables_at}
-use Rattle.controller_mail.specs.MailState.{HasPriority, with_body}
-use Rattle.controller_mail.specs.declared.controller_mail.TurnResult.{TurnResult}
+use Rattle.controller_mail.specs.MailState.{IsForActors, with_body}
+use Rattle.controller_mail.specs.declared.mail_queues.TurnResult.{TurnResult}
 use Rattle.controller_actors.specs.declared.services.ActorServices.{ActorServices}
 use Rattle.controller_actors.specs.Served.{Serves, links_in}
 use Rattle.frame_service.specs.State.{frame_in}
@@ -42,8 +42,8 @@ read_fits p me a s x o actor_slot has_slots who tables is =
     (subst (λ (y : ActorSlot). SlotFits (last_of (lives_of a) s) (tables_at p.wiring p.tables.items s) y) (sym is) (has_slots.each s)))
 
 -- what it keeps has priorities
-pub read_kept : (p : Plant) (me : ℕ) (a : Actors) (s : ℕ) (actor_slot : ActorSlot) → HasSlots p me a → actor_slot ≡ slot_at a.slots.items s → All HasPriority actor_slot.deferred
-read_kept p me a s actor_slot has_slots is = subst (λ (y : ActorSlot). All HasPriority y.deferred) (sym is) (has_slots.each s).kept
+pub read_kept : (p : Plant) (me : ℕ) (a : Actors) (s : ℕ) (actor_slot : ActorSlot) → HasSlots p me a → actor_slot ≡ slot_at a.slots.items s → All IsForActors actor_slot.deferred
+read_kept p me a s actor_slot has_slots is = subst (λ (y : ActorSlot). All IsForActors y.deferred) (sym is) (has_slots.each s).kept
 
 -- nobody stands in the slot of a message, which stays as it was
 pub dispatches_none : (p : Plant) (me : ℕ) (m : Msg) (old new : Actors) (before after : ActorSlot) (done : TurnResult) → m.target.slot.0 < length old.slots.items

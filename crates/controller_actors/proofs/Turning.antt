@@ -14,8 +14,8 @@ use Rattle.actor_world.specs.Body.{Body}
 use Rattle.actor_world.specs.Turns.{doing, treated, is_meant, nobody_there, handled, all_kinds, system_done, dispatched, dispatch, treat}
 use Rattle.frame_service.specs.State.{frame_in}
 use Rattle.chart_behaviour.specs.ModelCharts.{Actor, tables_at, handles}
-use Rattle.controller_mail.specs.MailState.{HasPriority, with_body}
-use Rattle.controller_mail.specs.declared.controller_mail.TurnResult.{TurnResult}
+use Rattle.controller_mail.specs.MailState.{IsForActors, with_body}
+use Rattle.controller_mail.specs.declared.mail_queues.TurnResult.{TurnResult}
 use Rattle.controller_actors.specs.Served.{Serves, links_in}
 use Rattle.controller_actors.specs.declared.actor_slots.actor_slot.ActorSlot.{ActorSlot}
 use Rattle.controller_actors.specs.actor_slots.Occupants.{actor_in, actor_of}
@@ -111,7 +111,7 @@ module _ (p : Plant) (me : ℕ) (m : Msg) (old : Actors) where
         ap (dispatched (model_of p) p.wiring me (body_of p me old) m) (machine_is m.target.slot.0 ∙ e)
         ∙ ap (λ (d : TurnResult). with_body (done_of d) (body_of p me old)) (sym is);
     well = well;
-    back = subst (λ (d : TurnResult). All HasPriority d.back) (sym is) (All-nil HasPriority);
+    back = subst (λ (d : TurnResult). All IsForActors d.back) (sym is) (All-nil IsForActors);
   }
 
   -- the machine of a behaviour handles the message

@@ -7,7 +7,7 @@ use Rattle.actor_duties.specs.Lives.{last_of}
 use Rattle.actor_world.specs.Body.{Body}
 use Rattle.chart_behaviour.specs.ModelCharts.{Actor, tables_at}
 use Rattle.controller_mail.specs.MailState.{TurnDone}
-use Rattle.controller_mail.specs.declared.controller_mail.TurnResult.{TurnResult}
+use Rattle.controller_mail.specs.declared.mail_queues.TurnResult.{TurnResult}
 use Rattle.frame_service.specs.State.{frame_in}
 use Rattle.controller_actors.specs.declared.actor_slots.occupant.Occupant.TheVariants as occupants
 use Rattle.controller_actors.specs.declared.actor_slots.actor_slot.ActorSlot.{ActorSlot}

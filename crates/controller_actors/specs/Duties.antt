@@ -8,8 +8,8 @@ use Rattle.actor_world.specs.Body.{Doing}
 use Rattle.actor_world.specs.Turns.{all_begun, all_gone, closing, doing, duty, treated}
 use Rattle.chart_behaviour.specs.ModelCharts.{Actor}
 use Rattle.frame_lives.specs.declared.done.DutyDone.{DutyDone}
-use Rattle.controller_mail.specs.MailState.{HasPriority, with_body}
-use Rattle.controller_mail.specs.declared.controller_mail.TurnResult.{TurnResult}
+use Rattle.controller_mail.specs.MailState.{IsForActors, with_body}
+use Rattle.controller_mail.specs.declared.mail_queues.TurnResult.{TurnResult}
 use Rattle.controller_actors.specs.declared.plant.Plant.{Plant}
 use Rattle.controller_actors.specs.declared.actors.Actors.{Actors}
 use Rattle.controller_actors.specs.declared.duties.Service.{Service}
@@ -43,7 +43,7 @@ service_of kinds.PartEnd = services.Frame
 pub record HasDuty (plant : Plant) (me : ℕ) (m : Msg) (kind : SysKind) (old new : Actors) (done : TurnResult) : Type 0 where
   pub turn : treated (duty (model_of plant) plant.wiring me (body_of plant me old) m kind) did.Duty ≡ with_body (done_of done) (body_of plant me new)
   pub well : IsWell plant me new
-  pub back : All HasPriority done.back
+  pub back : All IsForActors done.back
 
 -- what is left after a duty of the frame service, once these messages were sent: those that were made
 -- come up, those that ended go down, and the last message is sent
@@ -55,4 +55,4 @@ finishing plant me left d =
 pub record Finishes (plant : Plant) (me : ℕ) (left : DutyDone) (sent : List Msg) (old new : Actors) (done : TurnResult) : Type 0 where
   pub turn : treated (finishing plant me left (record (doing (body_of plant me old)) { sent = sent })) did.Duty ≡ with_body (done_of done) (body_of plant me new)
   pub well : IsWell plant me new
-  pub back : All HasPriority done.back
+  pub back : All IsForActors done.back

@@ -1,4 +1,5 @@
 pub mod Duties
+pub mod PlantParts
 pub mod Plants
 pub mod Served
 pub mod Bodies

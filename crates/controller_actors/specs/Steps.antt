@@ -13,8 +13,8 @@ use Rattle.actor_world.specs.Start.{Starting as WorldStarting, all_started, firs
 use Rattle.actor_world.specs.Body.{Doing}
 use Rattle.actor_world.specs.Turns.{dispatched, doing}
 use Rattle.chart_behaviour.specs.ModelCharts.{Actor, begins, state_number, tables_at}
-use Rattle.controller_mail.specs.MailState.{HasPriority, with_body}
-use Rattle.controller_mail.specs.declared.controller_mail.TurnResult.{TurnResult}
+use Rattle.controller_mail.specs.MailState.{IsForActors, with_body}
+use Rattle.controller_mail.specs.declared.mail_queues.TurnResult.{TurnResult}
 use Rattle.controller_actors.specs.declared.actor_slots.actor_slot.Entrance.{Entrance}
 use Rattle.controller_actors.specs.actor_slots.Slots.{entered}
 use Rattle.controller_actors.specs.declared.plant.Plant.{Plant}
@@ -28,7 +28,7 @@ use Rattle.controller_actors.specs.Bodies.{AreEmpty, HasSlots, IsWell, body_of, 
 pub record Dispatches (plant : Plant) (me : ℕ) (m : Msg) (old new : Actors) (done : TurnResult) : Type 0 where
   pub turn : dispatched (model_of plant) plant.wiring me (body_of plant me old) m ((body_of plant me old).machines m.target.slot.0) ≡ with_body (done_of done) (body_of plant me new)
   pub well : IsWell plant me new
-  pub back : All HasPriority done.back
+  pub back : All IsForActors done.back
 
 -- the actor of a slot began, where so much was sent and came back before
 pub record ActorsBegin (plant : Plant) (me slot : ℕ) (old new : Actors) (sent before : List Msg) (e : Entrance) : Type 0 where
@@ -57,7 +57,7 @@ pub record Moves (step : Doing Actor → Doing Actor) (plant : Plant) (me : ℕ)
   pub on : (held : Bool) → (kept : Bool) × (step (doing_of plant me old before held) ≡ doing_of plant me new after kept)
   pub has_slots : HasSlots plant me new
   pub lives : lives_of new ≡ lives_of old
-  pub back : All HasPriority before.back → All HasPriority after.back
+  pub back : All IsForActors before.back → All IsForActors after.back
 
 -- the last message is sent, if there is one
 pub record Closes (before after : SoFar) (last : Option Msg) : Type 0 where

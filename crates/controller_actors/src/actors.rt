@@ -3,8 +3,8 @@ ghost use Rattle.std.specs.Prelude.{◌≡◌, ◌<◌, ◌&&◌, ◌||◌, ◌=
 ghost use Rattle.actor_duties.specs.Words.{is_own, whose};
 ghost use Rattle.actor_world.specs.Start.{first_state, start_entries};
 ghost use Rattle.actor_world.specs.Turns.{dispatch, treat};
-ghost use Rattle.controller_mail.specs.MailState.{HasPriority, with_body};
-ghost use Rattle.controller_actors.specs.Plants.{IsPlant, model_of};
+ghost use Rattle.controller_mail.specs.MailState.{HasPriority, IsForActors, with_body};
+ghost use Rattle.controller_actors.specs.Plants.{model_of};
 ghost use Rattle.controller_actors.specs.Bodies.{HasSlots, IsWell, body_of, done_of, lives_of};
 ghost use Rattle.controller_actors.specs.Steps.{ActorsBegin, Dispatches, IsLast};
 
@@ -70,7 +70,6 @@ impl Actors {
     /// All actors of controller `me` that live from the start take their initial transitions, in slot
     /// order, and their commands are applied.
     pub fn start(alloc: Global, plant: &Plant, me: ControllerId) -> Result<Begun, AllocError>
-        requires plant { IsPlant plant.now }
         requires me { me.0 < length plant.now.wiring.controllers }
         ensures state { IfOk result (λ b. first_state (model_of plant.now) plant.now.wiring me.0 ≡ record { clock = 0; turns = 0; pending = λ p. []; outbox = b.sent; body = body_of plant.now me.0 b.actors }) }
         ensures entries { IfOk result (λ b. b.entries ≡ start_entries (model_of plant.now) plant.now.wiring me.0) }
@@ -89,7 +88,6 @@ impl Actors {
         sent: Outbox,
         back: Recalled,
     ) -> Result<Entrance, AllocError>
-        requires plant { IsPlant plant.now }
         requires has_slots { HasSlots plant.now me.0 self.old }
         requires last { IsLast plant.now.wiring (lives_of self.old) who }
         ensures { IfOk result (λ e. ActorsBegin plant.now me.0 who.slot.0 self.old self.new sent back e) }
@@ -114,11 +112,10 @@ impl Actors {
         who: Incarnation,
         m: &Msg,
     ) -> Result<TurnResult, AllocError>
-        requires plant { IsPlant plant.now }
         requires well { IsWell plant.now me.0 self.old }
         requires last { IsLast plant.now.wiring (lives_of self.old) who }
         requires target { who.slot ≡ m.now.target.slot }
-        requires prio { HasPriority m.now }
+        requires prio { IsForActors m.now }
         ensures { IfOk result (λ done. Dispatches plant.now me.0 m.now self.old self.new done) }
     {
         let alloc = self.alloc;
@@ -161,12 +158,11 @@ impl Actors {
         me: ControllerId,
         m: &Msg,
     ) -> Result<TurnResult, AllocError>
-        requires plant { IsPlant plant.now }
         requires well { IsWell plant.now me.0 self.old }
-        requires prio { HasPriority m.now }
+        requires prio { IsForActors m.now }
         ensures treated { IfOk result (λ done. dispatch (model_of plant.now) plant.now.wiring me.0 (body_of plant.now me.0 self.old) m.now ≡ with_body (done_of done) (body_of plant.now me.0 self.new)) }
         ensures well { OnOk result (IsWell plant.now me.0 self.new) }
-        ensures back { IfOk result (λ done. All HasPriority done.back) }
+        ensures back { IfOk result (λ done. All IsForActors done.back) }
     {
         let Some(who) = self.occupant(plant, me, m.target.slot) else {
             return Ok(nobody_there(self.alloc, m));
@@ -187,12 +183,11 @@ impl Actors {
         me: ControllerId,
         m: &Msg,
     ) -> Result<TurnResult, AllocError>
-        requires plant { IsPlant plant.now }
         requires well { IsWell plant.now me.0 self.old }
         requires prio { HasPriority m.now }
         ensures treated { IfOk result (λ done. treat (model_of plant.now) plant.now.wiring me.0 (body_of plant.now me.0 self.old) m.now ≡ with_body (done_of done) (body_of plant.now me.0 self.new)) }
         ensures well { OnOk result (IsWell plant.now me.0 self.new) }
-        ensures back { IfOk result (λ done. All HasPriority done.back) }
+        ensures back { IfOk result (λ done. All IsForActors done.back) }
     {
         if m.prio.0 == 0 {
             let done = self.duty(plant, me, m)?;

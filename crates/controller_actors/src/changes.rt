@@ -2,7 +2,7 @@
 ghost use Rattle.std.specs.Prelude.{◌<◌, ◌∷◌, List, [], length, All, IfOk, OnOk};
 ghost use Rattle.room_kinds.specs.declared.numbers.Incarnation.{Incarnation as Actor};
 ghost use Rattle.actor_world.specs.Turns.{begun, all_begun, gone, all_gone};
-ghost use Rattle.controller_actors.specs.Plants.{IsPlant, model_of};
+ghost use Rattle.controller_actors.specs.Plants.{model_of};
 ghost use Rattle.controller_actors.specs.Bodies.{AreEmpty, HasSlots, lives_of};
 ghost use Rattle.controller_actors.specs.Steps.{IsLast, Moves};
 
@@ -29,7 +29,6 @@ impl Actors {
         who: Incarnation,
         so_far: SoFar,
     ) -> Result<SoFar, AllocError>
-        requires plant { IsPlant plant.now }
         requires has_slots { HasSlots plant.now me.0 self.old }
         requires last { IsLast plant.now.wiring (lives_of self.old) who }
         ensures moves { IfOk result (λ s. Moves (begun (model_of plant.now) plant.now.wiring me.0 who) plant.now me.0 self.old so_far self.new s) }
@@ -63,7 +62,6 @@ impl Actors {
         made: &[Incarnation],
         so_far: SoFar,
     ) -> Result<SoFar, AllocError>
-        requires plant { IsPlant plant.now }
         requires has_slots { HasSlots plant.now me.0 self.old }
         requires last { All (IsLast plant.now.wiring (lives_of self.old)) made.now }
         ensures moves { IfOk result (λ s. Moves (all_begun (model_of plant.now) plant.now.wiring me.0 made.now) plant.now me.0 self.old so_far self.new s) }

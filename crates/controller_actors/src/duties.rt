@@ -5,8 +5,8 @@ ghost use Rattle.room_kinds.specs.Kinds.{number_of};
 ghost use Rattle.actor_duties.specs.Words.{is_own};
 ghost use Rattle.actor_duties.specs.Lives.{is_live};
 ghost use Rattle.actor_world.specs.Turns.{treat};
-ghost use Rattle.controller_mail.specs.MailState.{HasPriority, with_body};
-ghost use Rattle.controller_actors.specs.Plants.{IsPlant, model_of};
+ghost use Rattle.controller_mail.specs.MailState.{IsForActors, with_body};
+ghost use Rattle.controller_actors.specs.Plants.{model_of};
 ghost use Rattle.controller_actors.specs.Bodies.{AreEmpty, HasSlots, IsWell, body_of, done_of, lives_of};
 ghost use Rattle.controller_actors.specs.Steps.{Closes, IsLast};
 ghost use Rattle.controller_actors.specs.Duties.{Finishes, HasDuty, service_of};
@@ -107,7 +107,6 @@ impl Actors {
         left: DutyDone,
         sent: Outbox,
     ) -> Result<TurnResult, AllocError>
-        requires plant { IsPlant plant.now }
         requires has_slots { HasSlots plant.now me.0 self.old }
         requires empty { AreEmpty left.ended self.old }
         requires made { All (IsLast plant.now.wiring (lives_of self.old)) left.made }
@@ -137,7 +136,6 @@ impl Actors {
         kind: SysKind,
         m: &Msg,
     ) -> Result<TurnResult, AllocError>
-        requires plant { IsPlant plant.now }
         requires well { IsWell plant.now me.0 self.old }
         requires kind { number_of kind ≡ m.now.signal }
         requires frame { service_of kind ≡ Service.Frame }
@@ -203,12 +201,11 @@ impl Actors {
         me: ControllerId,
         m: &Msg,
     ) -> Result<TurnResult, AllocError>
-        requires plant { IsPlant plant.now }
         requires well { IsWell plant.now me.0 self.old }
         requires prio { m.now.prio.0 ≡ 0 }
         ensures treated { IfOk result (λ done. treat (model_of plant.now) plant.now.wiring me.0 (body_of plant.now me.0 self.old) m.now ≡ with_body (done_of done) (body_of plant.now me.0 self.new)) }
         ensures well { OnOk result (IsWell plant.now me.0 self.new) }
-        ensures back { IfOk result (λ done. All HasPriority done.back) }
+        ensures back { IfOk result (λ done. All IsForActors done.back) }
     {
         let Some(kind) = SysKind::from_number(m.signal) else {
             return Ok(passed_over(self.alloc));

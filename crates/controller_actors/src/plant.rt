@@ -2,17 +2,19 @@
 ghost use Rattle.std.specs.Prelude.{◌≡◌};
 ghost use Rattle.std.specs.Option.{option_copied};
 ghost use Rattle.chart_behaviour.specs.ModelCharts.{tables_at};
+ghost use Rattle.controller_actors.specs.PlantParts.{AreOfPlant, AreOfPlant-prop};
 
 use chart_run::Tables;
 use room_kinds::SlotId;
 use room_wiring::Wiring;
 
 /// What a model runs as: its wiring, and for each actor class, in order of declaration, the tables of its
-/// chart, if it has one.
+/// chart, if it has one. Controllers run on every plant.
 #[derive(Drop)]
 pub struct Plant {
     pub wiring: Wiring,
     pub tables: Vec<Option<Tables>>,
+    pub ghost fits: { AreOfPlant wiring tables.items } by { AreOfPlant-prop wiring tables.items },
 }
 
 impl Plant {

@@ -1,7 +1,7 @@
 //! The start of a controller's actors.
 ghost use Rattle.std.specs.Prelude.{◌≡◌, ◌<◌, ◌++◌, [], length, replicate, IfOk, OnOk};
 ghost use Rattle.actor_world.specs.Start.{first_state, start_entries};
-ghost use Rattle.controller_actors.specs.Plants.{IsPlant, model_of};
+ghost use Rattle.controller_actors.specs.Plants.{model_of};
 ghost use Rattle.controller_actors.specs.Bodies.{HasSlots, IsWell, body_of, vacant, lives_of};
 ghost use Rattle.controller_actors.specs.Steps.{IsLast, Starts, StartsIn, first_below, first_in};
 
@@ -44,7 +44,6 @@ impl Starting {
         me: ControllerId,
         who: Incarnation,
     ) -> Result<(), AllocError>
-        requires plant { IsPlant plant.now }
         requires has_slots { HasSlots plant.now me.0 self.old.actors }
         requires last { IsLast plant.now.wiring (lives_of self.old.actors) who }
         ensures { OnOk result (StartsIn plant.now me.0 who.slot.0 self.old self.new) }
@@ -67,7 +66,6 @@ impl Starting {
 
     /// The actor of a slot starts, if one lives there from the start.
     fn consider(&mut self, plant: &Plant, me: ControllerId, slot: SlotId) -> Result<(), AllocError>
-        requires plant { IsPlant plant.now }
         requires started { Starts plant.now me.0 (first_below plant.now.wiring me.0 slot.0) self.old }
         requires there { slot.0 < length plant.now.wiring.slots }
         ensures { OnOk result (Starts plant.now me.0 (first_below plant.now.wiring me.0 slot.0 ++ first_in plant.now.wiring me.0 slot.0) self.new) }
@@ -81,7 +79,6 @@ impl Starting {
 
     /// All actors that live from the start do.
     fn start_all(&mut self, plant: &Plant, me: ControllerId) -> Result<(), AllocError>
-        requires plant { IsPlant plant.now }
         requires started { Starts plant.now me.0 [] self.old }
         ensures { OnOk result (Starts plant.now me.0 (first_below plant.now.wiring me.0 (length plant.now.wiring.slots)) self.new) }
     {
@@ -94,7 +91,6 @@ impl Starting {
 
 /// All actors of controller `me` that live from the start begin, in slot order.
 pub(crate) fn start(alloc: Global, plant: &Plant, me: ControllerId) -> Result<Begun, AllocError>
-    requires plant { IsPlant plant.now }
     requires me { me.0 < length plant.now.wiring.controllers }
     ensures state { IfOk result (λ b. first_state (model_of plant.now) plant.now.wiring me.0 ≡ record { clock = 0; turns = 0; pending = λ p. []; outbox = b.sent; body = body_of plant.now me.0 b.actors }) }
     ensures entries { IfOk result (λ b. b.entries ≡ start_entries (model_of plant.now) plant.now.wiring me.0) }

@@ -1,3 +1,4 @@
 pub mod Pendings
 pub mod Mails
+pub mod Waiting
 pub mod Replaying

@@ -1,4 +1,6 @@
 pub mod MailState
+pub mod Within
 pub mod Steps
+pub mod Queues
 pub mod Laws
 pub mod controller_moves

@@ -1,6 +1,6 @@
 -- What contracts see of a controller's mail and of the environment, and which states these are in the
 -- world's definitions.
-use Rattle.std.specs.Prelude.{◌≡◌, ℕ, ◌<◌, ◌==◌, not, Bool, List, [], ◌∷◌, ◌++◌, length, slice_index_or, All}
+use Rattle.std.specs.Prelude.{◌≡◌, ℕ, ◌<◌, ◌≤◌, ◌==◌, not, Bool, List, [], ◌∷◌, ◌++◌, length, slice_index_or, All}
 use Rattle.room_kinds.specs.declared.message.Msg.{Msg}
 use Rattle.room_kinds.specs.declared.note.Note.{Note}
 use Rattle.journal.specs.declared.entry.Did.{Did}
@@ -36,6 +36,10 @@ mail_alone k = state_of k tt
 -- a message of one of the six priorities
 abbrev pub HasPriority : Msg → Type 0
 HasPriority m = m.prio.0 < 6
+
+-- a message of one of the priorities of actors, 1 to 5
+abbrev pub IsForActors : Msg → Type 0
+IsForActors m = (1 ≤ m.prio.0) × HasPriority m
 
 -- six lists, each with messages of its own priority alone
 pub record IsRanked (lists : List (List Msg)) : Type 0 where

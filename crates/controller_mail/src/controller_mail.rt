@@ -1,53 +1,30 @@
-//! A controller's mail.
-ghost use Rattle.std.specs.Prelude.{◌≡◌, ◌<◌, ◌≤◌, ◌==◌, ◌↔◌, [], not, length, IsTrue, IfOk, OnOk, OnErr, IfNone, IfSome, MatchOption, All, None};
+//! A controller's mail: its queues and its journal.
+ghost use Rattle.std.specs.Prelude.{◌≡◌, ◌++◌, ◌∷◌, ◌<◌, ◌≤◌, ◌==◌, ◌↔◌, [], not, length, IsTrue, IfOk, OnOk, OnErr, MatchOption, All, None};
 ghost use Rattle.std.specs.List.{list_any};
 ghost use Rattle.actor_merge.specs.Parties.{next_of};
 ghost use Rattle.controller_mail.specs.MailState.{pending_of, messages_in, has_messages, HasPriority};
 ghost use Rattle.controller_mail.specs.Steps.{Fetches, Posts, TakesNext, EndsTurn};
 ghost use Rattle.controller_mail.specs.Laws.{first_mail};
 
-use crate::clock::{later, stamped};
-use crate::pending::Pending;
-use crate::queue::Queue;
-use journal::{Did, Entry, Journal};
-use room_kinds::{ControllerId, Msg, Notes, Outbox, Sequence, Stamp};
+use crate::mail_queues::{MailQueues, Posted, TurnResult};
+use journal::{Entry, Journal};
+use room_kinds::{ControllerId, Msg, Outbox, Sequence, Stamp};
 use std::alloc::{AllocError, Global};
 use std::marker::Model;
 
-/// What a turn made of its message.
-#[derive(Drop)]
-pub struct TurnResult {
-    /// The messages for the outbox, in order.
-    pub sent: Outbox,
-    /// The deferred messages that come back, first the one that will be in front.
-    pub back: Sequence<Msg>,
-    pub did: Did,
-    pub notes: Notes,
-}
-
-/// A controller's clock, its number of turns, the messages that wait for their turn, those that wait to
-/// be posted, and its journal.
-///
-/// A turn is two calls: `take_next` gives the message, and `end_turn` says what was made of it.
+/// A controller's queues, and its journal: each call keeps the entry that the queues give.
 #[derive(Drop)]
 pub struct ControllerMail {
-    alloc: Global,
-    clock: u64,
-    turns: u64,
-    pending: Pending,
-    outbox: Queue,
+    queues: MailQueues,
     journal: Vec<Entry>,
 }
 
 impl Model for ControllerMail {
-    ghost use Rattle.std.specs.Prelude.{◌≤◌};
     ghost use Rattle.controller_mail.specs.MailState.{MailState};
 
     ghost Value = { MailState };
 
-    ghost view = { λ k. record { clock = k.clock; turns = k.turns; pending = k.pending; outbox = k.outbox; journal = k.journal.items } };
-
-    ghost invariant = { λ k. k.turns ≤ k.clock };
+    ghost view = { λ k. record { clock = k.queues.clock; turns = k.queues.turns; pending = k.queues.pending; outbox = k.queues.outbox; journal = k.journal.items } };
 }
 
 impl ControllerMail {
@@ -60,13 +37,9 @@ impl ControllerMail {
     ) -> Result<ControllerMail, AllocError>
         ensures { IfOk result (λ k. k ≡ first_mail sent entries) }
     {
-        let pending = Pending::new(alloc)?;
+        let queues = MailQueues::started(alloc, sent)?;
         Ok(ControllerMail {
-            alloc,
-            clock: 0,
-            turns: 0,
-            pending,
-            outbox: Queue::of(sent.into_vec()),
+            queues,
             journal: entries.into_vec(),
         })
     }
@@ -78,15 +51,9 @@ impl ControllerMail {
         ensures ok { OnOk result (Fetches self.old self.new m) }
         ensures err { OnErr result (self.new ≡ self.old) }
     {
-        let stamp = later(self.clock.max(m.stamp.0))?;
-        let msg = m.copy(self.alloc)?;
         self.journal.reserve(1)?;
-        self.pending.add(m)?;
-        self.journal.push_reserved(Entry::Fetch {
-            stamp: Stamp(stamp),
-            msg,
-        });
-        self.clock = stamp;
+        let entry = self.queues.fetch(m)?;
+        self.journal.push_reserved(entry);
         Ok(())
     }
 
@@ -95,7 +62,7 @@ impl ControllerMail {
     pub fn take_next(&mut self) -> Option<Msg>
         ensures { MatchOption result ((next_of (pending_of self.old.pending) ≡ None) × (self.new ≡ self.old)) (λ m. TakesNext self.old self.new m) }
     {
-        self.pending.take_next()
+        self.queues.take_next()
     }
 
     /// Ends the turn of the message that `from` stamped `sent`: what the turn sent is the outbox, and
@@ -110,19 +77,9 @@ impl ControllerMail {
         requires { All HasPriority done.back }
         ensures { OnOk result (EndsTurn self.old self.new from sent (record { sent = done.sent; back = done.back; did = done.did; notes = done.notes })) }
     {
-        let stamp = later(self.clock)?;
         self.journal.reserve(1)?;
-        self.pending.put_back(done.back.into_vec())?;
-        self.outbox = Queue::of(done.sent.into_vec());
-        self.journal.push_reserved(Entry::Turn {
-            stamp: Stamp(stamp),
-            from,
-            sent,
-            did: done.did,
-            notes: done.notes,
-        });
-        self.clock = stamp;
-        self.turns += 1;
+        let entry = self.queues.end_turn(from, sent, done)?;
+        self.journal.push_reserved(entry);
         Ok(())
     }
 
@@ -132,56 +89,48 @@ impl ControllerMail {
         ensures ok { IfOk result (λ o. MatchOption o ((self.old.outbox ≡ []) × (self.new ≡ self.old)) (λ m. Posts me.0 self.old self.new m)) }
         ensures err { OnErr result (self.new ≡ self.old) }
     {
-        let Some(front) = self.outbox.front() else {
-            return Ok(None);
-        };
-        let stamp = later(self.clock)?;
-        let msg = stamped(front.copy(self.alloc)?, me, stamp);
         self.journal.reserve(1)?;
-        let Some(posted) = self.outbox.pop_front() else {
+        let Some(posted) = self.queues.post(me)? else {
             return Ok(None);
         };
-        self.journal.push_reserved(Entry::Post {
-            stamp: Stamp(stamp),
-            msg,
-        });
-        self.clock = stamp;
-        Ok(Some(stamped(posted, me, stamp)))
+        let Posted { message, entry } = posted;
+        self.journal.push_reserved(entry);
+        Ok(Some(message))
     }
 
     /// The greatest stamp so far. It takes no memory.
     pub fn clock(&self) -> u64
         ensures { result ≡ self.now.clock }
     {
-        self.clock
+        self.queues.clock()
     }
 
     /// The number of turns taken. It takes no memory.
     pub fn turns(&self) -> u64
         ensures { result ≡ self.now.turns }
     {
-        self.turns
+        self.queues.turns()
     }
 
     /// Whether as many turns were taken as the fuel allows. It takes no memory.
     pub fn is_spent(&self, fuel: u64) -> bool
         ensures { IsTrue result ↔ (fuel ≤ self.now.turns) }
     {
-        fuel <= self.turns
+        self.queues.is_spent(fuel)
     }
 
     /// Whether a message waits for its turn. It takes no memory.
     pub fn has_pending(&self) -> bool
         ensures { result ≡ list_any has_messages self.now.pending }
     {
-        self.pending.has_messages()
+        self.queues.has_pending()
     }
 
     /// Whether a message waits to be posted. It takes no memory.
     pub fn has_outbox(&self) -> bool
         ensures { result ≡ not (length self.now.outbox == 0) }
     {
-        !self.outbox.is_empty()
+        self.queues.has_outbox()
     }
 
     /// The entries so far, oldest first. It takes no memory.
@@ -198,7 +147,7 @@ impl ControllerMail {
         ensures pending { IfOk result (λ parts. parts.1.items ≡ messages_in self.pending) }
         ensures six { IfOk result (λ parts. length self.pending ≡ 6) }
     {
-        let pending = self.pending.into_messages(self.alloc)?;
+        let pending = self.queues.into_pending()?;
         Ok((Sequence::from(self.journal), pending))
     }
 }

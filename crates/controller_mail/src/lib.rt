@@ -11,10 +11,12 @@ mod controller_mail;
 pub mod controller_moves;
 mod environment;
 mod laws;
+mod mail_queues;
 mod pending;
 mod queue;
 
-pub use controller_mail::{ControllerMail, TurnResult};
+pub use controller_mail::ControllerMail;
 pub use controller_moves::{fetch_all, poll_boxes, post_outbox};
 pub use environment::EnvironmentMail;
 pub use laws::{environment_leaves, mail_leaves};
+pub use mail_queues::{MailQueues, Posted, TurnResult};

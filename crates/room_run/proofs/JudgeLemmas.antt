@@ -15,13 +15,14 @@ use Rattle.room_parser.specs.Parsed.{HasNoModel, IsOnlyModel, IsParsed}
 use Rattle.room_parser.specs.declared.fault.ParseFault.{ParseFault}
 use Rattle.room_parser.specs.declared.fault.ParseFault.TheVariants as parsing
 use Rattle.named_runs.specs.Charts.{ShowCharts}
-use Rattle.room_run.proofs.model_plants.Tabled.{all_sound}
-use Rattle.service_messages.specs.slot_runs.Runs.{IsDepthFirst}
 use Rattle.wiring_laws.proofs.wiring_order.Ordered.{model_depth_first}
 use Rattle.wiring_laws.proofs.ports_numbered.Numbered.{checked_numbered}
-use Rattle.frame_imports.specs.Numbered.{ArePortsNumbered}
-use Rattle.controller_actors.specs.Plants.{IsPlant}
-use Rattle.controller_actors.specs.declared.plant.Plant.{Plant}
+use Rattle.chart_run.specs.declared.chart_tables.tables.Tables.{Tables as ChartTables}
+use Rattle.controller_actors.specs.PlantParts.{AreOfPlant}
+use Rattle.settled_models.proofs.Models.{models_ranked}
+use Rattle.settled_models.proofs.Wired.{wiring_consistent}
+use Rattle.room_run.proofs.model_plants.Tabled.{all_sound}
+use Rattle.room_run.proofs.settled.Compiled.{all_compiled}
 use Rattle.structure_check.specs.Rules.{first_broken, IsLowest}
 use Rattle.structure_check.specs.List.{all_rules}
 use Rattle.structure_check.specs.Checks.{TellsLowest}
@@ -147,10 +148,13 @@ tree_cause text tree short h no_memory_for_tree = no_memory
 pub text_sound : (text : List ℕ) (tree : ModelTree) (wiring : Tables) (charts : List (Option Chart)) → length text ≤ most_bytes → HasItsTree text tree → IsSoundTree tree wiring charts → IsSoundText text wiring charts
 text_sound text tree wiring charts short h sound = record { short = short; tree = tree; read = h.has; sound = sound }
 
--- controllers run on a plant of a sound text
-pub plant_runs : (text : List ℕ) (wiring : Tables) (charts : List (Option Chart)) (p : Plant) → IsSoundText text wiring charts → p.wiring ≡ wiring → ShowCharts p.tables.items charts → IsPlant p
-plant_runs text wiring charts p is wired shown = record {
-  sound = λ class v at. all_sound p.tables.items charts shown class v at;
-  order = subst IsDepthFirst (sym wired) (model_depth_first is.tree wiring is.sound.wired.wired.slots);
-  ports = subst ArePortsNumbered (sym wired) (checked_numbered is.tree wiring is.sound.keeps is.sound.wired.wired.classes);
+-- tables that show the charts of a sound text make a plant with its wiring
+pub plant_parts : (text : List ℕ) (wiring : Tables) (charts : List (Option Chart)) (tables : List (Option ChartTables)) → IsSoundText text wiring charts → ShowCharts tables charts → AreOfPlant wiring tables
+plant_parts text wiring charts tables is shown = record {
+  sound = λ class v at. all_sound tables charts shown class v at;
+  order = model_depth_first is.tree wiring is.sound.wired.wired.slots;
+  ports = checked_numbered is.tree wiring is.sound.keeps is.sound.wired.wired.classes;
+  owners = (wiring_consistent is.tree wiring is.sound.wired.wired is.sound.keeps is.sound.wired.flawless).owners_known;
+  ranked = λ class v at.
+      let one = all_compiled tables charts shown class v at in models_ranked is.tree charts is.sound.faultless class one.0 v one.1 one.2;
 }

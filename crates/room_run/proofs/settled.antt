@@ -1,4 +1,4 @@
-mod Compiled
+pub mod Compiled
 pub mod Fitting
 pub mod Runs
 pub mod Told

@@ -6,7 +6,6 @@ ghost use Rattle.structure_check.specs.Classes.{HasClasses};
 ghost use Rattle.structure_check.specs.List.{all_rules};
 ghost use Rattle.chart_reading.specs.chart_graphs.Views.{chart_view};
 ghost use Rattle.chart_reader.specs.model_charts.Charts.{AreValid, HasCharts};
-ghost use Rattle.controller_actors.specs.Plants.{IsPlant};
 ghost use Rattle.fitting_plants.specs.Plants.{PlantFits};
 ghost use Rattle.room_run.specs.Models.{IsGoodWiring, IsModel, IsSound, IsSoundText, IsSoundTree, SoundCauses};
 ghost use Rattle.room_run.specs.Reading.{ChartCauses, HasItsTokens, HasItsTree, IsCheckedFor, TreeCauses, fault_of};
@@ -171,7 +170,6 @@ pub fn read_wiring(alloc: Global, text: &[u8]) -> Result<Wiring, ModelFault>
 pub fn read_plant(alloc: Global, text: &[u8]) -> Result<Plant, ModelFault>
     requires { length text.now ≤ 1048576 }
     ensures ok { IfOk result (λ plant. IsModel text.now plant) }
-    ensures plant { IfOk result (λ plant. IsPlant plant) }
     ensures fits { IfOk result (λ plant. PlantFits plant) }
     ensures err { IfErr result (λ why. SoundCauses text.now why) }
 {

@@ -1,6 +1,5 @@
 //! The run of the made model, whose texts nobody has to write into files.
 ghost use Rattle.std.specs.Prelude.{IfOk, IfErr};
-ghost use Rattle.controller_actors.specs.Plants.{IsPlant};
 ghost use Rattle.room_run.specs.MadeShelf.{made_files, made_shelf};
 ghost use Rattle.room_run.specs.Models.{IsModel};
 ghost use Rattle.room_run.specs.Causes.{InjectedCauses, IsInjections, PlantCauses, RunCauses};
@@ -26,7 +25,6 @@ const MOST_BYTES: usize = 1_048_576;
 /// The plant of a text that stands in memory.
 fn made_plant(alloc: Global, text: &[u8]) -> Result<Plant, Refusal>
     ensures ok { IfOk result (λ plant. IsModel text.now plant) }
-    ensures plant { IfOk result (λ plant. IsPlant plant) }
     ensures err { IfErr result (λ why. PlantCauses text.now why) }
 {
     if text.len() > MOST_BYTES {

@@ -2,7 +2,6 @@
 ghost use Rattle.std.specs.Prelude.{◌≡◌, ◌≤◌, ℕ, List, map, length, IfOk, IfErr, IfSome};
 ghost use Rattle.std.specs.String.{string_bytes};
 ghost use Rattle.room_outside.specs.Shown.{Keeps};
-ghost use Rattle.controller_actors.specs.Plants.{IsPlant};
 ghost use Rattle.controller_actors.specs.declared.plant.Plant.{Plant as RunPlant};
 ghost use Rattle.inject_reader.specs.declared.inject_lines.accepted.Line.{Line as InjectedLine};
 ghost use Rattle.room_run.specs.Words.{files_view};
@@ -81,7 +80,6 @@ fn read_wiring<S: Shelf>(alloc: Global, shelf: &mut S, name: &str) -> Result<Wir
 /// The plant of the model whose text stands under a name.
 fn read_model<S: Shelf>(alloc: Global, shelf: &mut S, name: &str) -> Result<Plant, Refusal>
     ensures ok { IfOk result (λ plant. TextIs (S.shown shelf.old) name.now (λ text. IsModel text plant)) }
-    ensures plant { IfOk result (λ plant. IsPlant plant) }
     ensures err { IfErr result (λ why. ModelCauses (S.shown shelf.old) (S.shown shelf.new) name.now why) }
     ensures keeps { Keeps (S.shown shelf.old) (S.shown shelf.new) }
 {
@@ -146,7 +144,6 @@ fn run<G: Gate + Sync, R: Threads + Sync>(
     fuel: u64,
     gate: &G,
 ) -> Result<Finished, AllocError>
-    requires { IsPlant plant }
     ensures { IfOk result (λ f. Finishes plant lines.now fuel f) }
 {
     let journals = run_model::<MailLanes, G, R>(rt, alloc, &plant, lines, fuel, gate)?;

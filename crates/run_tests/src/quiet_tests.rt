@@ -1,6 +1,5 @@
 //! Whether messages are on their way.
 ghost use Rattle.std.specs.Prelude.{◌≡◌, IfOk, length, vec_len};
-ghost use Rattle.controller_actors.specs.Plants.{IsPlant};
 
 use crate::messages::message;
 use controller::{Controller, Environment, Plant, has_message, is_quiet};
@@ -12,7 +11,6 @@ use std::test::Fail;
 
 /// A plant of two controllers without actors.
 fn pair(alloc: Global) -> Result<Plant, AllocError>
-    ensures plant { IfOk result (λ p. IsPlant p) }
     ensures two { IfOk result (λ p. length p.wiring.controllers ≡ 2) }
 {
     let mut controllers = Sequence::new(alloc);
@@ -35,7 +33,6 @@ fn pair(alloc: Global) -> Result<Plant, AllocError>
 
 /// Its controllers, just started.
 fn started(alloc: Global, plant: &Plant) -> Result<Vec<Controller>, AllocError>
-    requires plant { IsPlant plant.now }
     requires two { length plant.now.wiring.controllers ≡ 2 }
     ensures { IfOk result (λ ks. vec_len ks ≡ 2) }
 {

@@ -11,8 +11,9 @@ use Rattle.chart_model.specs.Chart.{Name, Chart}
 use Rattle.chart_reader.specs.model_charts.Charts.{chart_in}
 use Rattle.chart_reader.specs.model_charts.Written.{written, names_after, written_from}
 use Rattle.chart_behaviour.specs.Asked.{is_open}
-use Rattle.settled_models.specs.Open.{ChartsAreOpen, ChartsSendWorded, is_worded}
-use Rattle.settled_models.proofs.Weaker.{tables_weaker, worded_open}
+use Rattle.bounded_sends.specs.Sends.{is_ranked}
+use Rattle.settled_models.specs.Open.{ChartsAreOpen, ChartsAreRanked, ChartsSendWorded, is_worded}
+use Rattle.settled_models.proofs.Weaker.{tables_weaker, worded_open, worded_ranked}
 use Rattle.settled_models.proofs.Charts.{ChartWorded, chart_worded}
 use Rattle.chart_model.specs.Named.{is_initial}
 use Rattle.chart_run.specs.declared.chart_tables.tables.Tables.{Tables}
@@ -54,3 +55,7 @@ models_worded m charts has c chart v at compiles =
 -- and so at no priority of the system
 pub models_open : ChartsAreOpen
 models_open m charts has c chart v at compiles = tables_weaker is_worded is_open worded_open v (models_worded m charts has c chart v at compiles)
+
+-- but at one of the six priorities
+pub models_ranked : ChartsAreRanked
+models_ranked m charts has c chart v at compiles = tables_weaker is_worded is_ranked worded_ranked v (models_worded m charts has c chart v at compiles)

@@ -13,6 +13,7 @@ use Rattle.chart_run.specs.chart_tables.Tables.{ArrowTree, plan}
 use Rattle.chart_run.specs.declared.chart_tables.tables.Tables.{Tables}
 use Rattle.chart_behaviour.specs.Asked.{is_open}
 use Rattle.chart_behaviour.specs.chart_asks.Asking.{StatementAsks, ProgramAsks, BranchesAsk, ArrowAsks, GoesOn, TablesAsk}
+use Rattle.bounded_sends.specs.Sends.{is_ranked}
 use Rattle.settled_models.specs.Open.{is_worded}
 
 module _ (test weaker : Command → Bool) (implies : (c : Command) → test c ≡ true → weaker c ≡ true) where
@@ -72,3 +73,12 @@ worded_open commands.Recall h = refl
 worded_open commands.RecallAll h = refl
 worded_open (commands.Frame c) h = refl
 worded_open (commands.Name c) h = refl
+
+-- but at one of the six priorities
+pub worded_ranked : (c : Command) → is_worded c ≡ true → is_ranked c ≡ true
+worded_ranked (commands.Send p k signal payload prio) h = (and_parts (nat_le 1 prio.0) (nat_le prio.0 5) h).1
+worded_ranked commands.Defer h = refl
+worded_ranked commands.Recall h = refl
+worded_ranked commands.RecallAll h = refl
+worded_ranked (commands.Frame c) h = refl
+worded_ranked (commands.Name c) h = refl

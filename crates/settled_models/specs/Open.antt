@@ -10,6 +10,7 @@ use Rattle.chart_behaviour.specs.Asked.{is_open}
 use Rattle.chart_behaviour.specs.chart_asks.Asking.{TablesAsk}
 use Rattle.chart_reader.specs.model_charts.Charts.{HasCharts}
 use Rattle.chart_compile.specs.chart_parts.Compiled.{Compiles}
+use Rattle.bounded_sends.specs.Sends.{is_ranked}
 
 -- whether a command sends at a priority that has a word, 1 to 5, if it sends
 abbrev pub is_worded : Command → Bool
@@ -31,3 +32,9 @@ abbrev pub ChartsAreOpen : Type 0
 ChartsAreOpen =
     (m : ModelTree) (charts : List (Option Chart)) → HasCharts m charts
     → (c : ℕ) (chart : Chart) (v : Tables) → slice_get charts c ≡ Some (Some chart) → Compiles v chart → TablesAsk is_open v
+
+-- and of the six priorities that there are
+abbrev pub ChartsAreRanked : Type 0
+ChartsAreRanked =
+    (m : ModelTree) (charts : List (Option Chart)) → HasCharts m charts
+    → (c : ℕ) (chart : Chart) (v : Tables) → slice_get charts c ≡ Some (Some chart) → Compiles v chart → TablesAsk is_ranked v

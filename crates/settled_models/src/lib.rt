@@ -10,7 +10,7 @@ pub mod wirings;
 ghost use Rattle.settled_models.specs.Agreed.{ModelsRegisterPoints, ModelRunsAreAgreed};
 ghost use Rattle.settled_models.specs.Agreeing.{ModelRunsAgree};
 ghost use Rattle.settled_models.specs.Living.{OthersLive};
-ghost use Rattle.settled_models.specs.Open.{ChartsAreOpen, ChartsSendWorded};
+ghost use Rattle.settled_models.specs.Open.{ChartsAreOpen, ChartsAreRanked, ChartsSendWorded};
 
 /// In the wiring of a model that keeps all rules the container of an optional slot, where another controller
 /// owns it, lives from the start.
@@ -27,6 +27,11 @@ pub fn charts_send_worded()
 /// So none of them sends at priority 0, which is the system's.
 pub fn charts_are_open()
     ensures { ChartsAreOpen }
+{}
+
+/// But each sends at one of the six priorities.
+pub fn charts_are_ranked()
+    ensures { ChartsAreRanked }
 {}
 
 /// In the world that the journals of a done run of a model lead to, all controllers agree on which actors

@@ -1,4 +1,4 @@
--- A plant without slots, for the tests.
+-- A wiring without slots, for the tests.
 use Rattle.std.proofs.Common.{◌≡◌, ◌≤◌, ℕ, List, [], length, Option, Some, option_and_then, sym, ap, subst, arith}
 use Rattle.std.specs.Option.{option_map_or}
 use Rattle.std.proofs.lemmas.Option.{slice_get_within, slice_get_past}
@@ -9,8 +9,7 @@ use Rattle.room_wiring.specs.declared.names.ClassNames.{ClassNames}
 use Rattle.room_wiring.specs.Slots.{class_at, class_of}
 use Rattle.room_wiring.specs.Places.{port_count}
 use Rattle.service_messages.proofs.slot_runs.RunLemmas.{contained_there}
-use Rattle.controller_actors.specs.Plants.{IsPlant}
-use Rattle.controller_actors.specs.declared.plant.Plant.{Plant}
+use Rattle.controller_actors.specs.PlantParts.{AreOfPlant}
 
 -- tables without slots have no ports
 bare_ports : (t : Tables) → length t.slots ≡ 0 → (s : ℕ) → port_count t s ≤ 65536
@@ -19,15 +18,17 @@ bare_ports t none s =
     subst (λ (o : Option Slot). option_map_or (λ (c : ClassNames). length c.ports) (option_and_then (λ (x : Slot). class_at t x.class) o) 0 ≤ 65536)
     (sym (slice_get_past t.slots s (omega (arith, none)))) (omega arith)
 
-pub bare_plant : (p : Plant) → p.wiring.slots ≡ [] → p.tables.items ≡ [] → IsPlant p
-bare_plant p slots tables =
-    let no_slots : length p.wiring.slots ≡ 0 = ap (λ (z : List Slot). length z) slots in
-    let no_tables : length p.tables.items ≡ 0 = ap (λ (z : List (Option ChartTables)). length z) tables in
+pub bare_plant : (wiring : Tables) (tables : List (Option ChartTables)) → wiring.slots ≡ [] → tables ≡ [] → AreOfPlant wiring tables
+bare_plant wiring tables no_slot no_table =
+    let no_slots : length wiring.slots ≡ 0 = ap (λ (z : List Slot). length z) no_slot in
+    let no_tables : length tables ≡ 0 = ap (λ (z : List (Option ChartTables)). length z) no_table in
     record {
-      sound = λ class v at. let within = slice_get_within p.tables.items class (Some v) at in absurd (omega arith);
+      sound = λ class v at. let within = slice_get_within tables class (Some v) at in absurd (omega arith);
       order = record {
-        behind = λ s c h. let within = contained_there p.wiring s c h in absurd (omega arith);
-        between = λ s c u h after before. let within = contained_there p.wiring s c h in absurd (omega arith);
+        behind = λ s c h. let within = contained_there wiring s c h in absurd (omega arith);
+        between = λ s c u h after before. let within = contained_there wiring s c h in absurd (omega arith);
       };
-      ports = bare_ports p.wiring no_slots;
+      ports = bare_ports wiring no_slots;
+      owners = λ s x at. let within = slice_get_within wiring.slots s x at in absurd (omega arith);
+      ranked = λ class v at. let within = slice_get_within tables class (Some v) at in absurd (omega arith);
     }

@@ -1,7 +1,6 @@
 -- Counts of entries.
 use Rattle.std.specs.Prelude.{ℕ, ◌+◌, ◌==◌, ◌||◌, not, Bool, false, List, length}
 use Rattle.std.specs.List.{sum_by, count_by, list_any}
-use Rattle.room_kinds.specs.declared.numbers.ControllerId.{ControllerId}
 use Rattle.journal.specs.declared.entry.Entry.{Entry}
 use Rattle.journal.specs.declared.entry.Entry.TheVariants as entry
 use Rattle.controller_mail.specs.MailState.{EnvironmentState, has_messages}

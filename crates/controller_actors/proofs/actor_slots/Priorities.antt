@@ -13,7 +13,7 @@ use Rattle.actor_duties.specs.Commands.{Kept, defer, recall, recall_all}
 use Rattle.actor_world.specs.Body.{Body, Doing, apply, apply_all}
 use Rattle.actor_world.proofs.Notes.{apply_all_keeps}
 use Rattle.chart_behaviour.specs.ModelCharts.{Actor}
-use Rattle.controller_mail.specs.MailState.{HasPriority}
+use Rattle.controller_mail.specs.MailState.{IsForActors}
 use Rattle.frame_lives.proofs.Rows.{updated_here}
 use Rattle.actor_commands.specs.declared.doing.Doing.{Doing as CodeDoing}
 use Rattle.actor_commands.specs.Doings.{doing_on, AppliesAll}
@@ -21,27 +21,27 @@ use Rattle.actor_commands.specs.Doings.{doing_on, AppliesAll}
 -- the message in hand, if there is one
 abbrev pub InHand : Option Msg → Type 0
 InHand None = Unit {0}
-InHand (Some m) = HasPriority m
+InHand (Some m) = IsForActors m
 
 record Ranks (k : Kept) : Type 0 where
-  deferred : All HasPriority k.deferred
-  back : All HasPriority k.back
+  deferred : All IsForActors k.deferred
+  back : All IsForActors k.back
 
-none : All HasPriority []
-none = All-nil HasPriority
+none : All IsForActors []
+none = All-nil IsForActors
 
-deferred_ranks : (kept : Bool) (m : Option Msg) (ds : List Msg) → InHand m → All HasPriority ds → Ranks (defer kept m ds)
+deferred_ranks : (kept : Bool) (m : Option Msg) (ds : List Msg) → InHand m → All IsForActors ds → Ranks (defer kept m ds)
 unfolding defer
 deferred_ranks true m ds h all = record { deferred = all; back = none }
-deferred_ranks false (Some m) ds h all = record { deferred = All-push HasPriority ds m all h; back = none }
+deferred_ranks false (Some m) ds h all = record { deferred = All-push IsForActors ds m all h; back = none }
 deferred_ranks false None ds h all = record { deferred = all; back = none }
 
-recalled_ranks : (ds : List Msg) → All HasPriority ds → Ranks (recall ds)
+recalled_ranks : (ds : List Msg) → All IsForActors ds → Ranks (recall ds)
 unfolding recall
 recalled_ranks [] all = record { deferred = none; back = none }
-recalled_ranks (m ∷ ms) all = record { deferred = All-tail HasPriority m ms all; back = All-cons HasPriority m [] (All-head HasPriority m ms all) none }
+recalled_ranks (m ∷ ms) all = record { deferred = All-tail IsForActors m ms all; back = All-cons IsForActors m [] (All-head IsForActors m ms all) none }
 
-all_ranks : (ds : List Msg) → All HasPriority ds → Ranks (recall_all ds)
+all_ranks : (ds : List Msg) → All IsForActors ds → Ranks (recall_all ds)
 unfolding recall_all
 all_ranks ds all = record { deferred = none; back = all }
 
@@ -50,10 +50,10 @@ abbrev some_body : Frame → Links → Body Actor
 some_body f l = record { frame = f; links = l; table = []; machines = λ s. None; deferred = λ s. [] }
 
 module _ (t : Tables) (me : ℕ) (x : Incarnation) (m : Option Msg) (hand : InHand m) where
-  written : (f : ℕ → List Msg) (ds : List Msg) → All HasPriority ds → All HasPriority (updated f x.slot.0 ds x.slot.0)
-  written f ds h = subst (λ ms. All HasPriority ms) (sym (updated_here f x.slot.0 x.slot.0 ds refl)) h
+  written : (f : ℕ → List Msg) (ds : List Msg) → All IsForActors ds → All IsForActors (updated f x.slot.0 ds x.slot.0)
+  written f ds h = subst (λ ms. All IsForActors ms) (sym (updated_here f x.slot.0 x.slot.0 ds refl)) h
 
-  deferred_keep : (c : Command) (d : Doing Actor) → All HasPriority (d.body.deferred x.slot.0) → All HasPriority ((apply t me x m d c).body.deferred x.slot.0)
+  deferred_keep : (c : Command) (d : Doing Actor) → All IsForActors (d.body.deferred x.slot.0) → All IsForActors ((apply t me x m d c).body.deferred x.slot.0)
   deferred_keep (commands.Send p k signal payload prio) d h = h
   deferred_keep commands.Defer d h = written d.body.deferred _ (deferred_ranks d.kept m (d.body.deferred x.slot.0) hand h).deferred
   deferred_keep commands.Recall d h = written d.body.deferred _ (recalled_ranks (d.body.deferred x.slot.0) h).deferred
@@ -61,19 +61,19 @@ module _ (t : Tables) (me : ℕ) (x : Incarnation) (m : Option Msg) (hand : InHa
   deferred_keep (commands.Frame c) d h = h
   deferred_keep (commands.Name c) d h = h
 
-  back_keep : (c : Command) (d : Doing Actor) → All HasPriority (d.body.deferred x.slot.0) → All HasPriority d.back → All HasPriority (apply t me x m d c).back
+  back_keep : (c : Command) (d : Doing Actor) → All IsForActors (d.body.deferred x.slot.0) → All IsForActors d.back → All IsForActors (apply t me x m d c).back
   back_keep (commands.Send p k signal payload prio) d h b = b
-  back_keep commands.Defer d h b = All-append HasPriority _ d.back (deferred_ranks d.kept m (d.body.deferred x.slot.0) hand h).back b
-  back_keep commands.Recall d h b = All-append HasPriority _ d.back (recalled_ranks (d.body.deferred x.slot.0) h).back b
-  back_keep commands.RecallAll d h b = All-append HasPriority _ d.back (all_ranks (d.body.deferred x.slot.0) h).back b
+  back_keep commands.Defer d h b = All-append IsForActors _ d.back (deferred_ranks d.kept m (d.body.deferred x.slot.0) hand h).back b
+  back_keep commands.Recall d h b = All-append IsForActors _ d.back (recalled_ranks (d.body.deferred x.slot.0) h).back b
+  back_keep commands.RecallAll d h b = All-append IsForActors _ d.back (all_ranks (d.body.deferred x.slot.0) h).back b
   back_keep (commands.Frame c) d h b = b
   back_keep (commands.Name c) d h b = b
 
-  all_deferred_keep : (cs : List Command) (d : Doing Actor) → All HasPriority (d.body.deferred x.slot.0) → All HasPriority ((apply_all t me x m cs d).body.deferred x.slot.0)
+  all_deferred_keep : (cs : List Command) (d : Doing Actor) → All IsForActors (d.body.deferred x.slot.0) → All IsForActors ((apply_all t me x m cs d).body.deferred x.slot.0)
   all_deferred_keep [] d h = h
   all_deferred_keep (c ∷ cs) d h = all_deferred_keep cs (apply t me x m d c) (deferred_keep c d h)
 
-  all_back_keep : (cs : List Command) (d : Doing Actor) → All HasPriority (d.body.deferred x.slot.0) → All HasPriority d.back → All HasPriority (apply_all t me x m cs d).back
+  all_back_keep : (cs : List Command) (d : Doing Actor) → All IsForActors (d.body.deferred x.slot.0) → All IsForActors d.back → All IsForActors (apply_all t me x m cs d).back
   all_back_keep [] d h b = b
   all_back_keep (c ∷ cs) d h b = all_back_keep cs (apply t me x m d c) (deferred_keep c d h) (back_keep c d h b)
 
@@ -83,14 +83,14 @@ module _ (t : Tables) (me : ℕ) (x : Incarnation) (m : Option Msg) (hand : InHa
     lives_stay = ap (λ (d : Doing Actor). d.body.frame.lives) (sym (applied.on (some_body f l))) ∙ (apply_all_keeps t me x m cs (doing_on f l (some_body f l) x.slot.0 old)).lives
 
     -- what is kept after commands
-    pub kept_ranks : All HasPriority old.deferred → All HasPriority new.deferred
+    pub kept_ranks : All IsForActors old.deferred → All IsForActors new.deferred
     kept_ranks h =
-        subst (λ ms. All HasPriority ms)
+        subst (λ ms. All IsForActors ms)
         (ap (λ (d : Doing Actor). d.body.deferred x.slot.0) (applied.on (some_body f l)) ∙ updated_here (λ s. []) x.slot.0 x.slot.0 new.deferred refl)
         (all_deferred_keep cs (doing_on f l (some_body f l) x.slot.0 old) (written (λ s. []) old.deferred h))
 
     -- what comes back
-    pub back_ranks : All HasPriority old.deferred → All HasPriority old.back → All HasPriority new.back
+    pub back_ranks : All IsForActors old.deferred → All IsForActors old.back → All IsForActors new.back
     back_ranks h b =
-        subst (λ ms. All HasPriority ms) (ap (λ (d : Doing Actor). d.back) (applied.on (some_body f l)))
+        subst (λ ms. All IsForActors ms) (ap (λ (d : Doing Actor). d.back) (applied.on (some_body f l)))
         (all_back_keep cs (doing_on f l (some_body f l) x.slot.0 old) (written (λ s. []) old.deferred h) b)

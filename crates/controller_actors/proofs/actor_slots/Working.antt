@@ -17,8 +17,8 @@ use Rattle.chart_run.specs.declared.chart_tables.tables.Tables.{Tables}
 use Rattle.chart_run.specs.Machines.{result_view}
 use Rattle.chart_behaviour.specs.ModelCharts.{Actor, begins, handles, handling_of, state_number}
 use Rattle.actor_commands.specs.declared.command_sends.output.Output.{Output}
-use Rattle.controller_mail.specs.MailState.{HasPriority}
-use Rattle.controller_mail.specs.declared.controller_mail.TurnResult.{TurnResult}
+use Rattle.controller_mail.specs.MailState.{IsForActors}
+use Rattle.controller_mail.specs.declared.mail_queues.TurnResult.{TurnResult}
 use Rattle.actor_commands.specs.declared.doing.Doing.{Doing}
 use Rattle.actor_commands.specs.Doings.{doing_on}
 use Rattle.actor_commands.proofs.Steps.{updated_twice}
@@ -80,11 +80,11 @@ module _ (t : Wiring) (me : ℕ) (f : Frame) (l : Links) (f' : Frame) (l' : Link
         ∙ ap (λ (d : Did). record { body = slot_body f' l' b x.slot.0 new; sent = done.sent; back = done.back; did = d; notes = done.notes })
         (ap (handled_as result x) (sym h.state) ∙ sym did)
 
-    pub turns : SlotFits x o old → HasPriority m → SlotTurns t me f l f' l' x m o old new done
+    pub turns : SlotFits x o old → IsForActors m → SlotTurns t me f l f' l' x m o old new done
     turns fits prio =
         let first : Doing = record { deferred = mid.deferred; output = record { messages = []; notes = r.notes }; back = []; kept = false } in
         let last : Doing = record { deferred = new.deferred; output = record { messages = done.sent; notes = done.notes }; back = done.back; kept = w.kept } in
-        let kept : All HasPriority mid.deferred = subst (λ (ms : List Msg). All HasPriority ms) (sym same) fits.kept in
+        let kept : All IsForActors mid.deferred = subst (λ (ms : List Msg). All IsForActors ms) (sym same) fits.kept in
         record {
           stood = h.stood;
           turn = turn_on fits.of;
@@ -94,7 +94,7 @@ module _ (t : Wiring) (me : ℕ) (f : Frame) (l : Links) (f' : Frame) (l' : Link
             tables = subst (λ (s : Occupant). HasTables o s) (sym w.occupant) h.fits;
             kept = kept_ranks t me x (Some m) prio f l f' l' r.commands first last w.applied kept;
           };
-          back = back_ranks t me x (Some m) prio f l f' l' r.commands first last w.applied kept (All-nil HasPriority);
+          back = back_ranks t me x (Some m) prio f l f' l' r.commands first last w.applied kept (All-nil IsForActors);
         }
 
   -- a start
@@ -108,7 +108,7 @@ module _ (t : Wiring) (me : ℕ) (f : Frame) (l : Links) (f' : Frame) (l' : Link
         ∙ applied_on b None r.commands old mid new (actor_of r.occupant) (record { messages = sent; notes = r.notes }) before e.output e.back
         (ap actor_in occupant ∙ h.stands) same w
 
-    pub starts : All HasPriority old.deferred → SlotBegins t me f l f' l' x o old new sent before e
+    pub starts : All IsForActors old.deferred → SlotBegins t me f l f' l' x o old new sent before e
     starts kept =
         let first : Doing = record { deferred = mid.deferred; output = record { messages = sent; notes = r.notes }; back = before; kept = false } in
         let last : Doing = record { deferred = new.deferred; output = e.output; back = e.back; kept = w.kept } in
@@ -121,7 +121,7 @@ module _ (t : Wiring) (me : ℕ) (f : Frame) (l : Links) (f' : Frame) (l' : Link
           fits = record {
             of = subst (λ (s : Occupant). IsOf x s) (sym now) h.me;
             tables = subst (λ (s : Occupant). HasTables o s) (sym now) h.fits;
-            kept = kept_ranks t me x None tt f l f' l' r.commands first last w.applied (subst (λ (ms : List Msg). All HasPriority ms) (sym same) kept);
+            kept = kept_ranks t me x None tt f l f' l' r.commands first last w.applied (subst (λ (ms : List Msg). All IsForActors ms) (sym same) kept);
           };
         }
 
@@ -165,7 +165,7 @@ module _ (t : Wiring) (me : ℕ) (f : Frame) (l : Links) (f' : Frame) (l' : Link
         let from : Doing = record { deferred = mid.deferred; output = record { messages = first.messages; notes = told }; back = before; kept = false } in
         let to : Doing = record { deferred = new.deferred; output = last; back = after; kept = w.kept } in
         let now : new.occupant ≡ r.occupant = w.occupant ∙ occupant in
-        let kept : All HasPriority mid.deferred = subst (λ (ms : List Msg). All HasPriority ms) (sym none) (All-nil HasPriority) in
+        let kept : All IsForActors mid.deferred = subst (λ (ms : List Msg). All IsForActors ms) (sym none) (All-nil IsForActors) in
         record {
           kept = w.kept;
           doing = up_on;

@@ -15,8 +15,8 @@ use Rattle.actor_world.specs.Turns.{moved, handled_as, treated}
 use Rattle.chart_run.specs.declared.chart_tables.tables.Tables.{Tables}
 use Rattle.chart_behaviour.specs.ModelCharts.{Actor, begins, handles, state_number}
 use Rattle.actor_commands.specs.declared.command_sends.output.Output.{Output}
-use Rattle.controller_mail.specs.MailState.{HasPriority}
-use Rattle.controller_mail.specs.declared.controller_mail.TurnResult.{TurnResult}
+use Rattle.controller_mail.specs.MailState.{IsForActors}
+use Rattle.controller_mail.specs.declared.mail_queues.TurnResult.{TurnResult}
 use Rattle.actor_commands.specs.Doings.{AppliesAll}
 use Rattle.controller_actors.specs.declared.actor_slots.actor_slot.ActorSlot.{ActorSlot}
 use Rattle.controller_actors.specs.declared.actor_slots.actor_slot.Entrance.{Entrance}
@@ -27,7 +27,7 @@ use Rattle.controller_actors.specs.actor_slots.Occupants.{HasTables, IsOf, actor
 pub record SlotFits (x : Incarnation) (o : Option Tables) (s : ActorSlot) : Type 0 where
   pub of : IsOf x s.occupant
   pub tables : HasTables o s.occupant
-  pub kept : All HasPriority s.deferred
+  pub kept : All IsForActors s.deferred
 
 -- a body with this state of the frame service, these links, and this in a slot
 abbrev pub slot_body : Frame → Links → Body Actor → ℕ → ActorSlot → Body Actor
@@ -56,7 +56,7 @@ pub record SlotTurns (t : Wiring) (me : ℕ) (f : Frame) (l : Links) (f' : Frame
   pub turn : (b : Body Actor) → turned t me (slot_body f l b x.slot.0 old) x m (handles x m o (actor_of old.occupant)) ≡ treated_on done (slot_body f' l' b x.slot.0 new)
   pub lives : f'.lives ≡ f.lives
   pub fits : SlotFits x o new
-  pub back : All HasPriority done.back
+  pub back : All IsForActors done.back
 
 -- an actor begins
 abbrev pub entered : Wiring → ℕ → Incarnation → Begun Actor → WorldDoing Actor → WorldDoing Actor
@@ -97,4 +97,4 @@ pub record SlotComesUp (t : Wiring) (me : ℕ) (f : Frame) (l : Links) (f' : Fra
       ≡ record { body = slot_body f' l' b x.slot.0 new; sent = last.messages; back = after; notes = last.notes; kept = kept }
   pub lives : f'.lives ≡ f.lives
   pub fits : SlotFits x o new
-  pub back : All HasPriority before → All HasPriority after
+  pub back : All IsForActors before → All IsForActors after

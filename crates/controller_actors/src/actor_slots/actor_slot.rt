@@ -2,7 +2,7 @@
 ghost use Rattle.std.specs.Prelude.{◌≡◌, ◌<◌, [], ◌∷◌, ◌++◌, length, All, IfOk, OnOk, MatchOption};
 ghost use Rattle.std.specs.Option.{option_copied};
 ghost use Rattle.room_kinds.specs.declared.note.Note.TheVariants.{Up};
-ghost use Rattle.controller_mail.specs.MailState.{HasPriority};
+ghost use Rattle.controller_mail.specs.MailState.{IsForActors};
 ghost use Rattle.chart_run.specs.Machines.{result_view};
 ghost use Rattle.chart_behaviour.specs.ModelCharts.{handling_of};
 ghost use Rattle.actor_world.specs.Turns.{handled_as};
@@ -112,7 +112,7 @@ impl ActorSlot {
     ) -> Result<Option<TurnResult>, AllocError>
         requires sound { AreSound (option_copied tables) }
         requires fits { SlotFits speaker.now.who (option_copied tables) self.old }
-        requires prio { HasPriority m.now }
+        requires prio { IsForActors m.now }
         requires serves { S.serves speaker.now.wiring.now speaker.now.me.0 services.old }
         requires there { speaker.now.who.slot.0 < length speaker.now.wiring.now.slots }
         ensures serves { OnOk result (S.serves speaker.now.wiring.now speaker.now.me.0 services.new) }
@@ -161,7 +161,7 @@ impl ActorSlot {
         back: Recalled,
     ) -> Result<Entrance, AllocError>
         requires sound { AreSound (option_copied tables) }
-        requires kept { All HasPriority self.old.deferred }
+        requires kept { All IsForActors self.old.deferred }
         requires serves { S.serves speaker.now.wiring.now speaker.now.me.0 services.old }
         requires there { speaker.now.who.slot.0 < length speaker.now.wiring.now.slots }
         ensures serves { OnOk result (S.serves speaker.now.wiring.now speaker.now.me.0 services.new) }

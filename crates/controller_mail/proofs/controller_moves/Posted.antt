@@ -9,7 +9,9 @@ use Rattle.actor_merge.proofs.Steps.{same_entry}
 use Rattle.mail_core.specs.EndLog.{EndLog, posting, posting_all}
 use Rattle.controller_mail.specs.MailState.{MailState, mail_alone}
 use Rattle.controller_mail.specs.Steps.{Posts}
+use Rattle.controller_mail.specs.Within.{IsWithin, AreWithin}
 use Rattle.controller_mail.specs.controller_moves.Moves.{PostsEach, PostsFrom}
+use Rattle.controller_mail.proofs.Waiting.{posts_within, posts_on}
 
 -- what a post did: the message goes from its controller, and the outbox is shorter by it
 pub record Went (c : ℕ) (old new : List Msg) (m : Msg) : Type 0 where
@@ -42,15 +44,21 @@ posting_all-push log [] m = refl
 posting_all-push log (x ∷ ms) m = posting_all-push (posting log x) ms m
 
 -- nothing was posted
-pub PostsFrom-none : {c : ℕ} {k : MailState} {log : EndLog} → PostsFrom c k k log log
-PostsFrom-none = record { messages = []; posts = refl; logged = refl }
+pub PostsFrom-none : {c n : ℕ} {k : MailState} {log : EndLog} → PostsFrom c n k k log log
+PostsFrom-none = record { messages = []; posts = refl; logged = refl; within = tt }
+
+within-push : (n : ℕ) (ms : List Msg) (m : Msg) → AreWithin n ms → IsWithin n m → AreWithin n (ms ++ m ∷ [])
+within-push n [] m h k = (k, tt)
+within-push n (x ∷ ms) m h k = (h.0, within-push n ms m h.1 k)
 
 -- one message more
-pub PostsFrom-more : {c : ℕ} {old mid new : MailState} {log log' log'' : EndLog} (m : Msg) → PostsFrom c old mid log log' → Posts c mid new m → log'' ≡ posting log' m → PostsFrom c old new log log''
-PostsFrom-more {c} {old} {mid} {new} {log} m f p e = record {
+pub PostsFrom-more : {c n : ℕ} {old mid new : MailState} {log log' log'' : EndLog} (m : Msg) → PostsFrom c n old mid log log' → Posts c mid new m → log'' ≡ posting log' m → IsWithin n m
+    → PostsFrom c n old new log log''
+PostsFrom-more {c} {n} {old} {mid} {new} {log} m f p e within = record {
   messages = f.messages ++ m ∷ [];
   posts = PostsEach-push c old mid new f.messages m f.posts p;
   logged = e ∙ ap (λ l. posting l m) f.logged ∙ sym (posting_all-push log f.messages m);
+  within = within-push n f.messages m f.within within;
 }
 
-pub ruleset posted_steps = (Posts-went, PostsFrom-none, PostsFrom-more)
+pub ruleset posted_steps = (Posts-went, PostsFrom-none, PostsFrom-more, posts_within, posts_on)

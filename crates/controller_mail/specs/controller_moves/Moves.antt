@@ -8,6 +8,7 @@ use Rattle.room_kinds.specs.declared.message.Msg.{Msg}
 use Rattle.mail_core.specs.EndLog.{EndLog, posting_all}
 use Rattle.mail_core.specs.Takes.{PollsBoxes}
 use Rattle.controller_mail.specs.MailState.{MailState}
+use Rattle.controller_mail.specs.Within.{AreWithin}
 use Rattle.controller_mail.specs.Steps.{Fetches, Posts}
 
 -- controller c posts these messages from its outbox, one after another, each as it goes on its way
@@ -20,11 +21,13 @@ abbrev pub FetchesEach : MailState → List Msg → MailState → Type 0
 FetchesEach old [] new = new ≡ old
 FetchesEach old (m ∷ ms) new = (mid : MailState) × Fetches old mid m × FetchesEach mid ms new
 
--- what controller c posts from its outbox is what its end posts meanwhile
-pub record PostsFrom (c : ℕ) (old new : MailState) (log log' : EndLog) : Type 0 where
+-- what controller c, one of so many, posts from its outbox is what its end posts meanwhile, and it goes to
+-- controllers that there are, at priorities that there are
+pub record PostsFrom (c controllers : ℕ) (old new : MailState) (log log' : EndLog) : Type 0 where
   pub messages : List Msg
   pub posts : PostsEach c old messages new
   pub logged : log' ≡ posting_all log messages
+  pub within : AreWithin controllers messages
 
 -- how many of these messages are of a priority
 abbrev pub count_at : ℕ → List Msg → ℕ

@@ -2,6 +2,7 @@
 ghost use Rattle.std.specs.Prelude.{◌≡◌, ◌+◌, ◌<◌, All, OnOk, IfOk};
 ghost use Rattle.mail_core.specs.Tied.{IsTied, StaysTied};
 ghost use Rattle.controller_mail.specs.MailState.{HasPriority};
+ghost use Rattle.controller_mail.specs.Within.{WaitsWithin, is_answerable};
 ghost use Rattle.controller_mail.specs.controller_moves.Moves.{FetchesEach, PollsInto};
 
 use crate::ControllerMail;
@@ -11,13 +12,32 @@ use room_kinds::Msg;
 use std::alloc::{AllocError, Global};
 use std::collections::VecDeque;
 
-/// Fetches messages, in order. After want of memory the mail is unspecified: the controller has failed.
-pub fn fetch_all(mail: &mut ControllerMail, messages: Vec<Msg>) -> Result<(), AllocError>
+/// Whether a message may be answered: one of the system level, to which services reply, comes from one of
+/// so many controllers.
+fn is_answerable(m: &Msg, controllers: u8) -> bool
+    ensures { result ≡ is_answerable controllers m.now }
+{
+    m.prio.0 != 0 || m.from.0 < controllers
+}
+
+/// Fetches messages of a controller, one of so many, in order. After want of memory the mail is unspecified:
+/// the controller has failed.
+pub fn fetch_all(
+    mail: &mut ControllerMail,
+    controllers: u8,
+    messages: Vec<Msg>,
+) -> Result<(), AllocError>
     requires { All HasPriority messages.items }
-    ensures { OnOk result (FetchesEach mail.old messages.items mail.new) }
+    ensures ok { OnOk result (FetchesEach mail.old messages.items mail.new) }
+    ensures waits { OnOk result (WaitsWithin controllers mail.old → WaitsWithin controllers mail.new) }
 {
     let mut queue = VecDeque::from_vec(messages);
     while let Some(m) = queue.pop_front() {
+        // In a run all are answerable, since no line of the environment is of the system level. A mailbox
+        // doesn't promise that.
+        if !is_answerable(&m, controllers) {
+            return Err(AllocError);
+        }
         mail.fetch(m)?;
     }
     Ok(())
@@ -29,12 +49,14 @@ pub fn fetch_all(mail: &mut ControllerMail, messages: Vec<Msg>) -> Result<(), Al
 pub fn poll_boxes<M: Mail>(
     alloc: Global,
     mail: &mut ControllerMail,
+    controllers: u8,
     office: &mut M::Office,
     end: &mut M,
 ) -> Result<u32, AllocError>
     requires controller { (M.log end.old).party + 1 < (M.log end.old).parties }
     requires tied { IsTied M.tied (M.log end.old).party office.old end.old }
     ensures ok { IfOk result (λ count. PollsInto M.in_box (M.box_count (M.log end.old).party (M.log end.old).parties) mail.old mail.new (M.log end.old) (M.log end.new) count) }
+    ensures waits { OnOk result (WaitsWithin controllers mail.old → WaitsWithin controllers mail.new) }
     ensures party { ((M.log end.new).party ≡ (M.log end.old).party) × ((M.log end.new).parties ≡ (M.log end.old).parties) }
     ensures tied { StaysTied M.tied (M.log end.old).party office.old office.new end.old end.new }
 {
@@ -44,6 +66,6 @@ pub fn poll_boxes<M: Mail>(
     let Ok(count) = u32::try_from(gave.len()) else {
         return Err(AllocError);
     };
-    fetch_all(mail, gave)?;
+    fetch_all(mail, controllers, gave)?;
     Ok(count)
 }

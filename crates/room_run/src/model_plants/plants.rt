@@ -1,7 +1,9 @@
 //! Plants of wirings and charts.
-ghost use Rattle.std.specs.Prelude.{◌≡◌, IfOk, map, option_map};
+ghost use Rattle.std.specs.Prelude.{◌≡◌, List, Option, IfOk, map, option_map};
 ghost use Rattle.chart_reading.specs.chart_graphs.Views.{chart_view};
 ghost use Rattle.chart_reader.specs.model_charts.Charts.{AreValid};
+ghost use Rattle.chart_run.specs.declared.chart_tables.tables.Tables.{Tables as AnyTables};
+ghost use Rattle.controller_actors.specs.PlantParts.{AreOfPlant};
 ghost use Rattle.named_runs.specs.Charts.{ShowsChart, ShowCharts};
 ghost use Rattle.room_run.specs.model_plants.Shown.{IsValidIfAny};
 
@@ -45,7 +47,8 @@ pub fn plant_of(
     wiring: Wiring,
     charts: &[Option<Chart>],
 ) -> Result<Plant, AllocError>
-    requires { AreValid (map (option_map chart_view) charts.now) }
+    requires valid { AreValid (map (option_map chart_view) charts.now) }
+    requires plant { (tables : List (Option AnyTables)) → ShowCharts tables (map (option_map chart_view) charts.now) → AreOfPlant wiring tables }
     ensures wiring { IfOk result (λ p. p.wiring ≡ wiring) }
     ensures tables { IfOk result (λ p. ShowCharts p.tables.items (map (option_map chart_view) charts.now)) }
 {

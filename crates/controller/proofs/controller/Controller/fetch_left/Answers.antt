@@ -6,4 +6,4 @@ pub returns-clause-ok : goal.returns-clause-ok
 returns-clause-ok c =
     let old = c.args.self.now in
     fetches_left c.args.plant.now old (record old { failed = false; mail = c.fetch_all.new.mail }) c.args.left.items
-    (record { me = refl; fuel = refl; works = refl; actors = refl }) c.in_ok-fetch_all.ensures
+    (record { me = refl; fuel = refl; works = refl; actors = refl }) c.in_ok-fetch_all.ensures.ok

@@ -12,7 +12,7 @@ use Rattle.controller_actors.proofs.SlotReads.{slot_read, read_sound}
 use Rattle.controller_actors.proofs.actors.Actors.begin.Goals as goal
 
 pub begin-requires-clause-sound : goal.begin-requires-clause-sound
-begin-requires-clause-sound c = read_sound c.args.plant.now c.requires.plant c.args.who.slot.0 (option_copied c.tables_of-tables.result) c.tables_of-tables.ensures
+begin-requires-clause-sound c = read_sound c.args.plant.now c.args.plant.now.fits c.args.who.slot.0 (option_copied c.tables_of-tables.result) c.tables_of-tables.ensures
 
 pub returns : goal.returns
 returns c =

@@ -13,7 +13,7 @@ use Rattle.controller_actors.proofs.Bodies.{empty_set}
 use Rattle.controller_actors.proofs.actors.Actors.come_up.Goals as goal
 
 pub come_up-requires-clause-sound : goal.come_up-requires-clause-sound
-come_up-requires-clause-sound c = read_sound c.args.plant.now c.requires.plant c.args.who.slot.0 (option_copied c.tables_of-tables.result) c.tables_of-tables.ensures
+come_up-requires-clause-sound c = read_sound c.args.plant.now c.args.plant.now.fits c.args.who.slot.0 (option_copied c.tables_of-tables.result) c.tables_of-tables.ensures
 
 pub returns-clause-moves : goal.returns-clause-moves
 returns-clause-moves c =

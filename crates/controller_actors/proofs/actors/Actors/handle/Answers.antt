@@ -15,7 +15,7 @@ use Rattle.controller_actors.proofs.SlotReads.{slot_read, read_sound, dispatches
 use Rattle.controller_actors.proofs.actors.Actors.handle.Goals as goal
 
 pub handle-requires-clause-sound : goal.handle-requires-clause-sound
-handle-requires-clause-sound c = read_sound c.args.plant.now c.requires.plant c.args.who.slot.0 (option_copied c.tables_of-tables.result) c.tables_of-tables.ensures
+handle-requires-clause-sound c = read_sound c.args.plant.now c.args.plant.now.fits c.args.who.slot.0 (option_copied c.tables_of-tables.result) c.tables_of-tables.ensures
 
 pub returns-in-Some : goal.returns-in-Some
 returns-in-Some c =

@@ -21,7 +21,6 @@ returns-in_default c =
 pub start_in-requires : goal.start_in-requires
 start_in-requires c =
     record {
-      plant = c.requires.plant;
       has_slots = c.requires.started.well.has_slots;
       last = found_last c.args.plant.now.wiring (lives_of c.args.self.now.actors) c.args.slot c.in-Some.generation c.requires.there (sym c.live.ensures ∙ c.in-Some.is);
     }

@@ -1,26 +1,15 @@
-use Rattle.std.proofs.Common.{◌≡◌, [], ◌∷◌, ◌++◌, get_or, sym, ap, subst, ◌∙◌}
-use Rattle.journal.specs.declared.entry.Entry.TheVariants as entry
-use Rattle.actor_merge.specs.Parties.{stamped}
+use Rattle.std.proofs.Common.{◌≡◌, [], None, ap, subst, ◌∙◌}
+use Rattle.actor_merge.specs.Parties.{post}
 use Rattle.controller_mail.specs.MailState.{MailState}
-use Rattle.controller_mail.specs.Steps.{Posts}
-use Rattle.controller_mail.proofs.Mails.{Posts-from}
+use Rattle.controller_mail.specs.Queues.{alone}
+use Rattle.controller_mail.proofs.Mails.{mail_of, none-posted}
 use Rattle.controller_mail.proofs.controller_mail.ControllerMail.post.Goals as goal
 
-pub returns-clause-ok : goal.returns-clause-ok
-returns-clause-ok c =
+pub returns-in_default-clause-ok : goal.returns-in_default-clause-ok
+returns-in_default-clause-ok c =
     let s = c.self.inside in
-    let me = c.args.me.0 in
-    let k : MailState = record { clock = s.clock; turns = s.turns; pending = s.pending; outbox = s.outbox; journal = s.journal.items } in
-    let stamp = c.in_ok-stamp.stamp in
-    let front = c.in-Some-pop_front.posted in
-    let rest = c.pop_front.new.self in
-    let m = c.stamped.result in
-    let new : MailState = record { clock = stamp; turns = s.turns; pending = s.pending; outbox = rest; journal = c.push_reserved.new.self.items } in
-    let copied : c.in_ok-copy.field-0 ≡ front = c.in_ok-copy.ensures ∙ c.in-Some.ensures.first ∙ ap (λ ms. get_or ms 0 c.in-Some.front.now) c.in-Some-pop_front.ensures in
-    let entered : c.stamped-msg.result ≡ m = c.stamped-msg.ensures ∙ ap (λ x. stamped me stamp x) copied ∙ sym c.stamped.ensures in
-    subst (λ (old : MailState). Posts me old new m) c.self.view_is
-    (Posts-from me k front m rest stamp c.push_reserved.new.self.items
-    c.in-Some-pop_front.ensures c.in_ok-stamp.ensures.ok c.stamped.ensures
-    (c.push_reserved.ensures.items
-    ∙ ap (λ js. js ++ entry.Post (record { 0 = stamp }) c.stamped-msg.result ∷ []) c.in_ok-reserve.ensures.items
-    ∙ ap (λ x. s.journal.items ++ entry.Post (record { 0 = stamp }) x ∷ []) entered))
+    let none : post c.args.me.0 (alone s.queues) ≡ None = rw c.in_default.is at c.in_ok-posted.ensures.ok in
+    let same : c.post.new.self ≡ s.queues = rw c.in_default.is at c.in_ok-posted.ensures.none in (
+      subst (λ (k : MailState). k.outbox ≡ []) c.self.view_is (none-posted c.args.me.0 s.queues none),
+      ap (λ q. mail_of q c.reserve.new.self.items) same ∙ ap (λ js. mail_of s.queues js) c.in_ok-reserve.ensures.items ∙ c.self.view_is,
+    )

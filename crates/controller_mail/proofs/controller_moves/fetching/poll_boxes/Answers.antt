@@ -13,4 +13,4 @@ returns-clause-ok g c =
     PollsInto-from g.M.Mail.in_box g.M.Mail.box_count g.met.M.Mail.one_priority g.met.M.Mail.poll_order g.met.M.Mail.has_box
     c.args.mail.now c.fetch_all.new.mail (g.M.Mail.log c.args.end.now) (g.M.Mail.log c.poll.new.end) c.poll.new.out.items c.in-Ok.count
     c.requires.controller (PollsBoxes-whole g.M.Mail.in_box _ _ _ c.new-gave.result.items c.poll.new.out.items c.new-gave.ensures.items c.in_ok-poll.ensures.ok)
-    c.in_ok-fetch_all.ensures (c.in-Ok.ensures.1 ∙ c.len.ensures ∙ size)
+    c.in_ok-fetch_all.ensures.ok (c.in-Ok.ensures.1 ∙ c.len.ensures ∙ size)

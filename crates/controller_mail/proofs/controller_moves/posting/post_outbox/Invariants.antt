@@ -1,5 +1,6 @@
-use Rattle.std.proofs.Common.{◌≡◌, length}
+use Rattle.std.proofs.Common.{◌≡◌, ◌-◌, length}
 use Rattle.mail_core.specs.Tied.{IsTied, StaysTied}
+use Rattle.controller_mail.specs.Within.{WaitsWithin}
 use Rattle.controller_mail.specs.controller_moves.Moves.{PostsFrom}
 use Rattle.controller_mail.proofs.controller_moves.posting.post_outbox.Given as goal
 
@@ -7,7 +8,8 @@ abbrev pub invariant-loop-m : goal.invariant-loop-m
 invariant-loop-m g l =
     let log = g.M.Mail.log in
     record {
-      so_far : PostsFrom l.me.0 l.fn.mail l.mail (log l.fn.end) (log l.end);
+      waits : WaitsWithin ((log l.fn.end).parties - 1) l.mail;
+      so_far : PostsFrom l.me.0 ((log l.fn.end).parties - 1) l.fn.mail l.mail (log l.fn.end) (log l.end);
       party : (log l.end).party ≡ (log l.fn.end).party;
       parties : (log l.end).parties ≡ (log l.fn.end).parties;
       now : IsTied g.M.Mail.tied (log l.end).party l.office l.end;

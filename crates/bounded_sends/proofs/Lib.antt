@@ -1,0 +1,3 @@
+mod Lists
+pub mod Served
+pub mod Turning

@@ -1,0 +1,23 @@
+use Rattle.std.proofs.Common.{refl}
+use Rattle.controller_actors.specs.Bodies.{body_of, done_of}
+use Rattle.controller.specs.Controllers.{run_plant}
+use Rattle.controller.proofs.Making.{turn_made}
+use Rattle.controller.proofs.Waits.{back_ranks}
+use Rattle.controller.proofs.controller_state.ControllerState.turn.Goals as goal
+
+pub end_turn-requires : goal.end_turn-requires
+end_turn-requires c = back_ranks _ c.in_ok-done.ensures.back
+
+pub returns-clause-ok : goal.returns-clause-ok
+returns-clause-ok c =
+    let s = c.args.self.now in
+    let plant = c.args.plant.now in
+    record {
+      me = refl;
+      does = λ lines.
+          turn_made (run_plant plant lines) s.me.0 s.mail c.take_next.new.self c.end_turn.new.self c.in-Some.m (done_of c.in_ok-done.done) c.in_ok-entry.entry
+          (body_of plant s.me.0 s.actors) (body_of plant s.me.0 c.treat.new.self) c.requires.outbox c.in-Some.ensures c.in_ok-entry.ensures c.in_ok-done.ensures.treated;
+    }
+
+pub returns-clause-of : goal.returns-clause-of
+returns-clause-of c = record { me = c.requires.of.me; well = c.in_ok-done.ensures.well }

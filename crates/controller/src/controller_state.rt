@@ -1,0 +1,96 @@
+//! A controller without its journal.
+ghost use Rattle.std.specs.Prelude.{◌≡◌, ◌<◌, [], length, None, IfOk, IfNone, IfSome, OnOk, OnErr, MatchOption};
+ghost use Rattle.journal.specs.declared.entry.Entry.TheVariants as entry;
+ghost use Rattle.actor_merge.specs.Parties.{next_of};
+ghost use Rattle.actor_world.specs.Start.{first_state, start_entries};
+ghost use Rattle.controller_mail.specs.MailState.{pending_of};
+ghost use Rattle.controller_actors.specs.Plants.{model_of};
+ghost use Rattle.controller_actors.specs.declared.plant.Plant.{Plant as AnyPlant};
+ghost use Rattle.controller.specs.States.{IsStateOf, Makes, shown_in};
+
+use controller_actors::{Actors, Plant};
+use controller_mail::{MailQueues, Posted};
+use journal::{Entry, Journal};
+use room_kinds::{ControllerId, Msg};
+use std::alloc::{AllocError, Global};
+
+/// A controller of a plant without its journal: its number, the queues of its mail, and its actors. Each call
+/// is one event and gives the entry that it makes, so an entry that is read can be replayed.
+#[derive(Drop)]
+pub struct ControllerState {
+    me: ControllerId,
+    mail: MailQueues,
+    actors: Actors,
+}
+
+/// A controller that has started, and the entries with which its journal begins.
+#[derive(Drop)]
+pub struct Started {
+    pub state: ControllerState,
+    pub entries: Journal,
+}
+
+impl ControllerState {
+    /// Starts controller `me` of a plant: its actors that live from the start take their initial transitions
+    /// in slot order, and what they send stands in the outbox.
+    pub fn start(alloc: Global, plant: &Plant, me: ControllerId) -> Result<Started, AllocError>
+        requires { me.0 < length plant.now.wiring.controllers }
+        ensures me { IfOk result (λ s. s.state.me ≡ me) }
+        ensures state { IfOk result (λ s. shown_in plant.now s.state ≡ first_state (model_of plant.now) plant.now.wiring me.0) }
+        ensures entries { IfOk result (λ s. s.entries ≡ start_entries (model_of plant.now) plant.now.wiring me.0) }
+        ensures of { IfOk result (λ s. IsStateOf plant.now s.state) }
+    {
+        let begun = Actors::start(alloc, plant, me)?;
+        let mail = MailQueues::started(alloc, begun.sent)?;
+        Ok(Started {
+            state: ControllerState {
+                me,
+                mail,
+                actors: begun.actors,
+            },
+            entries: begun.entries,
+        })
+    }
+
+    /// Fetches a message. After want of memory nothing has changed.
+    pub fn fetch(&mut self, m: Msg) -> Result<Entry, AllocError>
+        requires { m.prio.0 < 6 }
+        ensures ok { IfOk result (λ e. (plant : AnyPlant) → Makes plant self.old self.new e) }
+        ensures of { (plant : AnyPlant) → IsStateOf plant self.old → IsStateOf plant self.new }
+        ensures err { OnErr result (self.new ≡ self.old) }
+    {
+        let entry = self.mail.fetch(m)?;
+        Ok(entry)
+    }
+
+    /// Takes a turn: of the pending lists from priority 0 to 5 the first that isn't empty gives its front,
+    /// which is treated to completion. None exactly where all pending lists are empty. After want of memory
+    /// the state is unspecified.
+    pub fn turn(&mut self, plant: &Plant) -> Result<Option<Entry>, AllocError>
+        requires of { IsStateOf plant.now self.old }
+        requires outbox { self.old.mail.outbox ≡ [] }
+        ensures ok { IfOk result (λ o. MatchOption o ((next_of (pending_of self.old.mail.pending) ≡ None) × (self.new ≡ self.old)) (λ e. Makes plant.now self.old self.new e)) }
+        ensures of { OnOk result (IsStateOf plant.now self.new) }
+    {
+        let Some(m) = self.mail.take_next() else {
+            return Ok(None);
+        };
+        let done = self.actors.treat(plant, self.me, &m)?;
+        let entry = self.mail.end_turn(m.from, m.stamp, done)?;
+        Ok(Some(entry))
+    }
+
+    /// Posts the front of the outbox, if there is one. After want of memory nothing has changed.
+    pub fn post(&mut self) -> Result<Option<Posted>, AllocError>
+        ensures made { IfOk result (λ o. MatchOption o (self.old.mail.outbox ≡ []) (λ p. (plant : AnyPlant) → Makes plant self.old self.new p.entry)) }
+        ensures entry { IfOk result (λ o. IfSome o (λ p. p.entry ≡ entry.Post p.message.stamp p.message)) }
+        ensures none { IfOk result (λ o. IfNone o (self.new ≡ self.old)) }
+        ensures of { (plant : AnyPlant) → IsStateOf plant self.old → IsStateOf plant self.new }
+        ensures err { OnErr result (self.new ≡ self.old) }
+    {
+        let Some(posted) = self.mail.post(self.me)? else {
+            return Ok(None);
+        };
+        Ok(Some(posted))
+    }
+}
