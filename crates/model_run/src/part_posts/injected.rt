@@ -1,12 +1,12 @@
 //! Messages from outside.
-ghost use Rattle.std.specs.Prelude.{◌≡◌, IfOk};
+ghost use Rattle.std.specs.Prelude.{◌≡◌, ◌<◌, length, IfOk};
 ghost use Rattle.model_run.specs.part_posts.Items.{injected};
 
 use controller::Plant;
 use room_kinds::{ControllerId, Endpoint, Msg, Payload, Priority, Stamp};
 use std::alloc::{AllocError, Global};
 
-/// The message that a line asks for, to the owner of its target.
+/// The message that a line asks for, to the owner of its target, who is there.
 #[tactic(auto, unfolding(actor_duties::specs::Words::owner_of))]
 pub(crate) fn message_from_outside(
     alloc: Global,
@@ -16,7 +16,8 @@ pub(crate) fn message_from_outside(
     payload: &Payload,
     prio: Priority,
 ) -> Result<Msg, AllocError>
-    ensures { IfOk result (λ m. m ≡ injected plant.now.wiring target signal payload.now prio) }
+    ensures ok { IfOk result (λ m. m ≡ injected plant.now.wiring target signal payload.now prio) }
+    ensures to { IfOk result (λ m. m.to.0 < length plant.now.wiring.controllers) }
 {
     // An accepted line names a slot that is there.
     if plant.wiring.slot_count() <= u32::from(target.slot.0) {

@@ -26,7 +26,6 @@ pub fn post_part<M: Mail>(
     ensures ok { OnOk result (PostsThePart plant.now part.now environment.old environment.new (M.log end.old) (M.log end.new)) }
     ensures tied { StaysTied M.tied (M.log end.old).party office.old office.new end.old end.new }
 {
-    let count = plant.wiring.controller_count();
     for at in 0..part.len() {
         let What::Message {
             target,
@@ -38,8 +37,8 @@ pub fn post_part<M: Mail>(
             unreachable!()
         };
         let m = message_from_outside(alloc, plant, *target, *signal, payload, *prio)?;
-        // The owner of a slot is there, and accepted lines name one of six priorities.
-        if count <= m.to.0 || 6 <= m.prio.0 {
+        // Accepted lines name one of six priorities.
+        if 6 <= m.prio.0 {
             return Err(AllocError);
         }
         environment.post(plant, office, end, m)?;
