@@ -13,7 +13,7 @@ use Rattle.model_run.specs.run_ends.Runs.{IsRun}
 use Rattle.named_runs.specs.Charts.{IsRunByCharts}
 use Rattle.named_runs.proofs.ByCharts.{by_charts}
 use Rattle.run_promises.proofs.PromisesLaw.{promises}
-use Rattle.world_agreement.specs.Settled.{LivesAgree}
+use Rattle.room_run.specs.Agreement.{AllAgree}
 use Rattle.run_texts.specs.Texts.{TextTells}
 use Rattle.room_run.proofs.settled.Fitting.{settles_of}
 use Rattle.room_run.proofs.settled.Runs.{runs_agree}
@@ -44,10 +44,10 @@ by_model (Some text) p lines fuel j h run = (h.charts, h.is, by_charts p h.chart
 is_by_charts : (shelf : Shown) (files : Files) (p : Plant) (lines : List Line) (fuel : ℕ) (j : Journals) → AreOf shelf files p lines → IsRun p lines fuel j → IsByCharts shelf files p lines fuel j
 is_by_charts shelf files p lines fuel j h run = by_model (shelf.text files.model) p lines fuel j h.model_accepted run
 
--- where a run of a model is done, all controllers agree on who lives
+-- where a run of a model is done, all controllers agree
 agreed_of : (model injections : Option (List ℕ)) (p : Plant) (lines : List Line) (fuel : ℕ) (j : Journals)
     → IfSome model (λ text. IsModel text p) → IfSome injections (λ text. IsInjections p.wiring text lines) → (run : IsRun p lines fuel j)
-    → IfSome model (λ text. IfSome injections (λ injected. j.done ≡ true → LivesAgree p.wiring run.world))
+    → IfSome model (λ text. IfSome injections (λ injected. j.done ≡ true → AllAgree p.wiring run.world))
 agreed_of None injections p lines fuel j h k run = tt
 agreed_of (Some text) None p lines fuel j h k run = tt
 agreed_of (Some text) (Some injected) p lines fuel j h k run = λ done.

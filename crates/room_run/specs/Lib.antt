@@ -9,3 +9,4 @@ pub mod OneAnswer
 pub mod Finished
 pub mod MadeShelf
 pub mod model_plants
+pub mod Agreement
