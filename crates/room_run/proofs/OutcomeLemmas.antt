@@ -13,6 +13,7 @@ use Rattle.named_runs.specs.Charts.{IsRunByCharts}
 use Rattle.named_runs.proofs.ByCharts.{by_charts}
 use Rattle.run_promises.proofs.PromisesLaw.{promises}
 use Rattle.world_agreement.specs.Settled.{LivesAgree}
+use Rattle.actor_world.specs.Agreed.{IsAgreed}
 use Rattle.room_run.proofs.settled.Runs.{runs_agree}
 use Rattle.made_model.specs.Summaries.{summary_text}
 use Rattle.made_model.specs.declared.summary.Summary.{Summary}
@@ -42,7 +43,7 @@ is_by_charts shelf files p lines fuel j h run = by_model (shelf.text files.model
 -- where a run of a model is done, all controllers agree on who lives
 agreed_of : (model injections : Option (List ℕ)) (p : Plant) (lines : List Line) (fuel : ℕ) (j : Journals)
     → IfSome model (λ text. IsModel text p) → IfSome injections (λ text. IsInjections p.wiring text lines) → (run : IsRun p lines fuel j)
-    → IfSome model (λ text. IfSome injections (λ injected. j.done ≡ true → LivesAgree p.wiring run.world))
+    → IfSome model (λ text. IfSome injections (λ injected. j.done ≡ true → LivesAgree p.wiring run.world × IsAgreed p.wiring run.world))
 agreed_of None injections p lines fuel j h k run = tt
 agreed_of (Some text) None p lines fuel j h k run = tt
 agreed_of (Some text) (Some injected) p lines fuel j h k run = λ done.

@@ -20,6 +20,7 @@ use Rattle.chart_model.specs.Chart.{Chart}
 use Rattle.named_runs.specs.Charts.{IsRunByCharts}
 use Rattle.run_promises.specs.Promises.{RunPromises}
 use Rattle.world_agreement.specs.Settled.{LivesAgree}
+use Rattle.actor_world.specs.Agreed.{IsAgreed}
 use Rattle.room_wiring.specs.declared.tables.Tables.{Tables}
 use Rattle.binding_expand.specs.tree_text.Text.{tree_text}
 use Rattle.made_model.specs.Summaries.{summary_of, summary_text}
@@ -42,12 +43,12 @@ abbrev pub IsByCharts : Shown → Files → Plant → List Line → ℕ → Jour
 IsByCharts shelf files plant lines fuel j =
     TextIs shelf files.model (λ text. (charts : List (Option Chart)) × IsSoundText text plant.wiring charts × IsRunByCharts plant.wiring charts lines fuel j)
 
--- where the run is done, all controllers agree on which actors live, in the world that its journals lead to
+-- where the run is done, all controllers agree in the world that its journals lead to: on which actors live (`LivesAgree`), and by `IsAgreed` on imports, on who is linked by name and on peers
 abbrev pub AgreesWhenDone : (shelf : Shown) (files : Files) (plant : Plant) (lines : List Line) (fuel : ℕ) (j : Journals) → IsRun plant lines fuel j → Type 0
 AgreesWhenDone shelf files plant lines fuel j run =
-    TextIs shelf files.model (λ text. TextIs shelf files.injections (λ injected. j.done ≡ true → LivesAgree plant.wiring run.world))
+    TextIs shelf files.model (λ text. TextIs shelf files.injections (λ injected. j.done ≡ true → LivesAgree plant.wiring run.world × IsAgreed plant.wiring run.world))
 
--- Plant, lines and journals are those of a run of the model of two files over the injections of the other, with so much fuel: the texts are those of a model which runs as this plant, and of injections with these lines; and the journals, one for each controller and one for the environment, are those of a run of the plant over the lines (`IsRun`: each controller's journal is the replay of its own fetches, run to completion; merged by stamp they are one run of the world; what is taken in each lane is a prefix of what was sent, and all of it where the run is done). What a reader may rely on is said sentence by sentence (`RunPromises`), the run is one of the model's charts (`IsByCharts`), and where it is done all controllers agree on who lives (`AgreesWhenDone`).
+-- Plant, lines and journals are those of a run of the model of two files over the injections of the other, with so much fuel: the texts are those of a model which runs as this plant, and of injections with these lines; and the journals, one for each controller and one for the environment, are those of a run of the plant over the lines (`IsRun`: each controller's journal is the replay of its own fetches, run to completion; merged by stamp they are one run of the world; what is taken in each lane is a prefix of what was sent, and all of it where the run is done). What a reader may rely on is said sentence by sentence (`RunPromises`), the run is one of the model's charts (`IsByCharts`), and where it is done all controllers agree (`AgreesWhenDone`).
 pub record IsRunOfFiles (shelf : Shown) (files : Files) (fuel : ℕ) (plant : Plant) (lines : List Line) (journals : Journals) : Type 0 where
   pub texts : AreOf shelf files plant lines
   pub run : IsRun plant lines fuel journals

@@ -1,4 +1,4 @@
--- Where a run of a model is done, all controllers agree on which actors live.
+-- Where a run of a model is done, all controllers agree.
 use Rattle.std.proofs.Common.{◌≡◌, ℕ, true, List, Option, None}
 use Rattle.room_ast.specs.Trees.{ModelTree}
 use Rattle.structure_check.specs.List.{all_rules}
@@ -12,20 +12,27 @@ use Rattle.journal.specs.declared.entry.Journals.{Journals}
 use Rattle.inject_reader.specs.declared.inject_lines.accepted.Line.{Line}
 use Rattle.inject_reader.specs.Fitting.{FitLines}
 use Rattle.actor_world.specs.Journals.{lines_of}
+use Rattle.actor_world.specs.Agreed.{IsAgreed}
 use Rattle.controller_actors.specs.declared.plant.Plant.{Plant}
 use Rattle.model_run.specs.part_posts.Items.{items_of}
 use Rattle.model_run.specs.run_ends.Runs.{journal_of, IsRun}
 use Rattle.named_runs.specs.Charts.{ShowCharts}
 use Rattle.world_agreement.specs.Settled.{LivesAgree}
 use Rattle.settled_models.proofs.Runs.{model_agrees}
+use Rattle.settled_models.proofs.Settled.{model_agreed}
 use Rattle.room_run.proofs.settled.Compiled.{all_compiled}
 use Rattle.room_run.proofs.settled.Open.{lines_open}
 
 pub runs_agree : (m : ModelTree) (plant : Plant) (charts : List (Option Chart)) (lines : List Line) (fuel : ℕ) (j : Journals)
     → first_broken all_rules m ≡ None → IsWiringOf m plant.wiring → HasNoFault m → HasCharts m charts
     → ShowCharts plant.tables.items charts → FitLines plant.wiring lines
-    → (run : IsRun plant lines fuel j) → j.done ≡ true → LivesAgree plant.wiring run.world
+    → (run : IsRun plant lines fuel j) → j.done ≡ true → LivesAgree plant.wiring run.world × IsAgreed plant.wiring run.world
 runs_agree m plant charts lines fuel j keeps wiring flawless has shown fit run done =
-    model_agrees m plant.wiring charts plant.tables.items (lines_of (items_of plant.wiring lines)) keeps wiring flawless has
-    (all_compiled plant.tables.items charts shown) (lines_open plant.wiring lines fit) (model_depth_first m plant.wiring wiring.slots)
-    fuel (journal_of j) j.left j.unposted run.world run.lawful (run.ended.is_done done)
+    let compiled = all_compiled plant.tables.items charts shown in
+    let clear = lines_open plant.wiring lines fit in
+    let order = model_depth_first m plant.wiring wiring.slots in (
+      model_agrees m plant.wiring charts plant.tables.items (lines_of (items_of plant.wiring lines)) keeps wiring flawless has compiled clear order
+          fuel (journal_of j) j.left j.unposted run.world run.lawful (run.ended.is_done done),
+      model_agreed m plant.wiring charts plant.tables.items (lines_of (items_of plant.wiring lines)) keeps wiring flawless has compiled clear order
+          fuel (journal_of j) j.left j.unposted run.world run.lawful (run.ended.is_done done),
+    )
