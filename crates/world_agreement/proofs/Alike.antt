@@ -1,5 +1,5 @@
 -- A world whose controllers are in the states of another one's is agreed where the other is.
-use Rattle.std.proofs.Common.{◌≡◌, ℕ, ◌≤◌, ◌<◌, inl, inr, length, Some, count_by, refl, sym, ap, ◌∙◌, subst, arith}
+use Rattle.std.proofs.Common.{◌≡◌, ℕ, ◌≤◌, ◌<◌, inl, inr, length, count_by, sym, ap, ◌∙◌, subst, arith}
 use Rattle.std.specs.List.{Contains}
 use Rattle.room_kinds.specs.declared.numbers.Incarnation.{Incarnation}
 use Rattle.room_kinds.specs.declared.numbers.Endpoint.{Endpoint}
@@ -7,7 +7,7 @@ use Rattle.room_wiring.specs.declared.tables.Tables.{Tables}
 use Rattle.actor_merge.specs.Parties.{State}
 use Rattle.actor_merge.specs.World.{World}
 use Rattle.actor_duties.specs.Words.{whose, frame_of, is_incarnation, owner_of}
-use Rattle.actor_duties.specs.State.{Frame, Links, NameTable}
+use Rattle.actor_duties.specs.State.{Frame, NameTable}
 use Rattle.actor_duties.specs.Lives.{standing, is_live}
 use Rattle.actor_duties.specs.Imports.{container_frame}
 use Rattle.actor_duties.specs.Peers.{peer, link_peer}

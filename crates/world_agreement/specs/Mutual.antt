@@ -4,7 +4,7 @@
 -- holds a home, and a plug.
 -- Its premises on the wiring are in `IsMutual`; those on the world are in `IsOrderly`: what lives, what is
 -- lent, and what is linked by name. The law `only_homes_live` gives the first of every run.
-use Rattle.std.specs.Prelude.{◌≡◌, ◌≢◌, ℕ, ◌≤◌, ◌<◌, true, false, List, length, Contains, Some, if◌then◌else◌}
+use Rattle.std.specs.Prelude.{◌≡◌, ◌≢◌, ℕ, ◌≤◌, ◌<◌, true, false, List, length, Some, if◌then◌else◌}
 use Rattle.room_kinds.specs.declared.numbers.SlotId.{SlotId}
 use Rattle.room_kinds.specs.declared.numbers.Endpoint.{Endpoint}
 use Rattle.room_wiring.specs.declared.tables.Tables.{Tables}
@@ -13,7 +13,7 @@ use Rattle.room_wiring.specs.declared.slot.Partner.TheVariants as partners
 use Rattle.room_wiring.specs.Places.{is_told, place_count}
 use Rattle.actor_merge.specs.Parties.{Line}
 use Rattle.actor_merge.specs.World.{World, Placed}
-use Rattle.actor_duties.specs.Words.{owner_of, is_imported, is_home, is_sap, is_spp, is_end, is_joined, joined_at, class_number, container_of}
+use Rattle.actor_duties.specs.Words.{owner_of, is_imported, is_home, is_sap, is_spp, is_joined, joined_at, container_of}
 use Rattle.actor_duties.specs.State.{Lives, NameTable}
 use Rattle.actor_world.specs.Behaviour.{Behaviour}
 use Rattle.actor_world.specs.Body.{Body}
