@@ -20,6 +20,9 @@ const LEAST_TRIES: usize = 60;
 
 const MOST_TRIES: usize = 1_500;
 
+/// How much more is tried once there is a cause.
+const MOST_MORE: usize = 150;
+
 /// What a search found.
 #[derive(Debug, Drop)]
 pub struct Causes {
@@ -116,29 +119,33 @@ impl<'a, J: Judge> Search<'a, J> {
         Ok(std::mem::replace(&mut self.found, none))
     }
 
-    /// The parts inside parts.
-    fn parts(&self, items: &[Item]) -> Result<Vec<Item>, AllocError> {
+    /// The parts inside those of some parts that are no causes.
+    fn parts_beside(&self, items: &[Item], causes: &[Item]) -> Result<Vec<Item>, AllocError> {
         let mut all = Vec::new(self.alloc);
         for item in items {
-            all.append(&mut parts_of(self.alloc, self.draft.tokens(), *item)?)?;
+            if !causes.contains(item) {
+                all.append(&mut parts_of(self.alloc, self.draft.tokens(), *item)?)?;
+            }
         }
         Ok(all)
     }
 
-    /// The causes on the first level, from some parts inwards, on which there are any.
+    /// The outermost causes among some parts and the parts inside them. Once there is one, little more is tried.
     fn outermost(&mut self, items: Vec<Item>) -> Result<Vec<Item>, AllocError> {
+        let mut all = Vec::new(self.alloc);
         let mut level = items;
         for _deep in 0..MOST_DEEP {
-            let found = self.causes_among(level.as_slice())?;
-            if !found.is_empty() {
-                return Ok(found);
+            let mut found = self.causes_among(level.as_slice())?;
+            if all.is_empty() && !found.is_empty() {
+                self.tries = self.tries.min(MOST_MORE);
             }
-            level = self.parts(level.as_slice())?;
+            level = self.parts_beside(level.as_slice(), found.as_slice())?;
+            all.append(&mut found)?;
             if level.is_empty() {
                 break;
             }
         }
-        Ok(Vec::new(self.alloc))
+        Ok(all)
     }
 
     /// The causes inside a cause, or it itself where none of its parts is one. Where the fault stands without the
@@ -274,6 +281,7 @@ pub fn find_causes<J: Judge>(
         search.tries = tries;
         found = search.outermost(list)?;
     }
+    search.tries = tries;
     for _deep in 0..MOST_DEEP {
         let inner = search.all_inside(found.as_slice())?;
         let is_same = inner.as_slice() == found.as_slice();
