@@ -15,12 +15,12 @@ use Rattle.room_parser.specs.Parsed.{HasNoModel, IsOnlyModel, IsParsed}
 use Rattle.room_parser.specs.declared.fault.ParseFault.{ParseFault}
 use Rattle.room_parser.specs.declared.fault.ParseFault.TheVariants as parsing
 use Rattle.named_runs.specs.Charts.{ShowCharts}
-use Rattle.wiring_laws.proofs.wiring_order.Ordered.{model_depth_first}
-use Rattle.wiring_laws.proofs.ports_numbered.Numbered.{checked_numbered}
+use Rattle.model_laws.proofs.wiring_laws.wiring_order.Ordered.{model_depth_first}
+use Rattle.model_laws.proofs.wiring_laws.ports_numbered.Numbered.{checked_numbered}
 use Rattle.chart_run.specs.declared.chart_tables.tables.Tables.{Tables as ChartTables}
 use Rattle.controller_actors.specs.PlantParts.{AreOfPlant}
-use Rattle.settled_models.proofs.Models.{models_ranked}
-use Rattle.settled_models.proofs.Wired.{wiring_consistent}
+use Rattle.model_laws.proofs.settled_models.Models.{models_ranked}
+use Rattle.model_laws.proofs.settled_models.Wired.{wiring_consistent}
 use Rattle.room_run.proofs.model_plants.Tabled.{all_sound}
 use Rattle.room_run.proofs.settled.Compiled.{all_compiled}
 use Rattle.structure_check.specs.Rules.{first_broken, IsLowest}

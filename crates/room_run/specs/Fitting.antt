@@ -6,7 +6,7 @@ use Rattle.journal.specs.declared.entry.Journals.{Journals}
 use Rattle.inject_reader.specs.declared.inject_lines.accepted.Line.{Line}
 use Rattle.controller_actors.specs.declared.plant.Plant.{Plant}
 use Rattle.model_run.specs.run_ends.Runs.{IsRun}
-use Rattle.fitting_plants.specs.Runs.{Settles}
+use Rattle.room_run.specs.fitting_plants.Runs.{Settles}
 use Rattle.room_run.specs.Words.{Files}
 use Rattle.room_run.specs.Causes.{TextIs}
 

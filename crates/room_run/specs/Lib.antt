@@ -10,3 +10,4 @@ pub mod Finished
 pub mod MadeShelf
 pub mod model_plants
 pub mod Agreement
+pub mod fitting_plants

@@ -7,6 +7,7 @@
 
 pub mod answers;
 mod asked;
+pub mod fitting_plants;
 mod judge;
 mod made;
 mod model_fault;
@@ -19,6 +20,7 @@ mod status;
 mod top;
 
 pub use answers::{accepted_calls_end, one_answer};
+pub use fitting_plants::{fitting_runs_settle, plants_fit, read_lines_fit};
 pub use judge::{read_plant, read_wiring};
 pub use model_fault::ModelFault;
 pub use model_plants::plant_of;

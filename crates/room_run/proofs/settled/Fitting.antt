@@ -13,10 +13,10 @@ use Rattle.inject_reader.specs.declared.inject_lines.accepted.Line.{Line}
 use Rattle.controller_actors.specs.declared.plant.Plant.{Plant}
 use Rattle.model_run.specs.run_ends.Runs.{IsRun}
 use Rattle.named_runs.specs.Charts.{ShowCharts}
-use Rattle.fitting_plants.specs.Plants.{PlantFits}
-use Rattle.fitting_plants.specs.Runs.{Settles}
-use Rattle.fitting_plants.proofs.Lines.{read_fit}
-use Rattle.fitting_plants.proofs.Runs.{runs_settle}
+use Rattle.room_run.specs.fitting_plants.Plants.{PlantFits}
+use Rattle.room_run.specs.fitting_plants.Runs.{Settles}
+use Rattle.room_run.proofs.fitting_plants.Lines.{read_fit}
+use Rattle.room_run.proofs.fitting_plants.Runs.{runs_settle}
 use Rattle.room_run.specs.Models.{HasTree, IsSoundText, IsModel}
 use Rattle.room_run.specs.Causes.{IsInjections}
 

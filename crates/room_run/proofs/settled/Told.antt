@@ -9,7 +9,7 @@ use Rattle.room_lexer.specs.declared.token.Token.{Token}
 use Rattle.token_reading.specs.Single.{values}
 use Rattle.token_reading.specs.token_names.Names.{HasNames}
 use Rattle.token_reading.proofs.token_names.NamesLaw.{named as tokens_named}
-use Rattle.wiring_laws.proofs.chart_state_names.Models.{sound_well_named}
+use Rattle.model_laws.proofs.wiring_laws.chart_state_names.Models.{sound_well_named}
 use Rattle.journal.specs.declared.entry.Journals.{Journals}
 use Rattle.inject_reader.specs.declared.inject_lines.accepted.Line.{Line}
 use Rattle.inject_reader.specs.Fitting.{FitLines}
@@ -19,10 +19,10 @@ use Rattle.model_run.specs.run_ends.Runs.{IsRun}
 use Rattle.run_texts.specs.Texts.{is_ranked, TextTells}
 use Rattle.run_texts.specs.Fetches.{FetchesFit}
 use Rattle.run_texts.proofs.TextsLaw.{texts_tell, fetches_fit}
-use Rattle.settled_models.specs.Open.{is_worded}
-use Rattle.settled_models.proofs.Weaker.{tables_weaker}
-use Rattle.settled_models.proofs.Models.{models_worded}
-use Rattle.settled_models.proofs.Wired.{wiring_consistent}
+use Rattle.model_laws.specs.settled_models.Open.{is_worded}
+use Rattle.model_laws.proofs.settled_models.Weaker.{tables_weaker}
+use Rattle.model_laws.proofs.settled_models.Models.{models_worded}
+use Rattle.model_laws.proofs.settled_models.Wired.{wiring_consistent}
 use Rattle.room_run.specs.Models.{HasTree, IsModel}
 use Rattle.room_run.proofs.settled.Compiled.{all_compiled}
 

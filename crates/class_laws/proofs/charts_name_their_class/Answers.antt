@@ -1,8 +1,0 @@
-use Rattle.class_laws.proofs.Models.{charts_name, tables_name}
-use Rattle.class_laws.proofs.charts_name_their_class.Goals as goal
-
-pub returns-clause-charts : goal.returns-clause-charts
-returns-clause-charts c = charts_name
-
-pub returns-clause-tables : goal.returns-clause-tables
-returns-clause-tables c = tables_name

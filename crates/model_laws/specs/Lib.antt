@@ -1,0 +1,3 @@
+pub mod class_laws
+pub mod settled_models
+pub mod wiring_laws
