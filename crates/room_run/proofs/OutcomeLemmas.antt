@@ -14,10 +14,10 @@ use Rattle.named_runs.specs.Charts.{IsRunByCharts}
 use Rattle.named_runs.proofs.ByCharts.{by_charts}
 use Rattle.run_promises.proofs.PromisesLaw.{promises}
 use Rattle.room_run.specs.Agreement.{AllAgree}
-use Rattle.run_texts.specs.Texts.{TextTells}
+use Rattle.run_promises.specs.run_texts.Texts.{TextTells}
 use Rattle.room_run.proofs.settled.Fitting.{settles_of}
 use Rattle.room_run.proofs.settled.Runs.{runs_agree}
-use Rattle.run_texts.specs.Fetches.{FetchesFit}
+use Rattle.run_promises.specs.run_texts.Fetches.{FetchesFit}
 use Rattle.room_run.proofs.settled.Told.{text_tells, model_fetches_fit}
 use Rattle.made_model.specs.Summaries.{summary_text}
 use Rattle.made_model.specs.declared.summary.Summary.{Summary}

@@ -19,8 +19,8 @@ use Rattle.model_run.specs.run_ends.Runs.{IsRun}
 use Rattle.chart_model.specs.Chart.{Chart}
 use Rattle.named_runs.specs.Charts.{IsRunByCharts}
 use Rattle.run_promises.specs.Promises.{RunPromises}
-use Rattle.run_texts.specs.Fetches.{FetchesFit}
-use Rattle.run_texts.specs.Texts.{TextTells}
+use Rattle.run_promises.specs.run_texts.Fetches.{FetchesFit}
+use Rattle.run_promises.specs.run_texts.Texts.{TextTells}
 use Rattle.room_run.specs.Agreement.{AllAgree}
 use Rattle.room_wiring.specs.declared.tables.Tables.{Tables}
 use Rattle.binding_expand.specs.tree_text.Text.{tree_text}

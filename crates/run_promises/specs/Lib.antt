@@ -4,3 +4,4 @@ pub mod Mail
 pub mod Promises
 pub mod Stamps
 pub mod Turns
+pub mod run_texts

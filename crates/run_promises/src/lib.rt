@@ -1,10 +1,14 @@
 //! What a run promises: the sentences that a reader of its journals may rely on, each stated on the
-//! journals alone, and the law that every run keeps them.
+//! journals alone, and the law that every run keeps them. In `run_texts`: the text of its journals tells a run.
 //!
-//! No code: the law.
+//! No code: the laws.
 #![tactic(auto)]
 
+pub mod run_texts;
+
 ghost use Rattle.run_promises.specs.Promises.{RunsKeepPromises};
+
+pub use run_texts::{events_tell_runs, runs_fetch_what_fits, texts_tell_runs};
 
 /// The journals of every run keep their promises. Messages between two ports at a priority arrive in
 /// order and once; stamps rise; each actor lives once, on the controller of its slot, and no message is

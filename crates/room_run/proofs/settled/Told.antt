@@ -16,9 +16,9 @@ use Rattle.inject_reader.specs.Fitting.{FitLines}
 use Rattle.chart_behaviour.specs.Asked.{ClassesAsk}
 use Rattle.controller_actors.specs.declared.plant.Plant.{Plant}
 use Rattle.model_run.specs.run_ends.Runs.{IsRun}
-use Rattle.run_texts.specs.Texts.{is_ranked, TextTells}
-use Rattle.run_texts.specs.Fetches.{FetchesFit}
-use Rattle.run_texts.proofs.TextsLaw.{texts_tell, fetches_fit}
+use Rattle.run_promises.specs.run_texts.Texts.{is_ranked, TextTells}
+use Rattle.run_promises.specs.run_texts.Fetches.{FetchesFit}
+use Rattle.run_promises.proofs.run_texts.TextsLaw.{texts_tell, fetches_fit}
 use Rattle.model_laws.specs.settled_models.Open.{is_worded}
 use Rattle.model_laws.proofs.settled_models.Weaker.{tables_weaker}
 use Rattle.model_laws.proofs.settled_models.Models.{models_worded}

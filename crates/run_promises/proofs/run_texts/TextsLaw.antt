@@ -1,11 +1,11 @@
 -- The text of each run tells it, and what it fetches fits.
 use Rattle.chart_behaviour.proofs.Charts.{asks_only}
-use Rattle.run_texts.specs.Texts.{is_ranked, TextsTellRuns}
-use Rattle.run_texts.specs.Fetches.{RunsFetchWhatFits}
+use Rattle.run_promises.specs.run_texts.Texts.{is_ranked, TextsTellRuns}
+use Rattle.run_promises.specs.run_texts.Fetches.{RunsFetchWhatFits}
 use Rattle.run_promises.proofs.PromisesLaw.{promises}
-use Rattle.run_texts.proofs.Party.{is_party}
-use Rattle.run_texts.proofs.Priorities.{at_six}
-use Rattle.run_texts.proofs.SameRuns.{one_journal}
+use Rattle.run_promises.proofs.run_texts.Party.{is_party}
+use Rattle.run_promises.proofs.run_texts.Priorities.{at_six}
+use Rattle.run_promises.proofs.run_texts.SameRuns.{one_journal}
 
 pub texts_tell : TextsTellRuns
 texts_tell plant lines consistent named classes fit fuel j run other_fuel other other_run one_text =

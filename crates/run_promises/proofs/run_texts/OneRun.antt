@@ -13,7 +13,7 @@ use Rattle.actor_merge.specs.World.{World, Placed, IsQuiet, IsReady, fetch_front
 use Rattle.actor_merge.specs.Merge.{IsBefore, IsBeforeAll, InOrder, entries_of}
 use Rattle.actor_merge.proofs.Back.{Happened, controller, environment, happened, run_projects}
 use Rattle.actor_merge.proofs.Steps.{same_entry, caught_up-same}
-use Rattle.run_texts.specs.Events.{SameEvents}
+use Rattle.run_promises.specs.run_texts.Events.{SameEvents}
 
 -- ---- the entries of one party
 

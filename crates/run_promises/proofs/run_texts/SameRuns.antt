@@ -21,11 +21,11 @@ use Rattle.chart_behaviour.specs.ModelCharts.{Actor}
 use Rattle.controller_actors.specs.declared.plant.Plant.{Plant}
 use Rattle.model_run.specs.part_posts.Items.{items_of}
 use Rattle.model_run.specs.run_ends.Runs.{journal_of, IsRun}
-use Rattle.run_texts.specs.Texts.{AtSixPriorities}
-use Rattle.run_texts.proofs.OneRun.{one_run}
-use Rattle.run_texts.proofs.Rows.{rows, SameRows, same_rows}
-use Rattle.run_texts.proofs.Told.{same_events}
-use Rattle.run_texts.proofs.Party.{plan, did, starts, nobody, outside, inside, journal_is, tells, lines_are}
+use Rattle.run_promises.specs.run_texts.Texts.{AtSixPriorities}
+use Rattle.run_promises.proofs.run_texts.OneRun.{one_run}
+use Rattle.run_promises.proofs.run_texts.Rows.{rows, SameRows, same_rows}
+use Rattle.run_promises.proofs.run_texts.Told.{same_events}
+use Rattle.run_promises.proofs.run_texts.Party.{plan, did, starts, nobody, outside, inside, journal_is, tells, lines_are}
 
 rows_at : (t : Tables) (ess fss : List (List Entry)) (c : ℕ) → SameRows t ess fss
     → rows t (slice_index_or ess c []) ≡ rows t (slice_index_or fss c [])

@@ -24,7 +24,7 @@ use Rattle.journal.specs.Text.{journal_text, controller_text, controllers_text, 
 use Rattle.run_promises.specs.Stamps.{is_event}
 use Rattle.journal_reader.specs.journal_lines.Numerals.{upto, past, begins, begins_digit}
 use Rattle.journal_reader.proofs.journal_lines.Cutting.{lacks, upto_at, past_at}
-use Rattle.run_texts.proofs.Plain.{AllPlain, plain_append, plain_concat, number_lacks, number_begins, signed_plain, party_lacks, name_plain, message_plain, standing_plain, incarnation_plain, did_plain, speaking_plain}
+use Rattle.run_promises.proofs.run_texts.Plain.{AllPlain, plain_append, plain_concat, number_lacks, number_begins, signed_plain, party_lacks, name_plain, message_plain, standing_plain, incarnation_plain, did_plain, speaking_plain}
 
 -- ---- texts as lines
 

@@ -28,9 +28,9 @@ use Rattle.run_promises.specs.Stamps.{is_event}
 use Rattle.run_promises.proofs.Named.{nothing_in, in_head, in_tail}
 use Rattle.run_promises.proofs.Party.{whole, fetched_is}
 use Rattle.run_promises.proofs.PromisesLaw.{promises}
-use Rattle.run_texts.specs.Texts.{AtSixPriorities}
-use Rattle.run_texts.proofs.Rows.{row, rows}
-use Rattle.run_texts.proofs.Told.{AllTell}
+use Rattle.run_promises.specs.run_texts.Texts.{AtSixPriorities}
+use Rattle.run_promises.proofs.run_texts.Rows.{row, rows}
+use Rattle.run_promises.proofs.run_texts.Told.{AllTell}
 
 -- entries of which none is a start
 abbrev AllHappen : List Entry → Type 0

@@ -37,9 +37,9 @@ use Rattle.run_promises.proofs.Named.{nothing_in, head_or_tail}
 use Rattle.run_promises.proofs.Lines.{PostsLines}
 use Rattle.run_promises.proofs.Party.{nothing, posted_is, replay, environment_lines}
 use Rattle.run_promises.proofs.PromisesLaw.{promises}
-use Rattle.run_texts.specs.Texts.{is_ranked, AtSixPriorities}
-use Rattle.run_texts.proofs.Sends.{IsRanked, AllRanked, LastRanked, FrameRanked, ranked_append, ranked_send, ranked_broadcast, ranked_request, ranked_name_request, ranked_end_of, ranked_links, ranked_table, frame_duty_ranked}
-use Rattle.run_texts.proofs.Party.{did, nobody}
+use Rattle.run_promises.specs.run_texts.Texts.{is_ranked, AtSixPriorities}
+use Rattle.run_promises.proofs.run_texts.Sends.{IsRanked, AllRanked, LastRanked, FrameRanked, ranked_append, ranked_send, ranked_broadcast, ranked_request, ranked_name_request, ranked_end_of, ranked_links, ranked_table, frame_duty_ranked}
+use Rattle.run_promises.proofs.run_texts.Party.{did, nobody}
 
 -- ---- what actors and services send
 

@@ -14,8 +14,8 @@ use Rattle.journal.specs.Lines.{message_parts, signal_parts, did_parts}
 use Rattle.actor_merge.specs.Mail.{Fetch, event_of}
 use Rattle.journal_reader.specs.journal_lines.Numerals.{upto, past, begins, begins_digit}
 use Rattle.journal_reader.proofs.journal_lines.Cutting.{upto_at, past_at}
-use Rattle.run_texts.proofs.Plain.{number_lacks, number_begins, party_lacks}
-use Rattle.run_texts.proofs.Rows.{row}
+use Rattle.run_promises.proofs.run_texts.Plain.{number_lacks, number_begins, party_lacks}
+use Rattle.run_promises.proofs.run_texts.Rows.{row}
 
 -- ---- parties
 

@@ -9,7 +9,7 @@ use Rattle.chart_behaviour.specs.Asked.{ClassesAsk}
 use Rattle.controller_actors.specs.declared.plant.Plant.{Plant}
 use Rattle.actor_world.specs.world_laws.Whereabouts.{fetched}
 use Rattle.model_run.specs.run_ends.Runs.{journal_of, IsRun}
-use Rattle.run_texts.specs.Texts.{is_ranked}
+use Rattle.run_promises.specs.run_texts.Texts.{is_ranked}
 
 -- a message that this controller fetches, among so many: it comes from one of them or from the environment,
 -- to this one, at a priority from 0 to 5

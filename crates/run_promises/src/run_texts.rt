@@ -1,11 +1,10 @@
 //! The text of a run's journals tells the run: no two runs of a model over the same lines have one text.
 //!
 //! No code: the laws.
-#![tactic(auto)]
 
-ghost use Rattle.run_texts.specs.Events.{EventsTellRuns};
-ghost use Rattle.run_texts.specs.Fetches.{RunsFetchWhatFits};
-ghost use Rattle.run_texts.specs.Texts.{TextsTellRuns};
+ghost use Rattle.run_promises.specs.run_texts.Events.{EventsTellRuns};
+ghost use Rattle.run_promises.specs.run_texts.Fetches.{RunsFetchWhatFits};
+ghost use Rattle.run_promises.specs.run_texts.Texts.{TextsTellRuns};
 
 /// A run of the world is told by which events each party does, in its own order: where they are the same
 /// in two runs, so are all entries, with their stamps and messages, and the worlds to which they lead.
