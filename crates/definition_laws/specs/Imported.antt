@@ -28,10 +28,13 @@ declared_places None = Some 1
 declared_places (Some (places.Number n)) = Some n
 declared_places (Some places.Any) = None
 
--- how many places port p of an actor class declares, the class by its number
+-- how many places port p of a class declares
+abbrev pub declared_in : ℕ → Container → Option ℕ
+declared_in p c = option_and_then (λ (e : PortEntry). declared_places e.places) (slice_get c.ports p)
+
+-- the same of an actor class by its number
 abbrev pub declared_at : ModelTree → ℕ → ℕ → Option ℕ
-declared_at m class p =
-    option_and_then (λ (c : Container). option_and_then (λ (e : PortEntry). declared_places e.places) (slice_get c.ports p)) (slice_get (tables_of m).actors class)
+declared_at m class p = option_and_then (declared_in p) (slice_get (tables_of m).actors class)
 
 -- port p of a class declares a number of places, and each slot of the class has so many there
 pub record HasDeclaredPlaces (m : ModelTree) (t : Tables) (class p : ℕ) : Type 0 where
