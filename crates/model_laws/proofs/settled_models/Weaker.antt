@@ -1,5 +1,5 @@
 -- Where the commands that tables may ask for pass a test, they pass each weaker one.
-use Rattle.std.proofs.Common.{◌≡◌, ℕ, ◌≤◌, nat_le, Bool, true, not, List, [], ◌∷◌, refl, ap, arith, leb-true}
+use Rattle.std.proofs.Common.{◌≡◌, ℕ, ◌≤◌, nat_le, Bool, true, not, List, [], ◌∷◌, refl, ap, arith, leb-true, lt-ltb}
 use Rattle.std.specs.List.{AllByRecursion as Each}
 use Rattle.std.proofs.lemmas.Bool.{and_parts, ne_eqb}
 use Rattle.room_kinds.specs.declared.command.Command.{Command}
@@ -76,7 +76,9 @@ worded_open (commands.Name c) h = refl
 
 -- but at one of the six priorities
 pub worded_ranked : (c : Command) → is_worded c ≡ true → is_ranked c ≡ true
-worded_ranked (commands.Send p k signal payload prio) h = (and_parts (nat_le 1 prio.0) (nat_le prio.0 5) h).1
+worded_ranked (commands.Send p k signal payload prio) h =
+    let most : prio.0 ≤ 5 = leb-true prio.0 5 (and_parts (nat_le 1 prio.0) (nat_le prio.0 5) h).1 in
+    lt-ltb prio.0 6 (omega (arith, most))
 worded_ranked commands.Defer h = refl
 worded_ranked commands.Recall h = refl
 worded_ranked commands.RecallAll h = refl
