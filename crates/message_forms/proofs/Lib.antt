@@ -1,0 +1,5 @@
+mod Inner
+mod Beside
+mod Serving
+mod Walking
+mod Runs
