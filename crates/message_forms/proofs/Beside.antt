@@ -1,8 +1,9 @@
 -- What the layer service and actors send: what service points ask, what the name table answers and tells, and
 -- messages above the system level.
-use Rattle.std.proofs.Common.{◌≡◌, ℕ, ◌+◌, ◌==◌, Bool, true, false, ◌&&◌, if◌then◌else◌, is_some, List, [], ◌∷◌, filter, slice_get, Option, Some, None, ℤ, pos, negsuc, refl}
+use Rattle.std.proofs.Common.{◌≡◌, ◌||◌, ℕ, ◌+◌, ◌==◌, Bool, true, false, ◌&&◌, if◌then◌else◌, is_some, List, [], ◌∷◌, filter, slice_get, Option, Some, None, ℤ, pos, negsuc, refl, inl, inr, sym, ap, subst, eqb-true}
 use Rattle.std.specs.Option.{option_map_or}
 use Rattle.std.specs.List.{AllByRecursion}
+use Rattle.std.proofs.lemmas.Bool.{and_parts}
 use Rattle.room_kinds.specs.declared.message.Msg.{Msg}
 use Rattle.room_kinds.specs.declared.numbers.Incarnation.{Incarnation}
 use Rattle.room_kinds.specs.declared.numbers.Endpoint.{Endpoint}
@@ -21,6 +22,7 @@ use Rattle.actor_duties.specs.Commands.{Content, send, send_to, send_each, broad
 use Rattle.actor_world.specs.Turns.{all_kinds}
 use Rattle.world_agreement.proofs.Lists.{all_append, all_map}
 use Rattle.name_agreement.proofs.Standing.{self_endpoint}
+use Rattle.message_forms.specs.Forms.{TellsReply}
 use Rattle.message_forms.proofs.Inner.{Inner, IsSent, AllSent}
 
 -- whether a message of a kind is the layer service's, and has its numbers
@@ -29,7 +31,7 @@ beside_by (Some kinds.Register) (Some e) y (pos name ∷ []) = is_endpoint e y
 beside_by (Some kinds.Withdraw) (Some e) y [] = is_endpoint e y
 beside_by (Some kinds.Bound) (Some e) y [] = true
 beside_by (Some kinds.Ended) (Some e) y [] = true
-beside_by (Some kinds.NameReply) (Some e) y (pos code ∷ []) = is_endpoint e y
+beside_by (Some kinds.NameReply) (Some e) y (pos code ∷ []) = ((code == 0) || ((code == 8) || (code == 9))) && is_endpoint e y
 beside_by _ _ y _ = false
 
 -- whether a message is above the system level, or one of the layer service's
@@ -46,6 +48,16 @@ done_if : {C : Type 0} (b : Bool) (x y : Done C) → AllAside x.sent → AllAsid
 done_if true x y h k = h
 done_if false x y h k = k
 
+-- a reply is 0, 8 or 9
+reply_of : (code : ℕ) → ((code == 0) || ((code == 8) || (code == 9))) ≡ true → TellsReply (pos code ∷ [])
+reply_of code h = go (code == 0) (code == 8) (code == 9) refl refl refl h
+  where
+    go : (a b c : Bool) → (code == 0) ≡ a → (code == 8) ≡ b → (code == 9) ≡ c → (a || (b || c)) ≡ true → TellsReply (pos code ∷ [])
+    go true b c e f g k = inl (ap (λ k. pos k ∷ []) (eqb-true code 0 e))
+    go false true c e f g k = inr (inl (ap (λ k. pos k ∷ []) (eqb-true code 8 f)))
+    go false false true e f g k = inr (inr (ap (λ k. pos k ∷ []) (eqb-true code 9 g)))
+    go false false false e f g k = absurd cc
+
 -- so it has its inner form
 inner_of : (t : Tables) (a b : ℕ) (m : Msg) (o : Option SysKind) → slice_get all_kinds m.signal ≡ o → (s : Option Endpoint) → m.source ≡ s
     → (numbers : List ℤ) → m.payload ≡ numbers → beside_by o s m.target numbers ≡ true → Inner t a b m
@@ -55,7 +67,8 @@ inner_of t a b m (Some kinds.Withdraw) is (Some e) comes [] said h = record { ki
 inner_of t a b m (Some kinds.Bound) is (Some e) comes [] said h = record { kind = kinds.Bound; is = is; source = e; comes = comes; form = said }
 inner_of t a b m (Some kinds.Ended) is (Some e) comes [] said h = record { kind = kinds.Ended; is = is; source = e; comes = comes; form = said }
 inner_of t a b m (Some kinds.NameReply) is (Some e) comes (pos code ∷ []) said h =
-    record { kind = kinds.NameReply; is = is; source = e; comes = comes; form = (h, (code, said)) }
+    let k = and_parts ((code == 0) || ((code == 8) || (code == 9))) (is_endpoint e m.target) h in
+    record { kind = kinds.NameReply; is = is; source = e; comes = comes; form = (k.1, subst TellsReply (sym said) (reply_of code k.0)) }
 inner_of t a b m _ is _ comes _ said h = absurd cc
 
 aside_sent : (t : Tables) (me : ℕ) (ms : List Msg) → AllAside ms → AllSent t me ms

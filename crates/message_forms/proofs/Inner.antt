@@ -12,7 +12,7 @@ use Rattle.actor_duties.specs.Messages.{system, coded, Occupied, NotHere, StaleI
 use Rattle.actor_duties.specs.State.{Done}
 use Rattle.actor_duties.specs.Frame.{is_announced, is_part_told}
 use Rattle.actor_world.specs.Turns.{all_kinds}
-use Rattle.message_forms.specs.Forms.{AreFrames, IsRequest, IsAnswer, IsMade, TellsEnd, TellsLife, TellsOne}
+use Rattle.message_forms.specs.Forms.{AreFrames, IsRequest, IsAnswer, IsMade, TellsEnd, TellsLife, TellsOne, TellsReply}
 
 -- the form of a kind, but for the addresses of messages on imports and names
 abbrev pub InnerOf : Tables → ℕ → ℕ → SysKind → Endpoint → Endpoint → List ℤ → Type 0
@@ -33,7 +33,7 @@ InnerOf t a b kinds.Register e y numbers = (is_endpoint e y ≡ true) × TellsOn
 InnerOf t a b kinds.Withdraw e y numbers = (is_endpoint e y ≡ true) × (numbers ≡ [])
 InnerOf t a b kinds.Bound peer e numbers = numbers ≡ []
 InnerOf t a b kinds.Ended peer e numbers = numbers ≡ []
-InnerOf t a b kinds.NameReply y e numbers = (is_endpoint y e ≡ true) × TellsOne numbers
+InnerOf t a b kinds.NameReply y e numbers = (is_endpoint y e ≡ true) × TellsReply numbers
 InnerOf t a b kinds.PartMake o y numbers = (owner_of t o.slot.0 ≡ a) × (is_part_told t b o y ≡ true) × (numbers ≡ [])
 InnerOf t a b kinds.PartEnd o y numbers = (owner_of t o.slot.0 ≡ a) × (is_part_told t b o y ≡ true) × (numbers ≡ [])
 

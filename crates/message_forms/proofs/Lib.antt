@@ -2,4 +2,5 @@ mod Inner
 mod Beside
 mod Serving
 mod Walking
+mod OnTrails
 mod Runs

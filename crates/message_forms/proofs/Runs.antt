@@ -33,8 +33,9 @@ use Rattle.world_agreement.proofs.Agreeing.{IsForetold, put_own, first_carries, 
 use Rattle.world_agreement.proofs.Lending.{runs_route}
 use Rattle.name_agreement.specs.Created.{NamesTheCreated, last_at}
 use Rattle.name_agreement.proofs.CreatedRuns.{runs_named, each_named}
-use Rattle.message_forms.specs.Forms.{FormOf, HasForm}
+use Rattle.message_forms.specs.Forms.{FormOf, HasForm, StandOnTrails}
 use Rattle.message_forms.proofs.Inner.{InnerOf, Inner, AllSent}
+use Rattle.message_forms.proofs.OnTrails.{LanesAreRanked, after_ranked, stand}
 use Rattle.message_forms.proofs.Walking.{treat_sent, start_sent}
 
 -- a system message of its inner form, from controller a to controller b
@@ -82,6 +83,7 @@ module _ {M : Type 0} (model : Behaviour M) (clear : IsOpen model) (t : Tables) 
   -- a world in which all that is on its way has its inner form
   record IsFormed (w : World (Body M)) : Type 0 where
     pub foretold : IsForetold t w
+    pub lanes : LanesAreRanked w.lanes
     pub sound : (c : ℕ) → IsSound t c (w.controllers c).body.frame.lives
     pub formed : (a b : ℕ) → AllOnTrail t a b (trail w a b)
 
@@ -139,6 +141,7 @@ module _ {M : Type 0} (model : Behaviour M) (clear : IsOpen model) (t : Tables) 
     controller_formed below e next h =
         record {
           foretold = controller_foretold model clear t lines clear_lines w inv.foretold c below e next h;
+          lanes = after_ranked w c e inv.lanes;
           sound = put_own (λ k (z : State (Body M)). IsSound t k z.body.frame.lives) w.controllers c next inv.sound
               (does_sound c (w.controllers c) next e (inv.foretold.sorted c) (inv.sound c) (own_of (plant_of model t lines) w c e next h));
           formed = λ a b.
@@ -153,6 +156,7 @@ module _ {M : Type 0} (model : Behaviour M) (clear : IsOpen model) (t : Tables) 
       subst IsFormed (sym same)
       (record {
         foretold = environment_foretold model clear t lines clear_lines w x.party x.entry v inv.foretold does;
+        lanes = after_ranked w x.party x.entry inv.lanes;
         sound = inv.sound;
         formed = λ a b. subst (AllOnTrail t a b) (sym (environment_moves model clear t lines clear_lines w x.party x.entry v does a b)) (inv.formed a b);
       })
@@ -165,10 +169,14 @@ module _ {M : Type 0} (model : Behaviour M) (clear : IsOpen model) (t : Tables) 
   start_formed =
       record {
         foretold = start_foretold model clear t lines clear_lines;
+        lanes = λ l. tt;
         sound = λ c. subst (IsSound t c) (sym (first_carries model clear t lines clear_lines c).lives) (first_whole t c).sound;
         formed = λ a b.
             subst (AllOnTrail t a b) (sym (fresh_trail a b (first_state model t a).outbox)) (trail_system t a b (first_state model t a).outbox (start_sent t a model clear));
       }
+
+  pub runs_stand : (xs : List Placed) (end : World (Body M)) → Runs (plant_of model t lines) (start (plant_of model t lines)) xs end → StandOnTrails end
+  runs_stand xs end r = let inv = run_formed xs (start (plant_of model t lines)) end start_formed r in stand end inv.foretold.sorted inv.lanes
 
 -- the inner form of a system message, and who it goes between, are its form
 formed : (t : Tables) (last : ℕ → ℕ) (a b : ℕ) (m : Msg) → (m.prio.0 == 0) ≡ true → IsRouted t a b m → NamesTheCreated t last a b m

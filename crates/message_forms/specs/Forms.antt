@@ -5,18 +5,20 @@
 -- parts of an optional slot, just those controllers that are to be told. Service points ask the name table of
 -- controller 0, which tells them.
 -- The law `messages_have_their_forms`: in every run of the world each message on a trail has the form of its
--- kind. Premises: actors and lines send nothing at priority 0, which is the system's; and an imported slot is
--- its container's owner's.
+-- kind; and all that is the system's stands on trails, whether it waits at a controller, in a lane or in an
+-- outbox, and no actor keeps such a message for later. Premises: actors and lines send nothing at priority 0,
+-- which is the system's; and for the forms an imported slot is its container's owner's.
 use Rattle.std.specs.Prelude.{◌≡◌, ℕ, ℤ, pos, ◌==◌, ◌⊎◌, true, false, List, [], ◌∷◌, slice_get, Contains, Some}
 use Rattle.room_kinds.specs.declared.message.Msg.{Msg}
 use Rattle.room_kinds.specs.declared.numbers.Endpoint.{Endpoint}
 use Rattle.room_kinds.specs.declared.system.SysKind.{SysKind}
 use Rattle.room_kinds.specs.declared.system.SysKind.TheVariants as kinds
 use Rattle.room_wiring.specs.declared.tables.Tables.{Tables}
-use Rattle.actor_merge.specs.Parties.{Line}
+use Rattle.actor_merge.specs.Mail.{Lane}
+use Rattle.actor_merge.specs.Parties.{Line, stamped}
 use Rattle.actor_merge.specs.World.{World, Placed}
 use Rattle.actor_duties.specs.Words.{whose, is_frame, is_endpoint, is_optional, is_part_of, owner_of}
-use Rattle.actor_duties.specs.Messages.{coded, Occupied, NotHere, StaleId, PortTaken}
+use Rattle.actor_duties.specs.Messages.{coded, Occupied, NotHere, StaleId, PortTaken, NameTaken, NotRegistered}
 use Rattle.actor_duties.specs.Frame.{is_announced, is_part_told}
 use Rattle.actor_world.specs.Behaviour.{Behaviour}
 use Rattle.actor_world.specs.Body.{Body}
@@ -62,6 +64,10 @@ AreOnLoan t here there i h = AreFrames i h × IsBetween t here there (record { p
 abbrev pub TellsLife : List ℤ → Type 0
 TellsLife numbers = (numbers ≡ pos 0 ∷ []) ⊎ (numbers ≡ pos 1 ∷ [])
 
+-- what a NameReply tells: 0, that the name table did as it was asked, or why it didn't
+abbrev pub TellsReply : List ℤ → Type 0
+TellsReply numbers = (numbers ≡ pos 0 ∷ []) ⊎ ((numbers ≡ coded NameTaken) ⊎ (numbers ≡ coded NotRegistered))
+
 -- one natural number
 abbrev pub TellsOne : List ℤ → Type 0
 TellsOne numbers = (n : ℕ) × (numbers ≡ pos n ∷ [])
@@ -93,7 +99,7 @@ FormOf t a b kinds.Register e y numbers = IsAsking t a b e y × TellsOne numbers
 FormOf t a b kinds.Withdraw e y numbers = IsAsking t a b e y × (numbers ≡ [])
 FormOf t a b kinds.Bound peer e numbers = IsTelling t a b e × (numbers ≡ [])
 FormOf t a b kinds.Ended peer e numbers = IsTelling t a b e × (numbers ≡ [])
-FormOf t a b kinds.NameReply y e numbers = IsTelling t a b e × (is_endpoint y e ≡ true) × TellsOne numbers
+FormOf t a b kinds.NameReply y e numbers = IsTelling t a b e × (is_endpoint y e ≡ true) × TellsReply numbers
 FormOf t a b kinds.PartMake o y numbers = (owner_of t o.slot.0 ≡ a) × (is_part_told t b o y ≡ true) × (numbers ≡ [])
 FormOf t a b kinds.PartEnd o y numbers = (owner_of t o.slot.0 ≡ a) × (is_part_told t b o y ≡ true) × (numbers ≡ [])
 
@@ -113,3 +119,19 @@ RunsSendForms M =
     → PlacesAreLocal t
     → (xs : List Placed) (end : World (Body M)) → RunsTo model t lines xs end
     → (a b : ℕ) (m : Msg) → Contains (trail end a b) m → HasForm t a b m
+
+-- the system messages of a world stand on trails alone: what is pending at a controller, in a lane or in an
+-- outbox is on the trail from its sender to its receiver, and no actor keeps one for later
+pub record StandOnTrails {M : Type 0} (w : World (Body M)) : Type 0 where
+  pub pending : (b p : ℕ) (m : Msg) → Contains ((w.controllers b).pending p) m → m.prio.0 ≡ 0
+      → Contains (trail w m.from.0 b) (stamped m.from.0 0 m)
+  pub lanes : (l : Lane) (m : Msg) → Contains (w.lanes l) m → m.prio.0 ≡ 0 → Contains (trail w l.sender l.receiver) (stamped l.sender 0 m)
+  pub outbox : (a : ℕ) (m : Msg) → Contains (w.controllers a).outbox m → m.prio.0 ≡ 0 → Contains (trail w a m.to.0) (stamped a 0 m)
+  pub deferred : (a s : ℕ) (m : Msg) → Contains ((w.controllers a).body.deferred s) m → (m.prio.0 == 0) ≡ false
+
+-- over every run of the world: system messages stand on trails alone
+abbrev pub RunsStandOnTrails : Type 0 → Type 0
+RunsStandOnTrails M =
+    (model : Behaviour M) (t : Tables) (lines : List Line) → IsOpen model → AreOpen lines
+    → (xs : List Placed) (end : World (Body M)) → RunsTo model t lines xs end
+    → StandOnTrails end
