@@ -1,4 +1,6 @@
 mod Codes
+mod Importable
+mod Imported
 mod Owners
 mod Places
 mod Slots

@@ -1,3 +1,4 @@
 pub mod Codes
+pub mod Imported
 pub mod Owners
 pub mod Places

@@ -1,10 +1,12 @@
 //! Laws that say definitions which go along a list or a tree again, in the words of their subject: which
-//! program a text has, which places a binding pairs, and who owns what stands at the end of a way.
+//! program a text has, which places a binding pairs, who owns what stands at the end of a way, and which ports an
+//! imported slot has.
 //!
 //! No code: the laws.
 #![tactic(auto)]
 
 ghost use Rattle.definition_laws.specs.Codes.{CodesHaveOneProgram};
+ghost use Rattle.definition_laws.specs.Imported.{ImportedSlotsHaveEndPorts};
 ghost use Rattle.definition_laws.specs.Owners.{OwnersHaveTheLongestMapping, SlotsAreOwned};
 ghost use Rattle.definition_laws.specs.Places.{BindingsTakeFreePlaces};
 
@@ -25,4 +27,10 @@ pub fn bindings_take_free_places()
 pub fn owners_have_the_longest_mapping()
     ensures ways { OwnersHaveTheLongestMapping }
     ensures slots { SlotsAreOwned }
+{}
+
+/// A port of an imported slot is no relay port and no service provision point. `frame` has one place there, an end
+/// port of the Interface as many as it declares, as at each slot of the class; all others have none.
+pub fn imported_slots_have_end_ports()
+    ensures { ImportedSlotsHaveEndPorts }
 {}
