@@ -1,0 +1,6 @@
+mod Inner
+mod Beside
+mod Serving
+mod Walking
+mod OnTrails
+mod Runs
