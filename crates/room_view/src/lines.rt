@@ -1,10 +1,11 @@
 //! Why a line of injections is refused, and what would be right there.
 use crate::page::{Named, Page};
+use crate::ports::{incoming, is_end, place_count, type_name};
 use crate::why::tell_meaning;
 use fault_places::line_meaning;
 use inject_reader::InjectFault;
-use room_kinds::{NumberType, PortKind, ReferenceKind, SlotId};
-use room_wiring::{ClassNames, PortNames, SignalNames, Wiring};
+use room_kinds::{ReferenceKind, SlotId};
+use room_wiring::{ClassNames, SignalNames, Wiring};
 use std::alloc::AllocError;
 
 /// The most names that are listed.
@@ -95,19 +96,6 @@ fn tell_paths(page: &mut Page, wiring: &Wiring, path: &[u8]) -> Result<(), Alloc
     Ok(())
 }
 
-fn type_name(number: NumberType) -> &'static [u8] {
-    match number {
-        NumberType::Int8 => b"int8",
-        NumberType::Int16 => b"int16",
-        NumberType::Int32 => b"int32",
-        NumberType::Uint8 => b"uint8",
-        NumberType::Uint16 => b"uint16",
-        NumberType::Uint32 => b"uint32",
-        NumberType::Boolean => b"boolean",
-        NumberType::Plain => b"number",
-    }
-}
-
 /// A signal with the types of its numbers.
 fn tell_signal(page: &mut Page, signal: &SignalNames) -> Result<(), AllocError> {
     page.put(b"    ")?;
@@ -117,30 +105,6 @@ fn tell_signal(page: &mut Page, signal: &SignalNames) -> Result<(), AllocError> 
         page.put(type_name(*number))?;
     }
     page.end_line()
-}
-
-/// The signals that come in at a port.
-fn incoming(port: &PortNames) -> &[SignalNames] {
-    if port.conjugated {
-        port.outgoing.as_slice()
-    } else {
-        port.incoming.as_slice()
-    }
-}
-
-fn is_end(port: &PortNames) -> bool {
-    matches!(port.kind, PortKind::End | PortKind::Internal)
-}
-
-/// How many places a port of a slot has; none where there is no such port.
-fn place_count(wiring: &Wiring, slot: SlotId, port: usize) -> u32 {
-    if u32::from(slot.0) >= wiring.slot_count() || port >= wiring.port_count(slot) {
-        return 0;
-    }
-    match u16::try_from(port) {
-        Ok(port) => wiring.places(slot, port),
-        Err(_) => 0,
-    }
 }
 
 /// The end ports of a class, with their places at a slot.

@@ -1,21 +1,26 @@
-//! The program `room_view`: tells people why a text is refused, and where.
+//! The program `room_view`: tells people why a text is refused, and where; and where messages can come in.
 //!
-//! `why MODEL [INJECT]` writes a page to standard output. The status is that of `room` for these files: 0 where
+//! `why MODEL [INJECT]` and `doors MODEL` write a page to standard output; of a model that is refused both tell why. The
+//! status is that of `room` for these files: 0 where
 //! nothing is refused, 1 where the words have another form, 2 where the model is refused, 3 where the injections
 //! are, 5 for want of memory, 6 where a file wasn't read, 7 where the page wasn't written.
 #![tactic(auto)]
 
+mod doors;
 mod judge;
 mod lines;
 mod page;
+mod ports;
 mod why;
 
+use crate::doors::tell_doors;
 use crate::lines::tell_lines;
 use crate::page::{Named, Page};
 use crate::why::{tell_model, tell_refused};
 use inject_reader::read_injections;
 use room_outside::{FileShelf, OutSink, ReadRefused, read_whole, write_whole};
 use room_run::{LEAST_STACK, stack_for};
+use room_wiring::Wiring;
 use std::alloc::AllocError;
 use std::process::ExitCode;
 use std::rt::Env;
@@ -48,11 +53,22 @@ impl Status {
     }
 }
 
-/// The files that words name: that of a model, and that of injections or none.
+/// What is asked of a model that isn't refused.
 #[derive(Clone, Copy)]
-struct Files<'a> {
+enum Asked<'a> {
+    /// Nothing more.
+    Nothing,
+    /// Whether the injections of this file are refused, and why.
+    Injections(&'a str),
+    /// Where messages can come in.
+    Doors,
+}
+
+/// What the words ask: the file of a model, and what is asked of it.
+#[derive(Clone, Copy)]
+struct Question<'a> {
     model: &'a str,
-    injections: Option<&'a str>,
+    asked: Asked<'a>,
 }
 
 /// The words behind the program's name; none at all where one of them is no text.
@@ -66,18 +82,20 @@ fn words_of<R: Env + AllocGlobal>(rt: &R) -> io::Result<Vec<String>> {
     Ok(words.collect(rt.alloc())?)
 }
 
-fn files_of(words: &[String]) -> Option<Files<'_>> {
-    match words {
-        [command, model] if command.as_str() == "why" => Some(Files {
-            model: model.as_str(),
-            injections: None,
-        }),
-        [command, model, injections] if command.as_str() == "why" => Some(Files {
-            model: model.as_str(),
-            injections: Some(injections.as_str()),
-        }),
-        _ => None,
+fn question_of(words: &[String]) -> Option<Question<'_>> {
+    let (command, model, asked) = match words {
+        [command, model] if command.as_str() == "doors" => (command, model, Asked::Doors),
+        [command, model] => (command, model, Asked::Nothing),
+        [command, model, injections] => (command, model, Asked::Injections(injections.as_str())),
+        _ => return None,
+    };
+    if command.as_str() != "why" && !matches!(asked, Asked::Doors) {
+        return None;
     }
+    Some(Question {
+        model: model.as_str(),
+        asked,
+    })
 }
 
 /// The text of a file, or what is told of it and the status.
@@ -103,24 +121,13 @@ fn read(
     }
 }
 
-/// The page for files, and the status.
-fn tell(rt: HostRuntime, page: &mut Page, files: Files<'_>) -> Result<Status, AllocError> {
-    let alloc = rt.alloc();
-    let text = match read(rt, page, files.model, Status::ModelRefused)? {
-        Ok(text) => text,
-        Err(status) => return Ok(status),
-    };
-    let model = Named {
-        name: files.model,
-        text: text.as_slice(),
-    };
-    let Some(wiring) = tell_model(alloc, page, model)? else {
-        return Ok(Status::ModelRefused);
-    };
-    let Some(name) = files.injections else {
-        page.put_line(b"ok")?;
-        return Ok(Status::Done);
-    };
+/// Tells whether the injections of a file are refused over a wiring, and why.
+fn tell_injections(
+    rt: HostRuntime,
+    page: &mut Page,
+    wiring: &Wiring,
+    name: &str,
+) -> Result<Status, AllocError> {
     let lines = match read(rt, page, name, Status::InjectionsRefused)? {
         Ok(lines) => lines,
         Err(status) => return Ok(status),
@@ -129,30 +136,51 @@ fn tell(rt: HostRuntime, page: &mut Page, files: Files<'_>) -> Result<Status, Al
         name,
         text: lines.as_slice(),
     };
-    match read_injections(alloc, named.text, &wiring) {
+    match read_injections(rt.alloc(), named.text, wiring) {
         Ok(_) => {
             page.put_line(b"ok")?;
             Ok(Status::Done)
         }
         Err(fault) => {
-            tell_lines(page, named, &wiring, fault)?;
+            tell_lines(page, named, wiring, fault)?;
             Ok(Status::InjectionsRefused)
         }
     }
 }
 
+/// The page for a question, and the status.
+fn tell(rt: HostRuntime, page: &mut Page, question: Question<'_>) -> Result<Status, AllocError> {
+    let text = match read(rt, page, question.model, Status::ModelRefused)? {
+        Ok(text) => text,
+        Err(status) => return Ok(status),
+    };
+    let model = Named {
+        name: question.model,
+        text: text.as_slice(),
+    };
+    let Some(wiring) = tell_model(rt.alloc(), page, model)? else {
+        return Ok(Status::ModelRefused);
+    };
+    match question.asked {
+        Asked::Nothing => page.put_line(b"ok")?,
+        Asked::Doors => tell_doors(page, &wiring)?,
+        Asked::Injections(name) => return tell_injections(rt, page, &wiring, name),
+    }
+    Ok(Status::Done)
+}
+
 /// Writes the page for words.
 fn work(rt: HostRuntime, words: &[String]) -> Status {
     let mut notes = OutSink::errors(rt.stderr());
-    let Some(files) = files_of(words) else {
+    let Some(question) = question_of(words) else {
         let _ = write_whole(
             &mut notes,
-            b"room_view: words refused; why MODEL [INJECT]\n",
+            b"room_view: words refused; why MODEL [INJECT] or doors MODEL\n",
         );
         return Status::WordsRefused;
     };
     let mut page = Page::new(rt.alloc());
-    let Ok(status) = tell(rt, &mut page, files) else {
+    let Ok(status) = tell(rt, &mut page, question) else {
         let _ = write_whole(&mut notes, b"room_view: memory\n");
         return Status::Memory;
     };
@@ -164,10 +192,10 @@ fn work(rt: HostRuntime, words: &[String]) -> Status {
 
 /// How large a stack the work takes that words ask for.
 fn stack_of_words(rt: HostRuntime, words: &[String]) -> usize {
-    let Some(files) = files_of(words) else {
+    let Some(question) = question_of(words) else {
         return LEAST_STACK;
     };
-    match read_whole(rt.alloc(), &mut FileShelf::new(rt), files.model) {
+    match read_whole(rt.alloc(), &mut FileShelf::new(rt), question.model) {
         Ok(text) => stack_for(&text),
         Err(_) => LEAST_STACK,
     }

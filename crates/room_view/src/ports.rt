@@ -1,0 +1,42 @@
+//! What the wiring says of the ports of a slot.
+use room_kinds::{NumberType, PortKind, SlotId};
+use room_wiring::{PortNames, SignalNames, Wiring};
+
+/// How a type of numbers is written.
+pub(crate) fn type_name(number: NumberType) -> &'static [u8] {
+    match number {
+        NumberType::Int8 => b"int8",
+        NumberType::Int16 => b"int16",
+        NumberType::Int32 => b"int32",
+        NumberType::Uint8 => b"uint8",
+        NumberType::Uint16 => b"uint16",
+        NumberType::Uint32 => b"uint32",
+        NumberType::Boolean => b"boolean",
+        NumberType::Plain => b"number",
+    }
+}
+
+/// The signals that come in at a port.
+pub(crate) fn incoming(port: &PortNames) -> &[SignalNames] {
+    if port.conjugated {
+        port.outgoing.as_slice()
+    } else {
+        port.incoming.as_slice()
+    }
+}
+
+/// Whether messages from outside can come in at a port.
+pub(crate) fn is_end(port: &PortNames) -> bool {
+    matches!(port.kind, PortKind::End | PortKind::Internal)
+}
+
+/// How many places a port of a slot has; none where there is no such port.
+pub(crate) fn place_count(wiring: &Wiring, slot: SlotId, port: usize) -> u32 {
+    if u32::from(slot.0) >= wiring.slot_count() || port >= wiring.port_count(slot) {
+        return 0;
+    }
+    match u16::try_from(port) {
+        Ok(port) => wiring.places(slot, port),
+        Err(_) => 0,
+    }
+}
