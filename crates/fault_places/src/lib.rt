@@ -19,5 +19,5 @@ mod syntax;
 pub use items::Item;
 pub use meanings::{Meaning, chart_meaning, line_meaning, rule_meaning, wiring_meaning};
 pub use names::named_by;
-pub use search::{Causes, Judge, find_causes};
+pub use search::{Judge, find_causes};
 pub use syntax::{Unread, could_stand};

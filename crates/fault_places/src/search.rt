@@ -23,15 +23,6 @@ const MOST_TRIES: usize = 1_500;
 /// How much more is tried once there is a cause.
 const MOST_MORE: usize = 150;
 
-/// What a search found.
-#[derive(Debug, Drop)]
-pub struct Causes {
-    /// The causes, in the order of the text: parts whose absence mends the fault, alone or together.
-    pub items: Vec<Item>,
-    /// Whether the search ended before all was tried.
-    pub is_cut: bool,
-}
-
 /// Who knows whether a text has a fault.
 pub trait Judge {
     /// Whether the fault is gone from a text, and none before it has come.
@@ -257,15 +248,16 @@ fn suspects(
     }
 }
 
-/// The causes of a fault of a model whose text has these tokens; of one of an actor class, those in the class of this
-/// name.
+/// The causes of a fault of a model whose text has these tokens, in the order in which they were found: parts whose
+/// absence mends it, alone or together. Of a fault of an actor class, those in the class of this name. None where no
+/// part was found to be one within the trials that a search has.
 pub fn find_causes<J: Judge>(
     alloc: Global,
     text: &[u8],
     tokens: &[Token],
     class: Option<&[u8]>,
     judge: &J,
-) -> Result<Causes, AllocError> {
+) -> Result<Vec<Item>, AllocError> {
     let tries = (MOST_READ / text.len().max(1)).clamp(LEAST_TRIES, MOST_TRIES);
     let mut search = Search {
         alloc,
@@ -290,8 +282,5 @@ pub fn find_causes<J: Judge>(
             break;
         }
     }
-    Ok(Causes {
-        items: found,
-        is_cut: search.tries == 0,
-    })
+    Ok(found)
 }

@@ -19,39 +19,13 @@ use crate::page::{Named, Page};
 use crate::why::{tell_model, tell_refused};
 use inject_reader::read_injections;
 use room_outside::{FileShelf, OutSink, ReadRefused, read_whole, write_whole};
-use room_run::{LEAST_STACK, stack_for};
+use room_run::{LEAST_STACK, Status, stack_for};
 use room_wiring::Wiring;
 use std::alloc::AllocError;
 use std::process::ExitCode;
 use std::rt::Env;
 use std::thread::Builder;
 use std::{env, io};
-
-/// How a call ended.
-#[derive(Clone, Copy)]
-enum Status {
-    Done,
-    WordsRefused,
-    ModelRefused,
-    InjectionsRefused,
-    Memory,
-    ReadFault,
-    WriteFault,
-}
-
-impl Status {
-    fn number(self) -> u8 {
-        match self {
-            Status::Done => 0,
-            Status::WordsRefused => 1,
-            Status::ModelRefused => 2,
-            Status::InjectionsRefused => 3,
-            Status::Memory => 5,
-            Status::ReadFault => 6,
-            Status::WriteFault => 7,
-        }
-    }
-}
 
 /// What is asked of a model that isn't refused.
 #[derive(Clone, Copy)]

@@ -2,7 +2,7 @@
 use crate::judge::FaultOf;
 use crate::page::{Named, Page};
 use fault_places::{
-    Causes, Item, Meaning, Unread, chart_meaning, could_stand, find_causes, named_by, rule_meaning,
+    Item, Meaning, Unread, chart_meaning, could_stand, find_causes, named_by, rule_meaning,
     wiring_meaning,
 };
 use room_lexer::{LexFault, Mark, Token, TokenKind, lex};
@@ -140,14 +140,14 @@ fn tell_causes(
     page: &mut Page,
     named: Named<'_>,
     tokens: &[Token],
-    found: &Causes,
+    found: &[Item],
 ) -> Result<(), AllocError> {
     page.end_line()?;
-    if found.items.is_empty() {
+    if found.is_empty() {
         return page.put_line(b"no single part of the text is its cause");
     }
-    tell_items(page, named, tokens, found.items.as_slice())?;
-    let declared = named_by(alloc, named.text, tokens, found.items.as_slice())?;
+    tell_items(page, named, tokens, found)?;
+    let declared = named_by(alloc, named.text, tokens, found)?;
     if !declared.is_empty() {
         page.end_line()?;
         page.put_line(b"what it names:")?;
@@ -206,7 +206,7 @@ fn tell_fault(
     tell_head(alloc, page, named, fault)?;
     let judge = FaultOf { alloc, fault };
     let found = find_causes(alloc, named.text, tokens, class_of(fault), &judge)?;
-    tell_causes(alloc, page, named, tokens, &found)
+    tell_causes(alloc, page, named, tokens, found.as_slice())
 }
 
 /// Tells why the text of a model is refused; gives its wiring where it isn't.
