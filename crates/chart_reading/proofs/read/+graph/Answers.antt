@@ -31,3 +31,6 @@ pub read_graph-returns-clause-piece : goal.read_graph-returns-clause-piece
 read_graph-returns-clause-piece t c =
     items_end c.args.scope.now c.args.items.now.items c.loop-item.item-index (around_view c.in_ok-around.around) c.args.owner.now (piece_view c.loop-item.piece c.loop-item.names)
     (piece_of c.args.scope.now (graph_view c.args.items.now.items) c.args.owner.now (progress c.args.marks c.args.names.now)) (omega arith) c.loop-item.invariant.read
+
+pub read_graph-returns-in_err-add_item-clause-grown : goal.read_graph-returns-in_err-add_item-clause-grown
+read_graph-returns-in_err-add_item-clause-grown t c = grows_on c.args.names.now c.loop-item.names c.add_item.new.names c.loop-item.invariant.grown c.in_err-add_item.ensures.grown
