@@ -10,7 +10,7 @@ use Rattle.mail_core.proofs.Tied.{IsTied-at, log_at-map}
 use Rattle.mail_core.proofs.TieAll.{tied_all, stays_from}
 use Rattle.controller_actors.specs.Plants.{IsPlant}
 use Rattle.controller_actors.specs.declared.plant.Plant.{Plant}
-use Rattle.controller.specs.declared.controller.Controller.{Controller}
+use Rattle.controller.specs.View.{Controller}
 use Rattle.model_run.specs.declared.joined_round.seat.Seat.{Seat}
 use Rattle.model_run.specs.run_worker.Works.{Works}
 use Rattle.model_run.specs.joined_round.Joined.{AllStand, WorkedAt, HaveWorked, seat}

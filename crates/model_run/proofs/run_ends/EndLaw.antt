@@ -22,7 +22,7 @@ use Rattle.controller_mail.specs.MailState.{EnvironmentState, pending_of, messag
 use Rattle.controller_actors.specs.Plants.{model_of}
 use Rattle.controller_actors.specs.declared.plant.Plant.{Plant}
 use Rattle.controller.specs.Controllers.{run_plant, state_in}
-use Rattle.controller.specs.declared.controller.Controller.{Controller}
+use Rattle.controller.specs.View.{Controller}
 use Rattle.model_run.specs.run_rounds.Rounds.{PostsWithin}
 use Rattle.model_run.specs.run_rounds.LineParts.{CutAt, EndsPart}
 use Rattle.model_run.specs.run_rounds.Prompts.{PromptFrom}

@@ -14,7 +14,7 @@ use Rattle.inject_reader.specs.declared.inject_lines.accepted.What.{What}
 use Rattle.inject_reader.specs.declared.inject_lines.accepted.What.TheVariants as whats
 use Rattle.actor_world.specs.Journals.{left, priorities, number_of}
 use Rattle.controller_mail.specs.MailState.{pending_of, messages_in, has_messages}
-use Rattle.controller.specs.declared.controller.Controller.{Controller}
+use Rattle.controller.specs.View.{Controller}
 use Rattle.model_run.specs.run_rounds.Rounds.{IsPostWithin, PostsWithin}
 use Rattle.model_run.specs.part_posts.Items.{item_of, items_of}
 use Rattle.model_run.specs.run_ends.Told.{is_post_within, journals_in, left_from, FitsIn, AllFit, AreTold}

@@ -17,7 +17,7 @@ use Rattle.controller_mail.specs.MailState.{EnvironmentState, environment_of}
 use Rattle.controller_actors.specs.declared.plant.Plant.{Plant}
 use Rattle.controller.specs.Controllers.{run_plant, state_at}
 use Rattle.controller.proofs.Standing.{some_at, state_is}
-use Rattle.controller.specs.declared.controller.Controller.{Controller}
+use Rattle.controller.specs.View.{Controller}
 use Rattle.model_run.specs.run_rounds.LineParts.{CutAt, GoneTo, PostsPart}
 use Rattle.model_run.specs.run_rounds.Rounds.{PostsWithin}
 use Rattle.model_run.proofs.run_rounds.LinesLaw.{cut_start, posts_one_part, last_after, goes_on, goes_on_quiet, goes_later}

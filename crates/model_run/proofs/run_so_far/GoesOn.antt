@@ -26,7 +26,7 @@ use Rattle.model_run.proofs.run_rounds.RoundLaw.{parts_round, own_even}
 use Rattle.controller_actors.specs.Plants.{model_of}
 use Rattle.controller_actors.specs.declared.plant.Plant.{Plant}
 use Rattle.controller.specs.Controllers.{IsOf, Goes, EndGoes, run_plant, state_in, state_at}
-use Rattle.controller.specs.declared.controller.Controller.{Controller}
+use Rattle.controller.specs.View.{Controller}
 use Rattle.controller.proofs.Going.{goes_then}
 use Rattle.controller.proofs.Standing.{some_at, state_is}
 use Rattle.model_run.proofs.run_worker.WorkLaw.{fetched_of}

@@ -24,7 +24,7 @@ use Rattle.model_run.proofs.run_rounds.PromptLists.{NoTurns, no_turns_prompt}
 use Rattle.controller_actors.specs.Plants.{model_of}
 use Rattle.controller_actors.specs.declared.plant.Plant.{Plant}
 use Rattle.controller.specs.Controllers.{IsOf, Begins, run_plant, state_in, state_at}
-use Rattle.controller.specs.declared.controller.Controller.{Controller}
+use Rattle.controller.specs.View.{Controller}
 use Rattle.model_run.specs.run_so_far.SoFar.{world_of, RunSoFar}
 use Rattle.model_run.specs.run_start.Begun.{AllBegun}
 

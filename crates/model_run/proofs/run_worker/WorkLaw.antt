@@ -17,7 +17,7 @@ use Rattle.model_run.proofs.run_rounds.PolledLists.{polled_within, fetched_withi
 use Rattle.controller_actors.specs.declared.plant.Plant.{Plant}
 use Rattle.controller.specs.Controllers.{Goes, EndGoes, run_plant, state_in}
 use Rattle.controller.specs.Calls.{is_post, AreFetches, no_fetches, one_more, PostsAll, Polls, Turns, took_one, took_none}
-use Rattle.controller.specs.declared.controller.Controller.{Controller}
+use Rattle.controller.specs.View.{Controller}
 use Rattle.model_run.specs.run_worker.Works.{Counted, Did, Works}
 use Rattle.controller.proofs.Going.{goes_then, end_goes_then, end_goes_still}
 

@@ -10,7 +10,7 @@ use Rattle.model_run.specs.run_rounds.Rounds.{OnlyTurns}
 use Rattle.controller_actors.specs.declared.plant.Plant.{Plant}
 use Rattle.controller.specs.Controllers.{IsOf, Goes}
 use Rattle.controller.specs.Calls.{FetchesLeft}
-use Rattle.controller.specs.declared.controller.Controller.{Controller}
+use Rattle.controller.specs.View.{Controller}
 use Rattle.model_run.specs.run_worker.Works.{Works}
 
 -- a controller of each number, in order

@@ -5,7 +5,7 @@ use Rattle.mail_core.specs.Tied.{IsTied, StaysTied}
 use Rattle.controller_actors.specs.Plants.{IsPlant}
 use Rattle.controller_actors.specs.declared.plant.Plant.{Plant}
 use Rattle.controller.specs.Controllers.{IsOf}
-use Rattle.controller.specs.declared.controller.Controller.{Controller}
+use Rattle.controller.specs.View.{Controller}
 use Rattle.model_run.specs.declared.joined_round.seat.Seat.{Seat}
 use Rattle.model_run.specs.run_worker.Works.{Works}
 

@@ -5,7 +5,7 @@ use Rattle.journal.specs.declared.entry.Entry.TheVariants as entry
 use Rattle.journal.specs.declared.entry.Left.{Left}
 use Rattle.actor_world.specs.Journals.{left}
 use Rattle.controller_mail.specs.MailState.{messages_in}
-use Rattle.controller.specs.declared.controller.Controller.{Controller}
+use Rattle.controller.specs.View.{Controller}
 use Rattle.model_run.specs.run_rounds.Rounds.{PostsWithin}
 
 -- whether what an entry posts goes to one of so many controllers, at one of six priorities

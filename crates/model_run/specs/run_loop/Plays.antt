@@ -9,7 +9,7 @@ use Rattle.actor_world.specs.Journals.{Item, lines_of, last_part}
 use Rattle.controller_mail.specs.MailState.{EnvironmentState, environment_of}
 use Rattle.controller_actors.specs.declared.plant.Plant.{Plant}
 use Rattle.controller.specs.Controllers.{run_plant, state_at}
-use Rattle.controller.specs.declared.controller.Controller.{Controller}
+use Rattle.controller.specs.View.{Controller}
 use Rattle.model_run.specs.run_rounds.LineParts.{GoneTo}
 use Rattle.model_run.specs.run_rounds.Rounds.{PostsWithin}
 use Rattle.model_run.specs.run_so_far.SoFar.{world_of, RunSoFar, EndsPosted}

@@ -6,7 +6,7 @@ use Rattle.inject_reader.specs.declared.inject_lines.accepted.Line.{Line}
 use Rattle.mail_core.specs.EndLog.{EndLog}
 use Rattle.actor_world.specs.Journals.{Item}
 use Rattle.controller_actors.specs.declared.plant.Plant.{Plant}
-use Rattle.controller.specs.declared.controller.Controller.{Controller}
+use Rattle.controller.specs.View.{Controller}
 use Rattle.model_run.specs.declared.run_loop.state.Run.{Run}
 use Rattle.model_run.specs.joined_round.Joined.{AllStand, RoundDone}
 use Rattle.model_run.specs.part_posts.Items.{items_of}

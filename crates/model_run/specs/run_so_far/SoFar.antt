@@ -23,7 +23,7 @@ use Rattle.model_run.specs.run_rounds.Prompts.{PromptFrom, OwnFetched}
 use Rattle.controller_actors.specs.Plants.{model_of}
 use Rattle.controller_actors.specs.declared.plant.Plant.{Plant}
 use Rattle.controller.specs.Controllers.{run_plant, state_at}
-use Rattle.controller.specs.declared.controller.Controller.{Controller}
+use Rattle.controller.specs.View.{Controller}
 use Rattle.model_run.specs.joined_round.Joined.{AllStand, RoundDone}
 
 -- between two rounds no lane holds a message

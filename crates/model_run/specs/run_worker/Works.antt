@@ -6,7 +6,7 @@ use Rattle.model_run.specs.run_rounds.Rounds.{FetchesWithin}
 use Rattle.model_run.specs.run_rounds.Prompts.{PromptFrom, EndsAs}
 use Rattle.controller_actors.specs.declared.plant.Plant.{Plant}
 use Rattle.controller.specs.Controllers.{Goes, EndGoes}
-use Rattle.controller.specs.declared.controller.Controller.{Controller}
+use Rattle.controller.specs.View.{Controller}
 
 -- some steps of a controller and of its end: what its end posted and took is what its journal says, what it
 -- fetched came from the parties that there are, its turns were prompt, and it kept to its fuel

@@ -3,7 +3,7 @@ ghost use Rattle.std.specs.Prelude.{◌≡◌, ℕ, [], map, false, length, slic
 ghost use Rattle.model_run.specs.run_rounds.OneByOne.{StepsBelow};
 ghost use Rattle.controller_actors.specs.Plants.{IsPlant};
 ghost use Rattle.controller.specs.Controllers.{IsOf};
-ghost use Rattle.controller.specs.declared.controller.Controller.{Controller as Seated};
+ghost use Rattle.controller.specs.View.{Controller as Seated};
 ghost use Rattle.model_run.specs.joined_round.Joined.{FetchedAt, TurnedAt, LastTurn, IsReady};
 
 use controller::{Controller, Plant};

@@ -1,7 +1,7 @@
 use Rattle.std.proofs.Common.{Vec, Global, ◌≡◌, ◌++◌, [], ◌∷◌, List, length, map, ap, sym, ◌∙◌, subst, take, drop}
 use lib.Seq.{take-append_seam}
 use denote.Param.Send.{sendable}
-use Rattle.controller.specs.declared.controller.Controller.{Controller}
+use Rattle.controller.specs.View.{Controller}
 use Rattle.model_run.specs.declared.joined_round.seat.Seat.{Seat}
 use Rattle.model_run.specs.joined_round.Joined.{HaveWorked}
 use Rattle.model_run.specs.joined_round.Seats.{AreSeated, Each, HasWorked}

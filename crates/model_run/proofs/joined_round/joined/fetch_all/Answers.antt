@@ -5,7 +5,7 @@ use Rattle.model_run.specs.run_rounds.OneByOne.{StepsBelow}
 use Rattle.model_run.proofs.run_rounds.OneByOne.{slice_get-other}
 use Rattle.controller.specs.Controllers.{IsOf}
 use Rattle.controller.specs.Calls.{FetchesLeft}
-use Rattle.controller.specs.declared.controller.Controller.{Controller}
+use Rattle.controller.specs.View.{Controller}
 use Rattle.model_run.specs.joined_round.Joined.{FetchedAt}
 use Rattle.model_run.proofs.joined_round.JoinLaw.{stood, change_step, list_at}
 use Rattle.model_run.proofs.joined_round.joined.fetch_all.Goals as goal

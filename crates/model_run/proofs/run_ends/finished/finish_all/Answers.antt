@@ -5,7 +5,7 @@ use Rattle.journal.specs.declared.entry.Entry.{Entry}
 use Rattle.journal.specs.declared.entry.Left.{Left}
 use Rattle.actor_world.specs.Journals.{left}
 use Rattle.controller_mail.specs.MailState.{messages_in}
-use Rattle.controller.specs.declared.controller.Controller.{Controller}
+use Rattle.controller.specs.View.{Controller}
 use Rattle.model_run.specs.run_rounds.Rounds.{PostsWithin}
 use Rattle.model_run.specs.run_ends.Told.{is_post_within, AreTold}
 use Rattle.model_run.proofs.run_ends.ToldLaw.{posts_tested, reverse_last, told_more}
