@@ -1,7 +1,6 @@
 //! The joined step of all controllers.
 ghost use Rattle.std.specs.Prelude.{◌≡◌, ℕ, [], map, false, length, slice_get, Some, OnOk};
 ghost use Rattle.model_run.specs.run_rounds.OneByOne.{StepsBelow};
-ghost use Rattle.controller_actors.specs.Plants.{IsPlant};
 ghost use Rattle.controller.specs.Controllers.{IsOf};
 ghost use Rattle.controller.specs.View.{Controller as Seated};
 ghost use Rattle.model_run.specs.joined_round.Joined.{FetchedAt, TurnedAt, LastTurn, IsReady};
@@ -36,7 +35,6 @@ pub(crate) fn fetch_all(
 
 /// One turn, if the fuel is not spent.
 fn last_turn(controller: &mut Controller, plant: &Plant) -> Result<(), AllocError>
-    requires plant { IsPlant plant.now }
     requires ready { IsReady plant.now controller.old }
     ensures ok { OnOk result (LastTurn plant.now controller.old controller.new) }
     ensures of { IsOf plant.now controller.new }
@@ -50,7 +48,6 @@ fn last_turn(controller: &mut Controller, plant: &Plant) -> Result<(), AllocErro
 
 /// Each controller whose fuel is not spent takes a turn, if a message waits for one.
 pub(crate) fn turn_all(controllers: &mut Vec<Controller>, plant: &Plant) -> Result<(), AllocError>
-    requires plant { IsPlant plant.now }
     requires ready { (c : ℕ) (k : Seated) → slice_get controllers.old.items c ≡ Some k → IsReady plant.now k }
     ensures ok { OnOk result (StepsBelow (TurnedAt plant.now) (length controllers.old.items) (slice_get controllers.old.items) (slice_get controllers.new.items)) }
     ensures count { OnOk result (length controllers.new.items ≡ length controllers.old.items) }

@@ -2,7 +2,6 @@
 ghost use Rattle.std.specs.Prelude.{◌≡◌, ◌+◌, List, map, length, OnOk};
 ghost use Rattle.room_kinds.specs.declared.message.Msg.{Msg as Message};
 ghost use Rattle.mail_core.specs.EndLog.{EndLog};
-ghost use Rattle.controller_actors.specs.Plants.{IsPlant};
 ghost use Rattle.model_run.specs.joined_round.Joined.{AllStand, HavePosted, AreJoined, RoundDone};
 
 use crate::joined_round::at_once::work_at_once;
@@ -22,7 +21,6 @@ fn join_all<M: Mail>(
     office: M::Office,
     ends: Vec<M>,
 ) -> Result<(), AllocError>
-    requires plant { IsPlant plant.now }
     requires posted { HavePosted plant.now controllers.old.items }
     requires count { length ends.items ≡ length controllers.old.items + 1 }
     requires tied { M.tied office ends.items }
@@ -44,7 +42,6 @@ pub fn round_in_order<M: Mail + Drop>(
 ) -> Result<(), AllocError>
 where
     M::Office: Drop,
-    requires plant { IsPlant plant.now }
     requires stand { AllStand plant.now controllers.old.items }
     requires count { length ends.items ≡ length plant.now.wiring.controllers + 1 }
     requires tied { M.tied office ends.items }
@@ -65,7 +62,6 @@ pub fn round_at_once<M: Mail<Office = ()> + Send + Drop, G: Gate + Sync, R: Thre
     ends: Vec<M>,
     gate: &G,
 ) -> Result<(), AllocError>
-    requires plant { IsPlant plant.now }
     requires stand { AllStand plant.now controllers.old.items }
     requires count { length ends.items ≡ length plant.now.wiring.controllers + 1 }
     requires tied { M.tied tt ends.items }
