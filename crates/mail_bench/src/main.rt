@@ -5,7 +5,6 @@
 #![tactic(auto)]
 
 mod alone;
-mod message;
 mod shared;
 mod two;
 
