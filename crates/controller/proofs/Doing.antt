@@ -8,22 +8,19 @@ use Rattle.journal.specs.declared.entry.Entry.{Entry}
 use Rattle.mail_core.specs.EndLog.{EndLog, posting_all}
 use Rattle.mail_core.specs.Takes.{PollsBoxes}
 use Rattle.actor_merge.specs.Mail.{taken}
-use Rattle.actor_merge.specs.Parties.{Replays, Does}
+use Rattle.actor_merge.specs.Parties.{Replays}
 use Rattle.actor_world.specs.Journals.{fetches_since}
-use Rattle.actor_world.specs.Turns.{treat}
-use Rattle.controller_mail.specs.MailState.{MailState, TurnDone, state_of, with_body}
-use Rattle.controller_mail.specs.Steps.{TakesNext, EndsTurn}
+use Rattle.controller_mail.specs.MailState.{state_of}
 use Rattle.controller_mail.specs.Within.{AreWithin}
 use Rattle.controller_mail.specs.controller_moves.Moves.{FetchesEach, PostsFrom, PollsInto, count_at}
 use Rattle.controller_mail.proofs.controller_moves.Looked.{Took-boxes}
 use Rattle.controller_mail.proofs.controller_moves.Prompt.{count_at-cons}
-use Rattle.controller_mail.proofs.controller_moves.Replayed.{posted_as, turned_as, fetched_at, fetch_entries, PostsEach-journal, PostsEach-replays, posted-given, posts-take_nothing, posting_all-same, FetchesEach-journal, FetchesEach-replays, FetchesEach-turns, FetchesEach-outbox, taken-of, fetches-give_nothing, turn-journal, turn-does}
-use Rattle.controller_actors.specs.Plants.{model_of}
+use Rattle.controller_mail.proofs.controller_moves.Replayed.{posted_as, fetched_at, fetch_entries, PostsEach-journal, PostsEach-replays, posted-given, posts-take_nothing, posting_all-same, FetchesEach-journal, FetchesEach-replays, FetchesEach-turns, FetchesEach-outbox, taken-of, fetches-give_nothing}
 use Rattle.controller_actors.specs.Bodies.{body_of}
 use Rattle.controller_actors.specs.declared.plant.Plant.{Plant}
 use Rattle.controller.specs.Controllers.{Goes, EndGoes, run_plant, state_in}
-use Rattle.controller.specs.Calls.{is_post, AreFetches, no_fetches, one_more, PostsAll, PostsWithin, Polls, FetchesLeft, Turns, took_one}
-use Rattle.controller.specs.declared.controller.Controller.{Controller}
+use Rattle.controller.specs.Calls.{is_post, AreFetches, no_fetches, one_more, PostsAll, PostsWithin, Polls, FetchesLeft}
+use Rattle.controller.specs.View.{Controller}
 
 -- only the mail changed
 pub record SameActors (old new : Controller) : Type 0 where
@@ -31,6 +28,15 @@ pub record SameActors (old new : Controller) : Type 0 where
   pub fuel : new.fuel ≡ old.fuel
   pub works : new.failed ≡ false
   pub actors : new.actors ≡ old.actors
+
+-- so it is where the controller worked
+pub same_actors : (old new : Controller) → new ≡ record old { mail = new.mail } → old.failed ≡ false → SameActors old new
+same_actors old new is works = record {
+  me = ap (λ (k : Controller). k.me) is;
+  fuel = ap (λ (k : Controller). k.fuel) is;
+  works = ap (λ (k : Controller). k.failed) is ∙ works;
+  actors = ap (λ (k : Controller). k.actors) is;
+}
 
 -- entries that a mail did by itself
 goes_by_mail : (plant : Plant) (old new : Controller) (es : List Entry) → SameActors old new → new.mail.journal ≡ old.mail.journal ++ es
@@ -143,27 +149,3 @@ polls in_box boxes plant old new log log' count same party q =
       outbox = FetchesEach-outbox old.mail new.mail q.gave q.fetches;
       turns = FetchesEach-turns old.mail new.mail q.gave q.fetches;
     }
-
--- a turn was taken
-pub turn_taken : (plant : Plant) (old new : Controller) (mid : MailState) (m : Msg) (done : TurnDone) → new.me ≡ old.me → new.fuel ≡ old.fuel → new.failed ≡ false
-    → old.mail.outbox ≡ [] → TakesNext old.mail mid m → EndsTurn mid new.mail m.from m.stamp done
-    → treat (model_of plant) plant.wiring old.me.0 (body_of plant old.me.0 old.actors) m ≡ with_body done (body_of plant old.me.0 new.actors)
-    → Turns plant old new true
-turn_taken plant old new mid m done me fuel works empty takes ends treated =
-    let e = turned_as mid.clock m done in
-    let after = body_of plant old.me.0 new.actors in
-    let same : body_of plant old.me.0 new.actors ≡ body_of plant new.me.0 new.actors = ap (λ (c : ControllerId). body_of plant c.0 new.actors) (sym me) in
-    took_one e refl refl
-    (record {
-      me = me;
-      fuel = fuel;
-      works = works;
-      journal = turn-journal old.mail mid new.mail m done takes ends;
-      replays = λ lines. (
-        state_in plant new,
-        subst (λ b. Does (run_plant plant lines) old.me.0 (state_in plant old) e (state_of new.mail b)) same
-            (turn-does (run_plant plant lines) old.me.0 old.mail mid new.mail m done (body_of plant old.me.0 old.actors) after empty takes ends treated),
-        refl,
-      );
-    })
-    (ends.turns ∙ ap (λ (k : MailState). k.turns + 1) takes.others)

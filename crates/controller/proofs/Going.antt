@@ -8,7 +8,7 @@ use Rattle.actor_merge.specs.Parties.{Replays}
 use Rattle.actor_merge.proofs.Rounds.{replays_append, given-append, taken-append}
 use Rattle.controller_actors.specs.declared.plant.Plant.{Plant}
 use Rattle.controller.specs.Controllers.{Goes, EndGoes, run_plant, state_in}
-use Rattle.controller.specs.declared.controller.Controller.{Controller}
+use Rattle.controller.specs.View.{Controller}
 
 -- nothing was done
 pub goes_none : (plant : Plant) (k : Controller) → k.failed ≡ false → Goes plant k k []

@@ -3,3 +3,4 @@ pub mod Doing
 pub mod Making
 pub mod Waits
 pub mod Standing
+pub mod Keeping

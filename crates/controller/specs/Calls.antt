@@ -15,7 +15,7 @@ use Rattle.controller_mail.specs.Steps.{environment_after}
 use Rattle.controller_mail.specs.Within.{IsWithin}
 use Rattle.controller_actors.specs.declared.plant.Plant.{Plant}
 use Rattle.controller.specs.Controllers.{Goes, EndGoes}
-use Rattle.controller.specs.declared.controller.Controller.{Controller}
+use Rattle.controller.specs.View.{Controller}
 
 -- an entry posts
 abbrev pub is_post : Entry → Bool

@@ -18,7 +18,7 @@ use Rattle.controller_mail.specs.Within.{WaitsWithin}
 use Rattle.controller_actors.specs.Plants.{model_of}
 use Rattle.controller_actors.specs.Bodies.{IsWell, body_of}
 use Rattle.controller_actors.specs.declared.plant.Plant.{Plant}
-use Rattle.controller.specs.declared.controller.Controller.{Controller}
+use Rattle.controller.specs.View.{Controller}
 
 -- what a run of the plant over these lines is made of
 abbrev pub run_plant : Plant → List Line → RunPlant (Body Actor)

@@ -1,3 +1,4 @@
+pub mod View
 pub mod Controllers
 pub mod Calls
 pub mod States

@@ -1,28 +1,39 @@
 //! A controller.
-ghost use Rattle.std.specs.Prelude.{◌≡◌, ◌+◌, ◌<◌, ◌==◌, ◌↔◌, ◌≤◌, [], not, length, All, true, IsErr, IsTrue, IfOk, OnOk, OnErr};
+ghost use Rattle.std.specs.Prelude.{◌≡◌, ◌+◌, ◌<◌, ◌==◌, ◌↔◌, ◌≤◌, [], not, length, All, false, true, IsErr, IsTrue, IfOk, OnOk, OnErr, MatchOption};
 ghost use Rattle.std.specs.List.{list_any};
 ghost use Rattle.controller_mail.specs.MailState.{HasPriority, has_messages, messages_in};
+ghost use Rattle.controller_mail.specs.Steps.{Fetches, Posts};
 ghost use Rattle.mail_core.specs.Tied.{IsTied, StaysTied};
 ghost use Rattle.controller.specs.Controllers.{IsOf, Begins};
 ghost use Rattle.controller.specs.Calls.{PostsAll, Polls, FetchesLeft, Turns};
 
-use controller_actors::{Actors, Plant};
-use controller_mail::{ControllerMail, fetch_all, poll_boxes, post_outbox};
+use crate::controller_state::ControllerState;
+use crate::moves::{fetch_all, poll_boxes, post_outbox};
+use controller_actors::Plant;
 use journal::{Entry, Journal};
 use mail_core::Mail;
-use room_kinds::{ControllerId, Msg};
+use room_kinds::{ControllerId, Msg, Sequence};
 use std::alloc::{AllocError, Global};
+use std::marker::Model;
 
-/// A controller of a plant, with its fuel: the most turns that it takes. After a refusal for want of memory
-/// it gives no other answer.
+/// A controller of a plant, with its fuel, which is the most turns that it takes, and its journal: each call
+/// keeps the entries that the state gives. After a refusal for want of memory it gives no other answer.
 #[derive(Drop)]
 pub struct Controller {
     alloc: Global,
-    me: ControllerId,
     fuel: u64,
     failed: bool,
-    mail: ControllerMail,
-    actors: Actors,
+    state: ControllerState,
+    journal: Vec<Entry>,
+}
+
+impl Model for Controller {
+    ghost use Rattle.controller.specs.View.{Controller as Shown};
+    ghost use Rattle.controller.specs.States.{mail_with};
+
+    ghost Value = { Shown };
+
+    ghost view = { λ k. record { me = k.state.me; fuel = k.fuel; failed = k.failed; mail = mail_with k.state k.journal.items; actors = k.state.actors } };
 }
 
 impl Controller {
@@ -38,16 +49,64 @@ impl Controller {
         ensures begins { IfOk result (λ k. Begins plant.now me fuel k) }
         ensures of { IfOk result (λ k. IsOf plant.now k) }
     {
-        let begun = Actors::start(alloc, plant, me)?;
-        let mail = ControllerMail::started(alloc, begun.sent, begun.entries)?;
+        let begun = ControllerState::start(alloc, plant, me)?;
         Ok(Controller {
             alloc,
-            me,
             fuel,
             failed: false,
-            mail,
-            actors: begun.actors,
+            state: begun.state,
+            journal: begun.entries.into_vec(),
         })
+    }
+
+    /// Fetches a message, and keeps the entry. After want of memory nothing has changed.
+    pub(crate) fn fetch(&mut self, m: Msg) -> Result<(), AllocError>
+        requires { m.prio.0 < 6 }
+        ensures ok { OnOk result (Fetches self.old.mail self.new.mail m) }
+        ensures others { OnOk result (self.new ≡ record self.old { mail = self.new.mail }) }
+        ensures err { OnErr result (self.new ≡ self.old) }
+    {
+        self.journal.reserve(1)?;
+        let entry = self.state.fetch(m)?;
+        self.journal.push_reserved(entry);
+        Ok(())
+    }
+
+    /// Posts the front of the outbox, if there is one, and keeps the entry: the message is given as it goes on
+    /// its way. After want of memory nothing has changed.
+    pub(crate) fn post(&mut self) -> Result<Option<Msg>, AllocError>
+        ensures ok { IfOk result (λ o. MatchOption o ((self.old.mail.outbox ≡ []) × (self.new ≡ self.old)) (λ m. Posts self.old.me.0 self.old.mail self.new.mail m)) }
+        ensures others { OnOk result (self.new ≡ record self.old { mail = self.new.mail }) }
+        ensures err { OnErr result (self.new ≡ self.old) }
+    {
+        self.journal.reserve(1)?;
+        let Some(posted) = self.state.post()? else {
+            return Ok(None);
+        };
+        self.journal.push_reserved(posted.entry);
+        Ok(Some(posted.message))
+    }
+
+    /// The controller has failed for want of memory: it gives no other answer from now on.
+    fn fail(&mut self)
+        ensures { self.new ≡ record self.old { failed = true } }
+    {
+        self.failed = true;
+    }
+
+    /// A controller that has failed answers want of memory again.
+    fn refuse_if_failed(&self) -> Result<(), AllocError>
+        ensures works { OnOk result (self.now.failed ≡ false) }
+        ensures refused { OnErr result (self.now.failed ≡ true) }
+    {
+        if self.failed {
+            return Err(AllocError);
+        }
+        Ok(())
+    }
+
+    fn allocator(&self) -> Global {
+        self.alloc
     }
 
     /// Posts all that the outbox holds.
@@ -67,13 +126,14 @@ impl Controller {
         ensures err { OnErr result (self.new.failed ≡ true) }
         ensures tied { StaysTied M.tied (M.log end.old).party office.old office.new end.old end.new }
     {
-        if self.failed {
-            return Err(AllocError);
+        self.refuse_if_failed()?;
+        match post_outbox(self, office, end) {
+            Ok(()) => Ok(()),
+            Err(refused) => {
+                self.fail();
+                Err(refused)
+            }
         }
-        self.failed = true;
-        post_outbox(&mut self.mail, self.me, office, end)?;
-        self.failed = false;
-        Ok(())
     }
 
     /// Looks at every mailbox once, in the order of a poll, and fetches from each until it gives nothing or
@@ -83,7 +143,7 @@ impl Controller {
         plant: &Plant,
         office: &mut M::Office,
         end: &mut M,
-    ) -> Result<u32, AllocError>
+    ) -> Result<usize, AllocError>
         requires of { IsOf plant.now self.old }
         requires party { (M.log end.old).party ≡ self.old.me.0 }
         requires parties { (M.log end.old).parties ≡ length plant.now.wiring.controllers + 1 }
@@ -94,14 +154,16 @@ impl Controller {
         ensures err { OnErr result (self.new.failed ≡ true) }
         ensures tied { StaysTied M.tied (M.log end.old).party office.old office.new end.old end.new }
     {
-        if self.failed {
-            return Err(AllocError);
-        }
-        self.failed = true;
+        self.refuse_if_failed()?;
+        let alloc = self.allocator();
         let controllers = plant.wiring.controller_count();
-        let count = poll_boxes(self.alloc, &mut self.mail, controllers, office, end)?;
-        self.failed = false;
-        Ok(count)
+        match poll_boxes(alloc, self, controllers, office, end) {
+            Ok(count) => Ok(count),
+            Err(refused) => {
+                self.fail();
+                Err(refused)
+            }
+        }
     }
 
     /// Fetches messages that were left in the mail, in order.
@@ -113,13 +175,14 @@ impl Controller {
         ensures failed { self.old.failed ≡ true → IsErr result }
         ensures err { OnErr result (self.new.failed ≡ true) }
     {
-        if self.failed {
-            return Err(AllocError);
+        self.refuse_if_failed()?;
+        match fetch_all(self, plant.wiring.controller_count(), left) {
+            Ok(()) => Ok(()),
+            Err(refused) => {
+                self.fail();
+                Err(refused)
+            }
         }
-        self.failed = true;
-        fetch_all(&mut self.mail, plant.wiring.controller_count(), left)?;
-        self.failed = false;
-        Ok(())
     }
 
     /// Takes a turn: of the pending lists from priority 0 to 5 the first that isn't empty gives its front,
@@ -132,16 +195,31 @@ impl Controller {
         ensures failed { self.old.failed ≡ true → IsErr result }
         ensures err { OnErr result (self.new.failed ≡ true) }
     {
-        if self.failed {
-            return Err(AllocError);
+        self.refuse_if_failed()?;
+        match self.take_turn(plant) {
+            Ok(took) => Ok(took),
+            Err(refused) => {
+                self.fail();
+                Err(refused)
+            }
         }
-        let Some(m) = self.mail.take_next() else {
+    }
+
+    /// A turn of a controller that works, whose entry is kept. After want of memory only its number is what it
+    /// was.
+    fn take_turn(&mut self, plant: &Plant) -> Result<bool, AllocError>
+        requires of { IsOf plant.now self.old }
+        requires works { self.old.failed ≡ false }
+        requires outbox { self.old.mail.outbox ≡ [] }
+        ensures ok { IfOk result (λ took. Turns plant.now self.old self.new took) }
+        ensures of { OnOk result (IsOf plant.now self.new) }
+        ensures me { self.new.me ≡ self.old.me }
+    {
+        self.journal.reserve(1)?;
+        let Some(entry) = self.state.turn(plant)? else {
             return Ok(false);
         };
-        self.failed = true;
-        let done = self.actors.treat(plant, self.me, &m)?;
-        self.mail.end_turn(m.from, m.stamp, done)?;
-        self.failed = false;
+        self.journal.push_reserved(entry);
         Ok(true)
     }
 
@@ -149,42 +227,42 @@ impl Controller {
     pub fn turns(&self) -> u64
         ensures { result ≡ self.now.mail.turns }
     {
-        self.mail.turns()
+        self.state.mail.turns()
     }
 
     /// The greatest stamp so far. It takes no memory.
     pub fn clock(&self) -> u64
         ensures { result ≡ self.now.mail.clock }
     {
-        self.mail.clock()
+        self.state.mail.clock()
     }
 
     /// Whether a message waits for its turn. It takes no memory.
     pub fn has_pending(&self) -> bool
         ensures { result ≡ list_any has_messages self.now.mail.pending }
     {
-        self.mail.has_pending()
+        self.state.mail.has_pending()
     }
 
     /// Whether a message waits to be posted. It takes no memory.
     pub fn has_outbox(&self) -> bool
         ensures { result ≡ not (length self.now.mail.outbox == 0) }
     {
-        self.mail.has_outbox()
+        self.state.mail.has_outbox()
     }
 
     /// Whether as many turns were taken as the fuel allows. It takes no memory.
     pub fn is_spent(&self) -> bool
         ensures { IsTrue result ↔ (self.now.fuel ≤ self.now.mail.turns) }
     {
-        self.mail.is_spent(self.fuel)
+        self.state.mail.is_spent(self.fuel)
     }
 
     /// The entries of the journal so far, oldest first. It takes no memory.
     pub fn entries(&self) -> &[Entry]
         ensures { result.now ≡ self.now.mail.journal }
     {
-        self.mail.entries()
+        self.journal.as_slice()
     }
 
     /// The journal, and the messages that wait for their turn: those of lower priorities first, and of one
@@ -194,6 +272,7 @@ impl Controller {
         ensures pending { IfOk result (λ parts. parts.1.items ≡ messages_in self.mail.pending) }
         ensures six { IfOk result (λ parts. length self.mail.pending ≡ 6) }
     {
-        self.mail.finish()
+        let pending = self.state.into_pending()?;
+        Ok((Sequence::from(self.journal), pending))
     }
 }

@@ -8,6 +8,7 @@
 mod controller;
 mod controller_state;
 mod environment;
+mod moves;
 pub mod quiet_counts;
 
 pub use controller::Controller;

@@ -2,9 +2,9 @@
 ghost use Rattle.std.specs.Prelude.{◌≡◌, ◌+◌, ◌<◌};
 ghost use Rattle.mail_core.specs.Tied.{IsTied, StaysTied};
 
-use crate::message::message;
 use mail_core::Mail;
 use mail_core::caller::close_unused;
+use plain_messages::message;
 use room_kinds::Msg;
 use std::alloc::{AllocError, Global};
 
@@ -46,7 +46,7 @@ fn carry<M: Mail>(
 {
     let mut found = 0u64;
     for number in 0..count {
-        if post_and_take(end, office, message(alloc, party, party, number), b)? {
+        if post_and_take(end, office, message(alloc, party, party, 3, number), b)? {
             found = found.wrapping_add(1);
         }
     }

@@ -6,7 +6,6 @@
 #![tactic(auto)]
 
 mod alone;
-mod message;
 mod shared;
 mod two;
 

@@ -2,8 +2,8 @@
 ghost use Rattle.std.specs.Prelude.{◌≡◌, ◌+◌, ◌<◌};
 ghost use Rattle.mail_seg.specs.Ends.{log_of, shared_boxes};
 
-use crate::message::message;
 use mail_seg::MailSeg;
+use plain_messages::message;
 use std::alloc::{AllocError, Global};
 use std::sync::Wait;
 use std::sync::atomic::{AtomicBool, Ordering};
@@ -17,7 +17,7 @@ fn carry<R: Wait>(rt: &R, alloc: Global, end: &mut MailSeg, count: u64) -> Resul
 {
     let mut found = 0u64;
     for number in 0..count {
-        if end.post(rt, message(alloc, 0, 0, number)).is_err() {
+        if end.post(rt, message(alloc, 0, 0, 3, number)).is_err() {
             return Err(AllocError);
         }
         let some = end.take(rt, 2).is_some();
@@ -40,7 +40,7 @@ fn send<R: Wait>(rt: &R, alloc: Global, end: &mut MailSeg, count: u64) -> Result
     requires { ((log_of end.old).party ≡ 0) × ((log_of end.old).parties ≡ 3) }
 {
     for number in 0..count {
-        if end.post(rt, message(alloc, 0, 1, number)).is_err() {
+        if end.post(rt, message(alloc, 0, 1, 3, number)).is_err() {
             return Err(AllocError);
         }
     }

@@ -2,8 +2,8 @@
 ghost use Rattle.std.specs.Prelude.{◌≡◌, ◌+◌, ◌<◌};
 ghost use Rattle.mail_core.specs.Tied.{IsTied};
 
-use crate::message::message;
 use mail_core::Mail;
+use plain_messages::message;
 use std::alloc::{AllocError, Global};
 use std::sync::atomic::{AtomicBool, Ordering};
 use std::thread;
@@ -24,7 +24,7 @@ fn send<M: Mail<Office = ()>>(
 {
     for number in 0..count {
         if end
-            .post(&mut (), message(alloc, party, to, number))
+            .post(&mut (), message(alloc, party, to, 3, number))
             .is_err()
         {
             return Err(AllocError);

@@ -1,11 +1,12 @@
 //! The calls of a mailbox, over any mail on one thread.
 ghost use Rattle.std.specs.Prelude.{◌≡◌, ◌+◌, ◌<◌, length, OnOk};
 
-use crate::messages::{message, stamps};
+use crate::messages::stamps;
 use mail_core::caller::{close_unused, exchange, post_at};
 use mail_core::poll::poll;
 use mail_core::{Mail, MailLocal};
 use mail_lanes::MailLanes;
+use plain_messages::message;
 use room_kinds::Msg;
 use std::alloc::{AllocError, Global};
 use std::process::Abort;

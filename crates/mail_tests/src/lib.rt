@@ -9,6 +9,7 @@
 #[cfg(test)]
 mod call_tests;
 mod halves;
+#[cfg(test)]
 mod messages;
 mod round;
 mod seat;

@@ -3,8 +3,8 @@ ghost use Rattle.std.specs.Prelude.{◌≡◌, ◌+◌, ◌<◌};
 ghost use Rattle.mail_core.specs.Tied.{IsTied, StaysTied};
 ghost use Rattle.mail_tests.specs.Seats.{CanAct, Acted};
 
-use crate::messages::message;
 use mail_core::Mail;
+use plain_messages::message;
 use room_kinds::Msg;
 use std::alloc::{AllocError, Global};
 

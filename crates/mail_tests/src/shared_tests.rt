@@ -1,6 +1,7 @@
 //! The calls of the mailbox whose boxes several senders share; they may wait.
-use crate::messages::{message, stamps};
+use crate::messages::stamps;
 use mail_seg::{MailSeg, close_unused, exchange, post_at};
+use plain_messages::message;
 use std::test::Fail;
 
 #[test]

@@ -1,6 +1,5 @@
 //! A run of all controllers on the calling thread, one after another.
 ghost use Rattle.std.specs.Prelude.{◌≡◌, IfOk};
-ghost use Rattle.controller_actors.specs.Plants.{IsPlant};
 ghost use Rattle.model_run.specs.part_source.Calls.{seen_in, Asked};
 ghost use Rattle.model_run.specs.part_source.Parts.{IsPart};
 ghost use Rattle.model_run.specs.run_ends.Runs.{IsRun, RanThrough};
@@ -23,7 +22,6 @@ pub fn run_local(
     lines: &[Line],
     fuel: u64,
 ) -> Result<Journals, AllocError>
-    requires plant { IsPlant plant.now }
     ensures { IfOk result (λ j. IsRun plant.now lines.now fuel j) }
 {
     run_in_order::<MailLocal>(alloc, plant, lines, fuel)
@@ -38,7 +36,6 @@ pub fn run_in_order<M: Mail + Drop>(
 ) -> Result<Journals, AllocError>
 where
     M::Office: Drop,
-    requires plant { IsPlant plant.now }
     ensures { IfOk result (λ j. IsRun plant.now lines.now fuel j) }
 {
     let mut source = FixedLines::new(lines);
@@ -54,7 +51,6 @@ pub fn run_parts_in_order<M: Mail + Drop, S: PartSource>(
 ) -> Result<Journals, AllocError>
 where
     M::Office: Drop,
-    requires plant { IsPlant plant.now }
     requires first { S.given source.old ≡ S.stands_at source.old }
     requires part { IsPart (S.stands_at source.old) }
     ensures ran { IfOk result (λ j. RanThrough plant.now (S.given source.new) (S.left source.new) fuel j) }

@@ -2,6 +2,5 @@
 
 mod finished;
 mod telling;
-mod within;
 
 pub use telling::told;

@@ -4,7 +4,6 @@
 //! journal says.
 ghost use Rattle.std.specs.Prelude.{◌≡◌, ◌+◌, ◌<◌, [], length, IfOk, OnOk};
 ghost use Rattle.mail_core.specs.Tied.{IsTied, StaysTied};
-ghost use Rattle.controller_actors.specs.Plants.{IsPlant};
 ghost use Rattle.controller.specs.Controllers.{IsOf};
 ghost use Rattle.model_run.specs.run_worker.Works.{Counted, Did, Works};
 
@@ -28,7 +27,6 @@ fn poll_and_turn<M: Mail, G: Gate>(
     gate: &G,
 ) -> Result<bool, AllocError>
     requires number { number ≡ controller.old.me.0 }
-    requires plant { IsPlant plant.now }
     requires of { IsOf plant.now controller.old }
     requires party { (M.log end.old).party ≡ controller.old.me.0 }
     requires parties { (M.log end.old).parties ≡ length plant.now.wiring.controllers + 1 }
@@ -58,7 +56,6 @@ fn step<M: Mail, G: Gate>(
     gate: &G,
 ) -> Result<bool, AllocError>
     requires number { number ≡ controller.old.me.0 }
-    requires plant { IsPlant plant.now }
     requires of { IsOf plant.now controller.old }
     requires party { (M.log end.old).party ≡ controller.old.me.0 }
     requires parties { (M.log end.old).parties ≡ length plant.now.wiring.controllers + 1 }
@@ -87,7 +84,6 @@ pub fn work<M: Mail, G: Gate>(
     gate: &G,
 ) -> Result<(), AllocError>
     requires number { number ≡ controller.old.me.0 }
-    requires plant { IsPlant plant.now }
     requires of { IsOf plant.now controller.old }
     requires party { (M.log end.old).party ≡ controller.old.me.0 }
     requires parties { (M.log end.old).parties ≡ length plant.now.wiring.controllers + 1 }

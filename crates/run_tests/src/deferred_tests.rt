@@ -1,6 +1,6 @@
 //! Messages that actors defer.
-use crate::messages::own_message;
 use actor_commands::{DeferredMessages, Recalled};
+use plain_messages::message;
 use room_kinds::{Note, Notes};
 use std::test::Fail;
 
@@ -10,9 +10,9 @@ fn deferred_messages_come_back(rt: HostRuntime) -> Result<(), Fail> {
     let mut deferred = DeferredMessages::new(alloc);
     let mut back = Recalled::new(alloc);
     let mut notes = Notes::new(alloc);
-    deferred.defer(false, Some(&own_message(alloc, 3, 1, 1)), &mut notes)?;
-    deferred.defer(false, Some(&own_message(alloc, 3, 1, 2)), &mut notes)?;
-    deferred.defer(false, Some(&own_message(alloc, 3, 1, 3)), &mut notes)?;
+    deferred.defer(false, Some(&message(alloc, 0, 0, 3, 1)), &mut notes)?;
+    deferred.defer(false, Some(&message(alloc, 0, 0, 3, 2)), &mut notes)?;
+    deferred.defer(false, Some(&message(alloc, 0, 0, 3, 3)), &mut notes)?;
     deferred.recall(&mut back, &mut notes)?;
     deferred.recall_all(&mut back, &mut notes)?;
     assert_eq!(rt; deferred.len(), 0);

@@ -5,8 +5,6 @@
 #[cfg(test)]
 mod deferred_tests;
 #[cfg(test)]
-mod messages;
-#[cfg(test)]
 mod move_tests;
 #[cfg(test)]
 mod quiet_tests;

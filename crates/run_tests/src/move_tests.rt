@@ -3,10 +3,10 @@ ghost use Rattle.std.specs.Prelude.{◌≡◌, [], ◌∷◌, IfOk};
 ghost use Rattle.mail_core.specs.Tied.{IsTied};
 ghost use Rattle.controller_mail.specs.Within.{WaitsWithin};
 
-use crate::messages::own_message;
 use controller_mail::{ControllerMail, fetch_all, poll_boxes, post_outbox};
 use journal::Journal;
 use mail_core::{Mail, MailLocal};
+use plain_messages::message;
 use room_kinds::{ControllerId, Msg, Outbox};
 use std::alloc::{AllocError, Global};
 use std::test::Fail;
@@ -51,12 +51,12 @@ fn mail_with(alloc: Global, m: Msg) -> Result<ControllerMail, AllocError>
 #[test]
 fn what_a_controller_posts_to_itself_comes(rt: HostRuntime) -> Result<(), Fail> {
     let alloc = rt.alloc();
-    let mut mail = mail_with(alloc, own_message(alloc, 3, 4, 7))?;
+    let mut mail = mail_with(alloc, message(alloc, 0, 0, 3, 4))?;
     let (mut office, mut ends) = MailLocal::set_up(alloc, 2)?;
     let count = post_and_poll(alloc, &mut mail, &mut office, &mut ends[0])?;
     assert_eq!(rt; count, 1);
     let mut left = Vec::new(alloc);
-    left.push(own_message(alloc, 3, 4, 7))?;
+    left.push(message(alloc, 0, 0, 3, 4))?;
     fetch_all(&mut mail, 1, left)?;
     assert_eq!(rt; mail.clock(), 5);
     Ok(())

@@ -1,9 +1,9 @@
 //! Whether messages are on their way.
 ghost use Rattle.std.specs.Prelude.{◌≡◌, IfOk, length, vec_len};
 
-use crate::messages::message;
 use controller::{Controller, Environment, Plant, has_message, is_quiet};
 use mail_core::{Mail, MailLocal};
+use plain_messages::message;
 use room_kinds::{ControllerId, Sequence};
 use room_wiring::{Label, Tables, Wiring};
 use std::alloc::{AllocError, Global};
@@ -64,7 +64,7 @@ fn a_post_waits_for_its_receiver(rt: HostRuntime) -> Result<(), Fail> {
         &plant,
         &mut office,
         &mut ends[2],
-        message(alloc, ControllerId(2), ControllerId(1), 3, 0, 0),
+        message(alloc, 2, 1, 3, 0),
     )?;
     assert!(rt; !is_quiet(&all, &environment));
     assert!(rt; has_message(&all, &environment, ControllerId(1)));

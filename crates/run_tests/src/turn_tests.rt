@@ -1,7 +1,7 @@
 //! A controller's mail, and that of the environment.
-use crate::messages::own_message;
 use controller_mail::{ControllerMail, EnvironmentMail, TurnResult};
 use journal::{Did, Journal};
+use plain_messages::message;
 use room_kinds::{ControllerId, Notes, Outbox, Sequence, Stamp};
 use std::test::Fail;
 
@@ -9,13 +9,13 @@ use std::test::Fail;
 fn the_lowest_priority_has_its_turn_first(rt: HostRuntime) -> Result<(), Fail> {
     let alloc = rt.alloc();
     let mut mail = ControllerMail::started(alloc, Outbox::new(alloc), Journal::new(alloc))?;
-    mail.fetch(own_message(alloc, 3, 4, 7))?;
-    mail.fetch(own_message(alloc, 1, 2, 8))?;
+    mail.fetch(message(alloc, 0, 0, 3, 4))?;
+    mail.fetch(message(alloc, 0, 0, 1, 2))?;
     assert_eq!(rt; mail.clock(), 6);
     let first = mail.take_next().ok_or("pending")?;
-    assert_eq!(rt; first.signal, 8);
+    assert_eq!(rt; first.stamp, Stamp(2));
     let mut sent = Outbox::new(alloc);
-    sent.push(own_message(alloc, 3, 0, 9))?;
+    sent.push(message(alloc, 0, 0, 3, 0))?;
     let done = TurnResult {
         sent,
         back: Sequence::new(alloc),
@@ -36,7 +36,7 @@ fn the_lowest_priority_has_its_turn_first(rt: HostRuntime) -> Result<(), Fail> {
 fn the_environment_posts(rt: HostRuntime) -> Result<(), Fail> {
     let mut environment = EnvironmentMail::new(rt.alloc());
     environment.catch_up(5);
-    let posted = environment.post(ControllerId(1), own_message(rt.alloc(), 3, 0, 7))?;
+    let posted = environment.post(ControllerId(1), message(rt.alloc(), 0, 0, 3, 0))?;
     assert_eq!(rt; posted.stamp, Stamp(6));
     Ok(())
 }

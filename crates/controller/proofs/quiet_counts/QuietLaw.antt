@@ -16,7 +16,7 @@ use Rattle.controller_mail.specs.MailState.{EnvironmentState, pending_of, has_me
 use Rattle.controller_actors.specs.declared.plant.Plant.{Plant}
 use Rattle.controller.specs.Controllers.{run_plant}
 use Rattle.controller.specs.Calls.{is_fetch}
-use Rattle.controller.specs.declared.controller.Controller.{Controller}
+use Rattle.controller.specs.View.{Controller}
 use Rattle.controller.proofs.Standing.{some_at}
 use Rattle.controller.specs.declared.quiet_counts.counted.Counted.{Counted}
 use Rattle.controller.specs.declared.quiet_counts.counted.Counted.TheVariants.{Posts, PostsTo, Fetches}

@@ -5,7 +5,7 @@ use Rattle.journal.specs.declared.entry.Entry.{Entry}
 use Rattle.journal.specs.declared.entry.Entry.TheVariants as entry
 use Rattle.controller_mail.specs.MailState.{EnvironmentState, has_messages}
 use Rattle.controller.specs.Calls.{is_post, is_fetch}
-use Rattle.controller.specs.declared.controller.Controller.{Controller}
+use Rattle.controller.specs.View.{Controller}
 use Rattle.controller.specs.declared.quiet_counts.counted.Counted.{Counted}
 use Rattle.controller.specs.declared.quiet_counts.counted.Counted.TheVariants.{Posts, PostsTo, Fetches}
 

@@ -11,7 +11,7 @@ use Rattle.chart_behaviour.specs.ModelCharts.{Actor}
 use Rattle.controller_mail.specs.MailState.{EnvironmentState}
 use Rattle.controller_actors.specs.declared.plant.Plant.{Plant}
 use Rattle.controller.specs.Controllers.{state_in}
-use Rattle.controller.specs.declared.controller.Controller.{Controller}
+use Rattle.controller.specs.View.{Controller}
 
 -- the journals of all parties in order of number: the environment is the party after the last controller
 abbrev pub journals : List Controller → EnvironmentState → List (List Entry)

@@ -12,7 +12,7 @@ use Rattle.model_run.proofs.run_rounds.OneByOne.{steps_one, slice_get-other, sli
 use Rattle.controller_actors.specs.declared.plant.Plant.{Plant}
 use Rattle.controller.specs.Controllers.{IsOf}
 use Rattle.controller.specs.Calls.{Turns, took_one, took_none}
-use Rattle.controller.specs.declared.controller.Controller.{Controller}
+use Rattle.controller.specs.View.{Controller}
 use Rattle.controller.proofs.Going.{goes_none}
 use Rattle.model_run.specs.run_worker.Works.{Works}
 use Rattle.model_run.specs.joined_round.Joined.{AllStand, Changes, LastTurn, IsReady, seat, WorkedAt, FetchedAt, TurnedAt, HaveWorked, AreJoined, Joined, RoundDone}

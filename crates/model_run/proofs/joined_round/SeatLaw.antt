@@ -8,9 +8,8 @@ use Rattle.mail_core.specs.Lanes.{log_at}
 use Rattle.mail_core.specs.Tied.{StaysTied}
 use Rattle.mail_core.proofs.Tied.{IsTied-at, log_at-map}
 use Rattle.mail_core.proofs.TieAll.{tied_all, stays_from}
-use Rattle.controller_actors.specs.Plants.{IsPlant}
 use Rattle.controller_actors.specs.declared.plant.Plant.{Plant}
-use Rattle.controller.specs.declared.controller.Controller.{Controller}
+use Rattle.controller.specs.View.{Controller}
 use Rattle.model_run.specs.declared.joined_round.seat.Seat.{Seat}
 use Rattle.model_run.specs.run_worker.Works.{Works}
 use Rattle.model_run.specs.joined_round.Joined.{AllStand, WorkedAt, HaveWorked, seat}
@@ -61,7 +60,7 @@ end_in s = s.end
 
 module _ {E : Type 0} (log : E → EndLog) (tied : Unit {0} → List E → Type 0)
     (in_order : (office : Unit {0}) (ends : List E) (k : ℕ) (e : E) → tied office ends → slice_get ends k ≡ Some e → ((log e).party ≡ k) × ((log e).parties ≡ length ends))
-    (plant : Plant) (plant_is : IsPlant plant) (ks : List Controller) (stand : AllStand plant ks) (all ends : List E) (env : E) (split : all ≡ ends ++ env ∷ [])
+    (plant : Plant) (ks : List Controller) (stand : AllStand plant ks) (all ends : List E) (env : E) (split : all ≡ ends ++ env ∷ [])
     (count : length all ≡ length plant.wiring.controllers + 1) (t : tied tt all) (seats : List (Seat E)) (seated : AreSeated ks ends seats) where
   at_end : (i : ℕ) (s : Seat E) → slice_get seats i ≡ Some s → slice_get all i ≡ Some s.end
   at_end i s h =
@@ -84,7 +83,6 @@ module _ {E : Type 0} (log : E → EndLog) (tied : Unit {0} → List E → Type 
       let order = in_order tt all i s.end t (at_end i s here) in
       let me : s.controller.me.0 ≡ i = stand.me i s.controller (at_controller i s here) in
       record {
-        plant_is = plant_is;
         of = stand.of i s.controller (at_controller i s here);
         number = seated.numbers i d h ∙ sym me;
         party = order.0 ∙ sym me;

@@ -28,7 +28,7 @@ use Rattle.controller.specs.Controllers.{EndGoes, run_plant}
 use Rattle.controller.specs.Calls.{PostsLine}
 use Rattle.controller.proofs.Going.{end_goes_none, end_goes_then}
 use Rattle.model_run.specs.part_source.Parts.{is_message, IsPart}
-use Rattle.model_run.proofs.run_so_far.GoesOn.{within_both}
+use Rattle.model_run.proofs.run_rounds.LaneLists.{posts_append}
 use Rattle.model_run.specs.part_posts.Items.{injected, item_of, items_of}
 use Rattle.model_run.specs.part_posts.Posting.{PostsUpTo}
 
@@ -107,7 +107,7 @@ module _ (plant : Plant) (lines : List Line) where
           journal = ap (λ (z : List Entry). z ++ last ∷ []) s.journal ∙ append_assoc old.journal s.entries (last ∷ []);
           count = length-append s.entries (last ∷ []) ∙ ap (λ (z : ℕ). z + 1) s.count;
           end = end_goes_then s.end (subst (λ (z : EndLog). EndGoes (length plant.wiring.controllers) log' z (last ∷ [])) (sym p.end) (end_posts (length plant.wiring.controllers) log' sent));
-          within = within_both (length plant.wiring.controllers) s.entries (last ∷ []) s.within ((to, prio), tt);
+          within = posts_append (length plant.wiring.controllers) s.entries (last ∷ []) s.within ((to, prio), tt);
           posts = posts_on;
         })
 

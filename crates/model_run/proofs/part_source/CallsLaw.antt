@@ -6,7 +6,7 @@ use Rattle.journal.specs.declared.entry.Entry.{Entry}
 use Rattle.mail_core.specs.EndLog.{EndLog}
 use Rattle.controller_mail.specs.MailState.{EnvironmentState}
 use Rattle.controller_actors.specs.declared.plant.Plant.{Plant}
-use Rattle.controller.specs.declared.controller.Controller.{Controller}
+use Rattle.controller.specs.View.{Controller}
 use Rattle.controller.proofs.Standing.{some_at}
 use Rattle.model_run.specs.joined_round.Joined.{AllStand, RoundDone}
 use Rattle.model_run.specs.part_source.Calls.{Seen, seen, Grew, MayAsk, not_asked, asked, Asks, Asked, never, once_more}

@@ -1,7 +1,7 @@
 -- The journals of a run that has ended are those of a run.
-use Rattle.std.proofs.Common.{◌≡◌, ℕ, ◌+◌, ◌<◌, ◌≤◌, inl, inr, Bool, true, false, if◌then◌else◌, List, [], ◌∷◌, ◌++◌, length, map, slice_get, slice_index_or, nat_lt, Some, refl, sym, ap, ◌∙◌, subst, arith, append-nil}
+use Rattle.std.proofs.Common.{◌≡◌, ℕ, ◌+◌, ◌<◌, ◌≤◌, Bool, true, false, if◌then◌else◌, List, [], ◌∷◌, ◌++◌, length, map, slice_get, slice_index_or, nat_lt, Some, refl, sym, ap, ◌∙◌, subst, arith, append-nil}
 use Rattle.std.specs.List.{flat_map, range_with_len}
-use Rattle.std.proofs.lemmas.Bool.{cases_lt, lt-ltb, le-ltb, true≢false}
+use Rattle.std.proofs.lemmas.Bool.{lt-ltb, le-ltb, true≢false}
 use Rattle.std.proofs.lemmas.List.{length-map, map-append}
 use Rattle.std.proofs.lemmas.Option.{slice_get_within}
 use Rattle.room_kinds.specs.declared.message.Msg.{Msg}
@@ -15,36 +15,30 @@ use Rattle.actor_merge.specs.Parties.{State, Plant as RunPlant}
 use Rattle.actor_merge.specs.World.{World, IsQuiet}
 use Rattle.actor_merge.proofs.Rounds.{history_lawful}
 use Rattle.actor_world.specs.Body.{Body}
-use Rattle.actor_world.specs.Start.{start_entries}
 use Rattle.actor_world.specs.Journals.{Item, lines_of, last_part, left, left_for, left_of, priorities, number_of, unposted_from, IsSpent, HasMessage, in_lane, in_pending, in_outbox, IsLawfulRun, IsPrompt, IsDone, IsStopped, IsEnded}
 use Rattle.chart_behaviour.specs.ModelCharts.{Actor}
 use Rattle.controller_mail.specs.MailState.{EnvironmentState, pending_of, messages_in}
 use Rattle.controller_actors.specs.Plants.{model_of}
 use Rattle.controller_actors.specs.declared.plant.Plant.{Plant}
 use Rattle.controller.specs.Controllers.{run_plant, state_in}
-use Rattle.controller.specs.declared.controller.Controller.{Controller}
-use Rattle.model_run.specs.run_rounds.Rounds.{PostsWithin}
+use Rattle.controller.specs.View.{Controller}
 use Rattle.model_run.specs.run_rounds.LineParts.{CutAt, EndsPart}
 use Rattle.model_run.specs.run_rounds.Prompts.{PromptFrom}
 use Rattle.model_run.proofs.run_rounds.LinesLaw.{all_posted, part_posted, rest_unposted}
 use Rattle.model_run.proofs.run_rounds.PromptLists.{prompt_at}
 use Rattle.model_run.specs.run_so_far.SoFar.{world_of, whole, IsSound}
 use Rattle.controller.proofs.Standing.{some_at, state_is}
-use Rattle.model_run.proofs.run_so_far.GoesOn.{within_back}
 use Rattle.model_run.specs.part_posts.Items.{item_of, items_of}
 use Rattle.model_run.proofs.run_loop.Skipping.{settle_item}
 use Rattle.model_run.specs.run_ends.Ends.{IsAtEnd}
 use Rattle.model_run.specs.run_ends.Runs.{journal_of, IsRun, MayBeLeft}
 use Rattle.model_run.specs.run_ends.Runs.MayBeLeft.{nothing, from_settle}
 use Rattle.model_run.specs.run_ends.Told.{journals_in, left_from, AreTold}
-use Rattle.model_run.proofs.run_ends.ToldLaw.{map_at, fits_at, none_waits, all_empty, some_waits, six_lists, flat_nothing, left_rows, none_left, map_numbers}
-
-within_nothing : (n : ℕ) (es : List Entry) → es ≡ [] → PostsWithin n es
-within_nothing n es e = subst (PostsWithin n) (sym e) tt
+use Rattle.model_run.proofs.run_ends.ToldLaw.{map_at, six_at, none_waits, all_empty, some_waits, six_lists, flat_nothing, left_rows, none_left, map_numbers}
 
 module _ (plant : Plant) (gone rest : List Item) (fuel : ℕ) (ks : List Controller) (env : EnvironmentState) (done : Bool) (js : List (List Entry)) (ls : List Left)
     (a : IsAtEnd plant gone fuel ks env done)
-    (t : AreTold (length plant.wiring.controllers) (length plant.wiring.controllers) ks [] js ls)
+    (t : AreTold (length plant.wiring.controllers) ks [] js ls)
     (whole_is : done ≡ true → rest ≡ []) (ends : EndsPart rest) where
   abbrev n : ℕ
   n = length plant.wiring.controllers
@@ -93,25 +87,8 @@ module _ (plant : Plant) (gone rest : List Item) (fuel : ℕ) (ks : List Control
       ∙ ap (λ (z : Bool). if z then [] else env.journal) (le-ltb (length js) n (omega (arith, count_is)))
       ∙ sym a.so_far.posted
 
-  controller_within : (c : ℕ) → c < n → PostsWithin n (a.so_far.events c)
-  controller_within c b =
-      let s = seat c b in
-      let fits = fits_at n ks c s.0 (t.fit tt) s.1 in
-      within_back n (start_entries (model_of plant) plant.wiring c) (a.so_far.events c) (subst (PostsWithin n) (a.so_far.journals c s.0 s.1) fits.within)
-
-  within : (party : ℕ) → PostsWithin n (a.so_far.events party)
-  within party = elim (cases_lt party n) [
-    | inl below ↦ controller_within party below
-    | inr past ↦ elim (cases_lt n party) [
-      | inl above ↦ within_nothing n (a.so_far.events party) (a.so_far.nobody party above)
-      | inr here ↦
-          let same : n ≡ party = omega arith in
-          subst (λ (z : ℕ). PostsWithin n (a.so_far.events z)) same (subst (PostsWithin n) (sym a.so_far.posted) a.within)
-    ]
-  ]
-
   sound : IsSound plant (lines_of items) a.so_far.events w
-  sound = a.so_far.sound within rest
+  sound = a.so_far.sound rest
 
   keeps_fuel : (c : ℕ) → c < n → (w.controllers c).turns ≤ fuel
   keeps_fuel c b =
@@ -127,9 +104,9 @@ module _ (plant : Plant) (gone rest : List Item) (fuel : ℕ) (ks : List Control
 
   left_at : (c : ℕ) (k : Controller) → slice_get ks c ≡ Some k → left_for plan w c ≡ map (left c true) (messages_in k.mail.pending)
   left_at c k e =
-      let fits = fits_at n ks c k (t.fit tt) e in
+      let lists = six_at ks c k (t.six tt) e in
       ap (λ (z : State (Body Actor)). flat_map (λ (p : ℕ). map (left c true) (z.pending p)) priorities ++ lanes_left c) (at_seat c k e)
-      ∙ ap (λ (z : List Left). z ++ lanes_left c) (six_lists (left c true) k.mail.pending fits.six)
+      ∙ ap (λ (z : List Left). z ++ lanes_left c) (six_lists (left c true) k.mail.pending lists)
       ∙ ap (λ (z : List Left). map (left c true) (messages_in k.mail.pending) ++ z) (no_lanes c)
       ∙ append-nil (map (left c true) (messages_in k.mail.pending))
 
@@ -230,15 +207,15 @@ ends_there t done rest (from_settle l lines h) = subst (λ (z : Item). EndsPart 
 
 -- the same of what was told, with whatever may be left
 pub ran_told : (plant : Plant) (given rest : List Line) (fuel : ℕ) (ks : List Controller) (env : EnvironmentState) (done : Bool) (count : ℕ) (js : List (List Entry)) (ls : List Left)
-    → IsAtEnd plant (items_of plant.wiring given) fuel ks env done → count ≡ length plant.wiring.controllers → AreTold count count ks [] js ls → MayBeLeft done rest
+    → IsAtEnd plant (items_of plant.wiring given) fuel ks env done → count ≡ length plant.wiring.controllers → AreTold count ks [] js ls → MayBeLeft done rest
     → IsRun plant (given ++ rest) fuel (record { controllers = js; environment = env.journal; left = ls; unposted = map (λ (l : Line). l.number) rest; done = done })
 ran_told plant given rest fuel ks env done count js ls a same t may =
     let items = items_of plant.wiring rest in
     let none : done ≡ true → items ≡ [] = λ e. ap (λ (z : List Line). items_of plant.wiring z) (none_left_over rest (subst (λ (z : Bool). MayBeLeft z rest) e may)) in
     subst (λ (z : List ℕ). IsRun plant (given ++ rest) fuel (record { controllers = js; environment = env.journal; left = ls; unposted = z; done = done })) (map_numbers plant.wiring rest)
-    (is_run plant (items_of plant.wiring given) items fuel ks env done js ls a (subst (λ (z : ℕ). AreTold z z ks [] js ls) same t) none (ends_there plant.wiring done rest may)
+    (is_run plant (items_of plant.wiring given) items fuel ks env done js ls a (subst (λ (z : ℕ). AreTold z ks [] js ls) same t) none (ends_there plant.wiring done rest may)
     (given ++ rest) (map-append (λ (l : Line). item_of plant.wiring l.number l.what) given rest))
 
 -- the journals that were told are those that were seen
-pub journals_told : (count : ℕ) (ks : List Controller) (js : List (List Entry)) (ls : List Left) → AreTold count count ks [] js ls → js ≡ journals_in ks
+pub journals_told : (count : ℕ) (ks : List Controller) (js : List (List Entry)) (ls : List Left) → AreTold count ks [] js ls → js ≡ journals_in ks
 journals_told count ks js ls t = sym (append-nil js) ∙ t.journals_are

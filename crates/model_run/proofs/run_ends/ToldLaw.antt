@@ -1,23 +1,21 @@
 -- Lists of controllers, of what waits for them, and of lines.
-use Rattle.std.proofs.Common.{◌≡◌, ℕ, zero, suc, ◌+◌, ◌<◌, ◌||◌, Bool, true, false, not, List, [], ◌∷◌, ◌++◌, length, map, reverse, slice_get, slice_index_or, nat_lt, Some, refl, sym, ap, ◌∙◌, subst, arith, append_assoc}
-use Rattle.std.specs.List.{list_any, list_all, range_with_len, flat_map}
-use Rattle.std.proofs.lemmas.Bool.{and_parts, ltb-true, ne_eqb, true≢false}
+use Rattle.std.proofs.Common.{◌≡◌, ℕ, zero, suc, ◌+◌, ◌<◌, ◌||◌, Bool, true, false, not, List, [], ◌∷◌, ◌++◌, length, map, reverse, slice_get, slice_index_or, Some, refl, sym, ap, ◌∙◌, subst, arith, append_assoc}
+use Rattle.std.specs.List.{list_any, range_with_len, flat_map}
+use Rattle.std.proofs.lemmas.Bool.{ne_eqb, true≢false}
 use Rattle.std.proofs.lemmas.List.{map-append, reverse-append}
 use Rattle.std.proofs.lemmas.Option.{slice_get_within}
 use Rattle.room_kinds.specs.declared.message.Msg.{Msg}
 use Rattle.room_wiring.specs.declared.tables.Tables.{Tables}
 use Rattle.journal.specs.declared.entry.Entry.{Entry}
-use Rattle.journal.specs.declared.entry.Entry.TheVariants as entry
 use Rattle.journal.specs.declared.entry.Left.{Left}
 use Rattle.inject_reader.specs.declared.inject_lines.accepted.Line.{Line}
 use Rattle.inject_reader.specs.declared.inject_lines.accepted.What.{What}
 use Rattle.inject_reader.specs.declared.inject_lines.accepted.What.TheVariants as whats
 use Rattle.actor_world.specs.Journals.{left, priorities, number_of}
 use Rattle.controller_mail.specs.MailState.{pending_of, messages_in, has_messages}
-use Rattle.controller.specs.declared.controller.Controller.{Controller}
-use Rattle.model_run.specs.run_rounds.Rounds.{IsPostWithin, PostsWithin}
+use Rattle.controller.specs.View.{Controller}
 use Rattle.model_run.specs.part_posts.Items.{item_of, items_of}
-use Rattle.model_run.specs.run_ends.Told.{is_post_within, journals_in, left_from, FitsIn, AllFit, AreTold}
+use Rattle.model_run.specs.run_ends.Told.{journals_in, left_from, HasSixLists, AllHaveSix, AreTold}
 
 -- a place in a mapped list
 pub map_at : {X Y : Type 0} (f : X → Y) (xs : List X) (c : ℕ) (x : X) (d : Y) → slice_get xs c ≡ Some x → slice_index_or (map f xs) c d ≡ f x
@@ -25,22 +23,10 @@ map_at f [] c x d h = absurd (omega (arith, slice_get_within [] c x h))
 map_at f (y ∷ xs) zero x d h = let same : y ≡ x = cc in ap f same
 map_at f (y ∷ xs) (suc c) x d h = map_at f xs c x d h
 
-post_within : (n : ℕ) (e : Entry) → is_post_within n e ≡ true → IsPostWithin n e
-post_within n (entry.Start who state notes) h = tt
-post_within n (entry.Fetch stamp m) h = tt
-post_within n (entry.Turn stamp from sent did notes) h = tt
-post_within n (entry.Post stamp m) h =
-    let parts = and_parts (nat_lt m.to.0 n) (nat_lt m.prio.0 6) h in (ltb-true m.to.0 n parts.0, ltb-true m.prio.0 6 parts.1)
-
--- the test of entries
-pub posts_tested : (n : ℕ) (es : List Entry) → list_all (is_post_within n) es ≡ true → PostsWithin n es
-posts_tested n [] h = tt
-posts_tested n (e ∷ es) h = let parts = and_parts (is_post_within n e) (list_all (is_post_within n) es) h in (post_within n e parts.0, posts_tested n es parts.1)
-
-pub fits_at : (n : ℕ) (ks : List Controller) (c : ℕ) (k : Controller) → AllFit n ks → slice_get ks c ≡ Some k → FitsIn n k
-fits_at n [] c k h at = absurd (omega (arith, slice_get_within [] c k at))
-fits_at n (x ∷ ks) zero k h at = let same : x ≡ k = cc in subst (FitsIn n) same h.0
-fits_at n (x ∷ ks) (suc c) k h at = fits_at n ks c k h.1 at
+pub six_at : (ks : List Controller) (c : ℕ) (k : Controller) → AllHaveSix ks → slice_get ks c ≡ Some k → HasSixLists k
+six_at [] c k h at = absurd (omega (arith, slice_get_within [] c k at))
+six_at (x ∷ ks) zero k h at = let same : x ≡ k = cc in subst HasSixLists same h.0
+six_at (x ∷ ks) (suc c) k h at = six_at ks c k h.1 at
 
 -- whether messages wait
 has_some : (m : Msg) (ms : List Msg) → has_messages (m ∷ ms) ≡ true
@@ -128,14 +114,14 @@ map_numbers t (l ∷ lines) =
     ap (λ (z : ℕ). z ∷ map number_of (items_of t lines)) (number_is t l.number l.what) ∙ ap (λ (z : List ℕ). l.number ∷ z) (map_numbers t lines)
 
 -- one controller more has told
-pub told_more : (n c : ℕ) (ks : List Controller) (k : Controller) (rest : List Controller) (js : List (List Entry)) (ls more : List Left)
-    → AreTold n c ks (k ∷ rest) js ls → PostsWithin n k.mail.journal → length k.mail.pending ≡ 6 → more ≡ map (left c true) (messages_in k.mail.pending)
-    → AreTold n (c + 1) ks rest (js ++ k.mail.journal ∷ []) (ls ++ more)
-told_more n c ks k rest js ls more t within six is = record {
+pub told_more : (c : ℕ) (ks : List Controller) (k : Controller) (rest : List Controller) (js : List (List Entry)) (ls more : List Left)
+    → AreTold c ks (k ∷ rest) js ls → length k.mail.pending ≡ 6 → more ≡ map (left c true) (messages_in k.mail.pending)
+    → AreTold (c + 1) ks rest (js ++ k.mail.journal ∷ []) (ls ++ more)
+told_more c ks k rest js ls more t six is = record {
   count = omega (arith, t.count);
   journals_are = append_assoc js (k.mail.journal ∷ []) (journals_in rest) ∙ t.journals_are;
   left_is = append_assoc ls more (left_from (c + 1) rest) ∙ ap (λ (z : List Left). ls ++ (z ++ left_from (c + 1) rest)) is ∙ t.left_is;
-  fit = λ h. t.fit (record { within = within; six = six }, h);
+  six = λ h. t.six (six, h);
 }
 
 -- the last of a list in reverse comes first

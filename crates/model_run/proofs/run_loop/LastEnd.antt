@@ -42,6 +42,7 @@ module _ {E : Type 0} (log : E → EndLog) (plant : Plant) (lines : List Line) (
             ∙ get_or-set_other (map log ends) n c (log e') (fresh 0 0) (λ x. absurd (omega arith))
             ∙ f.each c (omega arith);
         environment = subst (λ (z : EndLog). EndDid n z p.entries) (sym is) (did p);
+        within = p.within;
       }
 
   pub posted_at_last : PostsThePart plant lines old new (log e) (log e') → PartPosted plant lines old new logs

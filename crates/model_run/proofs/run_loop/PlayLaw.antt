@@ -17,13 +17,12 @@ use Rattle.controller_mail.specs.MailState.{EnvironmentState, environment_of}
 use Rattle.controller_actors.specs.declared.plant.Plant.{Plant}
 use Rattle.controller.specs.Controllers.{run_plant, state_at}
 use Rattle.controller.proofs.Standing.{some_at, state_is}
-use Rattle.controller.specs.declared.controller.Controller.{Controller}
+use Rattle.controller.specs.View.{Controller}
 use Rattle.model_run.specs.run_rounds.LineParts.{CutAt, GoneTo, PostsPart}
-use Rattle.model_run.specs.run_rounds.Rounds.{PostsWithin}
 use Rattle.model_run.proofs.run_rounds.LinesLaw.{cut_start, posts_one_part, last_after, goes_on, goes_on_quiet, goes_later}
 use Rattle.model_run.specs.joined_round.Joined.{AllStand, RoundDone}
 use Rattle.model_run.specs.run_so_far.SoFar.{world_of, RunSoFar, EndsPosted, EnvironmentPosts}
-use Rattle.model_run.proofs.run_so_far.GoesOn.{so_far, so_far_more, within_both}
+use Rattle.model_run.proofs.run_so_far.GoesOn.{so_far, so_far_more}
 use Rattle.model_run.specs.part_source.Parts.{IsPart, AreSettles}
 use Rattle.model_run.specs.part_posts.Items.{item_of, items_of}
 use Rattle.model_run.proofs.part_posts.PostLaw.{all_gone}
@@ -42,6 +41,7 @@ nothing_posted n logs f = record {
     posted = λ r p. ap (λ (z : EndLog). z.posted r p) (f.each n (omega arith));
     took = λ s p. ap (λ (z : EndLog). z.taken s p) (f.each n (omega arith));
   };
+  within = tt;
 }
 
 pub rests_outbox : (fuel : ℕ) (k : Controller) → rests fuel k ≡ true → k.mail.outbox ≡ []
@@ -70,7 +70,6 @@ module _ (plant : Plant) (fuel : ℕ) where
     so_far = s;
     part = 1;
     cut = λ rest. cut_start rest;
-    within = tt;
     may = same_part refl (λ rest. refl);
   }
 
@@ -86,7 +85,6 @@ module _ (plant : Plant) (fuel : ℕ) where
         (nothing_posted (length plant.wiring.controllers) logs fresh_ends) (λ rest. nothing_goes (lines_of (gone ++ rest)) (world_of plant ks (environment_of env))) done);
     part = s.part;
     cut = s.cut;
-    within = s.within;
     last = s.last;
   }
 
@@ -175,8 +173,6 @@ module _ (plant : Plant) (fuel : ℕ) where
               (so_far plant now fuel ks news b.v (environment_of new) old.journal es logs logs' answer before posted.ends goes done);
           part = b.part;
           cut = cut_after;
-          within = subst (λ (z : List Entry). PostsWithin (length plant.wiring.controllers) z) (sym posted.part.journal)
-              (within_both (length plant.wiring.controllers) old.journal es b.within posted.part.within);
           last = λ rest. subst (λ (z : List Item). last_part (lines_of z) (length new.journal) ≡ b.part) (grouped rest) (went b.may rest).last;
         })
 
@@ -205,7 +201,6 @@ module _ (plant : Plant) (fuel : ℕ) where
           so_far = s.so_far;
           part = s.part;
           cut = s.cut;
-          within = s.within;
           outboxes = outboxes;
           quiet = λ e. absurd cc;
           last = λ e more. sym (s.last more);
@@ -247,7 +242,6 @@ module _ (plant : Plant) (fuel : ℕ) where
             so_far = so_far_now;
             part = s.part + length settles;
             cut = cut_now;
-            within = s.within;
             outboxes = outboxes;
             quiet = λ e c k h. all_false waits ks none c k h;
             last = λ e. absurd cc;
@@ -277,6 +271,5 @@ module _ (plant : Plant) (fuel : ℕ) where
             so_far = so_far_now;
             part = s.part + length settles;
             cut = cut_now;
-            within = s.within;
             may = later_part clock (last_now some) begins (λ lines. quiet_now lines ks (environment_of env) s.so_far.stand rest none);
           })

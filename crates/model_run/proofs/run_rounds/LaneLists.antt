@@ -10,7 +10,8 @@ use Rattle.actor_merge.specs.Parties.{State, Environment, Line, Plant, post, pos
 use Rattle.actor_merge.proofs.Lanes.{is_lane-true, is_lane-receiver, is_lane-sender}
 use Rattle.actor_merge.proofs.Steps.{same_entry}
 use Rattle.actor_world.specs.Journals.{is_turn}
-use Rattle.model_run.specs.run_rounds.Rounds.{IsPostWithin, PostsWithin, IsFetchWithin, FetchesWithin, Fetched, OnlyTurns}
+use Rattle.model_run.specs.run_rounds.Rounds.{IsFetchWithin, FetchesWithin, Fetched, OnlyTurns}
+use Rattle.controller.specs.Calls.{IsPostWithin, PostsWithin}
 
 -- another priority is another lane
 is_lane-priority : (a b : Lane) → (a.priority == b.priority) ≡ false → is_lane a b ≡ false
@@ -158,3 +159,26 @@ module _ {B : Type 0} (plant : Plant B) where
   pub lines_take : (l : Lane) (party : ℕ) (v : Environment) (es : List Entry) (end : Environment) → EnvironmentReplays plant v es end → taken l party es ≡ []
   lines_take l party v [] end h = refl
   lines_take l party v (e ∷ es) end h = rw (line_takes l party v h.0 e h.1) (lines_take l party h.0 es end h.2)
+
+-- posts of some entries, and then of others, go to controllers
+pub posts_append : (n : ℕ) (a b : List Entry) → PostsWithin n a → PostsWithin n b → PostsWithin n (a ++ b)
+posts_append n [] b h k = k
+posts_append n (e ∷ a) b h k = (h.0, posts_append n a b h.1 k)
+
+-- turns post nothing
+turn_posts : (n : ℕ) (e : Entry) → is_turn e ≡ true → IsPostWithin n e
+turn_posts n (entry.Start who state notes) h = tt
+turn_posts n (entry.Fetch stamp m) h = tt
+turn_posts n (entry.Turn stamp from sent did notes) h = tt
+turn_posts n (entry.Post stamp m) h = absurd cc
+
+pub turns_post : (n : ℕ) (es : List Entry) → OnlyTurns es → PostsWithin n es
+turns_post n [] h = tt
+turns_post n (e ∷ es) h = (turn_posts n e h.0, turns_post n es h.1)
+
+-- nor do fetches
+pub fetches_post : (n : ℕ) (ms : List Msg) (es : List Entry) → Fetched ms es → PostsWithin n es
+fetches_post n [] [] h = tt
+fetches_post n [] (e ∷ es) h = absurd h
+fetches_post n (m ∷ ms) [] h = absurd h
+fetches_post n (m ∷ ms) (e ∷ es) h = (subst (λ (x : Entry). IsPostWithin n x) (sym h.0.1) tt, fetches_post n ms es h.1)

@@ -16,17 +16,18 @@ use Rattle.actor_world.specs.Body.{Body}
 use Rattle.actor_world.specs.Journals.{Item, lines_of}
 use Rattle.actor_world.specs.Start.{start_entries}
 use Rattle.chart_behaviour.specs.ModelCharts.{Actor}
-use Rattle.model_run.specs.run_rounds.Rounds.{EndDid, Joins, AreParts, OnlyTurns, PostsWithin}
+use Rattle.model_run.specs.run_rounds.Rounds.{EndDid, Joins, AreParts, OnlyTurns}
 use Rattle.model_run.specs.run_rounds.Prompts.{PromptFrom, OwnFetched, EndsAs}
 use Rattle.model_run.proofs.run_rounds.Choose.{chosen, chosen_holds, chosen_past}
-use Rattle.model_run.proofs.run_rounds.LaneLists.{turns_give, turns_take}
+use Rattle.model_run.proofs.run_rounds.LaneLists.{turns_give, turns_take, posts_append, turns_post, fetches_post}
 use Rattle.model_run.proofs.run_rounds.PromptLists.{no_turns_prompt, prompt_append, ends_fresh, own_append, may_turn_even}
 use Rattle.model_run.proofs.run_rounds.PolledLists.{fetched_no_turns}
 use Rattle.model_run.proofs.run_rounds.RoundLaw.{parts_round, own_even}
 use Rattle.controller_actors.specs.Plants.{model_of}
 use Rattle.controller_actors.specs.declared.plant.Plant.{Plant}
 use Rattle.controller.specs.Controllers.{IsOf, Goes, EndGoes, run_plant, state_in, state_at}
-use Rattle.controller.specs.declared.controller.Controller.{Controller}
+use Rattle.controller.specs.Calls.{PostsWithin}
+use Rattle.controller.specs.View.{Controller}
 use Rattle.controller.proofs.Going.{goes_then}
 use Rattle.controller.proofs.Standing.{some_at, state_is}
 use Rattle.model_run.proofs.run_worker.WorkLaw.{fetched_of}
@@ -41,18 +42,6 @@ turns_prompt : (c : ℕ) (before es : List Entry) → OwnFetched c before → On
 turns_prompt c before [] h o = tt
 turns_prompt c before (e ∷ es) h o =
     (λ t. may_turn_even c before h, turns_prompt c (before ++ e ∷ []) es (own_append c before (e ∷ []) h (turns_even c (e ∷ []) (o.0, tt))) o.1)
-
-within_front : (n : ℕ) (a b : List Entry) → PostsWithin n (a ++ b) → PostsWithin n a
-within_front n [] b h = tt
-within_front n (e ∷ a) b h = (h.0, within_front n a b h.1)
-
-pub within_both : (n : ℕ) (a b : List Entry) → PostsWithin n a → PostsWithin n b → PostsWithin n (a ++ b)
-within_both n [] b h k = k
-within_both n (e ∷ a) b h k = (h.0, within_both n a b h.1 k)
-
-pub within_back : (n : ℕ) (a b : List Entry) → PostsWithin n (a ++ b) → PostsWithin n b
-within_back n [] b h = h
-within_back n (e ∷ a) b h = within_back n a b h.1
 
 same_there : {X : Type 0} (o : Option X) (x y : X) → o ≡ Some x → o ≡ Some y → x ≡ y
 same_there o x y e f = let both : Some x ≡ Some y = sym e ∙ f in cc
@@ -160,15 +149,36 @@ module _ (plant : Plant) where
     abbrev with_rest : List Item → List Line
     with_rest rest = lines_of (gone ++ rest)
 
-    parts : (rest : List Item) → ((p : ℕ) → PostsWithin n (more p)) → AreParts (run_plant plant (with_rest rest)) old_world new_world more logs' answer
-    parts rest within = record {
+    -- what was posted in the round goes to controllers that there are
+    posts_of : (c : ℕ) (x : List Entry) → At c x → PostsWithin n x
+    posts_of c x a =
+        let j = a.joined in
+        let left : List Msg = slice_index_or answer c [] in
+        let fetched : PostsWithin n j.fetches.entries = fetches_post n left j.fetches.entries (fetched_of left j.fetches.entries j.fetches.fetches) in
+        let turned : PostsWithin n j.turn.entries = turns_post n j.turn.entries j.turn.only in
+        subst (λ (z : List Entry). PostsWithin n z) (sym a.parts)
+        (posts_append n j.works.did.entries (j.fetches.entries ++ j.turn.entries) j.works.did.posts (posts_append n j.fetches.entries j.turn.entries fetched turned))
+
+    more_within : (p : ℕ) → PostsWithin n (more p)
+    more_within p = elim (cases_lt p n) [
+      | inl below ↦ posts_of p (more p) (more_at p below)
+      | inr past ↦ elim (cases_lt n p) [
+        | inl above ↦ subst (λ (z : List Entry). PostsWithin n z) (sym (more_past p above)) tt
+        | inr here ↦
+            let same : n ≡ p = omega arith in
+            subst (λ (z : ℕ). PostsWithin n (more z)) same (subst (λ (z : List Entry). PostsWithin n z) (sym more_environment) ends.within)
+      ]
+    ]
+
+    parts : (rest : List Item) → AreParts (run_plant plant (with_rest rest)) old_world new_world more logs' answer
+    parts rest = record {
       parties = done.parties ∙ ends.count;
       left = done.left;
       controllers = λ c h. joins_of (with_rest rest) c h (more c) (more_at c h);
       environment = subst (λ (z : List Entry). EnvironmentGoes (run_plant plant (with_rest rest)) old_world z after) (sym more_environment) (env rest).goes;
       did = subst (λ (z : List Entry). EndDid n (log_at logs' n) z) (sym more_environment) end_did;
       nobody = more_past;
-      within = within;
+      within = more_within;
       quiet = subst (λ (z : List Entry). begins (run_plant plant (with_rest rest)) v.posted ≡ true → (z ≡ []) ⊎ IsQuiet (run_plant plant (with_rest rest)) old_world)
           (sym more_environment) (env rest).quiet;
       one_part = subst (λ (z : List Entry). (line : ℕ) → v.posted < line → line < v.posted + length z → begins (run_plant plant (with_rest rest)) line ≡ false)
@@ -218,7 +228,7 @@ module _ (plant : Plant) where
       abbrev turned : List Entry
       turned = a.joined.turn.entries
 
-      module _ (within : (p : ℕ) → PostsWithin n (more p)) (even : OwnFetched c (whole plant r.events c)) where
+      module _ (even : OwnFetched c (whole plant r.events c)) where
         abbrev before : List Entry
         before = whole plant r.events c
 
@@ -227,7 +237,7 @@ module _ (plant : Plant) where
         evened =
             subst (λ (z : List Entry). OwnFetched c z) (sym (append_assoc before worked fetched))
             (own_append c before (worked ++ fetched) even
-            (record { all = λ p d. own_even (run_plant plant (with_rest [])) old_world new_world more logs' answer (parts [] within) c p b d }))
+            (record { all = λ p d. own_even (run_plant plant (with_rest [])) old_world new_world more logs' answer (parts []) c p b d }))
 
         all_of_it : ((before ++ worked) ++ fetched) ++ turned ≡ start_entries (model_of plant) plant.wiring c ++ (r.events c ++ more c)
         all_of_it =
@@ -254,16 +264,14 @@ module _ (plant : Plant) where
             subst (λ (z : List Entry). PromptFrom c [] z) (append_assoc (start_entries (model_of plant) plant.wiring c) (r.events c) (more c))
             (prompt_append c [] before (more c) h (subst (λ (z : List Entry). PromptFrom c before z) (sym a.parts) prompt_more))
 
-    sound_after : ((p : ℕ) → PostsWithin n (r.events p ++ more p)) → (rest : List Item) → IsSound plant (with_rest rest) (λ p. r.events p ++ more p) new_world
-    sound_after within rest =
-        let old_within : (p : ℕ) → PostsWithin n (r.events p) = λ p. within_front n (r.events p) (more p) (within p) in
-        let new_within : (p : ℕ) → PostsWithin n (more p) = λ p. within_back n (r.events p) (more p) (within p) in
-        let s = r.sound old_within rest in
+    sound_after : (rest : List Item) → IsSound plant (with_rest rest) (λ p. r.events p ++ more p) new_world
+    sound_after rest =
+        let s = r.sound rest in
         record {
           history = history_more (run_plant plant (with_rest rest)) r.events more old_world new_world s.history
-              (parts_round (run_plant plant (with_rest rest)) old_world new_world more logs' answer (parts rest new_within));
-          prompt = λ c b. prompt_after c b new_within (s.even c b) (s.prompt c b);
-          even = λ c b. even_after c b new_within (s.even c b);
+              (parts_round (run_plant plant (with_rest rest)) old_world new_world more logs' answer (parts rest));
+          prompt = λ c b. prompt_after c b (s.even c b) (s.prompt c b);
+          even = λ c b. even_after c b (s.even c b);
         }
 
     pub so_far : RunSoFar plant gone fuel news after (posts ++ es)
@@ -280,6 +288,7 @@ module _ (plant : Plant) where
           subst (λ (z : Controller). z.mail.journal ≡ start_entries (model_of plant) plant.wiring c ++ (r.events c ++ more c)) t.1 (journal_grows c t.0);
       posted = ap (λ (z : List Entry). z ++ more n) r.posted ∙ ap (λ (z : List Entry). posts ++ z) more_environment;
       nobody = λ p h. ap (λ (z : List Entry). z ++ more p) (r.nobody p h) ∙ more_past p h;
+      within = λ p. posts_append n (r.events p) (more p) (r.within p) (more_within p);
       sound = sound_after;
     }
 
@@ -293,6 +302,7 @@ module _ (plant : Plant) where
     journals = r.journals;
     posted = r.posted;
     nobody = r.nobody;
-    sound = λ within rest.
-        subst (λ (z : List Item). IsSound plant (lines_of z) r.events (world_of plant ks v)) (sym (append_assoc gone more rest)) (r.sound within (more ++ rest));
+    within = r.within;
+    sound = λ rest.
+        subst (λ (z : List Item). IsSound plant (lines_of z) r.events (world_of plant ks v)) (sym (append_assoc gone more rest)) (r.sound (more ++ rest));
   }

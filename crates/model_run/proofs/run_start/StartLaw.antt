@@ -24,7 +24,7 @@ use Rattle.model_run.proofs.run_rounds.PromptLists.{NoTurns, no_turns_prompt}
 use Rattle.controller_actors.specs.Plants.{model_of}
 use Rattle.controller_actors.specs.declared.plant.Plant.{Plant}
 use Rattle.controller.specs.Controllers.{IsOf, Begins, run_plant, state_in, state_at}
-use Rattle.controller.specs.declared.controller.Controller.{Controller}
+use Rattle.controller.specs.View.{Controller}
 use Rattle.model_run.specs.run_so_far.SoFar.{world_of, RunSoFar}
 use Rattle.model_run.specs.run_start.Begun.{AllBegun}
 
@@ -156,7 +156,8 @@ module _ (plant : Plant) (fuel : ℕ) where
           ∙ sym (append-nil (start_entries (model_of plant) plant.wiring c));
       posted = refl;
       nobody = λ p h. refl;
-      sound = λ within rest. record {
+      within = λ p. tt;
+      sound = λ rest. record {
         history = subst (λ (w : World (Body Actor)). IsHistory (run_plant plant (lines_of rest)) (λ p. []) w) (first_world (lines_of rest)) (start_history (run_plant plant (lines_of rest)));
         prompt = λ c b. subst (λ (z : List Entry). PromptFrom c [] z) (sym (append-nil (start_entries (model_of plant) plant.wiring c)))
             (no_turns_prompt c [] (start_entries (model_of plant) plant.wiring c) (starts_no_turns (start_entries (model_of plant) plant.wiring c) (starts_of c)));

@@ -11,13 +11,13 @@ use Rattle.actor_merge.specs.Parties.{State, Plant as RunPlant, post, post_front
 use Rattle.actor_world.specs.Journals.{is_turn}
 use Rattle.model_run.specs.run_rounds.Rounds.{IsFetchWithin, FetchesWithin, Fetched, OnlyTurns}
 use Rattle.model_run.specs.run_rounds.Prompts.{PromptFrom, EndsAs}
-use Rattle.model_run.proofs.run_rounds.LaneLists.{turns_give, turns_take}
+use Rattle.model_run.proofs.run_rounds.LaneLists.{turns_give, turns_take, posts_append, turns_post, fetches_post}
 use Rattle.model_run.proofs.run_rounds.PromptLists.{NoTurns, no_turns_prompt, prompt_append, prompt_turn, ends_more, may_turn}
 use Rattle.model_run.proofs.run_rounds.PolledLists.{polled_within, fetched_within, fetched_no_turns, within_append}
 use Rattle.controller_actors.specs.declared.plant.Plant.{Plant}
 use Rattle.controller.specs.Controllers.{Goes, EndGoes, run_plant, state_in}
-use Rattle.controller.specs.Calls.{is_post, AreFetches, no_fetches, one_more, PostsAll, Polls, Turns, took_one, took_none}
-use Rattle.controller.specs.declared.controller.Controller.{Controller}
+use Rattle.controller.specs.Calls.{is_post, PostsWithin, AreFetches, no_fetches, one_more, PostsAll, Polls, Turns, took_one, took_none}
+use Rattle.controller.specs.View.{Controller}
 use Rattle.model_run.specs.run_worker.Works.{Counted, Did, Works}
 use Rattle.controller.proofs.Going.{goes_then, end_goes_then, end_goes_still}
 
@@ -102,6 +102,7 @@ module _ (plant : Plant) where
         goes = goes_then d.goes f.goes;
         end = end_goes_then d.end end;
         within = within_append (length plant.wiring.controllers) d.entries f.entries d.within f.within;
+        posts = posts_append (length plant.wiring.controllers) d.entries f.entries d.posts f.posts;
         prompt = λ before h. prompt_append a.me.0 before d.entries f.entries (d.prompt before h)
             (prompt (before ++ d.entries) (ends_more a.me.0 before d.entries x y h (λ p. d.end.posted a.me.0 p) (λ p. d.end.took a.me.0 p)));
         fuelled = λ h.
@@ -126,6 +127,7 @@ module _ (plant : Plant) where
           goes = p.goes;
           end = p.end;
           within = posts_within (length plant.wiring.controllers) p.entries only;
+          posts = p.within;
           prompt = λ before h. no_turns_prompt old.me.0 before p.entries (posts_no_turns p.entries only);
           fuelled = λ h. omega arith;
         };
@@ -138,6 +140,9 @@ module _ (plant : Plant) where
         let gave = (polled_within in_box boxes log log' p.gave p.looks).1 in
         fetched_within (length plant.wiring.controllers) p.gave p.entries (rw parties at gave) (fetched_of p.gave p.entries p.fetches)
 
+    polls_post : PostsWithin (length plant.wiring.controllers) p.entries
+    polls_post = fetches_post (length plant.wiring.controllers) p.gave p.entries (fetched_of p.gave p.entries p.fetches)
+
     polls_prompt : (before : List Entry) → PromptFrom old.me.0 before p.entries
     polls_prompt before = no_turns_prompt old.me.0 before p.entries (fetched_no_turns p.gave p.entries (fetched_of p.gave p.entries p.fetches))
 
@@ -148,6 +153,7 @@ module _ (plant : Plant) where
       goes = p.goes;
       end = p.end;
       within = polls_within;
+      posts = polls_post;
       prompt = λ before h. polls_prompt before;
       fuelled = λ h. let same : mid.mail.turns ≡ old.mail.turns = p.turns in omega arith;
     }
@@ -165,6 +171,7 @@ module _ (plant : Plant) where
         goes = goes_then p.goes goes;
         end = end_goes_then p.end end;
         within = within_append (length plant.wiring.controllers) p.entries (e ∷ []) (polls_within in_box boxes old mid log log' count parties p) (turn_is_within (length plant.wiring.controllers) e is, tt);
+        posts = posts_append (length plant.wiring.controllers) p.entries (e ∷ []) (polls_post in_box boxes old mid log log' count parties p) (turns_post (length plant.wiring.controllers) (e ∷ []) only);
         prompt = λ before h.
             prompt_append c before p.entries (e ∷ []) (polls_prompt in_box boxes old mid log log' count parties p before)
             (prompt_turn c (before ++ p.entries) e

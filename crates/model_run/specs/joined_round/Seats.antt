@@ -2,10 +2,9 @@
 use Rattle.std.specs.Prelude.{◌≡◌, ℕ, ◌+◌, ◌<◌, List, map, length, slice_index_or}
 use Rattle.mail_core.specs.EndLog.{EndLog}
 use Rattle.mail_core.specs.Tied.{IsTied, StaysTied}
-use Rattle.controller_actors.specs.Plants.{IsPlant}
 use Rattle.controller_actors.specs.declared.plant.Plant.{Plant}
 use Rattle.controller.specs.Controllers.{IsOf}
-use Rattle.controller.specs.declared.controller.Controller.{Controller}
+use Rattle.controller.specs.View.{Controller}
 use Rattle.model_run.specs.declared.joined_round.seat.Seat.{Seat}
 use Rattle.model_run.specs.run_worker.Works.{Works}
 
@@ -16,7 +15,6 @@ pub record Each {S : Type 0} (R : S → S → Type 0) (olds news : List S) : Typ
 
 -- the controller is one of the plant, and the end is its own
 pub record CanWork {E : Type 0} (log : E → EndLog) (tied : Unit {0} → List E → Type 0) (plant : Plant) (s : Seat E) : Type 0 where
-  pub plant_is : IsPlant plant
   pub of : IsOf plant s.controller
   pub number : s.number ≡ s.controller.me.0
   pub party : (log s.end).party ≡ s.controller.me.0

@@ -5,10 +5,10 @@ use Rattle.inject_reader.specs.declared.inject_lines.accepted.Line.{Line}
 use Rattle.mail_core.specs.EndLog.{EndLog}
 use Rattle.actor_world.specs.Journals.{Item, lines_of}
 use Rattle.model_run.specs.run_rounds.LineParts.{CutAt, PostsPart}
-use Rattle.model_run.specs.run_rounds.Rounds.{PostsWithin}
 use Rattle.controller_mail.specs.MailState.{EnvironmentState, environment_of}
 use Rattle.controller_actors.specs.declared.plant.Plant.{Plant}
 use Rattle.controller.specs.Controllers.{EndGoes, run_plant}
+use Rattle.controller.specs.Calls.{PostsWithin}
 use Rattle.model_run.specs.part_posts.Items.{items_of}
 
 -- of these lines all before line `to` were posted, one entry each, and what the environment's end posted are

@@ -7,9 +7,8 @@ use Rattle.actor_merge.specs.Parties.{Environment}
 use Rattle.actor_world.specs.Journals.{Item, lines_of, last_part}
 use Rattle.controller_mail.specs.MailState.{EnvironmentState, has_messages}
 use Rattle.controller_actors.specs.declared.plant.Plant.{Plant}
-use Rattle.controller.specs.declared.controller.Controller.{Controller}
+use Rattle.controller.specs.View.{Controller}
 use Rattle.model_run.specs.run_rounds.LineParts.{GoneTo}
-use Rattle.model_run.specs.run_rounds.Rounds.{PostsWithin}
 use Rattle.model_run.specs.run_so_far.SoFar.{RunSoFar}
 
 -- a message waits for a controller's turn
@@ -26,7 +25,6 @@ pub record IsAtEnd (plant : Plant) (gone : List Item) (fuel : ℕ) (ks : List Co
   pub so_far : RunSoFar plant gone fuel ks v env.journal
   pub part : ℕ
   pub cut : GoneTo gone (length env.journal) part
-  pub within : PostsWithin (length plant.wiring.controllers) env.journal
   pub outboxes : (c : ℕ) (k : Controller) → slice_get ks c ≡ Some k → k.mail.outbox ≡ []
   pub quiet : done ≡ true → (c : ℕ) (k : Controller) → slice_get ks c ≡ Some k → waits k ≡ false
   pub last : done ≡ false → (rest : List Item) → part ≡ last_part (lines_of (gone ++ rest)) (length env.journal)

@@ -9,9 +9,8 @@ use Rattle.actor_world.specs.Journals.{Item, lines_of, last_part}
 use Rattle.controller_mail.specs.MailState.{EnvironmentState, environment_of}
 use Rattle.controller_actors.specs.declared.plant.Plant.{Plant}
 use Rattle.controller.specs.Controllers.{run_plant, state_at}
-use Rattle.controller.specs.declared.controller.Controller.{Controller}
+use Rattle.controller.specs.View.{Controller}
 use Rattle.model_run.specs.run_rounds.LineParts.{GoneTo}
-use Rattle.model_run.specs.run_rounds.Rounds.{PostsWithin}
 use Rattle.model_run.specs.run_so_far.SoFar.{world_of, RunSoFar, EndsPosted}
 use Rattle.model_run.specs.part_source.Parts.{IsPart}
 use Rattle.model_run.specs.part_posts.Items.{items_of}
@@ -38,7 +37,6 @@ pub record BeforePart (plant : Plant) (all : List Item) (lines : List Line) (fue
   pub so_far : RunSoFar plant gone fuel ks v env.journal
   pub part : ℕ
   pub cut : GoneTo gone (length env.journal) part
-  pub within : PostsWithin (length plant.wiring.controllers) env.journal
   pub may : MayPost plant gone lines ks env v part
 
 -- a run in a part: all items so far were posted
@@ -46,7 +44,6 @@ pub record InPart (plant : Plant) (gone : List Item) (fuel : ℕ) (ks : List Con
   pub so_far : RunSoFar plant gone fuel ks (environment_of env) env.journal
   pub part : ℕ
   pub cut : GoneTo gone (length env.journal) part
-  pub within : PostsWithin (length plant.wiring.controllers) env.journal
   pub last : (rest : List Item) → last_part (lines_of (gone ++ rest)) (length env.journal) ≡ part
 
 -- nothing is left to post, and no message waits unless the fuel is spent

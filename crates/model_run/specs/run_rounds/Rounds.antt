@@ -16,17 +16,7 @@ use Rattle.actor_merge.specs.Parties.{State, Plant, begins, Replays}
 use Rattle.actor_merge.specs.World.{World, IsQuiet}
 use Rattle.actor_merge.specs.Merge.{EnvironmentGoes, IsRound}
 use Rattle.actor_world.specs.Journals.{is_turn}
-
--- what an entry posts goes to one of so many controllers, at one of six priorities
-abbrev pub IsPostWithin : ℕ → Entry → Type 0
-IsPostWithin n (entry.Start who state notes) = Unit {0}
-IsPostWithin n (entry.Fetch stamp m) = Unit {0}
-IsPostWithin n (entry.Turn stamp from sent did notes) = Unit {0}
-IsPostWithin n (entry.Post stamp m) = (m.to.0 < n) × (m.prio.0 < 6)
-
-abbrev pub PostsWithin : ℕ → List Entry → Type 0
-PostsWithin n [] = Unit {0}
-PostsWithin n (e ∷ es) = IsPostWithin n e × PostsWithin n es
+use Rattle.controller.specs.Calls.{PostsWithin}
 
 -- what an entry fetches comes from one of so many controllers or from the environment, at one of six
 -- priorities

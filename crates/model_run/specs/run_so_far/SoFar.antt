@@ -18,12 +18,13 @@ use Rattle.actor_world.specs.Body.{Body}
 use Rattle.actor_world.specs.Journals.{Item, lines_of}
 use Rattle.actor_world.specs.Start.{start_entries}
 use Rattle.chart_behaviour.specs.ModelCharts.{Actor}
-use Rattle.model_run.specs.run_rounds.Rounds.{EndDid, PostsWithin}
+use Rattle.model_run.specs.run_rounds.Rounds.{EndDid}
 use Rattle.model_run.specs.run_rounds.Prompts.{PromptFrom, OwnFetched}
 use Rattle.controller_actors.specs.Plants.{model_of}
 use Rattle.controller_actors.specs.declared.plant.Plant.{Plant}
 use Rattle.controller.specs.Controllers.{run_plant, state_at}
-use Rattle.controller.specs.declared.controller.Controller.{Controller}
+use Rattle.controller.specs.Calls.{PostsWithin}
+use Rattle.controller.specs.View.{Controller}
 use Rattle.model_run.specs.joined_round.Joined.{AllStand, RoundDone}
 
 -- between two rounds no lane holds a message
@@ -41,8 +42,8 @@ pub record IsSound (plant : Plant) (lines : List Line) (events : ℕ → List En
   pub prompt : (c : ℕ) → c < length plant.wiring.controllers → PromptFrom c [] (whole plant events c)
   pub even : (c : ℕ) → c < length plant.wiring.controllers → OwnFetched c (whole plant events c)
 
--- a run so far over these items, in which the environment posted these entries: sound, whatever items come
--- after them, if each post went to a controller that is there, at a priority that is there
+-- a run so far over these items, in which the environment posted these entries: each post went to a controller
+-- that is there, at a priority that is there; and it is sound, whatever items come after them
 pub record RunSoFar (plant : Plant) (gone : List Item) (fuel : ℕ) (ks : List Controller) (v : Environment) (posts : List Entry) : Type 0 where
   pub stand : AllStand plant ks
   pub fuel_is : (c : ℕ) (k : Controller) → slice_get ks c ≡ Some k → k.fuel ≡ fuel
@@ -51,13 +52,16 @@ pub record RunSoFar (plant : Plant) (gone : List Item) (fuel : ℕ) (ks : List C
   pub journals : (c : ℕ) (k : Controller) → slice_get ks c ≡ Some k → k.mail.journal ≡ whole plant events c
   pub posted : events (length plant.wiring.controllers) ≡ posts
   pub nobody : (party : ℕ) → length plant.wiring.controllers < party → events party ≡ []
-  pub sound : ((party : ℕ) → PostsWithin (length plant.wiring.controllers) (events party)) → (rest : List Item) → IsSound plant (lines_of (gone ++ rest)) events (world_of plant ks v)
+  pub within : (party : ℕ) → PostsWithin (length plant.wiring.controllers) (events party)
+  pub sound : (rest : List Item) → IsSound plant (lines_of (gone ++ rest)) events (world_of plant ks v)
 
--- the ends of a round before its workers: the environment posted these entries, the controllers did nothing
+-- the ends of a round before its workers: the environment posted these entries to controllers that there are,
+-- the controllers did nothing
 pub record EndsPosted (n : ℕ) (logs : List EndLog) (es : List Entry) : Type 0 where
   pub count : length logs ≡ n + 1
   pub controllers : (c : ℕ) → c < n → log_at logs c ≡ fresh (n + 1) c
   pub environment : EndDid n (log_at logs n) es
+  pub within : PostsWithin n es
 
 -- the environment's posts in a round, from this world on
 pub record EnvironmentPosts (plant : Plant) (lines : List Line) (w : World (Body Actor)) (es : List Entry) (v : Environment) : Type 0 where

@@ -2,7 +2,7 @@
 use Rattle.std.specs.Prelude.{◌≡◌, ℕ, List, slice_get, Some}
 use Rattle.controller_actors.specs.declared.plant.Plant.{Plant}
 use Rattle.controller.specs.Controllers.{IsOf, Begins}
-use Rattle.controller.specs.declared.controller.Controller.{Controller}
+use Rattle.controller.specs.View.{Controller}
 
 -- the first controllers have started, each with so much fuel
 pub record AllBegun (plant : Plant) (fuel : ℕ) (ks : List Controller) : Type 0 where

@@ -6,15 +6,18 @@ use Rattle.model_run.specs.run_rounds.Rounds.{FetchesWithin}
 use Rattle.model_run.specs.run_rounds.Prompts.{PromptFrom, EndsAs}
 use Rattle.controller_actors.specs.declared.plant.Plant.{Plant}
 use Rattle.controller.specs.Controllers.{Goes, EndGoes}
-use Rattle.controller.specs.declared.controller.Controller.{Controller}
+use Rattle.controller.specs.Calls.{PostsWithin}
+use Rattle.controller.specs.View.{Controller}
 
 -- some steps of a controller and of its end: what its end posted and took is what its journal says, what it
--- fetched came from the parties that there are, its turns were prompt, and it kept to its fuel
+-- fetched came from the parties that there are, what it posted went to controllers that there are, its turns
+-- were prompt, and it kept to its fuel
 pub record Did (plant : Plant) (old new : Controller) (log log' : EndLog) : Type 0 where
   pub entries : List Entry
   pub goes : Goes plant old new entries
   pub end : EndGoes old.me.0 log log' entries
   pub within : FetchesWithin (length plant.wiring.controllers) entries
+  pub posts : PostsWithin (length plant.wiring.controllers) entries
   pub prompt : (before : List Entry) → EndsAs old.me.0 before log → PromptFrom old.me.0 before entries
   pub fuelled : old.mail.turns ≤ old.fuel → new.mail.turns ≤ old.fuel
 

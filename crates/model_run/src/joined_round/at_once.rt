@@ -1,6 +1,5 @@
 //! The workers of all controllers, each on a thread.
 ghost use Rattle.std.specs.Prelude.{◌≡◌, ◌+◌, map, length, IfOk};
-ghost use Rattle.controller_actors.specs.Plants.{IsPlant};
 ghost use Rattle.model_run.specs.joined_round.Joined.{AllStand, HaveWorked};
 
 use crate::joined_round::halves::work_halves;
@@ -22,7 +21,6 @@ pub(crate) fn work_at_once<M: Mail<Office = ()> + Send + Drop, G: Gate + Sync, R
     mut ends: Vec<M>,
     gate: &G,
 ) -> Result<Vec<M>, AllocError>
-    requires plant { IsPlant plant.now }
     requires stand { AllStand plant.now controllers.old.items }
     requires count { length ends.items ≡ length plant.now.wiring.controllers + 1 }
     requires tied { M.tied tt ends.items }

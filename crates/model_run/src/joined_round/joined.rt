@@ -1,9 +1,9 @@
 //! The joined step of all controllers.
-ghost use Rattle.std.specs.Prelude.{◌≡◌, ℕ, [], map, false, length, slice_get, Some, OnOk};
+ghost use Rattle.std.specs.Prelude.{◌≡◌, ℕ, [], map, false, length, slice_get, slice_index_or, Some, All, OnOk};
+ghost use Rattle.controller_mail.specs.MailState.{HasPriority};
 ghost use Rattle.model_run.specs.run_rounds.OneByOne.{StepsBelow};
-ghost use Rattle.controller_actors.specs.Plants.{IsPlant};
 ghost use Rattle.controller.specs.Controllers.{IsOf};
-ghost use Rattle.controller.specs.declared.controller.Controller.{Controller as Seated};
+ghost use Rattle.controller.specs.View.{Controller as Seated};
 ghost use Rattle.model_run.specs.joined_round.Joined.{FetchedAt, TurnedAt, LastTurn, IsReady};
 
 use controller::{Controller, Plant};
@@ -20,15 +20,12 @@ pub(crate) fn fetch_all(
 ) -> Result<(), AllocError>
     requires of { (c : ℕ) (k : Seated) → slice_get controllers.old.items c ≡ Some k → IsOf plant.now k }
     requires count { length left.items ≡ length controllers.old.items }
+    requires prio { (c : ℕ) → All HasPriority (slice_index_or (map (λ v. v.items) left.items) c []) }
     ensures ok { OnOk result (StepsBelow (FetchedAt plant.now (map (λ v. v.items) left.items)) (length controllers.old.items) (slice_get controllers.old.items) (slice_get controllers.new.items)) }
     ensures count { OnOk result (length controllers.new.items ≡ length controllers.old.items) }
 {
     for i in 0..controllers.len() {
         let list = mem::replace(&mut left[i], Vec::new(alloc));
-        // Each was posted at one of six priorities.
-        if !list.iter().all(|m| m.prio.0 < 6) {
-            return Err(AllocError);
-        }
         controllers[i].fetch_left(plant, list)?;
     }
     Ok(())
@@ -36,7 +33,6 @@ pub(crate) fn fetch_all(
 
 /// One turn, if the fuel is not spent.
 fn last_turn(controller: &mut Controller, plant: &Plant) -> Result<(), AllocError>
-    requires plant { IsPlant plant.now }
     requires ready { IsReady plant.now controller.old }
     ensures ok { OnOk result (LastTurn plant.now controller.old controller.new) }
     ensures of { IsOf plant.now controller.new }
@@ -50,7 +46,6 @@ fn last_turn(controller: &mut Controller, plant: &Plant) -> Result<(), AllocErro
 
 /// Each controller whose fuel is not spent takes a turn, if a message waits for one.
 pub(crate) fn turn_all(controllers: &mut Vec<Controller>, plant: &Plant) -> Result<(), AllocError>
-    requires plant { IsPlant plant.now }
     requires ready { (c : ℕ) (k : Seated) → slice_get controllers.old.items c ≡ Some k → IsReady plant.now k }
     ensures ok { OnOk result (StepsBelow (TurnedAt plant.now) (length controllers.old.items) (slice_get controllers.old.items) (slice_get controllers.new.items)) }
     ensures count { OnOk result (length controllers.new.items ≡ length controllers.old.items) }

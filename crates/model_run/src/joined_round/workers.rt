@@ -1,6 +1,5 @@
 //! The workers of all controllers, one after another on the calling thread.
 ghost use Rattle.std.specs.Prelude.{◌≡◌, ◌+◌, map, length, OnOk};
-ghost use Rattle.controller_actors.specs.Plants.{IsPlant};
 ghost use Rattle.model_run.specs.joined_round.Joined.{AllStand, HaveWorked};
 
 use crate::run_worker::work;
@@ -16,7 +15,6 @@ pub(crate) fn work_in_order<M: Mail>(
     office: &mut M::Office,
     ends: &mut Vec<M>,
 ) -> Result<(), AllocError>
-    requires plant { IsPlant plant.now }
     requires stand { AllStand plant.now controllers.old.items }
     requires count { length ends.old.items ≡ length plant.now.wiring.controllers + 1 }
     requires tied { M.tied office.old ends.old.items }

@@ -3,7 +3,6 @@ ghost use Rattle.std.specs.Prelude.{◌≡◌, ◌++◌, true, [], map, length, 
 ghost use Rattle.actor_world.specs.Journals.{left};
 ghost use Rattle.model_run.specs.run_ends.Told.{AreTold};
 
-use crate::run_ends::within::posts_within;
 use controller::Controller;
 use journal::{Journal, Left};
 use room_kinds::{ControllerId, Msg};
@@ -38,7 +37,7 @@ pub(crate) fn finish_all(
     mut controllers: Vec<Controller>,
 ) -> Result<Finished, AllocError>
     requires { length controllers.items ≡ count }
-    ensures { IfOk result (λ f. AreTold count count controllers.items [] f.journals.items f.left.items) }
+    ensures { IfOk result (λ f. AreTold count controllers.items [] f.journals.items f.left.items) }
 {
     let mut journals = Vec::new(alloc);
     let mut left = Vec::new(alloc);
@@ -48,10 +47,6 @@ pub(crate) fn finish_all(
             unreachable!()
         };
         let (journal, waiting) = controller.finish()?;
-        // A controller posts to a controller of its wiring, at one of the six priorities.
-        if !posts_within(journal.as_slice(), count) {
-            return Err(AllocError);
-        }
         leave_all(&mut left, ControllerId(me), waiting)?;
         journals.push(journal)?;
     }

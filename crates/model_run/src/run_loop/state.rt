@@ -1,6 +1,5 @@
 //! A run between two rounds.
 ghost use Rattle.std.specs.Prelude.{◌≡◌, List, IfOk};
-ghost use Rattle.controller_actors.specs.Plants.{IsPlant};
 ghost use Rattle.inject_reader.specs.declared.inject_lines.accepted.Line.{Line as Accepted};
 ghost use Rattle.model_run.specs.part_source.Calls.{seen, seen_in};
 ghost use Rattle.model_run.specs.part_source.Parts.{IsPart};
@@ -28,7 +27,6 @@ pub(crate) struct Run {
 impl Run {
     /// A run before its first part, each controller with so much fuel.
     pub(crate) fn start(alloc: Global, plant: &Plant, fuel: u64) -> Result<Run, AllocError>
-        requires { IsPlant plant.now }
         ensures { IfOk result (λ run. (part : List Accepted) → IsPart part → StandsBetween plant.now part part fuel run) }
     {
         let controllers = start_all(alloc, plant, fuel)?;

@@ -1,7 +1,7 @@
 -- What the parties of a run post has one of the six priorities, and so has what is fetched.
-use Rattle.std.proofs.Common.{◌≡◌, ℕ, zero, suc, ◌+◌, ◌<◌, ◌==◌, Bool, true, false, not, ◌&&◌, if◌then◌else◌, List, [], ◌∷◌, length, Option, Some, None, slice_get, sym, subst, le-leb, leb-true, ◌⊎◌, inl, inr}
+use Rattle.std.proofs.Common.{◌≡◌, ℕ, zero, suc, ◌+◌, ◌<◌, ◌==◌, Bool, true, false, not, ◌&&◌, if◌then◌else◌, List, [], ◌∷◌, length, Option, Some, None, slice_get, nat_lt, nat_le, arith, sym, subst, le-leb, leb-true, ◌⊎◌, inl, inr}
 use Rattle.std.specs.List.{list_all, AllByRecursion, Contains}
-use Rattle.std.proofs.lemmas.Bool.{and_parts, cases_order}
+use Rattle.std.proofs.lemmas.Bool.{and_parts, cases_order, ltb-true}
 use Rattle.std.proofs.lemmas.Option.{same_Some}
 use Rattle.room_kinds.specs.declared.message.Msg.{Msg}
 use Rattle.room_kinds.specs.declared.command.Command.{Command}
@@ -28,6 +28,7 @@ use Rattle.actor_world.specs.Turns.{all_kinds, doing, treated, begun, all_begun,
 use Rattle.actor_world.specs.Start.{Starting, started, all_started, starting, first_actors, first_state, plant_of}
 use Rattle.actor_world.specs.Journals.{lines_from, lines_of}
 use Rattle.chart_behaviour.specs.Asked.{AsksOnly}
+use Rattle.bounded_sends.specs.Sends.{is_ranked}
 use Rattle.controller_actors.specs.Plants.{model_of}
 use Rattle.controller_actors.specs.declared.plant.Plant.{Plant}
 use Rattle.model_run.specs.part_posts.Items.{item_of, items_of}
@@ -37,19 +38,23 @@ use Rattle.run_promises.proofs.Named.{nothing_in, head_or_tail}
 use Rattle.run_promises.proofs.Lines.{PostsLines}
 use Rattle.run_promises.proofs.Party.{nothing, posted_is, replay, environment_lines}
 use Rattle.run_promises.proofs.PromisesLaw.{promises}
-use Rattle.run_promises.specs.run_texts.Texts.{is_ranked, AtSixPriorities}
+use Rattle.run_promises.specs.run_texts.Texts.{AtSixPriorities}
 use Rattle.run_promises.proofs.run_texts.Sends.{IsRanked, AllRanked, LastRanked, FrameRanked, ranked_append, ranked_send, ranked_broadcast, ranked_request, ranked_name_request, ranked_end_of, ranked_links, ranked_table, frame_duty_ranked}
 use Rattle.run_promises.proofs.run_texts.Party.{did, nobody}
 
 -- ---- what actors and services send
 
+-- one of the six priorities is at most 5
+one_of_six : (p : ℕ) → nat_lt p 6 ≡ true → nat_le p 5 ≡ true
+one_of_six p h = let below = ltb-true p 6 h in le-leb p 5 (omega (arith, below))
+
 module _ {M : Type 0} (t : Tables) (me : ℕ) where
   apply_ranked : (x : Incarnation) (m : Option Msg) (d : Doing M) (c : Command) → is_ranked c ≡ true → AllRanked d.sent
       → AllRanked (apply t me x m d c).sent
   apply_ranked x m d (commands.Send p (Some k) signal payload prio) h s =
-      ranked_append d.sent _ s (ranked_send t me d.body.frame d.body.links x p k (record { signal = signal; payload = payload; prio = prio }) h)
+      ranked_append d.sent _ s (ranked_send t me d.body.frame d.body.links x p k (record { signal = signal; payload = payload; prio = prio }) (one_of_six prio.0 h))
   apply_ranked x m d (commands.Send p None signal payload prio) h s =
-      ranked_append d.sent _ s (ranked_broadcast t me d.body.frame d.body.links x p (record { signal = signal; payload = payload; prio = prio }) h)
+      ranked_append d.sent _ s (ranked_broadcast t me d.body.frame d.body.links x p (record { signal = signal; payload = payload; prio = prio }) (one_of_six prio.0 h))
   apply_ranked x m d commands.Defer h s = s
   apply_ranked x m d commands.Recall h s = s
   apply_ranked x m d commands.RecallAll h s = s

@@ -5,11 +5,9 @@ use Rattle.room_kinds.specs.declared.message.Msg.{Msg}
 use Rattle.journal.specs.declared.entry.Journals.{Journals}
 use Rattle.inject_reader.specs.Fitting.{FitLines}
 use Rattle.inject_reader.specs.declared.inject_lines.accepted.Line.{Line}
-use Rattle.chart_behaviour.specs.Asked.{ClassesAsk}
 use Rattle.controller_actors.specs.declared.plant.Plant.{Plant}
 use Rattle.actor_world.specs.world_laws.Whereabouts.{fetched}
 use Rattle.model_run.specs.run_ends.Runs.{journal_of, IsRun}
-use Rattle.run_promises.specs.run_texts.Texts.{is_ranked}
 
 -- a message that this controller fetches, among so many: it comes from one of them or from the environment,
 -- to this one, at a priority from 0 to 5
@@ -22,8 +20,8 @@ pub record FetchFits (controllers c : ℕ) (m : Msg) : Type 0 where
 abbrev pub FetchesFit : Plant → Journals → Type 0
 FetchesFit plant j = (c : ℕ) (m : Msg) → Contains (fetched (journal_of j c)) m → FetchFits (length plant.wiring.controllers) c m
 
--- over every run of a plant whose programs send at no other priority, over lines that name what the wiring has
+-- over every run of a plant over lines that name what the wiring has
 abbrev pub RunsFetchWhatFits : Type 0
 RunsFetchWhatFits =
-    (plant : Plant) (lines : List Line) → ClassesAsk is_ranked plant.tables.items → FitLines plant.wiring lines
+    (plant : Plant) (lines : List Line) → FitLines plant.wiring lines
     → (fuel : ℕ) (j : Journals) → IsRun plant lines fuel j → FetchesFit plant j

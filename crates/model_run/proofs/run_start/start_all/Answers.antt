@@ -1,6 +1,6 @@
 use Rattle.std.proofs.Common.{◌≡◌, ◌+◌, List, [], ◌∷◌, ◌++◌, length, sym, ap, subst, arith}
 use Rattle.std.proofs.lemmas.List.{length_push}
-use Rattle.controller.specs.declared.controller.Controller.{Controller}
+use Rattle.controller.specs.View.{Controller}
 use Rattle.model_run.specs.run_start.Begun.{AllBegun}
 use Rattle.model_run.proofs.run_start.StartLaw.{begun_more, starts_run}
 use Rattle.model_run.proofs.run_start.start_all.Goals as goal

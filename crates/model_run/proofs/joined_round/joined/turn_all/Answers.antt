@@ -1,7 +1,7 @@
 use Rattle.std.proofs.Common.{ℕ, ◌<◌, length, ◌∙◌, arith}
 use Rattle.std.proofs.lemmas.List.{length-set}
 use Rattle.controller.specs.Controllers.{IsOf}
-use Rattle.controller.specs.declared.controller.Controller.{Controller}
+use Rattle.controller.specs.View.{Controller}
 use Rattle.model_run.specs.joined_round.Joined.{TurnedAt, LastTurn}
 use Rattle.model_run.proofs.joined_round.JoinLaw.{stood, change_step}
 use Rattle.model_run.proofs.joined_round.joined.turn_all.Goals as goal

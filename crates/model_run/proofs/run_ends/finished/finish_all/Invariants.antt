@@ -4,5 +4,5 @@ use Rattle.model_run.proofs.run_ends.finished.finish_all.Given as goal
 
 abbrev pub invariant-loop-me : goal.invariant-loop-me
 invariant-loop-me l = record {
-  told : AreTold l.count l.me l.fn.controllers.items (reverse l.controllers.items) l.journals.items l.left.items;
+  told : AreTold l.me l.fn.controllers.items (reverse l.controllers.items) l.journals.items l.left.items;
 }

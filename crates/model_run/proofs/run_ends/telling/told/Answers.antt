@@ -10,9 +10,9 @@ pub returns-clause-ran : goal.returns-clause-ran
 returns-clause-ran g c =
     let k = c.controller_count-count.result in
     let ks = c.args.controllers.items in
-    let told : AreTold k k ks [] c.from.result c.from-2.result =
-    subst (λ (z : List (List Entry)). AreTold k k ks [] z c.from-2.result) (sym c.from.ensures)
-    (subst (λ (z : List Left). AreTold k k ks [] c.in_ok-finished.finished.journals.items z) (sym c.from-2.ensures) c.in_ok-finished.ensures) in
+    let told : AreTold k ks [] c.from.result c.from-2.result =
+    subst (λ (z : List (List Entry)). AreTold k ks [] z c.from-2.result) (sym c.from.ensures)
+    (subst (λ (z : List Left). AreTold k ks [] c.in_ok-finished.finished.journals.items z) (sym c.from-2.ensures) c.in_ok-finished.ensures) in
     subst (λ (z : List Entry). RanThrough c.args.plant.now (g.S.PartSource.given c.args.source.now) (g.S.PartSource.left c.args.source.now) c.args.fuel
     (record { controllers = c.from.result; environment = z; left = c.from-2.result; unposted = c.from-3.result; done = c.args.done })) (sym c.finish-posts.ensures)
     (record {
@@ -26,9 +26,9 @@ pub returns-clause-seen : goal.returns-clause-seen
 returns-clause-seen g c =
     let k = c.controller_count-count.result in
     let ks = c.args.controllers.items in
-    let told : AreTold k k ks [] c.from.result c.from-2.result =
-    subst (λ (z : List (List Entry)). AreTold k k ks [] z c.from-2.result) (sym c.from.ensures)
-    (subst (λ (z : List Left). AreTold k k ks [] c.in_ok-finished.finished.journals.items z) (sym c.from-2.ensures) c.in_ok-finished.ensures) in
+    let told : AreTold k ks [] c.from.result c.from-2.result =
+    subst (λ (z : List (List Entry)). AreTold k ks [] z c.from-2.result) (sym c.from.ensures)
+    (subst (λ (z : List Left). AreTold k ks [] c.in_ok-finished.finished.journals.items z) (sym c.from-2.ensures) c.in_ok-finished.ensures) in
     let journals = journals_told k ks c.from.result c.from-2.result told in
     let posts = c.finish-posts.ensures in
     λ i. record { controllers = journals i; environment = posts i }

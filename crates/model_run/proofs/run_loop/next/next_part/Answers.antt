@@ -3,7 +3,7 @@ use Rattle.std.specs.List.{list_any}
 use Rattle.actor_merge.specs.World.{latest}
 use Rattle.controller_mail.specs.MailState.{EnvironmentState}
 use Rattle.controller.specs.Controllers.{state_at}
-use Rattle.controller.specs.declared.controller.Controller.{Controller}
+use Rattle.controller.specs.View.{Controller}
 use Rattle.model_run.specs.part_posts.Items.{items_of}
 use Rattle.model_run.specs.part_source.Calls.{seen, MayAsk, asked}
 use Rattle.model_run.specs.part_source.Parts.{NextPart}

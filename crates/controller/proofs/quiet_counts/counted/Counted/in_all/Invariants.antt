@@ -1,6 +1,6 @@
 use Rattle.std.proofs.Common.{◌≡◌, ◌<◌, ◌^◌, ◌+◌, ◌*◌, take}
 use Rattle.std.specs.List.{sum_by, count_by}
-use Rattle.controller.specs.declared.controller.Controller.{Controller}
+use Rattle.controller.specs.View.{Controller}
 use Rattle.controller.specs.quiet_counts.Counts.{is_counted}
 use Rattle.controller.proofs.quiet_counts.counted.Counted.in_all.Given as goal
 
