@@ -12,6 +12,8 @@ use Rattle.chart_model.specs.Chart.{Chart}
 use Rattle.model_run.specs.run_ends.Runs.{IsRun}
 use Rattle.named_runs.specs.Charts.{IsRunByCharts}
 use Rattle.named_runs.proofs.ByCharts.{by_charts}
+use Rattle.run_journals.proofs.InPlaceLaw.{in_place}
+use Rattle.run_journals.proofs.TiedLaw.{tied}
 use Rattle.run_promises.proofs.PromisesLaw.{promises}
 use Rattle.room_run.specs.Agreement.{AllAgree}
 use Rattle.run_promises.specs.run_texts.Texts.{TextTells}
@@ -74,6 +76,8 @@ run_of shelf files fuel p lines j texts run = record {
   determined = of_texts (shelf.text files.model) (shelf.text files.injections) p lines (TextTells p lines j) texts.model_accepted texts.lines_accepted
       (λ text model fit. text_tells text p lines fuel j model fit run);
   settled = settles_of (shelf.text files.model) (shelf.text files.injections) p lines fuel j texts.model_accepted texts.lines_accepted run;
+  in_place = in_place p lines fuel j run;
+  tied = tied p lines fuel j run;
 }
 
 -- what is told of a run of a made model

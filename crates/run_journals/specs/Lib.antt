@@ -1,0 +1,5 @@
+pub mod Tied
+pub mod Tying
+pub mod InPlace
+pub mod Outside
+pub mod Reaching
