@@ -1,4 +1,3 @@
 pub mod JoinLaw
 pub mod SeatLaw
 pub mod Shared
-pub mod Ranked

@@ -1,5 +1,5 @@
 -- What all controllers do in a round.
-use Rattle.std.specs.Prelude.{◌≡◌, ℕ, ◌<◌, ◌≤◌, false, List, [], length, slice_get, slice_index_or, Option, Some, All}
+use Rattle.std.specs.Prelude.{◌≡◌, ℕ, ◌<◌, ◌≤◌, false, List, [], length, slice_get, slice_index_or, Option, Some}
 use Rattle.room_kinds.specs.declared.message.Msg.{Msg}
 use Rattle.journal.specs.declared.entry.Entry.{Entry}
 use Rattle.mail_core.specs.EndLog.{EndLog}
@@ -7,7 +7,6 @@ use Rattle.mail_core.specs.Lanes.{log_at}
 use Rattle.mail_core.specs.SetUp.{IsLeft}
 use Rattle.model_run.specs.run_rounds.OneByOne.{StepsBelow}
 use Rattle.model_run.specs.run_rounds.Rounds.{OnlyTurns}
-use Rattle.controller_mail.specs.MailState.{HasPriority}
 use Rattle.controller_actors.specs.declared.plant.Plant.{Plant}
 use Rattle.controller.specs.Controllers.{IsOf, Goes}
 use Rattle.controller.specs.Calls.{FetchesLeft}
@@ -52,10 +51,6 @@ pub record HaveWorked (plant : Plant) (olds : List Controller) (logs : List EndL
   pub steps : StepsBelow (WorkedAt plant) (length olds) (seat olds logs) (seat mids logs')
   pub count : length mids ≡ length olds
   pub parties : length logs' ≡ length logs
-
--- what these ends posted has one of the six priorities
-abbrev pub HavePriorities : List EndLog → Type 0
-HavePriorities logs = (s r p : ℕ) → All HasPriority ((log_at logs s).posted r p)
 
 -- what was left for a controller was fetched
 abbrev pub FetchedAt : Plant → List (List Msg) → ℕ → Option Controller → Option Controller → Type 0

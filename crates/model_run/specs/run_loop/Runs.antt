@@ -8,7 +8,7 @@ use Rattle.actor_world.specs.Journals.{Item}
 use Rattle.controller_actors.specs.declared.plant.Plant.{Plant}
 use Rattle.controller.specs.View.{Controller}
 use Rattle.model_run.specs.declared.run_loop.state.Run.{Run}
-use Rattle.model_run.specs.joined_round.Joined.{AllStand, HavePriorities, RoundDone}
+use Rattle.model_run.specs.joined_round.Joined.{AllStand, RoundDone}
 use Rattle.model_run.specs.part_posts.Items.{items_of}
 use Rattle.model_run.specs.run_ends.Ends.{waits, IsAtEnd}
 use Rattle.model_run.specs.run_loop.Plays.{BeforePart, InPart}
@@ -22,7 +22,6 @@ pub record StandsBetween (plant : Plant) (given part : List Line) (fuel : ℕ) (
 -- stands in a part
 pub record IsInRound (plant : Plant) (gone : List Item) (fuel : ℕ) (run : Run) (logs : List EndLog) : Type 0 where
   pub stand : AllStand plant run.controllers.items
-  pub ranked : HavePriorities logs
   pub in_part : run.in_part ≡ true
   pub goes_on : (news : List Controller) (logs' : List EndLog) (answer : List (List Msg)) → RoundDone plant run.controllers.items news logs logs' answer
       → InPart plant gone fuel news run.environment

@@ -1,6 +1,5 @@
 //! The joined step of all controllers.
-ghost use Rattle.std.specs.Prelude.{◌≡◌, ℕ, [], map, false, length, slice_get, slice_index_or, Some, All, OnOk};
-ghost use Rattle.controller_mail.specs.MailState.{HasPriority};
+ghost use Rattle.std.specs.Prelude.{◌≡◌, ℕ, [], map, false, length, slice_get, Some, OnOk};
 ghost use Rattle.model_run.specs.run_rounds.OneByOne.{StepsBelow};
 ghost use Rattle.controller.specs.Controllers.{IsOf};
 ghost use Rattle.controller.specs.View.{Controller as Seated};
@@ -20,12 +19,15 @@ pub(crate) fn fetch_all(
 ) -> Result<(), AllocError>
     requires of { (c : ℕ) (k : Seated) → slice_get controllers.old.items c ≡ Some k → IsOf plant.now k }
     requires count { length left.items ≡ length controllers.old.items }
-    requires prio { (c : ℕ) → All HasPriority (slice_index_or (map (λ v. v.items) left.items) c []) }
     ensures ok { OnOk result (StepsBelow (FetchedAt plant.now (map (λ v. v.items) left.items)) (length controllers.old.items) (slice_get controllers.old.items) (slice_get controllers.new.items)) }
     ensures count { OnOk result (length controllers.new.items ≡ length controllers.old.items) }
 {
     for i in 0..controllers.len() {
         let list = mem::replace(&mut left[i], Vec::new(alloc));
+        // Each was posted at one of six priorities.
+        if !list.iter().all(|m| m.prio.0 < 6) {
+            return Err(AllocError);
+        }
         controllers[i].fetch_left(plant, list)?;
     }
     Ok(())

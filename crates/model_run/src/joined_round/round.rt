@@ -2,7 +2,7 @@
 ghost use Rattle.std.specs.Prelude.{◌≡◌, ◌+◌, List, map, length, OnOk};
 ghost use Rattle.room_kinds.specs.declared.message.Msg.{Msg as Message};
 ghost use Rattle.mail_core.specs.EndLog.{EndLog};
-ghost use Rattle.model_run.specs.joined_round.Joined.{AllStand, HavePosted, HavePriorities, AreJoined, RoundDone};
+ghost use Rattle.model_run.specs.joined_round.Joined.{AllStand, HavePosted, AreJoined, RoundDone};
 
 use crate::joined_round::at_once::work_at_once;
 use crate::joined_round::joined::{fetch_all, turn_all};
@@ -23,7 +23,6 @@ fn join_all<M: Mail>(
 ) -> Result<(), AllocError>
     requires posted { HavePosted plant.now controllers.old.items }
     requires count { length ends.items ≡ length controllers.old.items + 1 }
-    requires ranked { HavePriorities (map M.log ends.items) }
     requires tied { M.tied office ends.items }
     ensures { OnOk result (AreJoined plant.now controllers.old.items controllers.new.items (map M.log ends.items)) }
 {
@@ -45,7 +44,6 @@ where
     M::Office: Drop,
     requires stand { AllStand plant.now controllers.old.items }
     requires count { length ends.items ≡ length plant.now.wiring.controllers + 1 }
-    requires ranked { HavePriorities (map M.log ends.items) }
     requires tied { M.tied office ends.items }
     ensures { OnOk result ((logs : List EndLog) × (answer : List (List Message)) × RoundDone plant.now controllers.old.items controllers.new.items (map M.log ends.items) logs answer) }
 {
@@ -66,7 +64,6 @@ pub fn round_at_once<M: Mail<Office = ()> + Send + Drop, G: Gate + Sync, R: Thre
 ) -> Result<(), AllocError>
     requires stand { AllStand plant.now controllers.old.items }
     requires count { length ends.items ≡ length plant.now.wiring.controllers + 1 }
-    requires ranked { HavePriorities (map M.log ends.items) }
     requires tied { M.tied tt ends.items }
     ensures { OnOk result ((logs : List EndLog) × (answer : List (List Message)) × RoundDone plant.now controllers.old.items controllers.new.items (map M.log ends.items) logs answer) }
 {

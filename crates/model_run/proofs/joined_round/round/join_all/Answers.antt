@@ -4,7 +4,6 @@ use Rattle.room_kinds.specs.declared.message.Msg.{Msg}
 use Rattle.model_run.specs.run_rounds.OneByOne.{StepsBelow}
 use Rattle.model_run.specs.joined_round.Joined.{TurnedAt}
 use Rattle.model_run.proofs.joined_round.JoinLaw.{ok_then, fetched_ready}
-use Rattle.model_run.proofs.joined_round.Ranked.{left_ranked}
 use Rattle.model_run.proofs.joined_round.round.join_all.Goals as goal
 
 pub fetch_all-requires-clause-of : goal.fetch_all-requires-clause-of
@@ -18,10 +17,6 @@ fetch_all-requires-clause-count g c =
     let count = c.in_ok-left.ensures.count in
     let ends = c.requires.count in
     omega arith
-
-pub fetch_all-requires-clause-prio : goal.fetch_all-requires-clause-prio
-fetch_all-requires-clause-prio g c =
-    left_ranked (map g.M.Mail.log c.args.ends.items) (map (λ (v : Vec Msg Global). v.items) c.in_ok-left.left.items) c.in_ok-left.ensures c.requires.ranked
 
 pub turn_all-requires-clause-ready : goal.turn_all-requires-clause-ready
 turn_all-requires-clause-ready g c =

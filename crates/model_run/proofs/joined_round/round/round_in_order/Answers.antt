@@ -1,7 +1,6 @@
 use Rattle.std.proofs.Common.{◌≡◌, map, length, arith}
 use Rattle.std.proofs.lemmas.List.{length-map}
 use Rattle.model_run.proofs.joined_round.JoinLaw.{ok_so, round_of, worked_of}
-use Rattle.model_run.proofs.joined_round.Ranked.{worked_ranked}
 use Rattle.model_run.proofs.joined_round.round.round_in_order.Goals as goal
 
 pub join_all-requires-clause-posted : goal.join_all-requires-clause-posted
@@ -15,11 +14,6 @@ join_all-requires-clause-count g c =
     let olds : length (map g.M.Mail.log c.args.ends.items) ≡ length c.args.ends.items = length-map c.args.ends.items g.M.Mail.log in
     let news : length (map g.M.Mail.log c.work_in_order.new.ends.items) ≡ length c.work_in_order.new.ends.items = length-map c.work_in_order.new.ends.items g.M.Mail.log in
     omega (arith, w.parties, w.count, c.requires.count, c.requires.stand.count)
-
-pub join_all-requires-clause-ranked : goal.join_all-requires-clause-ranked
-join_all-requires-clause-ranked g c =
-    worked_ranked c.args.plant.now c.args.controllers.now.items (map g.M.Mail.log c.args.ends.items) c.work_in_order.new.controllers.items (map g.M.Mail.log c.work_in_order.new.ends.items)
-    c.in_ok-work_in_order.ensures.worked c.requires.ranked
 
 pub returns : goal.returns
 returns g c =

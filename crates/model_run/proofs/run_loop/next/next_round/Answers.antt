@@ -1,8 +1,7 @@
-use Rattle.std.proofs.Common.{◌+◌, length, map}
+use Rattle.std.proofs.Common.{map}
 use Rattle.model_run.specs.part_posts.Items.{items_of}
 use Rattle.model_run.specs.part_source.Calls.{seen, Asks}
 use Rattle.model_run.proofs.part_source.CallsLaw.{asks_none, asks_grew}
-use Rattle.model_run.proofs.joined_round.Ranked.{fresh_ranked}
 use Rattle.model_run.proofs.run_loop.PlayLaw.{quiet_on}
 use Rattle.model_run.proofs.run_loop.next.next_round.Goals.{then-run+else-not-have_stopped+in_ok-more+else-not-more, else-run}
 use Rattle.model_run.proofs.run_loop.next.next_round.Goals as goal
@@ -14,7 +13,6 @@ returns-then-not-have_stopped-clause-begun g c =
     let part = c.requires.stands.within c.if-run.true in
     record {
       stand = part.so_far.stand;
-      ranked = fresh_ranked (length plant.wiring.controllers + 1) (map g.M.Mail.log c.in_ok-open.field-0.1.items) c.in_ok-open.ensures.fresh;
       in_part = c.if-run.true;
       goes_on = quiet_on plant c.args.fuel (items_of plant.wiring (g.S.PartSource.given c.args.source.now)) run.controllers.items run.environment
           (map g.M.Mail.log c.in_ok-open.field-0.1.items) part c.in_ok-open.ensures.fresh;
