@@ -6,11 +6,13 @@ use Rattle.model_run.specs.joined_round.Joined.{TurnedAt, LastTurn}
 use Rattle.model_run.proofs.joined_round.JoinLaw.{stood, change_step}
 use Rattle.model_run.proofs.joined_round.joined.turn_all.Goals as goal
 
-pub last_turn-requires-clause-ready : goal.last_turn-requires-clause-ready
-last_turn-requires-clause-ready c =
+pub last_turn-requires : goal.last_turn-requires
+last_turn-requires c =
     let inside : c.loop-i.i < length c.loop-i.controllers.items = omega arith in
-    c.requires.ready c.loop-i.i c.index_mut.result.now
-    (stood (TurnedAt c.args.plant.now) c.args.controllers.now.items c.loop-i.controllers.items c.loop-i.i c.index_mut.result.now c.loop-i.invariant.steps c.index_mut.ensures.value inside)
+    record {
+      ready = c.requires.ready c.loop-i.i c.index_mut.result.now
+          (stood (TurnedAt c.args.plant.now) c.args.controllers.now.items c.loop-i.controllers.items c.loop-i.i c.index_mut.result.now c.loop-i.invariant.steps c.index_mut.ensures.value inside);
+    }
 
 pub loop-i-preserved : goal.loop-i-preserved
 loop-i-preserved c =

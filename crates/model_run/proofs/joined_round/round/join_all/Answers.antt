@@ -18,11 +18,13 @@ fetch_all-requires-clause-count g c =
     let ends = c.requires.count in
     omega arith
 
-pub turn_all-requires-clause-ready : goal.turn_all-requires-clause-ready
-turn_all-requires-clause-ready g c =
-    λ i k at.
-    fetched_ready c.args.plant.now c.args.controllers.now.items c.fetch_all.new.controllers.items (map (λ (v : Vec Msg Global). v.items) c.in_ok-left.left.items)
-    c.in_ok-fetch_all.ensures.ok c.in_ok-fetch_all.ensures.count c.requires.posted i k at
+pub turn_all-requires : goal.turn_all-requires
+turn_all-requires g c =
+    record {
+      ready = λ i k at.
+          fetched_ready c.args.plant.now c.args.controllers.now.items c.fetch_all.new.controllers.items (map (λ (v : Vec Msg Global). v.items) c.in_ok-left.left.items)
+          c.in_ok-fetch_all.ensures.ok c.in_ok-fetch_all.ensures.count c.requires.posted i k at;
+    }
 
 pub returns : goal.returns
 returns g c =
