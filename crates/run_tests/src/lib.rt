@@ -1,11 +1,9 @@
 //! What only code can try of the parts of a run: messages that are deferred and come back, a controller's
-//! mail between its mailboxes and its turns, and whether all is quiet while the environment posts.
+//! queues, and whether all is quiet while the environment posts.
 #![tactic(auto)]
 
 #[cfg(test)]
 mod deferred_tests;
-#[cfg(test)]
-mod move_tests;
 #[cfg(test)]
 mod quiet_tests;
 #[cfg(test)]

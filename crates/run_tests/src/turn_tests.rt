@@ -1,6 +1,6 @@
-//! A controller's mail, and that of the environment.
-use controller_mail::{ControllerMail, EnvironmentMail, TurnResult};
-use journal::{Did, Journal};
+//! A controller's queues, and the environment's mail.
+use controller_mail::{EnvironmentMail, MailQueues, TurnResult};
+use journal::Did;
 use plain_messages::message;
 use room_kinds::{ControllerId, Notes, Outbox, Sequence, Stamp};
 use std::test::Fail;
@@ -8,7 +8,7 @@ use std::test::Fail;
 #[test]
 fn the_lowest_priority_has_its_turn_first(rt: HostRuntime) -> Result<(), Fail> {
     let alloc = rt.alloc();
-    let mut mail = ControllerMail::started(alloc, Outbox::new(alloc), Journal::new(alloc))?;
+    let mut mail = MailQueues::started(alloc, Outbox::new(alloc))?;
     mail.fetch(message(alloc, 0, 0, 3, 4))?;
     mail.fetch(message(alloc, 0, 0, 1, 2))?;
     assert_eq!(rt; mail.clock(), 6);
@@ -24,10 +24,9 @@ fn the_lowest_priority_has_its_turn_first(rt: HostRuntime) -> Result<(), Fail> {
     };
     mail.end_turn(first.from, first.stamp, done)?;
     let posted = mail.post(ControllerId(2))?.ok_or("posted")?;
-    assert_eq!(rt; posted.from, ControllerId(2));
-    assert_eq!(rt; posted.stamp, Stamp(8));
-    let (journal, pending) = mail.finish()?;
-    assert_eq!(rt; journal.len(), 4);
+    assert_eq!(rt; posted.message.from, ControllerId(2));
+    assert_eq!(rt; posted.message.stamp, Stamp(8));
+    let pending = mail.into_pending()?;
     assert_eq!(rt; pending.len(), 1);
     Ok(())
 }
