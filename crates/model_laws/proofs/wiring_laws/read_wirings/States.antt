@@ -3,7 +3,7 @@ use Rattle.std.proofs.Common.{◌≡◌, List, [], ◌∷◌, Option, Some, None
 use Rattle.std.specs.Prelude.{All, option_and_then}
 use Rattle.std.specs.List.{filter_map, AllByRecursion}
 use Rattle.std.proofs.lemmas.List.Elements.{All-nil, All-cons, All-head, All-tail}
-use Rattle.room_ast.specs.ChartTree.{GraphItemTree, AState, AChoice, APoint, ATransition, StateTree, StateOf, BodyTree, no_body, body, SubgraphTree, no_subgraph, subgraph, GraphItems, no_items, item}
+use Rattle.room_ast.specs.ChartTree.{GraphItemTree, AState, AChoice, APoint, ATransition, ARefinement, StateTree, StateOf, BodyTree, no_body, body, SubgraphTree, no_subgraph, subgraph, GraphItems, no_items, item}
 use Rattle.room_ast.specs.Tokens.{maybe, word_if, word_code, graph_item, state_tokens, body_tokens, subgraph_tokens, graph_tokens, machine, behavior, interface, structure, actor_class, class_tokens, model_tokens}
 use Rattle.room_ast.specs.Trees.{ModelTree, ClassTree, ASystem, ASubsystem, AnActor, AProtocol, AData, ActorTree, BehaviorTree}
 use Rattle.room_wiring.specs.WellNamed.{IsWellNamed}
@@ -26,6 +26,7 @@ mutual
   item_named (AChoice c) h d = tt
   item_named (APoint p) h d = tt
   item_named (ATransition t) h d = tt
+  item_named (ARefinement path change) h d = tt
 
   state_named : (s : StateTree) → HasNames (state_tokens s) → StateDiffers s → StateIsNamed s
   state_named (StateOf name b) h d = (ident_of name h.0, body_named b h.1 d)
