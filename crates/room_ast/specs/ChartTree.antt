@@ -2,8 +2,8 @@
 use Rattle.std.specs.Prelude.{ℕ, List, [], ◌∷◌, map, Option, Some, None}
 use Rattle.std.specs.Global.{Vec}
 use Rattle.room_ast.specs.declared.chart.GraphItem.{GraphItem}
-use Rattle.room_ast.specs.declared.chart.GraphItem.TheFolds.{fold-GraphItem, fold-State, fold-StateBody, fold-Refinement}
-use Rattle.room_ast.specs.declared.chart.GraphItem.TheOpen.{GraphItem-F, State-F, StateBody-F, Refinement-F, Change-F}
+use Rattle.room_ast.specs.declared.chart.Change.TheFolds.{fold-GraphItem, fold-State, fold-StateBody, fold-Refinement}
+use Rattle.room_ast.specs.declared.chart.Change.TheOpen.{GraphItem-F, State-F, StateBody-F, Refinement-F, Change-F}
 use Rattle.room_ast.specs.declared.chart.State.{State}
 use Rattle.room_ast.specs.declared.chart.StateBody.{StateBody}
 use Rattle.room_ast.specs.declared.chart.Refinement.{Refinement}
