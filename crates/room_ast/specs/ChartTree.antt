@@ -61,37 +61,37 @@ abbrev pub body_of : Option BodyParts → BodyTree
 body_of None = no_body
 body_of (Some b) = body b.entry b.exit b.subgraph
 
-abbrev pub item_step : GraphItem-F GraphItemTree StateTree BodyParts GraphItemTree ChangeTree → GraphItemTree
+abbrev pub item_step : GraphItem-F ChangeTree GraphItemTree GraphItemTree StateTree BodyParts → GraphItemTree
 item_step (GraphItem-F.State s) = AState s
 item_step (GraphItem-F.Choice c) = AChoice c
 item_step (GraphItem-F.Point p) = APoint p
 item_step (GraphItem-F.Transition t) = ATransition t
 item_step (GraphItem-F.Refinement r) = r
 
-abbrev pub state_step : State-F GraphItemTree StateTree BodyParts GraphItemTree ChangeTree → StateTree
+abbrev pub state_step : State-F ChangeTree GraphItemTree GraphItemTree StateTree BodyParts → StateTree
 state_step s = StateOf s.name (body_of s.body)
 
-abbrev pub body_step : StateBody-F GraphItemTree StateTree BodyParts GraphItemTree ChangeTree → BodyParts
+abbrev pub body_step : StateBody-F ChangeTree GraphItemTree GraphItemTree StateTree BodyParts → BodyParts
 body_step b = record { entry = b.entry; exit = b.exit; subgraph = subgraph_of b.subgraph }
 
-abbrev pub refinement_step : Refinement-F GraphItemTree StateTree BodyParts GraphItemTree ChangeTree → GraphItemTree
+abbrev pub refinement_step : Refinement-F ChangeTree GraphItemTree GraphItemTree StateTree BodyParts → GraphItemTree
 refinement_step r = ARefinement r.path r.change
 
-abbrev pub change_step : Change-F GraphItemTree StateTree BodyParts GraphItemTree ChangeTree → ChangeTree
+abbrev pub change_step : Change-F ChangeTree GraphItemTree GraphItemTree StateTree BodyParts → ChangeTree
 change_step (Change-F.State b) = OfState b.entry b.exit b.subgraph
 change_step (Change-F.Transition c) = OfTransition c
 
 abbrev pub item_view : GraphItem → GraphItemTree
-item_view = fold-GraphItem GraphItemTree StateTree BodyParts GraphItemTree ChangeTree item_step state_step body_step refinement_step change_step
+item_view = fold-GraphItem ChangeTree GraphItemTree GraphItemTree StateTree BodyParts change_step item_step refinement_step state_step body_step
 
 abbrev pub state_view : State → StateTree
-state_view = fold-State GraphItemTree StateTree BodyParts GraphItemTree ChangeTree item_step state_step body_step refinement_step change_step
+state_view = fold-State ChangeTree GraphItemTree GraphItemTree StateTree BodyParts change_step item_step refinement_step state_step body_step
 
 abbrev pub body_view : StateBody → BodyParts
-body_view = fold-StateBody GraphItemTree StateTree BodyParts GraphItemTree ChangeTree item_step state_step body_step refinement_step change_step
+body_view = fold-StateBody ChangeTree GraphItemTree GraphItemTree StateTree BodyParts change_step item_step refinement_step state_step body_step
 
 abbrev pub refinement_view : Refinement → GraphItemTree
-refinement_view = fold-Refinement GraphItemTree StateTree BodyParts GraphItemTree ChangeTree item_step state_step body_step refinement_step change_step
+refinement_view = fold-Refinement ChangeTree GraphItemTree GraphItemTree StateTree BodyParts change_step item_step refinement_step state_step body_step
 
 abbrev pub item_views : List GraphItem → List GraphItemTree
 item_views is = map item_view is
