@@ -5,7 +5,7 @@ use Rattle.room_lexer.specs.declared.token.Mark.TheVariants as marks
 use Rattle.room_lexer.specs.declared.word.Word.{Word}
 use Rattle.room_lexer.specs.declared.word.Word.TheVariants as words
 use Rattle.room_ast.specs.Values.{TokenValue}
-use Rattle.room_ast.specs.ChartTree.{GraphItemTree, AState, AChoice, APoint, ATransition, ARefinement, ChangeTree, OfState, OfTransition, StateTree, StateOf, BodyTree, BodyParts, body_of, SubgraphTree, no_subgraph, subgraph, GraphItems, items_of, body_view, graph_view}
+use Rattle.room_ast.specs.ChartTree.{GraphItemTree, AState, AChoice, APoint, ATransition, ARefinement, OfState, OfTransition, StateTree, StateOf, BodyTree, BodyParts, body_of, SubgraphTree, no_subgraph, subgraph, GraphItems, items_of, body_view, graph_view}
 use Rattle.room_ast.specs.declared.chart.GraphItem.{GraphItem}
 use Rattle.room_ast.specs.declared.chart.StateBody.{StateBody}
 use Rattle.token_reading.specs.Reader.{Reader, ◌⊕◌, ◌▹◌, ◌◃◌, reads_as, optional, all_while}
