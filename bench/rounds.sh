@@ -1,6 +1,6 @@
 #!/usr/bin/env bash
 # What a round of a run costs: its mailboxes are set up, a thread is started for each controller, each
-# looks for messages until it has found none 64 times, and all are joined. Models with one to eight
+# looks for messages until it has found none 64 times, and all are joined. Models with one to 32
 # controllers (the most that there may be) get 500 lines from outside, each followed by `settle`, so
 # that each has a round of its own. Told are the time of the whole `room run`, least of five, for each
 # line, less that without lines, in microseconds; the instructions for each line (from 50 lines to
@@ -31,7 +31,7 @@ the_set_up='[ :]model_run::run_loop::rounds::open'
 
 begin_measuring
 printf '%11s %13s %13s %10s\n' controllers microseconds instructions its_set_up
-for controllers in 1 2 4 8; do
+for controllers in 1 2 4 8 32; do
     actors_model "$controllers" >"$work/rounds.room"
     took=$(($(with_lines best 500 "$program") - $(with_lines best 0 "$program")))
     all="$(with_lines instructions 50)"

@@ -116,7 +116,7 @@ fn mapping_rule(rule: u8) -> Meaning {
             "name a single, fixed or optional reference and one of its SPPs behind satisfied_by",
         ),
         22 => of(
-            "two threads have one name, or there are more than 8",
+            "two threads have one name, or there are more than 32",
             "rename one, or map several actors to one thread",
         ),
         23 => of(

@@ -12,7 +12,7 @@ use room_ast::{Class, Model};
 use std::alloc::{AllocError, Global};
 
 /// The most threads of a SubSystemClass.
-const MOST_THREADS: usize = 8;
+const MOST_THREADS: usize = 32;
 
 pub(crate) fn are_few(alloc: Global, names: &[&[u8]]) -> Result<bool, AllocError>
     ensures { IfOk result (λ b. b ≡ are_few (names_of names.now)) }
@@ -44,7 +44,7 @@ fn all_have_few_threads(alloc: Global, classes: &[Class]) -> Result<bool, AllocE
     Ok(true)
 }
 
-/// Whether the threads of each SubSystemClass have distinct names, and are at most 8.
+/// Whether the threads of each SubSystemClass have distinct names, and are at most 32.
 #[tactic(auto, unfolding(crate::specs::structure_rules::Threads::threads_are_few))]
 pub fn threads_are_few(alloc: Global, model: &Model) -> Result<bool, AllocError>
     ensures { IfOk result (λ b. b ≡ threads_are_few (model_view model.now)) }

@@ -181,31 +181,31 @@ module _ (all : List Container) (threads : List (List ℕ)) (k : ℕ) (some : 0 
 -- ---- controllers
 
 -- so many threads
-abbrev Eight : Option SubsystemTree → Type 0
-Eight o = length (option_map_or (λ (s : SubsystemTree). thread_names s.items) o []) ≤ 8
+abbrev FewThreads : Option SubsystemTree → Type 0
+FewThreads o = length (option_map_or (λ (s : SubsystemTree). thread_names s.items) o []) ≤ 32
 
-one_eight : (s : SubsystemTree) → are_few (thread_names s.items) ≡ true → Eight (Some s)
-one_eight s h = eight (length (thread_names s.items)) (left_of (nat_le (length (thread_names s.items)) 8) _ h)
+one_few : (s : SubsystemTree) → are_few (thread_names s.items) ≡ true → FewThreads (Some s)
+one_few s h = below (length (thread_names s.items)) (left_of (nat_le (length (thread_names s.items)) 32) _ h)
   where
-    eight : (n : ℕ) → nat_le n 8 ≡ true → n ≤ 8
-    eight n e = grind (arith, nat_tests)
+    below : (n : ℕ) → nat_le n 32 ≡ true → n ≤ 32
+    below n e = grind (arith, nat_tests)
 
-first_eight : (s : SubsystemTree) (rest : Option SubsystemTree) (b : Bool) → Eight (Some s) → Eight rest → Eight (cond b (Some s) rest)
-first_eight s rest true here more = here
-first_eight s rest false here more = more
+first_few : (s : SubsystemTree) (rest : Option SubsystemTree) (b : Bool) → FewThreads (Some s) → FewThreads rest → FewThreads (cond b (Some s) rest)
+first_few s rest true here more = here
+first_few s rest false here more = more
 
-named_eight : (name : List ℕ) (ks : List ClassTree) → list_all has_few_threads ks ≡ true → Eight (first_named name (filter_map as_subsystem ks))
-named_eight name [] h = omega arith
-named_eight name (ASystem s ∷ ks) h = named_eight name ks h
-named_eight name (ASubsystem s ∷ ks) h =
-    first_eight s (first_named name (filter_map as_subsystem ks)) (same name s.name) (one_eight s (left_of (are_few (thread_names s.items)) (list_all has_few_threads ks) h)) (named_eight name ks (right_of (are_few (thread_names s.items)) (list_all has_few_threads ks) h))
-named_eight name (AnActor a ∷ ks) h = named_eight name ks h
-named_eight name (AProtocol p ∷ ks) h = named_eight name ks h
-named_eight name (AData d ∷ ks) h = named_eight name ks h
+named_few : (name : List ℕ) (ks : List ClassTree) → list_all has_few_threads ks ≡ true → FewThreads (first_named name (filter_map as_subsystem ks))
+named_few name [] h = omega arith
+named_few name (ASystem s ∷ ks) h = named_few name ks h
+named_few name (ASubsystem s ∷ ks) h =
+    first_few s (first_named name (filter_map as_subsystem ks)) (same name s.name) (one_few s (left_of (are_few (thread_names s.items)) (list_all has_few_threads ks) h)) (named_few name ks (right_of (are_few (thread_names s.items)) (list_all has_few_threads ks) h))
+named_few name (AnActor a ∷ ks) h = named_few name ks h
+named_few name (AProtocol p ∷ ks) h = named_few name ks h
+named_few name (AData d ∷ ks) h = named_few name ks h
 
-wired_eight : (ks : List ClassTree) → list_all has_few_threads ks ≡ true → (name : Option (List ℕ)) → Eight (option_map_or (λ n. first_named n (filter_map as_subsystem ks)) name None)
-wired_eight ks h None = omega arith
-wired_eight ks h (Some n) = named_eight n ks h
+wired_few : (ks : List ClassTree) → list_all has_few_threads ks ≡ true → (name : Option (List ℕ)) → FewThreads (option_map_or (λ n. first_named n (filter_map as_subsystem ks)) name None)
+wired_few ks h None = omega arith
+wired_few ks h (Some n) = named_few n ks h
 
 -- the threads of the class that is wired
 items_of_wired : {C : Type 0} (of : SubsystemTree → C) (none : C) (items : C → List SubsystemItemTree) → ((s : SubsystemTree) → items (of s) ≡ s.items) → items none ≡ [] → (o : Option SubsystemTree)
@@ -226,7 +226,7 @@ unfolding has_known_actors threads_are_few classes_of wired_names slots_in plan_
 names_what_is m actors_known few =
     let threads = thread_names (wired_of m).items in
     let counts = controller_count threads in
-    let eight = wired_eight m.classes few (wired_name (systems m)) in
+    let few_threads = wired_few m.classes few (wired_name (systems m)) in
     let these : threads ≡ option_map_or (λ (s : SubsystemTree). thread_names s.items) (wired_subsystem m) [] =
     items_of_wired (λ (s : SubsystemTree). let w : WiredTree = record { items = s.items; container = subsystem_container (actor_names m) s } in w) nothing_wired (λ (w : WiredTree). w.items) (λ s. refl) refl (wired_subsystem m)
     in
@@ -243,5 +243,5 @@ names_what_is m actors_known few =
     record {
       slots = subst (λ n. All (IsKnownSlot n (length (controllers_of threads))) (slots_in m)) n_is (slots_known (length (actor_names m)) (length (controllers_of threads)) (plan_of m) (wired_names m).slots (wired_names m).mappings known);
       some_controller = counts.0;
-      few_controllers = omega (arith, counts.2, size, eight);
+      few_controllers = omega (arith, counts.2, size, few_threads);
     }
