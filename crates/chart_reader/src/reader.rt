@@ -1,5 +1,6 @@
 //! Reading a chart.
 ghost use Rattle.std.specs.Prelude.{◌≡◌, Some, None, IfOk, OnOk};
+ghost use Rattle.action_lang.specs.action_check.Answers.{Grows};
 ghost use Rattle.room_ast.specs.ChartTree.{graph_view};
 ghost use Rattle.chart_model.specs.Valid.{IsValid};
 ghost use Rattle.chart_reading.specs.chart_graphs.Views.{chart_view};
@@ -76,8 +77,8 @@ fn lowest_fault(
 
 /// The chart that a state machine's text writes, in a class, behind the service names of the
 /// classes before it: these are the names after it, once it is read. Else the lowest fault of the
-/// text; then `names` may have gained names at its end. What is read is valid. A text whose states nest
-/// too deep is told without being read any deeper.
+/// text. Whatever it answers, `names` has gained names at its end alone. What is read is valid. A text
+/// whose states nest too deep is told without being read any deeper.
 #[tactic(auto, using(crate::proofs::Nesting::depth_told, crate::proofs::Lowest::fault_told, crate::proofs::Lowest::memory_told, crate::proofs::Lowest::chart_told, crate::proofs::Lowest::names_now))]
 pub fn read_chart(
     alloc: Global,
@@ -88,6 +89,7 @@ pub fn read_chart(
     ensures reads { Reads scope.now names.old (graph_view machine.now.items.items) result }
     ensures valid { IfOk result (λ c. IsValid (chart_view c)) }
     ensures names { OnOk result ((reading scope.now names.old (graph_view machine.now.items.items)).names ≡ Some names.new) }
+    ensures grown { Grows names.old names.new }
 {
     if !graph_nests(&machine.items, MOST_DEEP) {
         return Err(ChartFault::DepthAbove16);

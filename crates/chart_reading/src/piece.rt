@@ -1,6 +1,7 @@
 //! The parts of a graph, as far as they are read.
 ghost use Rattle.std.specs.Prelude.{◌≡◌, ℕ, List, [], ◌∷◌, ◌++◌, OnOk};
 ghost use Rattle.action_program.specs.Numbered.{no_stmt};
+ghost use Rattle.action_lang.specs.action_check.Answers.{Grows};
 ghost use Rattle.chart_reading.specs.chart_codes.Progress.{progress};
 ghost use Rattle.chart_reading.specs.Reading.{begun, point_of, with_actions, with_transition, with_inner};
 ghost use Rattle.chart_reading.specs.Views.{around_view, piece_view};
@@ -69,7 +70,8 @@ pub(crate) fn add_transition(
     names: &mut ServiceNames,
     piece: &mut Piece,
 ) -> Result<(), AllocError>
-    ensures { OnOk result (piece_view piece.new names.new ≡ with_transition scope.now (around_view around.now) written.now (piece_view piece.old names.old)) }
+    ensures transition { OnOk result (piece_view piece.new names.new ≡ with_transition scope.now (around_view around.now) written.now (piece_view piece.old names.old)) }
+    ensures grown { Grows names.old names.new }
 {
     let transition = transition(alloc, written, around, scope, names, &mut piece.marks)?;
     piece.transitions.push(transition)?;
@@ -103,7 +105,8 @@ pub(crate) fn add_state_actions(
     names: &mut ServiceNames,
     piece: &mut Piece,
 ) -> Result<(), AllocError>
-    ensures { OnOk result (piece_view piece.new names.new ≡ with_actions scope.now name.now entry.now exit.now (piece_view piece.old names.old)) }
+    ensures actions { OnOk result (piece_view piece.new names.new ≡ with_actions scope.now name.now entry.now exit.now (piece_view piece.old names.old)) }
+    ensures grown { Grows names.old names.new }
 {
     let name = name.copy(alloc)?;
     let entry = action(alloc, entry, scope, names, &mut piece.marks)?;

@@ -1,5 +1,6 @@
 //! Graphs in the order of their text.
 ghost use Rattle.std.specs.Prelude.{◌≡◌, ◌∷◌, IfOk, OnOk};
+ghost use Rattle.action_lang.specs.action_check.Answers.{Grows};
 ghost use Rattle.room_ast.specs.ChartTree.{item_view, state_view, graph_view};
 ghost use Rattle.chart_reading.specs.chart_codes.Progress.{progress};
 ghost use Rattle.chart_reading.specs.Reading.{with_item, with_state, piece_of};
@@ -38,7 +39,8 @@ fn add_item(
     names: &mut ServiceNames,
     piece: &mut Piece,
 ) -> Result<(), AllocError>
-    ensures { OnOk result (piece_view piece.new names.new ≡ with_item scope.now (item_view item.now) (around_view around.now) owner.now (piece_view piece.old names.old)) }
+    ensures item { OnOk result (piece_view piece.new names.new ≡ with_item scope.now (item_view item.now) (around_view around.now) owner.now (piece_view piece.old names.old)) }
+    ensures grown { Grows names.old names.new }
 {
     match item {
         GraphItem::State(state) => add_state(alloc, state, owner, scope, names, piece),
@@ -60,7 +62,8 @@ fn add_state(
     names: &mut ServiceNames,
     piece: &mut Piece,
 ) -> Result<(), AllocError>
-    ensures { OnOk result (piece_view piece.new names.new ≡ with_state scope.now (state_view state.now) owner.now (piece_view piece.old names.old)) }
+    ensures state { OnOk result (piece_view piece.new names.new ≡ with_state scope.now (state_view state.now) owner.now (piece_view piece.old names.old)) }
+    ensures grown { Grows names.old names.new }
 {
     let Some(body) = &state.body else {
         return add_plain_state(alloc, &state.name, piece);
@@ -94,7 +97,8 @@ pub(crate) fn read_graph(
     names: &mut ServiceNames,
     marks: Marks,
 ) -> Result<Piece, AllocError>
-    ensures { IfOk result (λ p. piece_view p names.new ≡ piece_of scope.now (graph_view items.now.items) owner.now (progress marks names.old)) }
+    ensures piece { IfOk result (λ p. piece_view p names.new ≡ piece_of scope.now (graph_view items.now.items) owner.now (progress marks names.old)) }
+    ensures grown { Grows names.old names.new }
 {
     let around = Around::of(alloc, items.as_slice())?;
     let mut piece = begun(alloc, marks);

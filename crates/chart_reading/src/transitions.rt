@@ -1,5 +1,6 @@
 //! Transitions.
 ghost use Rattle.std.specs.Prelude.{◌≡◌, IfOk, OnOk};
+ghost use Rattle.action_lang.specs.action_check.Answers.{Grows};
 ghost use Rattle.chart_reading.specs.chart_graphs.Views.{transition_view};
 ghost use Rattle.chart_reading.specs.chart_codes.Progress.{progress};
 ghost use Rattle.chart_reading.specs.Reading.{after_transition, transition_of};
@@ -24,6 +25,7 @@ pub(crate) fn transition(
 ) -> Result<Transition, AllocError>
     ensures transition { IfOk result (λ t. transition_view t ≡ transition_of scope.now (around_view around.now) (progress marks.old names.old) written.now) }
     ensures met { OnOk result (progress marks.new names.new ≡ after_transition scope.now (progress marks.old names.old) written.now.body) }
+    ensures grown { Grows names.old names.new }
 {
     let source = source(alloc, &written.source, around)?;
     let target = target(alloc, &written.target, around)?;

@@ -1,5 +1,6 @@
 //! The chart of a class.
 ghost use Rattle.std.specs.Prelude.{◌≡◌, ℕ, List, [], map, IfOk};
+ghost use Rattle.action_lang.specs.action_check.Answers.{Grows};
 ghost use Rattle.room_ast.specs.ChartTree.{graph_view};
 ghost use Rattle.chart_reading.specs.chart_graphs.Views.{graph_view as code_graph_view, chart_view};
 ghost use Rattle.chart_reading.specs.chart_codes.Progress.{progress};
@@ -49,8 +50,9 @@ fn graphs_of(alloc: Global, piece: Piece) -> Result<Vec<Graph>, AllocError>
 }
 
 /// The chart that a state machine's text writes, in a class, behind the service names of the classes
-/// before it; the service names of this one are added to them. It takes time in proportion to the
-/// text, to how deep it nests, and to the ports of the class for each event.
+/// before it; the service names of this one are added to them, at the end alone even where memory runs
+/// out. It takes time in proportion to the text, to how deep it nests, and to the ports of the class for
+/// each event.
 #[tactic(auto, unfolding(crate::specs::Reading::chart_of, crate::specs::Reading::reading))]
 pub fn write_chart(
     alloc: Global,
@@ -60,6 +62,7 @@ pub fn write_chart(
 ) -> Result<Written, AllocError>
     ensures chart { IfOk result (λ w. chart_view w.chart ≡ chart_of scope.now names.old (graph_view machine.now.items.items)) }
     ensures met { IfOk result (λ w. progress w.marks names.new ≡ reading scope.now names.old (graph_view machine.now.items.items)) }
+    ensures grown { Grows names.old names.new }
 {
     let marks = Marks {
         events_fit: true,

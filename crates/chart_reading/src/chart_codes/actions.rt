@@ -2,6 +2,7 @@
 ghost use Rattle.std.specs.Prelude.{◌≡◌, true, IfOk, OnOk};
 ghost use Rattle.action_program.specs.Named as named;
 ghost use Rattle.action_program.specs.Numbered as numbered;
+ghost use Rattle.action_lang.specs.action_check.Answers.{Grows};
 ghost use Rattle.chart_reading.specs.chart_codes.Codes.{action_of, bound_of, names_bound};
 ghost use Rattle.chart_reading.specs.chart_codes.Progress.{progress, after_action};
 
@@ -33,6 +34,7 @@ fn checked(
     requires { marks.old.codes_fit ≡ true }
     ensures program { IfOk result (λ b. numbered.program_view b ≡ bound_of scope.now names.old (named.program_view program.now)) }
     ensures progress { OnOk result (progress marks.new names.new ≡ record { events_fit = marks.old.events_fit; names = names_bound scope.now names.old (named.program_view program.now) }) }
+    ensures grown { Grows names.old names.new }
 {
     match check_action(alloc, program, scope, names) {
         Ok(program) => Ok(program),
@@ -46,7 +48,7 @@ fn checked(
 
 /// The action of a code that may be missing. Where it isn't a program, or names what the class
 /// doesn't have, that is marked; then and from then on each action is the empty program, and the
-/// service names are of no use.
+/// service names are of no use. Whatever it answers, names were added at the end alone.
 pub fn action(
     alloc: Global,
     code: &Option<Code>,
@@ -56,6 +58,7 @@ pub fn action(
 ) -> Result<Bound, AllocError>
     ensures program { IfOk result (λ b. numbered.program_view b ≡ action_of scope.now (progress marks.old names.old).names code.now) }
     ensures progress { OnOk result (progress marks.new names.new ≡ after_action scope.now (progress marks.old names.old) code.now) }
+    ensures grown { Grows names.old names.new }
 {
     let Some(code) = code else {
         return Ok(no_action(alloc));
