@@ -4,6 +4,7 @@ ghost use Rattle.mail_core.specs.Tied.{IsTied, StaysTied};
 
 use crate::message::message;
 use mail_core::Mail;
+use mail_core::caller::close_unused;
 use room_kinds::Msg;
 use std::alloc::{AllocError, Global};
 
@@ -61,4 +62,19 @@ where
     let (mut office, mut ends) = M::set_up(alloc, 2)?;
     let end = &mut ends[0];
     carry(alloc, end, &mut office, 0, b, count)
+}
+
+/// The parties of the largest mail of a run: 32 controllers and the environment.
+const MOST_PARTIES: u8 = 33;
+
+/// Sets up so many mails of the most parties and closes them; how many messages were left.
+pub(crate) fn unused<M: Mail>(alloc: Global, count: u64) -> Result<u64, AllocError> {
+    let mut came = 0u64;
+    for _mail in 0..count {
+        let left = close_unused::<M>(alloc, MOST_PARTIES)?;
+        for list in &left {
+            came = came.wrapping_add(list.len() as u64);
+        }
+    }
+    Ok(came)
 }

@@ -1,7 +1,8 @@
 //! Carries messages through one mailbox, so that this can be timed: `mail_bench MAILBOX TO COUNT`.
 //! MAILBOX is `local`, `lanes` or `seg`. TO is `self`, where a controller sends to itself, or `other`,
 //! where one controller sends to another, each in a thread; `local` is the mail of one thread and has
-//! `self` alone. Prints how many of the COUNT messages came.
+//! `self` alone. Prints how many of the COUNT messages came. With `lanes unused COUNT` it sets up and
+//! closes so many mails of 32 controllers, in which no message comes.
 #![tactic(auto)]
 
 mod alone;
@@ -9,7 +10,7 @@ mod message;
 mod shared;
 mod two;
 
-use crate::alone::alone;
+use crate::alone::{alone, unused};
 use crate::shared::{shared_alone, shared_two};
 use crate::two::two;
 use mail_core::MailLocal;
@@ -43,6 +44,7 @@ fn main(rt: HostRuntime) -> io::Result<()> {
         ("local", "self") => alone::<MailLocal>(alloc, OWN_BOX, count),
         ("lanes", "self") => alone::<MailLanes>(alloc, OWN_BOX, count),
         ("lanes", "other") => two::<MailLanes, _>(&rt, alloc, FIRST_BOX, count),
+        ("lanes", "unused") => unused::<MailLanes>(alloc, count),
         ("seg", "self") => shared_alone(&rt, alloc, count),
         ("seg", "other") => shared_two(&rt, alloc, count),
         _ => return println!(rt; "no such mailbox, or none that sends so"),

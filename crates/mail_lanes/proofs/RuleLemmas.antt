@@ -1,13 +1,14 @@
 -- Each step keeps the rule of a lane.
 use Rattle.std.proofs.Common.{◌≡◌, ◌≢◌, ℕ, zero, suc, true, false, true≢false, List, [], ◌∷◌, ◌++◌, length, set, sym, refl, ap, ◌∙◌, subst, ⊎_elim, append_assoc}
-use Rattle.std.proofs.lemmas.List.{append-nil}
+use Rattle.std.proofs.lemmas.List.{append-nil, map-append}
+use Rattle.std.specs.Global.{Box}
 use mathlib.Core.Option.{some, some-ne-none}
 use lib.ListN.{get_elem?}
 use Rattle.crossbeam_deque.specs.Tasks.{Pushes, Takes, Finds, Forks, Merges, Learns}
 use Rattle.crossbeam_deque.proofs.Lists.{at_set, at_snoc}
 use Rattle.room_kinds.specs.declared.message.Msg.{Msg}
 use Rattle.mail_lanes.specs.declared.rule.LaneView.{LaneView}
-use Rattle.mail_lanes.specs.Rule.{lane_view, Fits, InOrder}
+use Rattle.mail_lanes.specs.Rule.{lane_view, Fits, InOrder, opened}
 
 at_end : (l : List LaneView) (a b : LaneView) (j : ℕ) → get_elem? l j ≢ some b → get_elem? (l ++ a ∷ []) j ≡ some b → j ≡ length l
 at_end [] a b zero n e = refl
@@ -26,45 +27,48 @@ all_set F views port w mine others j u e = ⊎_elim (λ (x : (j ≡ port) × (w 
 pub begins : InOrder [] (lane_view true true [] [] ∷ [])
 begins = (0, 0, [], [], refl, all_set (Fits 0 0 [] []) (lane_view true true [] [] ∷ []) 0 (lane_view true true [] []) ((λ _. (refl, refl)), λ _. (refl, refl)) (λ j u other e. absurd (other (at_end [] _ u j (λ x. some-ne-none u (sym x)) e))))
 
-pub sends : (port : ℕ) (v : LaneView) (xs : List Msg) → v.pushes ≡ true → Pushes InOrder port v xs (λ w. w ≡ lane_view v.pushes v.takes (v.sent ++ xs) v.got)
-sends port v xs may items views h at = let w : LaneView = lane_view v.pushes v.takes (v.sent ++ xs) v.got in let mine = h.5 port v at in let sent = h.2 ++ xs in (
+opened_both : (xs ys : List (Box Msg)) → opened (xs ++ ys) ≡ opened xs ++ opened ys
+opened_both xs ys = map-append (λ (b : Box Msg). b.value) xs ys
+
+pub sends : (port : ℕ) (v : LaneView) (xs : List (Box Msg)) → v.pushes ≡ true → Pushes InOrder port v xs (λ w. w ≡ lane_view v.pushes v.takes (v.sent ++ opened xs) v.got)
+sends port v xs may items views h at = let w : LaneView = lane_view v.pushes v.takes (v.sent ++ opened xs) v.got in let mine = h.5 port v at in let sent = h.2 ++ opened xs in (
   w,
   (
     h.0,
     h.1,
     sent,
     h.3,
-    ap (λ l. l ++ xs) h.4 ∙ append_assoc h.3 items xs,
-    all_set (Fits h.0 h.1 sent h.3) views port w ((λ _. ((mine.0 may).0, ap (λ l. l ++ xs) (mine.0 may).1)), mine.1)
+    ap (λ l. l ++ opened xs) h.4 ∙ append_assoc h.3 (opened items) (opened xs) ∙ ap (λ l. h.3 ++ l) (sym (opened_both items xs)),
+    all_set (Fits h.0 h.1 sent h.3) views port w ((λ _. ((mine.0 may).0, ap (λ l. l ++ opened xs) (mine.0 may).1)), mine.1)
         (λ j u other e. ((λ p. absurd (other (((h.5 j u e).0 p).0 ∙ sym (mine.0 may).0))), (h.5 j u e).1)),
   ),
   refl,
 )
 
-pub gets : (port : ℕ) (v : LaneView) → v.takes ≡ true → Takes InOrder port v 1 (λ xs w. w ≡ lane_view v.pushes v.takes v.sent (v.got ++ xs))
-gets port v may xs items views _ _ h at = let w : LaneView = lane_view v.pushes v.takes v.sent (v.got ++ xs) in let mine = h.5 port v at in let got = h.3 ++ xs in (
+pub gets : (port : ℕ) (v : LaneView) → v.takes ≡ true → Takes InOrder port v 1 (λ xs w. w ≡ lane_view v.pushes v.takes v.sent (v.got ++ opened xs))
+gets port v may xs items views _ _ h at = let w : LaneView = lane_view v.pushes v.takes v.sent (v.got ++ opened xs) in let mine = h.5 port v at in let got = h.3 ++ opened xs in (
   w,
   (
     h.0,
     h.1,
     h.2,
     got,
-    h.4 ∙ sym (append_assoc h.3 xs items),
-    all_set (Fits h.0 h.1 h.2 got) views port w (mine.0, λ _. ((mine.1 may).0, ap (λ l. l ++ xs) (mine.1 may).1))
+    h.4 ∙ ap (λ l. h.3 ++ l) (opened_both xs items) ∙ sym (append_assoc h.3 (opened xs) (opened items)),
+    all_set (Fits h.0 h.1 h.2 got) views port w (mine.0, λ _. ((mine.1 may).0, ap (λ l. l ++ opened xs) (mine.1 may).1))
         (λ j u other e. ((h.5 j u e).0, λ p. absurd (other (((h.5 j u e).1 p).0 ∙ sym (mine.1 may).0)))),
   ),
   refl,
 )
 
 -- what one that alone pushes and takes knows
-pub totals : (port : ℕ) (v : LaneView) → v.pushes ≡ true → v.takes ≡ true → Learns InOrder port v (λ items. v.sent ≡ v.got ++ items)
-totals port v a b items views h at = let mine = h.5 port v at in (mine.0 a).1 ∙ h.4 ∙ ap (λ l. l ++ items) (sym (mine.1 b).1)
+pub totals : (port : ℕ) (v : LaneView) → v.pushes ≡ true → v.takes ≡ true → Learns InOrder port v (λ items. v.sent ≡ v.got ++ opened items)
+totals port v a b items views h at = let mine = h.5 port v at in (mine.0 a).1 ∙ h.4 ∙ ap (λ l. l ++ opened items) (sym (mine.1 b).1)
 
 pub owns : (port : ℕ) (v : LaneView) → v.pushes ≡ true → v.takes ≡ true →
-    Takes InOrder port v 1 (λ xs w. (w ≡ lane_view v.pushes v.takes v.sent (v.got ++ xs)) × (rest : List Msg) × (v.sent ≡ (v.got ++ xs) ++ rest))
+    Takes InOrder port v 1 (λ xs w. (w ≡ lane_view v.pushes v.takes v.sent (v.got ++ opened xs)) × (rest : List Msg) × (v.sent ≡ (v.got ++ opened xs) ++ rest))
 owns port v a b xs items views least most h at =
     let base = gets port v b xs items views least most h at in
-    (base.0, base.1, (base.2, items, totals port v a b (xs ++ items) views h at ∙ sym (append_assoc v.got xs items)))
+    (base.0, base.1, (base.2, opened items, totals port v a b (xs ++ items) views h at ∙ ap (λ l. v.got ++ l) (opened_both xs items) ∙ sym (append_assoc v.got (opened xs) (opened items))))
 
 pub finds : (port : ℕ) (v : LaneView) → v.pushes ≡ true → v.takes ≡ true → Finds InOrder port v (v.sent ≡ v.got)
 finds port v a b views h at = totals port v a b [] views h at ∙ append-nil v.got

@@ -8,9 +8,10 @@ use crossbeam_deque::{Pass, Steal, Stealer, Worker};
 use room_kinds::Msg;
 use std::alloc::Global;
 
-pub(crate) type Owner = Worker<Msg, Global, LaneView, LaneRule>;
+/// A deque's root has 64 slots, so what goes in them is small: messages in boxes.
+pub(crate) type Owner = Worker<Box<Msg>, Global, LaneView, LaneRule>;
 
-pub(crate) type Thief = Stealer<Msg, Global, LaneView, LaneRule>;
+pub(crate) type Thief = Stealer<Box<Msg>, Global, LaneView, LaneRule>;
 
 /// The sender's end.
 #[derive(Drop)]
@@ -30,7 +31,7 @@ pub struct Inlet {
     pub(crate) to: u8,
     pub(crate) prio: u8,
     pub(crate) thief: Thief,
-    pub(crate) pass: Pass<Msg, LaneView>,
+    pub(crate) pass: Pass<Box<Msg>, LaneView>,
     ghost fits: { IsPassOf (stealer_deque thief) pass },
     ghost fifo: { stealer_flavor thief ≡ 0 },
     ghost takes: { (view pass).takes ≡ true },
@@ -42,15 +43,32 @@ impl Outlet {
     ghost use Rattle.mail_lanes.specs.Lanes.{out_lane, sending, popping};
 
     #[tactic(auto, using(crate::proofs::LaneLemmas::lane_steps))]
-    pub(crate) fn post(&mut self, m: Msg) -> Result<(), Msg>
+    fn push(&mut self, boxed: Box<Msg>) -> Result<(), Box<Msg>>
+        requires { IsFor self.old.from self.old.to self.old.prio boxed.value }
+        ensures ok { OnOk result (out_lane self.new ≡ sending (out_lane self.old) boxed.value) }
+        ensures err { OnErr result (out_lane self.new ≡ out_lane self.old) }
+        ensures back { IfErr result (λ x. x ≡ boxed) }
+    {
+        match self.owner.push_as::<Sent>(boxed) {
+            Ok(()) => Ok(()),
+            Err(boxed) => Err(boxed),
+        }
+    }
+
+    /// Posts a message, in a box of its own.
+    pub(crate) fn post(&mut self, alloc: Global, m: Msg) -> Result<(), Msg>
         requires { IsFor self.old.from self.old.to self.old.prio m }
         ensures ok { OnOk result (out_lane self.new ≡ sending (out_lane self.old) m) }
         ensures err { OnErr result (out_lane self.new ≡ out_lane self.old) }
         ensures back { IfErr result (λ x. x ≡ m) }
     {
-        match self.owner.push_as::<Sent>(m) {
+        let boxed = match Box::new(alloc, m) {
+            Ok(boxed) => boxed,
+            Err(refused) => return Err(refused.value),
+        };
+        match self.push(boxed) {
             Ok(()) => Ok(()),
-            Err(m) => Err(m),
+            Err(boxed) => Err(Box::into_inner(boxed)),
         }
     }
 
@@ -63,7 +81,7 @@ impl Outlet {
         ensures within { length (out_lane self.new).taken ≤ length (out_lane self.new).posted }
     {
         match self.owner.pop_as::<Own>() {
-            Some(m) => Some(addressed(m, self.from, self.to, self.prio)),
+            Some(boxed) => Some(addressed(boxed, self.from, self.to, self.prio)),
             None => None,
         }
     }
@@ -81,7 +99,7 @@ impl Inlet {
         ensures is_for { MatchOption result (Unit {0}) (λ m. IsFor self.old.from self.old.to self.old.prio m) }
     {
         match self.thief.steal_as::<Got>(&mut self.pass) {
-            Steal::Success(m) => Some(addressed(m, self.from, self.to, self.prio)),
+            Steal::Success(boxed) => Some(addressed(boxed, self.from, self.to, self.prio)),
             Steal::Empty => None,
             Steal::Retry => None,
         }

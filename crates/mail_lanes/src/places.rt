@@ -14,8 +14,9 @@ pub(crate) fn post_at(outlets: &mut Vec<Outlet>, at: usize, m: Msg) -> Result<()
     ensures err { OnErr result (map out_lane outlets.new.items ≡ map out_lane outlets.old.items) }
     ensures back { IfErr result (λ x. x ≡ m) }
 {
+    let alloc = *outlets.allocator();
     let outlet = &mut outlets[at];
-    outlet.post(m)
+    outlet.post(alloc, m)
 }
 
 #[tactic(auto, using(crate::proofs::PlaceLemmas::place_steps))]

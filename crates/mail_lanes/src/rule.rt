@@ -1,6 +1,6 @@
 //! The rule of a lane's deque.
 ghost use Rattle.std.specs.Prelude.{◌≡◌, ◌++◌, ◌≤◌, List, length, true, false, []};
-ghost use Rattle.mail_lanes.specs.Rule.{lane_view, InOrder};
+ghost use Rattle.mail_lanes.specs.Rule.{lane_view, InOrder, opened};
 
 use crossbeam_deque::protocol::{Join, Outcome, Protocol, Split};
 use room_kinds::Msg;
@@ -16,7 +16,7 @@ pub struct LaneView {
 
 pub struct LaneRule;
 
-impl Protocol<Msg, LaneView> for LaneRule {
+impl Protocol<Box<Msg>, LaneView> for LaneRule {
     ghost use Rattle.std.specs.Prelude.{true, false, []};
     ghost use Rattle.mail_lanes.specs.Rule.{lane_view, InOrder};
 
@@ -50,25 +50,25 @@ impl Join<LaneView> for Roles {
 /// A push.
 pub struct Sent;
 
-impl Outcome<Msg, LaneView> for Sent {
-    ghost then = { λ v xs w. w ≡ lane_view v.pushes v.takes (v.sent ++ xs) v.got };
+impl Outcome<Box<Msg>, LaneView> for Sent {
+    ghost then = { λ v xs w. w ≡ lane_view v.pushes v.takes (v.sent ++ opened xs) v.got };
 }
 
 /// A steal.
 pub struct Got;
 
-impl Outcome<Msg, LaneView> for Got {
-    ghost then = { λ v xs w. w ≡ lane_view v.pushes v.takes v.sent (v.got ++ xs) };
+impl Outcome<Box<Msg>, LaneView> for Got {
+    ghost then = { λ v xs w. w ≡ lane_view v.pushes v.takes v.sent (v.got ++ opened xs) };
 }
 
 /// A pop of one that alone pushes and takes.
 pub struct Own;
 
-impl Outcome<Msg, LaneView> for Own {
+impl Outcome<Box<Msg>, LaneView> for Own {
     ghost use Rattle.std.specs.Prelude.{List};
     ghost use Rattle.room_kinds.specs.declared.message.Msg.{Msg};
 
-    ghost then = { λ v xs w. (w ≡ lane_view v.pushes v.takes v.sent (v.got ++ xs)) × (rest : List Msg) × (v.sent ≡ (v.got ++ xs) ++ rest) };
+    ghost then = { λ v xs w. (w ≡ lane_view v.pushes v.takes v.sent (v.got ++ opened xs)) × (rest : List Msg) × (v.sent ≡ (v.got ++ opened xs) ++ rest) };
 
     ghost empty = { λ v. v.sent ≡ v.got };
 }
