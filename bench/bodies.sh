@@ -7,6 +7,10 @@
 # machines that start and end. The duties of a slot should cost the same whatever the body's size. Last
 # stands the time of the duties alone, which is their part of the run's instructions times its time;
 # the mark is under 50 ms for 10,000 bodies of 100 slots.
+#
+# Where rustc is installed, the same work in plain Rust (peers/bodies.rs) is told beside it: its run in
+# milliseconds, its instructions a slot, and how many times the run here takes of both. It keeps the
+# same tables and the same journal, and writes no text. `boxed` gives each actor memory of its own.
 set -eu
 . "$(dirname "${BASH_SOURCE[0]}")/timing.sh"
 
@@ -45,7 +49,7 @@ with_times() {
     "$1" "${@:3}" run "$work/bodies.room" "$work/inject.txt" --fuel 100000
 }
 
-the_duties='Actors::frame_duty'
+the_duties='Actors::(frame_)?duty'
 
 # A body of so many slots, created and destroyed so many times.
 measure() {
@@ -62,13 +66,38 @@ measure() {
     run=$((($(instructions_in "$the_run") - run) / 20))
     text=$((($(instructions_in "$the_text") - text) / 20))
     duties=$((($(instructions_in "$the_duties") - duties) / 20))
+    ran_in[slots]="$took" run_of[slots]="$run"
     printf '%5s %6s %7s %7s %8s %8s %8s %7s %19s\n' "$slots" "$times" "$(milliseconds "$took")" \
         "$(milliseconds "$((whole - ran))")" "$run" "$text" "$duties" "$(ratio "$duties" "$slots" 0)" \
         "$(milliseconds "$(ratio "$((took * duties))" "$run" 0)")"
 }
 
+# The run of the peer for a body of so many slots, and how many times that the run here takes.
+compare() {
+    local slots="$1" times="$2" peer_run peer_instructions
+    peer_run="$(peer_best "$work/bodies" "$slots" "$times" "${@:3}")"
+    peer_instructions="$(program="$work/bodies" instructions "$slots" 20 "${@:3}")"
+    peer_instructions=$((($(program="$work/bodies" instructions "$slots" 40 "${@:3}") - peer_instructions) / 20))
+    printf '%-6s %5s %6s %7s %7s %10s %18s\n' "${3:-plain}" "$slots" "$times" \
+        "$(milliseconds "$peer_run")" "$(ratio "$peer_instructions" "$slots" 0)" \
+        "$(ratio "${ran_in[$slots]}" "$peer_run")" "$(ratio "${run_of[$slots]}" "$peer_instructions")"
+}
+
+ran_in=() run_of=()
 begin_measuring
 printf '%5s %6s %7s %7s %8s %8s %8s %7s %19s\n' slots times run_ms text_ms run text duties a_slot duties_milliseconds
 measure 10 10000
 measure 100 10000
 measure 1000 1000
+tell_load
+
+if command -v rustc >/dev/null && rustc -O -o "$work/bodies" "$top/bench/peers/bodies.rs"; then
+    printf '%-6s %5s %6s %7s %7s %10s %18s\n' peer slots times run_ms a_slot 'time ratio' 'instruction ratio'
+    for actors in '' boxed; do
+        compare 10 10000 $actors
+        compare 100 10000 $actors
+        compare 1000 1000 $actors
+    done
+else
+    echo 'rustc is not installed'
+fi

@@ -66,11 +66,6 @@ measure() {
         "$(milliseconds "$run")" "$(milliseconds "$((whole - ran))")" "$(milliseconds "$whole")" "$rate"
 }
 
-# The least of five times that a peer tells for the run of its ring, in microseconds.
-peer_best() {
-    for _ in 1 2 3 4 5; do "$@"; done | sed -n 's/.* run \([0-9]*\) us.*/\1/p' | sort -n | head -n 1
-}
-
 # Tells how fast a peer's ring of 4,000 is on so many threads, beside this program's.
 compare() {
     local peer="$1" threads="$2" peer_rate

@@ -59,6 +59,11 @@ instructions_in() {
             END { if (!found) print 0 }'
 }
 
+# The least of five times that a peer program tells for its run, in microseconds.
+peer_best() {
+    for _ in 1 2 3 4 5; do "$@"; done | sed -n 's/.* run \([0-9]*\) us.*/\1/p' | sort -n | head -n 1
+}
+
 # The functions of the run, and of the text of its journals, of which the outermost is counted.
 the_run='[ :]model_run::'
 the_text='[ :]journal::'
