@@ -149,7 +149,7 @@ state_reads n closed b F h = Reads-as (λ (x : List ℕ × BodyTree). StateOf x.
 
 no_body_reads : (closed : Reader TokenValue GraphItems) → Reads (body_if_at closed) [] no_body NoBrace
 unfolding body_if_at
-no_body_reads closed = Reads-as body_from (Reads-none (comes marks.OpenBrace) _)
+no_body_reads closed = Reads-as body_of (Reads-none (comes marks.OpenBrace) _)
 
 some_body_reads : (closed : Reader TokenValue GraphItems) (e x : Option Code) (s : SubgraphTree) → Reads (body_at closed) (parts_tokens (parts e x s)) (parts e x s) Anything → Reads (body_if_at closed) (body_tokens (body e x s)) (body e x s) Anything
 unfolding body_if_at comes
