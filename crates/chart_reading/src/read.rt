@@ -47,6 +47,7 @@ fn add_item(
         GraphItem::Transition(written) => {
             add_transition(alloc, written, around, scope, names, piece)
         }
+        GraphItem::Refinement(_) => Ok(()),
     }
 }
 

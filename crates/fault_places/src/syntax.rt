@@ -19,7 +19,8 @@ SubSystemRef SubSystemClass LogicalThread ActorInstanceMapping eventdriven Proto
 Message DataClass Attribute true false ActorClass Interface SPP Structure Behavior StateMachine conjugated \
 Port external SAP ServiceImplementation of fixed optional imported ActorRef Binding and LayerConnection ref \
 satisfied_by usercode usercode1 usercode2 usercode3 State entry exit subgraph ChoicePoint TransitionPoint \
-EntryPoint ExitPoint Transition triggers cond action or guard initial cp my";
+EntryPoint ExitPoint Transition triggers cond action or guard initial cp my extends RefinedState \
+RefinedTransition";
 
 /// Adds a token on a line of its own.
 fn add_line(lines: &mut Vec<u8>, token: &[u8]) -> Result<(), AllocError> {
