@@ -1,10 +1,11 @@
 -- The numbers of bases.
-use Rattle.std.proofs.Common.{◌≡◌, ℕ, Bool, true, false, List, [], ◌∷◌, map, Option, Some, None, refl, sym, ap, ◌∙◌}
+use Rattle.std.proofs.Common.{◌≡◌, ℕ, Bool, true, false, List, [], ◌∷◌, length, map, replicate, Option, Some, None, refl, sym, ap, ◌∙◌}
 use Rattle.std.specs.Prelude.{is_some, if◌then◌else◌}
 use Rattle.std.specs.Option.{option_and_then, option_to_list}
 use Rattle.room_ast.specs.Trees.{ClassTree, ASystem, ASubsystem, AnActor, AProtocol, AData, ActorTree, class_view}
 use Rattle.room_ast.specs.declared.model.Class.{Class}
 use Rattle.room_ast.specs.model_parts.Classes.{as_actor, class_name, number_in}
+use Rattle.room_inherit.specs.Filling.{none_taken}
 use Rattle.room_inherit.specs.Flat.{number_above, actor_at}
 use Rattle.room_inherit.specs.Rules.{extended, of_actor, has_known_base}
 
@@ -40,3 +41,8 @@ pub known_base : (classes : List ClassTree) (names : List (List ℕ)) (c : Class
     → b ≡ (if is_some (option_and_then (λ (a : ActorTree). a.base) (as_actor c)) then is_some (option_and_then (actor_at classes) (above_in names c)) else true) → b ≡ of_actor (has_known_base classes) c
 known_base classes names c b e f =
     f ∙ ap (λ ns. if is_some (option_and_then (λ (a : ActorTree). a.base) (as_actor c)) then is_some (option_and_then (actor_at classes) (above_in ns c)) else true) e ∙ known_in classes c
+
+-- no flat class yet, as many times as there are classes
+pub none_replicated : (cs : List Class) → replicate (length cs) None ≡ none_taken (map class_view cs)
+none_replicated [] = refl
+none_replicated (c ∷ cs) = ap (λ (ns : List (Option ActorTree)). None ∷ ns) (none_replicated cs)

@@ -1,6 +1,7 @@
 pub mod Graphs
 pub mod Bases
 pub mod Counts
-pub mod Filling
+pub mod Taken
+pub mod Nothing
 pub mod Orders
 pub mod Plain

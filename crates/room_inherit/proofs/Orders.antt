@@ -12,7 +12,7 @@ use Rattle.room_inherit.specs.Filling.{filled, none_taken}
 use Rattle.room_inherit.specs.Flattening.{OrdersBases, FillsModel}
 use Rattle.room_inherit.specs.Rules.{extended, none_extends_itself, refinements_are_known}
 use Rattle.room_inherit.specs.Views.{flat_views}
-use Rattle.room_inherit.proofs.Filling.{FillsRightly, fills_rightly}
+use Rattle.room_inherit.proofs.Taken.{FillsRightly, fills_rightly}
 
 ordered : (m : ModelTree) (order : Option (Vec ℕ)) → Orders (map (extended m.classes) m.classes) order → OrdersBases m order
 unfolding none_extends_itself
@@ -28,7 +28,7 @@ filled_model m None h = h
 filled_model m (Some flats) h = h
 
 pub fills_model : (m : ModelTree) (names : List (List ℕ)) (order : List ℕ) (found : Option (Vec (Option ActorClass))) → names ≡ map class_name m.classes → IsContainmentOrder (map (extended m.classes) m.classes) order
-    → option_map (λ (v : Vec (Option ActorClass)). flat_views v.items) found ≡ filled names m.classes (none_taken m.classes) order → FillsModel m found
+    → option_map (λ (v : Vec (Option ActorClass)). flat_views v.items) found ≡ filled names m.classes order (none_taken m.classes) → FillsModel m found
 fills_model m names order found e is f =
     let P : Option (List (Option ActorTree)) → Type 0 = λ o. FillsRightly m.classes o in
-    filled_model m found (subst P (sym (f ∙ ap (λ ns. filled ns m.classes (none_taken m.classes) order) e)) (fills_rightly m.classes order is))
+    filled_model m found (subst P (sym (f ∙ ap (λ ns. filled ns m.classes order (none_taken m.classes)) e)) (fills_rightly m.classes order is))

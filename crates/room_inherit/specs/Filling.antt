@@ -32,9 +32,9 @@ taken_over own None = Some own
 taken_over own (Some base) = if refines_known base own then Some (derived base own) else None
 
 -- The flat classes with those of these numbers.
-abbrev pub filled : List (List ℕ) → List ClassTree → List (Option ActorTree) → List ℕ → Option (List (Option ActorTree))
-filled names classes flats [] = Some flats
-filled names classes flats (k ∷ ks) = option_and_then (λ more. filled names classes more ks) (with_class names classes flats k)
+abbrev pub filled : List (List ℕ) → List ClassTree → List ℕ → List (Option ActorTree) → Option (List (Option ActorTree))
+filled names classes [] flats = Some flats
+filled names classes (k ∷ ks) flats = option_and_then (filled names classes ks) (with_class names classes flats k)
 
 -- No flat class yet.
 abbrev pub none_taken : List ClassTree → List (Option ActorTree)

@@ -1,7 +1,7 @@
 -- Graphs, and what refinements add to their states and transitions.
-use Rattle.std.specs.Prelude.{ℕ, ◌+◌, Bool, true, false, nat_eq, List, [], ◌∷◌, ◌++◌, map, Option, Some, None, is_some, if◌then◌else◌}
-use Rattle.std.specs.List.{filter_map}
-use Rattle.std.specs.Option.{option_map_or, option_and_then}
+use Rattle.std.specs.Prelude.{ℕ, ◌+◌, Bool, true, false, nat_eq, List, [], ◌∷◌, ◌++◌, Option, Some, None, if◌then◌else◌}
+use Rattle.std.specs.List.{filter_map, cons_option}
+use Rattle.std.specs.Option.{option_map_or}
 use Rattle.name_tables.specs.name_numbers.Names.{same, is_among}
 use Rattle.room_ast.specs.ChartTree.{GraphItemTree, AState, AChoice, APoint, ATransition, ARefinement, ChangeTree, OfState, OfTransition, StateTree, StateOf, BodyTree, no_body, body, SubgraphTree, no_subgraph, subgraph, GraphItems, no_items, item}
 use Rattle.room_ast.specs.declared.chart.Code.{Code}
@@ -21,6 +21,7 @@ pub record Refining : Type 0 where
 
 -- ---- the refinements and the other items of a graph
 
+-- An item of a graph, if it is a refinement.
 abbrev pub as_refining : GraphItemTree → Option Refining
 as_refining (AState s) = None
 as_refining (AChoice c) = None
@@ -31,20 +32,20 @@ as_refining (ARefinement path change) = Some (record { path = names_of_path path
 -- The refinements among the items of a graph.
 abbrev pub refinements : GraphItems → List Refining
 refinements no_items = []
-refinements (item (AState s) is) = refinements is
-refinements (item (AChoice c) is) = refinements is
-refinements (item (APoint p) is) = refinements is
-refinements (item (ATransition t) is) = refinements is
-refinements (item (ARefinement path change) is) = record { path = names_of_path path; change = change } ∷ refinements is
+refinements (item i is) = cons_option (as_refining i) (refinements is)
+
+-- An item and then others, without it where it is a refinement.
+abbrev pub unless_refining : GraphItemTree → GraphItems → GraphItems
+unless_refining (AState s) is = item (AState s) is
+unless_refining (AChoice c) is = item (AChoice c) is
+unless_refining (APoint p) is = item (APoint p) is
+unless_refining (ATransition t) is = item (ATransition t) is
+unless_refining (ARefinement path change) is = is
 
 -- The other items of a graph.
 abbrev pub other_items : GraphItems → GraphItems
 other_items no_items = no_items
-other_items (item (AState s) is) = item (AState s) (other_items is)
-other_items (item (AChoice c) is) = item (AChoice c) (other_items is)
-other_items (item (APoint p) is) = item (APoint p) (other_items is)
-other_items (item (ATransition t) is) = item (ATransition t) (other_items is)
-other_items (item (ARefinement path change) is) = other_items is
+other_items (item i is) = unless_refining i (other_items is)
 
 -- The items of a graph and then those of another.
 abbrev pub followed_by : GraphItems → GraphItems → GraphItems
@@ -128,45 +129,61 @@ action_for (Some name) rs = added_action name rs
 abbrev pub refined_transition : List Refining → Transition → Transition
 refined_transition rs t = record t { body = acting_also (action_for t.name rs) t.body }
 
+-- The names of the states before an item's place and its own, if it is a state.
+abbrev pub with_state : GraphItemTree → List (List ℕ) → List (List ℕ)
+with_state (AState (StateOf name b)) earlier = with_name name earlier
+with_state (AChoice c) earlier = earlier
+with_state (APoint p) earlier = earlier
+with_state (ATransition t) earlier = earlier
+with_state (ARefinement path change) earlier = earlier
+
 -- A graph with its refinements, from a place on; `earlier` are the names of the states before that place.
 abbrev mutual
-  pub refined_items : List (List ℕ) → List Refining → GraphItems → GraphItems
-  refined_items earlier rs no_items = no_items
-  refined_items earlier rs (item (AState s) is) = refined_from earlier rs s is
-  refined_items earlier rs (item (AChoice c) is) = item (AChoice c) (refined_items earlier rs is)
-  refined_items earlier rs (item (APoint p) is) = item (APoint p) (refined_items earlier rs is)
-  refined_items earlier rs (item (ATransition t) is) = item (ATransition (refined_transition rs t)) (refined_items earlier rs is)
-  refined_items earlier rs (item (ARefinement path change) is) = item (ARefinement path change) (refined_items earlier rs is)
+  pub refined_items : GraphItems → List (List ℕ) → List Refining → GraphItems
+  refined_items no_items earlier rs = no_items
+  refined_items (item i is) earlier rs = item (refined_item i earlier rs) (refined_items is (with_state i earlier) rs)
 
-  pub refined_from : List (List ℕ) → List Refining → StateTree → GraphItems → GraphItems
-  refined_from earlier rs (StateOf name b) is = item (AState (StateOf name (refined_body (meant_for earlier name rs) b))) (refined_items (with_name name earlier) rs is)
+  pub refined_item : GraphItemTree → List (List ℕ) → List Refining → GraphItemTree
+  refined_item (AState s) earlier rs = AState (refined_state s earlier rs)
+  refined_item (AChoice c) earlier rs = AChoice c
+  refined_item (APoint p) earlier rs = APoint p
+  refined_item (ATransition t) earlier rs = ATransition (refined_transition rs t)
+  refined_item (ARefinement path change) earlier rs = ARefinement path change
 
-  pub refined_body : List Refining → BodyTree → BodyTree
-  refined_body rs no_body = widened (own_change rs) no_body
-  refined_body rs (body e x s) = widened (own_change rs) (body e x (refined_subgraph rs s))
+  pub refined_state : StateTree → List (List ℕ) → List Refining → StateTree
+  refined_state (StateOf name b) earlier rs = StateOf name (refined_body b (meant_for earlier name rs))
 
-  pub refined_subgraph : List Refining → SubgraphTree → SubgraphTree
-  refined_subgraph rs no_subgraph = no_subgraph
-  refined_subgraph rs (subgraph is) = subgraph (refined_items [] rs is)
+  pub refined_body : BodyTree → List Refining → BodyTree
+  refined_body no_body rs = widened (own_change rs) no_body
+  refined_body (body e x s) rs = widened (own_change rs) (body e x (refined_subgraph s rs))
+
+  pub refined_subgraph : SubgraphTree → List Refining → SubgraphTree
+  refined_subgraph no_subgraph rs = no_subgraph
+  refined_subgraph (subgraph is) rs = subgraph (refined_items is [] rs)
 
 -- A graph with these refinements.
 abbrev pub refined : List Refining → GraphItems → GraphItems
-refined rs g = refined_items [] rs g
+refined rs g = refined_items g [] rs
 
 -- ---- what a path names
 
--- The first state of a name.
-abbrev mutual
-  pub first_state : List ℕ → GraphItems → Option StateTree
-  first_state name no_items = None
-  first_state name (item (AState s) is) = state_or name s is
-  first_state name (item (AChoice c) is) = first_state name is
-  first_state name (item (APoint p) is) = first_state name is
-  first_state name (item (ATransition t) is) = first_state name is
-  first_state name (item (ARefinement path change) is) = first_state name is
+-- What was found, or else this other one.
+abbrev pub found_or : {A : Type 0} → Option A → Option A → Option A
+found_or None other = other
+found_or (Some x) other = Some x
 
-  pub state_or : List ℕ → StateTree → GraphItems → Option StateTree
-  state_or name (StateOf n b) is = if same n name then Some (StateOf n b) else first_state name is
+-- An item, if it is a state of this name.
+abbrev pub as_state : List ℕ → GraphItemTree → Option StateTree
+as_state name (AState (StateOf n b)) = if same n name then Some (StateOf n b) else None
+as_state name (AChoice c) = None
+as_state name (APoint p) = None
+as_state name (ATransition t) = None
+as_state name (ARefinement path change) = None
+
+-- The first state of a name.
+abbrev pub first_state : List ℕ → GraphItems → Option StateTree
+first_state name no_items = None
+first_state name (item i is) = found_or (as_state name i) (first_state name is)
 
 -- The graph of a state; it is empty where the state has no subgraph.
 abbrev pub graph_in : StateTree → GraphItems
@@ -174,19 +191,18 @@ graph_in (StateOf name no_body) = no_items
 graph_in (StateOf name (body entry exit no_subgraph)) = no_items
 graph_in (StateOf name (body entry exit (subgraph is))) = is
 
--- Whether a transition has this name.
-abbrev pub is_called : List ℕ → Option (List ℕ) → Bool
-is_called name None = false
-is_called name (Some n) = same n name
+-- Whether an item is a transition of this name.
+abbrev pub is_called : List ℕ → GraphItemTree → Bool
+is_called name (AState s) = false
+is_called name (AChoice c) = false
+is_called name (APoint p) = false
+is_called name (ATransition t) = option_map_or (λ n. same n name) t.name false
+is_called name (ARefinement path change) = false
 
 -- How many transitions of a graph have a name.
 abbrev pub transitions_named : List ℕ → GraphItems → ℕ
 transitions_named name no_items = 0
-transitions_named name (item (AState s) is) = transitions_named name is
-transitions_named name (item (AChoice c) is) = transitions_named name is
-transitions_named name (item (APoint p) is) = transitions_named name is
-transitions_named name (item (ATransition t) is) = if is_called name t.name then 1 + transitions_named name is else transitions_named name is
-transitions_named name (item (ARefinement path change) is) = transitions_named name is
+transitions_named name (item i is) = if is_called name i then 1 + transitions_named name is else transitions_named name is
 
 -- Whether names lead from a graph through states; no names do.
 abbrev pub names_states : List (List ℕ) → GraphItems → Bool

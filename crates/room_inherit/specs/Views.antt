@@ -16,7 +16,7 @@ use Rattle.room_inherit.specs.declared.refining.paths.Pending.{Pending}
 use Rattle.room_inherit.specs.declared.rules.once.Path.{Path}
 
 abbrev pub change_view : Change → ChangeTree
-change_view = fold-Change GraphItemTree StateTree BodyParts GraphItemTree ChangeTree item_step state_step body_step refinement_step change_step
+change_view = fold-Change ChangeTree GraphItemTree GraphItemTree StateTree BodyParts change_step item_step refinement_step state_step body_step
 
 -- What a refinement of a state adds.
 abbrev pub of_state : BodyParts → ChangeTree
@@ -31,11 +31,6 @@ refining_view p = record { path = path_from p.next p.others.now; change = change
 
 abbrev pub refining_views : List Pending → List Refining
 refining_views ps = map refining_view ps
-
--- What was found, or else this other one.
-abbrev pub found_or : {A : Type 0} → Option A → Option A → Option A
-found_or None other = other
-found_or (Some x) other = Some x
 
 abbrev pub subgraph_tree : Option (Vec GraphItem) → SubgraphTree
 subgraph_tree None = no_subgraph

@@ -138,9 +138,9 @@ fn both_machines(
     ensures { IfOk result (λ m. Some (machine_view m) ≡ derived_machine (Some (machine_view base.now)) (Some (machine_view own.now))) }
 {
     let changes = refinements(alloc, &own.items)?;
-    let mut items = refined_items(alloc, &base.items, changes.as_slice())?;
-    add_others(alloc, &mut items, &own.items)?;
-    Ok(StateMachine { items })
+    let mut chart = refined_items(alloc, &base.items, changes.as_slice())?;
+    add_others(alloc, &mut chart, &own.items)?;
+    Ok(StateMachine { items: chart })
 }
 
 fn derived_machine(

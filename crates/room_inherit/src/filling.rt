@@ -76,11 +76,12 @@ fn with_class(
     }
 }
 
+#[tactic(auto, using(crate::proofs::Bases::none_replicated))]
 fn none_taken(alloc: Global, classes: &[Class]) -> Result<Vec<Option<ActorClass>>, AllocError>
     ensures { IfOk result (λ v. flat_views v.items ≡ none_taken (map class_view classes.now)) }
 {
     let mut flats = Vec::new(alloc);
-    for _class in classes {
+    for _number in 0..classes.len() {
         flats.push(None)?;
     }
     Ok(flats)
@@ -94,7 +95,7 @@ pub(crate) fn filled(
     classes: &[Class],
     order: &[usize],
 ) -> Result<Option<Vec<Option<ActorClass>>>, AllocError>
-    ensures { IfOk result (λ found. option_map (λ v. flat_views v.items) found ≡ filled names.now (map class_view classes.now) (none_taken (map class_view classes.now)) order.now) }
+    ensures { IfOk result (λ found. option_map (λ v. flat_views v.items) found ≡ filled names.now (map class_view classes.now) order.now (none_taken (map class_view classes.now))) }
 {
     let mut flats = none_taken(alloc, classes)?;
     for number in order {

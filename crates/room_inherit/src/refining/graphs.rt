@@ -1,10 +1,10 @@
 //! A graph with its refinements.
-ghost use Rattle.std.specs.Prelude.{◌≡◌, Some, IfOk, OnOk, option_map};
-ghost use Rattle.room_ast.specs.ChartTree.{GraphItems, StateOf, item, body_of, body_view, item_view, state_view, graph_view};
-ghost use Rattle.room_inherit.specs.Refining.{refined, refined_body, refined_items, refined_subgraph, widened, own_change};
+ghost use Rattle.std.specs.Prelude.{◌≡◌, IfOk, OnOk, option_map};
+ghost use Rattle.room_ast.specs.ChartTree.{StateOf, body_of, body_view, item_view, state_view, graph_view};
+ghost use Rattle.room_inherit.specs.Refining.{refined, refined_body, refined_item, refined_subgraph, widened, with_state, own_change};
 ghost use Rattle.room_inherit.specs.Views.{refining_views, state_body};
 
-use crate::copies::{copy_code_if, copy_item};
+use crate::copies::{copy_code_if, copy_item, copy_items};
 use crate::refining::paths::{Pending, meant_for, own_change};
 use crate::refining::widening::{refined_transition, widened};
 use name_tables::Numbers;
@@ -33,7 +33,8 @@ fn refined_item<'a, 'n>(
     pending: &[Pending<'a>],
     seen: &mut Numbers<'n>,
 ) -> Result<GraphItem, AllocError>
-    ensures { IfOk result (λ i. (rest : GraphItems) → refined_items seen.old (refining_views pending.now) (item (item_view item.entry.now) rest) ≡ item (item_view i) (refined_items seen.new (refining_views pending.now) rest)) }
+    ensures item { IfOk result (λ i. item_view i ≡ refined_item (item_view item.entry.now) seen.old (refining_views pending.now)) }
+    ensures names { OnOk result (seen.new ≡ with_state (item_view item.entry.now) seen.old) }
 {
     match item {
         GraphItem::State(state) => {
@@ -58,7 +59,7 @@ fn refined_state<'a>(
     state: &State,
     pending: &[Pending<'a>],
 ) -> Result<State, AllocError>
-    ensures { IfOk result (λ s. state_view s ≡ StateOf state.now.name (refined_body (refining_views pending.now) (state_body state.now))) }
+    ensures { IfOk result (λ s. state_view s ≡ StateOf state.now.name (refined_body (state_body state.now) (refining_views pending.now))) }
 {
     let name = state.name.copy(alloc)?;
     match &state.body {
@@ -81,7 +82,7 @@ fn refined_inside<'a>(
     body: &StateBody,
     pending: &[Pending<'a>],
 ) -> Result<StateBody, AllocError>
-    ensures { IfOk result (λ b. body_view b ≡ record (body_view body.now) { subgraph = refined_subgraph (refining_views pending.now) (body_view body.now).subgraph }) }
+    ensures { IfOk result (λ b. body_view b ≡ record (body_view body.now) { subgraph = refined_subgraph (body_view body.now).subgraph (refining_views pending.now) }) }
 {
     let entry = copy_code_if(alloc, &body.entry)?;
     let exit = copy_code_if(alloc, &body.exit)?;
@@ -104,7 +105,7 @@ fn refined_inside<'a>(
 
 /// A copy of a graph with its refinements. The calls nest as deep as graphs do.
 #[cycle(refining)]
-#[tactic(auto, using(crate::proofs::Graphs::followed_push, crate::proofs::Graphs::followed_none))]
+#[tactic(auto, using(crate::proofs::Graphs::followed_push, crate::proofs::Graphs::followed_none, crate::proofs::Nothing::nothing_refined))]
 pub(crate) fn refined_items<'a>(
     alloc: Global,
     items: &Vec<GraphItem>,
@@ -112,6 +113,9 @@ pub(crate) fn refined_items<'a>(
 ) -> Result<Vec<GraphItem>, AllocError>
     ensures { IfOk result (λ v. graph_view v.items ≡ refined (refining_views pending.now) (graph_view items.now.items)) }
 {
+    if pending.is_empty() {
+        return copy_items(alloc, items);
+    }
     let mut seen = Numbers::new(alloc);
     let mut copies = Vec::new(alloc);
     for item in items {

@@ -3,8 +3,8 @@ ghost use Rattle.std.specs.Prelude.{◌≡◌, ◌++◌, IfOk, OnOk, Option, map
 ghost use Rattle.std.specs.Option.{option_to_list};
 ghost use Rattle.room_ast.specs.ChartTree.{ChangeTree, body_view, item_view, graph_view};
 ghost use Rattle.room_ast.specs.declared.chart.Code.{Code};
-ghost use Rattle.room_inherit.specs.Refining.{step_into, below, own_or, own_change, action_or, added_action, meant_for, with_name, as_refining, refinements};
-ghost use Rattle.room_inherit.specs.Views.{of_state, found_or, refining_view, refining_views};
+ghost use Rattle.room_inherit.specs.Refining.{found_or, step_into, below, own_or, own_change, action_or, added_action, meant_for, with_name, as_refining, refinements};
+ghost use Rattle.room_inherit.specs.Views.{of_state, refining_view, refining_views};
 
 use name_tables::Numbers;
 use room_ast::{Change, Code, GraphItem, Name, StateBody};

@@ -1,11 +1,11 @@
 //! What refinements name.
-ghost use Rattle.std.specs.Prelude.{◌≡◌, ◌+◌, ◌∷◌, IfOk, option_map, nat_eq, if◌then◌else◌};
+ghost use Rattle.std.specs.Prelude.{◌≡◌, ◌∷◌, IfOk, option_map, nat_eq};
 ghost use Rattle.std.specs.List.{list_all};
-ghost use Rattle.room_ast.specs.ChartTree.{GraphItems, item, item_view, state_view, graph_view};
+ghost use Rattle.room_ast.specs.ChartTree.{item_view, state_view, graph_view};
 ghost use Rattle.room_ast.specs.Trees.{actor_view};
-ghost use Rattle.room_inherit.specs.Refining.{Refining, first_state, graph_in, transitions_named, names_states, names_transition, is_named};
+ghost use Rattle.room_inherit.specs.Refining.{Refining, as_state, first_state, graph_in, is_called, transitions_named, names_states, names_transition, is_named};
 ghost use Rattle.room_inherit.specs.Rules.{refines_known, graph_of, refinements_of};
-ghost use Rattle.room_inherit.specs.Views.{found_or, refining_view, refining_views};
+ghost use Rattle.room_inherit.specs.Views.{refining_view, refining_views};
 
 use crate::machine_of;
 use crate::refining::{Pending, refinements};
@@ -14,7 +14,7 @@ use std::alloc::{AllocError, Global};
 
 /// An item of a graph, if it is a state of this name.
 fn as_state<'a>(item: &'a GraphItem, name: &[u8]) -> Option<&'a State>
-    ensures { (rest : GraphItems) → first_state name.now (item (item_view item.entry.now) rest) ≡ found_or (option_map (λ s. state_view s.now) result) (first_state name.now rest) }
+    ensures { option_map (λ s. state_view s.now) result ≡ as_state name.now (item_view item.entry.now) }
 {
     match item {
         GraphItem::State(state) => {
@@ -69,7 +69,7 @@ fn names_states<'a>(items: &'a [GraphItem], path: &[Name]) -> bool
 
 /// Whether an item of a graph is a transition of this name.
 fn is_called(item: &GraphItem, name: &[u8]) -> bool
-    ensures { (rest : GraphItems) → transitions_named name.now (item (item_view item.now) rest) ≡ (if result then 1 + transitions_named name.now rest else transitions_named name.now rest) }
+    ensures { result ≡ is_called name.now (item_view item.now) }
 {
     match item {
         GraphItem::Transition(transition) => match &transition.name {

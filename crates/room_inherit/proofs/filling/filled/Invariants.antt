@@ -5,4 +5,4 @@ use Rattle.room_inherit.specs.Views.{flat_views}
 use Rattle.room_inherit.proofs.filling.filled.Given as goal
 
 abbrev pub invariant-loop-number : goal.invariant-loop-number
-invariant-loop-number l = filled l.names (map class_view l.classes) (flat_views l.flats.items) (drop l.number-index l.order) ≡ filled l.names (map class_view l.classes) (flat_views l.initial.flats.items) l.order
+invariant-loop-number l = filled l.names (map class_view l.classes) (drop l.number-index l.order) (flat_views l.flats.items) ≡ filled l.names (map class_view l.classes) l.order (flat_views l.initial.flats.items)

@@ -209,7 +209,7 @@ module _ (cs : List ClassTree) (order : List ℕ) (is : IsContainmentOrder (map 
   all_dropped (x ∷ xs) zero e = cc
   all_dropped (x ∷ xs) (suc k) e = let h : length xs ≤ k = all_dropped xs k e in omega (arith, h)
 
-  fills : (rest : List ℕ) (k : ℕ) (flats : List (Option ActorTree)) → drop k order ≡ rest → Taken k flats → Outcome (length order) (filled (map class_name cs) cs flats rest)
+  fills : (rest : List ℕ) (k : ℕ) (flats : List (Option ActorTree)) → drop k order ≡ rest → Taken k flats → Outcome (length order) (filled (map class_name cs) cs rest flats)
   fills [] k flats e taken = record {
     sized = taken.sized;
     there = λ f j lt is_j. taken.there f j (omega (arith, lt, all_dropped order k e)) is_j;
@@ -218,7 +218,7 @@ module _ (cs : List ClassTree) (order : List ℕ) (is : IsContainmentOrder (map 
   }
   fills (i ∷ rest) k flats e taken =
       let h = next_dropped order k i rest e in
-      let P : Option (List (Option ActorTree)) → Type 0 = λ o. Outcome (suc k) o → Outcome (length order) (option_and_then (λ more. filled (map class_name cs) cs more rest) o) in
+      let P : Option (List (Option ActorTree)) → Type 0 = λ o. Outcome (suc k) o → Outcome (length order) (option_and_then (filled (map class_name cs) cs rest) o) in
       (elim (with_class (map class_name cs) cs flats i) as P [ None ↦ λ none. none | Some more ↦ λ good. fills rest (suc k) more h.1.1 good ]) (step k i flats taken h.0 h.1.0)
 
   none_there : (xs : List ClassTree) (j : ℕ) → flat_there (none_taken xs) j ≡ None
@@ -284,15 +284,19 @@ replaces_all cs (x ∷ xs) [] sized there = absurd (omega (arith, sized))
 replaces_all cs (x ∷ xs) (f ∷ fs) sized there =
     ap (λ c. c ∷ replaced xs fs) (replaces cs x f (there zero)) ∙ ap (λ ys. flat_class cs x ∷ ys) (replaces_all cs xs fs (omega (arith, sized)) (λ i. there (suc i)))
 
+dropped_none : (xs : List ℕ) → drop zero xs ≡ xs
+dropped_none [] = refl
+dropped_none (x ∷ xs) = refl
+
 -- What the flat classes say of the rule on what refinements name, and of the model.
 pub FillsRightly : List ClassTree → Option (List (Option ActorTree)) → Type 0
 FillsRightly cs None = list_all (of_actor (names_known cs)) cs ≡ false
 FillsRightly cs (Some fs) = (list_all (of_actor (names_known cs)) cs ≡ true) × (replaced cs fs ≡ map (flat_class cs) cs)
 
-pub fills_rightly : (cs : List ClassTree) (order : List ℕ) → IsContainmentOrder (map (extended cs) cs) order → FillsRightly cs (filled (map class_name cs) cs (none_taken cs) order)
+pub fills_rightly : (cs : List ClassTree) (order : List ℕ) → IsContainmentOrder (map (extended cs) cs) order → FillsRightly cs (filled (map class_name cs) cs order (none_taken cs))
 fills_rightly cs order is =
     let P : Option (List (Option ActorTree)) → Type 0 = λ o. Outcome cs order is (length order) o → FillsRightly cs o in
-    (elim (filled (map class_name cs) cs (none_taken cs) order) as P [
+    (elim (filled (map class_name cs) cs order (none_taken cs)) as P [
       | None ↦ λ h. one_fails cs order is (of_actor (names_known cs)) cs h.0 (AnActor h.1.0) (actor_is (slice_get cs h.0) h.1.0 h.1.1.0) h.1.1.1
       | Some fs ↦ λ taken. (all_known cs order is fs taken, replaces_all cs cs fs taken.sized (there_all cs order is fs taken))
-    ]) (fills cs order is order zero (none_taken cs) refl (begun cs order is))
+    ]) (fills cs order is order zero (none_taken cs) (dropped_none order) (begun cs order is))
