@@ -13,17 +13,32 @@ use Rattle.room_inherit.specs.Rules.{extended, of_actor, refines_known, names_kn
 
 -- ---- classes by number
 
+none_some : {A B : Type 0} (x : A) → ◌≡◌ {A = Option A} None (Some x) → B
+none_some x e = cc
+
+some_same : {A : Type 0} (x y : A) → Some x ≡ Some y → x ≡ y
+some_same x y e = cc
+
+nil_cons : {B : Type 0} (x : ℕ) (xs : List ℕ) → [] ≡ x ∷ xs → B
+nil_cons x xs e = cc
+
+heads : (x y : ℕ) (xs ys : List ℕ) → x ∷ xs ≡ y ∷ ys → x ≡ y
+heads x y xs ys e = cc
+
+tails : (x y : ℕ) (xs ys : List ℕ) → x ∷ xs ≡ y ∷ ys → xs ≡ ys
+tails x y xs ys e = cc
+
 actor_is : (o : Option ClassTree) (a : ActorTree) → option_and_then as_actor o ≡ Some a → o ≡ Some (AnActor a)
-actor_is None a e = cc
-actor_is (Some (ASystem s)) a e = cc
-actor_is (Some (ASubsystem s)) a e = cc
-actor_is (Some (AnActor b)) a e = cc
-actor_is (Some (AProtocol p)) a e = cc
-actor_is (Some (AData d)) a e = cc
+actor_is None a e = none_some a e
+actor_is (Some (ASystem s)) a e = none_some a e
+actor_is (Some (ASubsystem s)) a e = none_some a e
+actor_is (Some (AnActor b)) a e = ap (λ x. Some (AnActor x)) (some_same b a e)
+actor_is (Some (AProtocol p)) a e = none_some a e
+actor_is (Some (AData d)) a e = none_some a e
 
 mapped_at : (f : ClassTree → List ℕ) (cs : List ClassTree) (i : ℕ) (c : ClassTree) → slice_get cs i ≡ Some c → slice_index_or (map f cs) i [] ≡ f c
-mapped_at f [] i c e = cc
-mapped_at f (x ∷ xs) zero c e = let same : x ≡ c = cc in ap f same
+mapped_at f [] i c e = none_some c e
+mapped_at f (x ∷ xs) zero c e = ap f (some_same x c e)
 mapped_at f (x ∷ xs) (suc i) c e = mapped_at f xs i c e
 
 mapped_length : {A B : Type 0} (f : A → B) (xs : List A) → length (map f xs) ≡ length xs
@@ -31,7 +46,7 @@ mapped_length f [] = refl
 mapped_length f (x ∷ xs) = ap suc (mapped_length f xs)
 
 got_within : {A : Type 0} (xs : List A) (i : ℕ) (x : A) → slice_get xs i ≡ Some x → i < length xs
-got_within [] i x e = cc
+got_within [] i x e = none_some x e
 got_within (y ∷ ys) zero x e = omega arith
 got_within (y ∷ ys) (suc i) x e = let less : i < length ys = got_within ys i x e in omega (arith, less)
 
@@ -154,7 +169,7 @@ module _ (cs : List ClassTree) (order : List ℕ) (is : IsContainmentOrder (map 
     ];
     bare = taken.bare;
     known = λ e j a lt is_j is_a. elim (cases_eq e k) [
-      | inl same ↦ let j_is : j ≡ i = sym is_j ∙ ap (slice_index order) same ∙ at in let both : None ≡ Some a = sym (ap (actor_at cs) j_is ∙ here) ∙ is_a in cc
+      | inl same ↦ let j_is : j ≡ i = sym is_j ∙ ap (slice_index order) same ∙ at in none_some a (sym (ap (actor_at cs) j_is ∙ here) ∙ is_a)
       | inr other ↦ taken.known e j a (omega (arith, lt, other)) is_j is_a
     ];
   }
@@ -173,14 +188,13 @@ module _ (cs : List ClassTree) (order : List ℕ) (is : IsContainmentOrder (map 
           ∙ taken.there e j (elim (cases_eq e k) [ inl same ↦ absurd (other (sym is_j ∙ ap (slice_index order) same ∙ at)) | inr ne ↦ omega (arith, less, ne) ]) is_j
     ];
     bare = λ j none. elim (cases_eq j i) [
-      | inl same ↦ let both : None ≡ Some a = sym none ∙ ap (actor_at cs) same ∙ here in cc
+      | inl same ↦ none_some a (sym none ∙ ap (actor_at cs) same ∙ here)
       | inr other ↦ ap (option_and_then (λ (f : Option ActorTree). f)) (set_other flats i j (Some v) other) ∙ taken.bare j none
     ];
     known = λ e j b less is_j is_b. elim (cases_eq e k) [
       | inl same ↦
           let both : Some a ≡ Some b = sym here ∙ sym (ap (actor_at cs) (sym is_j ∙ ap (slice_index order) same ∙ at)) ∙ is_b in
-          let equal : a ≡ b = cc in
-          ap (names_known cs) (sym equal) ∙ known
+          ap (names_known cs) (sym (some_same a b both)) ∙ known
       | inr ne ↦ taken.known e j b (omega (arith, less, ne)) is_j is_b
     ];
   }
@@ -199,14 +213,14 @@ module _ (cs : List ClassTree) (order : List ℕ) (is : IsContainmentOrder (map 
   -- ---- all of them
 
   next_dropped : (xs : List ℕ) (k i : ℕ) (rest : List ℕ) → drop k xs ≡ i ∷ rest → (k < length xs) × ((slice_index xs k ≡ i) × (drop (suc k) xs ≡ rest))
-  next_dropped [] zero i rest e = cc
-  next_dropped [] (suc k) i rest e = cc
-  next_dropped (x ∷ xs) zero i rest e = let same : x ≡ i = cc in let rests : xs ≡ rest = cc in (omega arith, (same, rests))
+  next_dropped [] zero i rest e = nil_cons i rest e
+  next_dropped [] (suc k) i rest e = nil_cons i rest e
+  next_dropped (x ∷ xs) zero i rest e = (omega arith, (heads x i xs rest e, tails x i xs rest e))
   next_dropped (x ∷ xs) (suc k) i rest e = let h = next_dropped xs k i rest e in (omega (arith, h.0), h.1)
 
   all_dropped : (xs : List ℕ) (k : ℕ) → drop k xs ≡ [] → length xs ≤ k
   all_dropped [] k e = omega arith
-  all_dropped (x ∷ xs) zero e = cc
+  all_dropped (x ∷ xs) zero e = nil_cons x xs (sym e)
   all_dropped (x ∷ xs) (suc k) e = let h : length xs ≤ k = all_dropped xs k e in omega (arith, h)
 
   fills : (rest : List ℕ) (k : ℕ) (flats : List (Option ActorTree)) → drop k order ≡ rest → Taken k flats → Outcome (length order) (filled (map class_name cs) cs rest flats)
@@ -241,8 +255,8 @@ module _ (cs : List ClassTree) (order : List ℕ) (is : IsContainmentOrder (map 
   all_pass p (c ∷ xs) h = ap (λ b. b && list_all p xs) (h zero c refl) ∙ all_pass p xs (λ i d e. h (suc i) d e)
 
   one_fails : (p : ClassTree → Bool) (xs : List ClassTree) (i : ℕ) (c : ClassTree) → slice_get xs i ≡ Some c → p c ≡ false → list_all p xs ≡ false
-  one_fails p [] i c e f = cc
-  one_fails p (x ∷ xs) zero c e f = let same : x ≡ c = cc in ap (λ b. b && list_all p xs) (ap p same ∙ f)
+  one_fails p [] i c e f = none_some c e
+  one_fails p (x ∷ xs) zero c e f = ap (λ b. b && list_all p xs) (ap p (some_same x c e) ∙ f)
   one_fails p (x ∷ xs) (suc i) c e f = ap (λ b. p x && b) (one_fails p xs i c e f) ∙ and_false (p x)
     where
       and_false : (b : Bool) → (b && false) ≡ false
