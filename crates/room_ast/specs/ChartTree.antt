@@ -62,10 +62,10 @@ body_of None = no_body
 body_of (Some b) = body b.entry b.exit b.subgraph
 
 abbrev pub item_step : GraphItem-F ChangeTree GraphItemTree GraphItemTree StateTree BodyParts → GraphItemTree
-item_step (GraphItem-F.State s) = AState s
+item_step (GraphItem-F.GraphItem::State s) = AState s
 item_step (GraphItem-F.Choice c) = AChoice c
 item_step (GraphItem-F.Point p) = APoint p
-item_step (GraphItem-F.Transition t) = ATransition t
+item_step (GraphItem-F.GraphItem::Transition t) = ATransition t
 item_step (GraphItem-F.Refinement r) = r
 
 abbrev pub state_step : State-F ChangeTree GraphItemTree GraphItemTree StateTree BodyParts → StateTree
@@ -78,8 +78,8 @@ abbrev pub refinement_step : Refinement-F ChangeTree GraphItemTree GraphItemTree
 refinement_step r = ARefinement r.path r.change
 
 abbrev pub change_step : Change-F ChangeTree GraphItemTree GraphItemTree StateTree BodyParts → ChangeTree
-change_step (Change-F.State b) = OfState b.entry b.exit b.subgraph
-change_step (Change-F.Transition c) = OfTransition c
+change_step (Change-F.Change::State b) = OfState b.entry b.exit b.subgraph
+change_step (Change-F.Change::Transition c) = OfTransition c
 
 abbrev pub item_view : GraphItem → GraphItemTree
 item_view = fold-GraphItem ChangeTree GraphItemTree GraphItemTree StateTree BodyParts change_step item_step refinement_step state_step body_step
