@@ -5,3 +5,4 @@ pub mod Taken
 pub mod Nothing
 pub mod Orders
 pub mod Plain
+pub mod Strings

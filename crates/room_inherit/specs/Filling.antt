@@ -49,3 +49,8 @@ abbrev pub replaced : List ClassTree → List (Option ActorTree) → List ClassT
 replaced [] fs = []
 replaced (c ∷ cs) [] = c ∷ cs
 replaced (c ∷ cs) (f ∷ fs) = replaced_by c f ∷ replaced cs fs
+
+-- The classes with a flat class in the place of the class of a number, if there is one.
+abbrev pub put_at : List ClassTree → ℕ → Option ActorTree → List ClassTree
+put_at cs k None = cs
+put_at cs k (Some f) = slice_set cs k (AnActor f)

@@ -3,10 +3,9 @@ use Rattle.std.specs.Prelude.{ℕ, List, [], ◌∷◌, map, Option, Some, None}
 use Rattle.std.specs.Prelude.{option_map}
 use Rattle.std.specs.Borrow.{Bor}
 use Rattle.std.specs.Global.{Vec}
-use Rattle.room_ast.specs.ChartTree.{GraphItemTree, StateTree, BodyTree, BodyParts, body_of, body_view, ChangeTree, OfState, SubgraphTree, no_subgraph, subgraph, GraphItems, graph_view, item_step, state_step, body_step, refinement_step, change_step}
+use Rattle.room_ast.specs.ChartTree.{GraphItemTree, StateTree, BodyParts, ChangeTree, OfState, SubgraphTree, no_subgraph, subgraph, GraphItems, graph_view, item_step, state_step, body_step, refinement_step, change_step}
 use Rattle.room_ast.specs.declared.chart.Change.{Change}
 use Rattle.room_ast.specs.declared.chart.GraphItem.{GraphItem}
-use Rattle.room_ast.specs.declared.chart.State.{State}
 use Rattle.room_ast.specs.declared.chart.StateMachine.{StateMachine}
 use Rattle.room_ast.specs.declared.chart.Change.TheFolds.{fold-Change}
 use Rattle.room_ast.specs.Trees.{ActorTree, actor_view}
@@ -35,9 +34,6 @@ refining_views ps = map refining_view ps
 abbrev pub subgraph_tree : Option (Vec GraphItem) → SubgraphTree
 subgraph_tree None = no_subgraph
 subgraph_tree (Some v) = subgraph (graph_view v.items)
-
-abbrev pub state_body : State → BodyTree
-state_body s = body_of (option_map body_view s.body)
 
 abbrev pub machine_view : StateMachine → GraphItems
 machine_view m = graph_view m.items.items

@@ -1,17 +1,18 @@
 //! The flat classes of a model, each once.
 ghost use Rattle.std.specs.Prelude.{◌≡◌, IfOk, Some, None, map, option_map, slice_set, if◌then◌else◌};
 ghost use Rattle.std.specs.Option.{option_and_then};
-ghost use Rattle.room_ast.specs.Trees.{actor_view, class_view};
-ghost use Rattle.room_inherit.specs.Filling.{flat_there, with_actor, with_class, filled, none_taken, replaced_by, replaced, taken_over};
+ghost use Rattle.room_ast.specs.Trees.{AnActor, actor_view, class_view};
+ghost use Rattle.room_inherit.specs.Filling.{flat_there, with_actor, with_class, filled, none_taken, put_at, replaced, taken_over};
 ghost use Rattle.room_inherit.specs.Views.{flat_views};
 
-use crate::deriving::{copy_actor, derived};
+use crate::derived_class::{copy_actor, derived};
 use crate::rules::{number_above, refines_known};
 use name_tables::NameIndex;
 use room_ast::{ActorClass, Class};
 use std::alloc::{AllocError, Global};
 
 /// The flat class of a number, if it was taken.
+#[tactic(auto, using(crate::proofs::Bases::flat_got))]
 fn flat_there<'a>(flats: &'a [Option<ActorClass>], number: Option<usize>) -> Option<&'a ActorClass>
     ensures { option_map (λ a. actor_view a.now) result ≡ option_and_then (flat_there (flat_views flats.entry.now)) number }
 {
@@ -41,6 +42,7 @@ fn taken_over(
     Ok(Some(derived(alloc, base, own)?))
 }
 
+#[tactic(auto, using(crate::proofs::Bases::flat_set, crate::proofs::Bases::flat_past))]
 fn set_flat(flats: &mut Vec<Option<ActorClass>>, number: usize, flat: ActorClass)
     ensures { flat_views flats.new.items ≡ slice_set (flat_views flats.old.items) number (Some (actor_view flat)) }
 {
@@ -51,6 +53,7 @@ fn set_flat(flats: &mut Vec<Option<ActorClass>>, number: usize, flat: ActorClass
 
 /// Takes the flat class of the class of a number, once those of its bases are taken. Whether its
 /// refinements name what its base has.
+#[tactic(auto, using(crate::proofs::Bases::class_got))]
 fn with_class(
     alloc: Global,
     names: &NameIndex,
@@ -106,27 +109,31 @@ pub(crate) fn filled(
     Ok(Some(flats))
 }
 
-/// A class, or the flat class that was taken for it.
-fn replaced_by(class: Class, flat: Option<ActorClass>) -> Class
-    ensures { class_view result ≡ replaced_by (class_view class) (option_map actor_view flat) }
+/// Puts a flat class in the place of the class of a number.
+#[tactic(auto, using(crate::proofs::Bases::class_set, crate::proofs::Bases::class_past))]
+fn put_flat(classes: &mut Vec<Class>, number: usize, flat: ActorClass)
+    ensures { map class_view classes.new.items ≡ slice_set (map class_view classes.old.items) number (AnActor (actor_view flat)) }
 {
-    match flat {
-        Some(flat) => Class::Actor(flat),
-        None => class,
+    if number < classes.len() {
+        classes[number] = Class::Actor(flat);
     }
 }
 
-/// The classes with the flat ones in their places.
-pub(crate) fn replaced(
-    alloc: Global,
-    classes: Vec<Class>,
-    flats: Vec<Option<ActorClass>>,
-) -> Result<Vec<Class>, AllocError>
-    ensures { IfOk result (λ v. map class_view v.items ≡ replaced (map class_view classes.items) (flat_views flats.items)) }
+fn put_if(classes: &mut Vec<Class>, number: usize, flat: Option<ActorClass>)
+    ensures { map class_view classes.new.items ≡ put_at (map class_view classes.old.items) number (option_map actor_view flat) }
 {
-    classes
-        .into_iter()
-        .zip(flats)
-        .map(|(class, flat)| replaced_by(class, flat))
-        .collect(alloc)
+    if let Some(flat) = flat {
+        put_flat(classes, number, flat);
+    }
+}
+
+/// Puts the flat classes in the places of the classes of their numbers.
+#[tactic(auto, using(crate::proofs::Bases::replaced_last))]
+pub(crate) fn put_flats(classes: &mut Vec<Class>, flats: Vec<Option<ActorClass>>)
+    ensures { map class_view classes.new.items ≡ replaced (map class_view classes.old.items) (flat_views flats.items) }
+{
+    let mut flats = flats;
+    while let Some(flat) = flats.pop() {
+        put_if(classes, flats.len(), flat);
+    }
 }

@@ -10,7 +10,7 @@ ghost use Rattle.room_inherit.specs.Views.{flat_views};
 
 use crate::counting::is_small;
 use crate::fault::InheritFault;
-use crate::filling::{filled, replaced};
+use crate::filling::{filled, put_flats};
 use crate::rules::{
     bases_are_known, extended_classes, extends_nothing, names_of_classes, refinements_differ,
     refinements_stand_right,
@@ -93,7 +93,8 @@ fn flat_model(alloc: Global, model: Model) -> Result<Model, InheritFault>
         return Ok(model);
     }
     let flats = flat_classes(alloc, &model)?;
-    let classes = replaced(alloc, model.classes.into_vec(), flats)?;
+    let mut classes = model.classes.into_vec();
+    put_flats(&mut classes, flats);
     Ok(Model {
         name: model.name,
         imports: model.imports,

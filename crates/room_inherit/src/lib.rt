@@ -8,7 +8,7 @@
 
 mod copies;
 mod counting;
-mod deriving;
+mod derived_class;
 mod fault;
 mod filling;
 mod flattening;

@@ -53,6 +53,7 @@ pub(crate) fn copy_interface_item(
     }
 }
 
+#[tactic(auto, using(crate::proofs::Strings::same_strings))]
 fn copy_empty_strings(
     alloc: Global,
     strings: &Sequence<EmptyString>,
@@ -60,8 +61,8 @@ fn copy_empty_strings(
     ensures { IfOk result (λ copy. copy ≡ strings.now) }
 {
     let mut copies = Vec::new(alloc);
-    for string in strings.as_slice() {
-        copies.push(*string)?;
+    for _i in 0..strings.len() {
+        copies.push(EmptyString)?;
     }
     Ok(Sequence::from(copies))
 }

@@ -1,8 +1,8 @@
 //! A graph with its refinements.
 ghost use Rattle.std.specs.Prelude.{◌≡◌, IfOk, OnOk, option_map};
-ghost use Rattle.room_ast.specs.ChartTree.{StateOf, body_of, body_view, item_view, state_view, graph_view};
-ghost use Rattle.room_inherit.specs.Refining.{refined, refined_body, refined_item, refined_subgraph, widened, with_state, own_change};
-ghost use Rattle.room_inherit.specs.Views.{refining_views, state_body};
+ghost use Rattle.room_ast.specs.ChartTree.{body_of, body_view, item_view, state_view, graph_view};
+ghost use Rattle.room_inherit.specs.Refining.{refined, refined_item, state_with, refined_subgraph, widened, with_state, own_change};
+ghost use Rattle.room_inherit.specs.Views.{refining_views};
 
 use crate::copies::{copy_code_if, copy_item, copy_items};
 use crate::refining::paths::{Pending, meant_for, own_change};
@@ -46,9 +46,9 @@ fn refined_item<'a, 'n>(
             let transition = refined_transition(alloc, transition, pending)?;
             Ok(GraphItem::Transition(transition))
         }
-        GraphItem::Choice(_) | GraphItem::Point(_) | GraphItem::Refinement(_) => {
-            copy_item(alloc, item)
-        }
+        GraphItem::Choice(_) => copy_item(alloc, item),
+        GraphItem::Point(_) => copy_item(alloc, item),
+        GraphItem::Refinement(_) => copy_item(alloc, item),
     }
 }
 
@@ -59,7 +59,7 @@ fn refined_state<'a>(
     state: &State,
     pending: &[Pending<'a>],
 ) -> Result<State, AllocError>
-    ensures { IfOk result (λ s. state_view s ≡ StateOf state.now.name (refined_body (state_body state.now) (refining_views pending.now))) }
+    ensures { IfOk result (λ s. state_view s ≡ state_with (refining_views pending.now) (state_view state.now)) }
 {
     let name = state.name.copy(alloc)?;
     match &state.body {

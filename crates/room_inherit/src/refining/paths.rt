@@ -29,7 +29,10 @@ fn as_refining<'a>(item: &'a GraphItem) -> Option<Pending<'a>>
             others: refinement.path.others.as_slice(),
             change: &refinement.change,
         }),
-        _ => None,
+        GraphItem::State(_) => None,
+        GraphItem::Choice(_) => None,
+        GraphItem::Point(_) => None,
+        GraphItem::Transition(_) => None,
     }
 }
 

@@ -71,6 +71,16 @@ pub(crate) fn names_of_classes<'a>(
     NameIndex::of(alloc, names)
 }
 
+fn is_actor(class: &Class) -> bool
+    ensures { result ≡ is_some (as_actor (class_view class.now)) }
+{
+    match class {
+        Class::Actor(_) => true,
+        _ => false,
+    }
+}
+
+#[tactic(auto, using(crate::proofs::Bases::class_got))]
 fn is_actor_at(classes: &[Class], number: Option<usize>) -> bool
     ensures { result ≡ is_some (option_and_then (actor_at (map class_view classes.now)) number) }
 {
@@ -78,8 +88,8 @@ fn is_actor_at(classes: &[Class], number: Option<usize>) -> bool
         return false;
     };
     match classes.get(number) {
-        Some(Class::Actor(_)) => true,
-        _ => false,
+        Some(class) => is_actor(class),
+        None => false,
     }
 }
 

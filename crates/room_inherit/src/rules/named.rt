@@ -24,7 +24,10 @@ fn as_state<'a>(item: &'a GraphItem, name: &[u8]) -> Option<&'a State>
                 None
             }
         }
-        _ => None,
+        GraphItem::Choice(_) => None,
+        GraphItem::Point(_) => None,
+        GraphItem::Transition(_) => None,
+        GraphItem::Refinement(_) => None,
     }
 }
 
@@ -76,7 +79,10 @@ fn is_called(item: &GraphItem, name: &[u8]) -> bool
             Some(other) => other.is(name),
             None => false,
         },
-        _ => false,
+        GraphItem::State(_) => false,
+        GraphItem::Choice(_) => false,
+        GraphItem::Point(_) => false,
+        GraphItem::Refinement(_) => false,
     }
 }
 

@@ -1,5 +1,5 @@
-use Rattle.std.proofs.Common.{◌≡◌, take}
+use Rattle.std.proofs.Common.{◌≡◌, length}
 use Rattle.room_inherit.proofs.copies.parts.copy_empty_strings.Given as goal
 
-abbrev pub invariant-loop-string : goal.invariant-loop-string
-invariant-loop-string l = l.copies.items ≡ take l.string-index l.string-items
+abbrev pub invariant-loop-i : goal.invariant-loop-i
+invariant-loop-i l = length l.copies.items ≡ l._i

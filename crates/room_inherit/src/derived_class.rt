@@ -96,21 +96,26 @@ fn joined_structure(
     }
 }
 
-/// Adds a copy of an item of a graph, if it is no refinement.
+/// Adds a copy of an item of a graph.
 #[tactic(auto, using(crate::proofs::Graphs::followed_push))]
-fn add_other(alloc: Global, items: &mut Vec<GraphItem>, item: &GraphItem) -> Result<(), AllocError>
-    ensures { OnOk result ((rest : GraphItems) → followed_by (graph_view items.new.items) (other_items rest) ≡ followed_by (graph_view items.old.items) (other_items (item (item_view item.now) rest))) }
+fn push_copy(alloc: Global, items: &mut Vec<GraphItem>, one: &GraphItem) -> Result<(), AllocError>
+    ensures { OnOk result ((rest : GraphItems) → followed_by (graph_view items.new.items) rest ≡ followed_by (graph_view items.old.items) (item (item_view one.now) rest)) }
 {
-    match item {
+    let copy = copy_item(alloc, one)?;
+    items.push(copy)?;
+    Ok(())
+}
+
+/// Adds a copy of an item of a graph, if it is no refinement.
+fn add_other(alloc: Global, items: &mut Vec<GraphItem>, one: &GraphItem) -> Result<(), AllocError>
+    ensures { OnOk result ((rest : GraphItems) → followed_by (graph_view items.new.items) (other_items rest) ≡ followed_by (graph_view items.old.items) (other_items (item (item_view one.now) rest))) }
+{
+    match one {
         GraphItem::Refinement(_) => Ok(()),
-        GraphItem::State(_)
-        | GraphItem::Choice(_)
-        | GraphItem::Point(_)
-        | GraphItem::Transition(_) => {
-            let copy = copy_item(alloc, item)?;
-            items.push(copy)?;
-            Ok(())
-        }
+        GraphItem::State(_) => push_copy(alloc, items, one),
+        GraphItem::Choice(_) => push_copy(alloc, items, one),
+        GraphItem::Point(_) => push_copy(alloc, items, one),
+        GraphItem::Transition(_) => push_copy(alloc, items, one),
     }
 }
 
