@@ -113,3 +113,7 @@ pub replaced_last : (cs : List ClassTree) (fs gs : List (Option ActorClass)) (f 
 replaced_last cs fs gs f e =
     ap (λ hs. replaced cs (flat_views hs)) e ∙ ap (replaced cs) (views_push gs f) ∙ trees_last cs (flat_views gs) (option_map actor_view f)
     ∙ ap (λ n. replaced (put_at cs n (option_map actor_view f)) (flat_views gs)) (views_length gs)
+
+-- where none is left
+pub replaced_done : (cs : List ClassTree) (fs : List (Option ActorClass)) → fs ≡ [] → replaced cs (flat_views fs) ≡ cs
+replaced_done cs fs e = ap (λ gs. replaced cs (flat_views gs)) e ∙ replaced_none cs

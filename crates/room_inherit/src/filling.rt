@@ -128,7 +128,7 @@ fn put_if(classes: &mut Vec<Class>, number: usize, flat: Option<ActorClass>)
 }
 
 /// Puts the flat classes in the places of the classes of their numbers.
-#[tactic(auto, using(crate::proofs::Bases::replaced_last))]
+#[tactic(auto, using(crate::proofs::Bases::replaced_last, crate::proofs::Bases::replaced_done))]
 pub(crate) fn put_flats(classes: &mut Vec<Class>, flats: Vec<Option<ActorClass>>)
     ensures { map class_view classes.new.items ≡ replaced (map class_view classes.old.items) (flat_views flats.items) }
 {

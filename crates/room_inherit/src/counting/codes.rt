@@ -1,9 +1,12 @@
 //! The tokens of code and of transitions.
 ghost use Rattle.std.specs.Prelude.{◌≡◌, ◌-◌, ◌*◌, ℕ, List, length};
-ghost use Rattle.room_ast.specs.Tokens.{word_if, word_code, code_tokens, maybe, each, dot_name, trigger, or_trigger, triggers, target, source, transition_body, transition, name};
+ghost use Rattle.room_ast.specs.Tokens.{word_if, word_code, code_tokens, maybe, each, code_text, trigger, or_trigger, triggers, target, source, transition_body, transition, name};
 ghost use Rattle.room_lexer.specs.declared.word.Word.{Word};
 
-use room_ast::{Code, Name, Source, Target, Transition, TransitionBody, Trigger, Triggers};
+use room_ast::{
+    Code, CodeText, Name, Source, Target, Transition, TransitionBody, Trigger, Triggers,
+};
+use room_kinds::Sequence;
 
 /// What is left once so many times so many are taken away.
 pub(super) fn less_times(left: usize, each: usize, count: usize) -> usize
@@ -33,11 +36,17 @@ fn less_name_if(left: usize, n: &Option<Name>) -> usize
 }
 
 #[tactic(auto, using(crate::proofs::Counts::count_texts))]
+fn less_texts(left: usize, texts: &Sequence<CodeText>) -> usize
+    ensures { result ≡ left - length (each code_text texts.now) }
+{
+    left.saturating_sub(texts.len())
+}
+
 pub(super) fn less_code(left: usize, code: &Code) -> usize
     ensures { result ≡ left - length (code_tokens code.now) }
 {
     match code {
-        Code::Texts(texts) => left.saturating_sub(2).saturating_sub(texts.len()),
+        Code::Texts(texts) => less_texts(left.saturating_sub(2), texts),
         Code::Single(_) => left.saturating_sub(1),
     }
 }

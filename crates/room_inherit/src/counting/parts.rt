@@ -1,19 +1,25 @@
 //! The tokens of interfaces, structures and data classes.
 ghost use Rattle.std.specs.Prelude.{◌≡◌, ◌-◌, length};
-ghost use Rattle.room_ast.specs.Tokens.{maybe, each, usercode, attribute, equals_value, port, interface_item, structure_item, actor_ref, ref_kind, binding, side, data_item};
+ghost use Rattle.room_ast.specs.Tokens.{maybe, each, empty_string, usercode, attribute, equals_value, port, interface_item, structure_item, actor_ref, ref_kind, binding, side, data_item};
 
 use crate::counting::codes::less_flag;
 use room_ast::{
-    ActorRef, Attribute, Binding, DataItem, InterfaceItem, Places, PlainValue, Port, Side,
-    StructureItem, Usercode, Value,
+    ActorRef, Attribute, Binding, DataItem, EmptyString, InterfaceItem, Places, PlainValue, Port,
+    Side, StructureItem, Usercode, Value,
 };
-use room_kinds::ReferenceKind;
+use room_kinds::{ReferenceKind, Sequence};
 
 #[tactic(auto, using(crate::proofs::Counts::count_strings))]
+fn less_strings(left: usize, strings: &Sequence<EmptyString>) -> usize
+    ensures { result ≡ left - length (each empty_string strings.now) }
+{
+    left.saturating_sub(strings.len())
+}
+
 pub(super) fn less_usercode(left: usize, u: &Usercode) -> usize
     ensures { result ≡ left - length (usercode u.now) }
 {
-    left.saturating_sub(3).saturating_sub(u.strings.len())
+    less_strings(left.saturating_sub(3), &u.strings)
 }
 
 fn less_value_if(left: usize, v: &Option<Value>) -> usize

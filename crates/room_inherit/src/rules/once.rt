@@ -132,7 +132,10 @@ fn refines_once(alloc: Global, class: &ActorClass) -> Result<bool, AllocError>
     let pending = refinements_of(alloc, class)?;
     let states = state_paths(alloc, pending.as_slice())?;
     let transitions = transition_paths(alloc, pending.as_slice())?;
-    Ok(paths_differ(states.as_slice()) && paths_differ(transitions.as_slice()))
+    if !paths_differ(states.as_slice()) {
+        return Ok(false);
+    }
+    Ok(paths_differ(transitions.as_slice()))
 }
 
 fn class_refines_once(alloc: Global, class: &Class) -> Result<bool, AllocError>

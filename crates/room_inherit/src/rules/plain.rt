@@ -1,5 +1,5 @@
 //! Where refinements stand.
-ghost use Rattle.std.specs.Prelude.{◌≡◌, map};
+ghost use Rattle.std.specs.Prelude.{◌≡◌, map, if◌then◌else◌};
 ghost use Rattle.std.specs.List.{list_all};
 ghost use Rattle.room_ast.specs.ChartTree.{item_view, state_view, graph_view};
 ghost use Rattle.room_ast.specs.Trees.{actor_view, class_view, model_view};
@@ -80,16 +80,23 @@ fn is_plain_inside(items: &Vec<GraphItem>) -> bool
     true
 }
 
+/// Whether refinements stand where they may in the top graph of a class that has a base or none.
+fn stands_right(has_base: bool, items: &Vec<GraphItem>) -> bool
+    ensures { result ≡ (if has_base then is_plain_inside else is_plain) (graph_view items.now.items) }
+{
+    if has_base {
+        is_plain_inside(items)
+    } else {
+        is_plain(items)
+    }
+}
+
 fn refines_rightly(class: &ActorClass) -> bool
     ensures { result ≡ refines_rightly (actor_view class.now) }
 {
-    let Some(machine) = machine_of(class) else {
-        return true;
-    };
-    if class.base.is_some() {
-        is_plain_inside(&machine.items)
-    } else {
-        is_plain(&machine.items)
+    match machine_of(class) {
+        Some(machine) => stands_right(class.base.is_some(), &machine.items),
+        None => true,
     }
 }
 
