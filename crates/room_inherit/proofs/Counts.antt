@@ -15,7 +15,7 @@ count_dots (n ∷ ns) = let rest : length (each dot_name ns) ≡ 2 * length ns =
 
 pub count_strings : (ss : List EmptyString) → length (each empty_string ss) ≡ length ss
 count_strings [] = refl
-count_strings (s ∷ ss) = ap (λ n. n + 1) (count_strings ss)
+count_strings (s ∷ ss) = let rest : length (each empty_string ss) ≡ length ss = count_strings ss in omega (arith, rest)
 
 pub count_texts : (ts : List CodeText) → length (each code_text ts) ≡ length ts
 count_texts [] = refl

@@ -1,6 +1,6 @@
 //! The tokens of code and of transitions.
 ghost use Rattle.std.specs.Prelude.{◌≡◌, ◌-◌, ◌*◌, ℕ, List, length};
-ghost use Rattle.room_ast.specs.Tokens.{word_if, word_code, code_tokens, maybe, each, code_text, trigger, or_trigger, triggers, target, source, transition_body, transition, name};
+ghost use Rattle.room_ast.specs.Tokens.{word_if, word_code, code_tokens, maybe, each, code_text, event, bar_event, trigger, or_trigger, triggers, target, source, transition_body, transition, name};
 ghost use Rattle.room_lexer.specs.declared.word.Word.{Word};
 
 use room_ast::{
@@ -61,11 +61,27 @@ pub(super) fn less_code_if(left: usize, code: &Option<Code>) -> usize
     }
 }
 
-#[tactic(auto, using(crate::proofs::Counts::count_event, crate::proofs::Counts::count_events))]
+fn less_event(left: usize, e: &Event) -> usize
+    ensures { result ≡ left - length (event e.now) }
+{
+    match &e.message {
+        EventMessage::Named(_) => left.saturating_sub(3),
+        EventMessage::Imported => left.saturating_sub(3),
+    }
+}
+
+#[tactic(auto, using(crate::proofs::Counts::count_events))]
+fn less_other_events(left: usize, others: &Sequence<Event>) -> usize
+    ensures { result ≡ left - length (each bar_event others.now) }
+{
+    less_times(left, 4, others.len())
+}
+
 fn less_trigger(left: usize, t: &Trigger) -> usize
     ensures { result ≡ left - length (trigger t.now) }
 {
-    let left = less_times(left.saturating_sub(5), 4, t.others.len());
+    let left = less_event(left.saturating_sub(2), &t.first);
+    let left = less_other_events(left, &t.others);
     less_code_if(left, &t.guard)
 }
 
