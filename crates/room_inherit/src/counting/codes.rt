@@ -4,7 +4,8 @@ ghost use Rattle.room_ast.specs.Tokens.{word_if, word_code, code_tokens, maybe, 
 ghost use Rattle.room_lexer.specs.declared.word.Word.{Word};
 
 use room_ast::{
-    Code, CodeText, Name, Source, Target, Transition, TransitionBody, Trigger, Triggers,
+    Code, CodeText, Event, EventMessage, Name, Source, Target, Transition, TransitionBody, Trigger,
+    Triggers,
 };
 use room_kinds::Sequence;
 
