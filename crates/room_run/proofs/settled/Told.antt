@@ -3,12 +3,6 @@ use Rattle.std.proofs.Common.{◌≡◌, ℕ, nat_le, true, List, refl, sym, sub
 use Rattle.std.proofs.lemmas.Bool.{and_parts}
 use Rattle.room_kinds.specs.declared.command.Command.{Command}
 use Rattle.room_kinds.specs.declared.command.Command.TheVariants as commands
-use Rattle.room_ast.specs.Trees.{ModelTree}
-use Rattle.room_ast.specs.Tokens.{model_tokens}
-use Rattle.room_lexer.specs.declared.token.Token.{Token}
-use Rattle.token_reading.specs.Single.{values}
-use Rattle.token_reading.specs.token_names.Names.{HasNames}
-use Rattle.token_reading.proofs.token_names.NamesLaw.{named as tokens_named}
 use Rattle.model_laws.proofs.wiring_laws.chart_state_names.Models.{sound_well_named}
 use Rattle.journal.specs.declared.entry.Journals.{Journals}
 use Rattle.inject_reader.specs.declared.inject_lines.accepted.Line.{Line}
@@ -23,13 +17,9 @@ use Rattle.model_laws.specs.settled_models.Open.{is_worded}
 use Rattle.model_laws.proofs.settled_models.Weaker.{tables_weaker}
 use Rattle.model_laws.proofs.settled_models.Models.{models_worded}
 use Rattle.model_laws.proofs.settled_models.Wired.{wiring_consistent}
-use Rattle.room_run.specs.Models.{HasTree, IsModel}
+use Rattle.room_run.specs.Models.{IsModel}
+use Rattle.room_run.proofs.Names.{names_read}
 use Rattle.room_run.proofs.settled.Compiled.{all_compiled}
-
--- the names among the tokens of a text are names of the language
-names_of : (text : List ℕ) (tree : ModelTree) → HasTree text tree → HasNames (model_tokens tree)
-names_of text tree h =
-    subst HasNames (sym h.spelled) (subst (λ (ts : List Token). HasNames (values text ts)) (sym h.cut.placed) (tokens_named text h.cut.pieces h.cut.cut))
 
 -- a priority that has a word is one of the six
 worded_ranked : (c : Command) → is_worded c ≡ true → is_ranked c ≡ true
@@ -53,7 +43,7 @@ text_tells text plant lines fuel j model fit run =
     let tree = model.is.tree in
     let sound = model.is.sound in
     texts_tell plant lines (wiring_consistent tree plant.wiring sound.wired.wired sound.keeps sound.wired.flawless)
-    (sound_well_named tree plant.wiring model.charts sound.keeps (names_of text tree model.is.read) sound.faultless sound.wired.wired)
+    (sound_well_named tree plant.wiring model.charts sound.keeps (names_read text tree model.is.read) sound.faultless sound.wired.wired)
     (classes_ranked text plant model) fit fuel j run
 
 -- what a run of a model fetches fits
