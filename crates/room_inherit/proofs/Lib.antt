@@ -6,3 +6,4 @@ pub mod Nothing
 pub mod Orders
 pub mod Plain
 pub mod Strings
+pub mod NamesLaw

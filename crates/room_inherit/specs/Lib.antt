@@ -5,3 +5,4 @@ pub mod Flat
 pub mod Rules
 pub mod Filling
 pub mod Flattening
+pub mod Names
