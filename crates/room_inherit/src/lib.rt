@@ -5,6 +5,7 @@
 //! or tells the lowest of the rules 26 to 31 that a model breaks. The rules below 26, the wiring and the
 //! charts are asked of the flat model, so that nothing behind this crate knows of bases.
 #![tactic(auto)]
+
 ghost use Rattle.room_inherit.specs.Names.{FlatKeepsNames};
 
 mod copies;
