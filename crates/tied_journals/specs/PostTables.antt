@@ -21,6 +21,11 @@ abbrev pub with_post : Option (Option Msg) → Msg → Option (Option Msg)
 with_post None m = Some (Some m)
 with_post (Some kept) m = Some None
 
+-- the same after more posts
+abbrev pub with_posts : Option (Option Msg) → List Msg → Option (Option Msg)
+with_posts kept [] = kept
+with_posts kept (m ∷ ms) = with_posts (with_post kept m) ms
+
 -- the message of the only post
 abbrev pub only_of : Option (Option Msg) → Option Msg
 only_of None = None

@@ -39,15 +39,15 @@ tied_fetch_text t true stamp m = concat (source_parts t m)
 
 -- an entry and its notes, where a line of fetches may stand open; one that is no fetch ends it
 abbrev pub tied_entry_text : Tables → Bool → Entry → List ℕ
-tied_entry_text t open (entries.Start who state notes) = fetches_end open ++ entry_text t (entries.Start who state notes)
-tied_entry_text t open (entries.Fetch stamp m) = tied_fetch_text t open stamp.0 m
-tied_entry_text t open (entries.Turn stamp from sent did notes) = fetches_end open ++ entry_text t (entries.Turn stamp from sent did notes)
-tied_entry_text t open (entries.Post stamp m) = fetches_end open ++ entry_text t (entries.Post stamp m)
+tied_entry_text t begun (entries.Start who state notes) = fetches_end begun ++ entry_text t (entries.Start who state notes)
+tied_entry_text t begun (entries.Fetch stamp m) = tied_fetch_text t begun stamp.0 m
+tied_entry_text t begun (entries.Turn stamp from sent did notes) = fetches_end begun ++ entry_text t (entries.Turn stamp from sent did notes)
+tied_entry_text t begun (entries.Post stamp m) = fetches_end begun ++ entry_text t (entries.Post stamp m)
 
 -- a journal's entries, where a line of fetches may stand open
 abbrev pub tied_entries_text : Tables → Bool → List Entry → List ℕ
-tied_entries_text t open [] = fetches_end open
-tied_entries_text t open (e ∷ es) = tied_entry_text t open e ++ tied_entries_text t (is_fetch e) es
+tied_entries_text t begun [] = fetches_end begun
+tied_entries_text t begun (e ∷ es) = tied_entry_text t begun e ++ tied_entries_text t (is_fetch e) es
 
 -- a controller's journal
 unfoldable pub tied_journal_text : Tables → List Entry → List ℕ
@@ -62,14 +62,13 @@ abbrev pub tied_controllers_text : Tables → ℕ → List (List Entry) → List
 tied_controllers_text t c [] = []
 tied_controllers_text t c (es ∷ rest) = tied_controller_text t c es ++ tied_controllers_text t (suc c) rest
 
+-- what was left, what was not posted, and the end, as in form 1
+unfoldable pub below_text : Tables → Journals → List ℕ
+below_text t j = left_text t j.left ++ (unposted_text j.unposted ++ end_line j.done)
+
 -- what stands below the controllers' journals, as in form 1
 unfoldable pub rest_text : Tables → Journals → List ℕ
-rest_text t j =
-    line (codes "environment" ∷ [])
-    ++ (journal_text t j.environment
-    ++ (left_text t j.left
-    ++ (unposted_text j.unposted
-    ++ end_line j.done)))
+rest_text t j = line (codes "environment" ∷ []) ++ (journal_text t j.environment ++ below_text t j)
 
 -- the title, each controller's journal, and the rest
 unfoldable pub tied_text_of : Tables → Journals → List ℕ

@@ -1,0 +1,374 @@
+//! Entries, what was left and what was not posted, line by line, as in form 1.
+ghost use Rattle.std.specs.Prelude.{◌≡◌, ℕ, false, Some, [], ◌∷◌, ◌++◌};
+ghost use Rattle.room_outside.specs.line_text.Lines.{line};
+ghost use Rattle.journal.specs.Lines.{turn_parts, turn_line, note_line, note_lines, is_duty, speaker_of, start_line, fetch_line, post_line, entry_text, where_text, left_line, unposted_line};
+ghost use Rattle.room_outside.specs.line_text.Parts.{part_texts};
+ghost use Rattle.journal.specs.Text.{title_of, journal_text, left_text, unposted_text, end_line};
+ghost use Rattle.room_outside.specs.line_text.Output.{Puts, at_rest};
+
+use journal::{Did, Entry, Left, speaker_after};
+use crate::lines::{write_actor_line, write_message_line, write_standing_line};
+use crate::naming;
+use room_kinds::{ControllerId, Incarnation, Msg, Note, SlotId, Stamp};
+use room_outside::{LineBuffer, Part, Sink, WriteFault, write_line};
+use room_wiring::Wiring;
+
+fn write_note<K: Sink>(
+    out: &mut LineBuffer,
+    sink: &mut K,
+    wiring: &Wiring,
+    speaker: Option<SlotId>,
+    note: &Note,
+) -> Result<(), WriteFault>
+    ensures { Puts result (at_rest (K.written sink.old)) (at_rest (K.written sink.new))
+        (note_line wiring.now speaker note.now) }
+{
+    match note {
+        Note::Zero => write_line(out, sink, &[Part::Text(b"note zero")]),
+        Note::NoMessage => write_line(out, sink, &[Part::Text(b"note nomessage")]),
+        Note::Unbound { port, place } => write_line(
+            out,
+            sink,
+            &[
+                Part::Text(b"note unbound "),
+                Part::Text(naming::speaking_port_name(wiring, speaker, *port)),
+                Part::Text(b"["),
+                Part::Signed(*place),
+                Part::Text(b"]"),
+            ],
+        ),
+        Note::Recall { count } => write_line(
+            out,
+            sink,
+            &[Part::Text(b"note recall "), Part::Number(*count)],
+        ),
+        Note::Up { who, state } => {
+            write_standing_line(out, sink, wiring, &[Part::Text(b"note up ")], *who, *state)
+        }
+        Note::Down { who, lost } => write_actor_line(
+            out,
+            sink,
+            wiring,
+            &[Part::Text(b"note down ")],
+            *who,
+            &[Part::Text(b" "), Part::Number(*lost)],
+        ),
+    }
+}
+
+fn write_notes<K: Sink>(
+    out: &mut LineBuffer,
+    sink: &mut K,
+    wiring: &Wiring,
+    duty: bool,
+    speaker: Option<SlotId>,
+    notes: &[Note],
+) -> Result<(), WriteFault>
+    ensures { Puts result (at_rest (K.written sink.old)) (at_rest (K.written sink.new))
+        (note_lines wiring.now duty speaker notes.now) }
+{
+    let mut speaking = speaker;
+    for note in notes {
+        write_note(out, sink, wiring, speaking, note)?;
+        speaking = speaker_after(duty, speaking, *note);
+    }
+    Ok(())
+}
+
+/// When a turn was, and which message it took.
+#[derive(Clone, Copy)]
+struct TurnHead {
+    stamp: Stamp,
+    from: ControllerId,
+    sent: Stamp,
+}
+
+fn turn_head<'a>(wiring: &Wiring, head: TurnHead, word: &'a [u8]) -> [Part<'a>; 6]
+    ensures { part_texts result
+        ≡ turn_parts wiring.now head.stamp.0 head.from.0 head.sent.0 ++ word.now ∷ [] }
+{
+    [
+        Part::Number(head.stamp.0),
+        Part::Text(b" turn "),
+        naming::party(wiring, head.from),
+        Part::Text(b"@"),
+        Part::Number(head.sent.0),
+        Part::Text(word),
+    ]
+}
+
+fn write_turn<K: Sink>(
+    out: &mut LineBuffer,
+    sink: &mut K,
+    wiring: &Wiring,
+    head: TurnHead,
+    did: Did,
+) -> Result<(), WriteFault>
+    ensures { Puts result (at_rest (K.written sink.old)) (at_rest (K.written sink.new))
+        (turn_line wiring.now head.stamp.0 head.from.0 head.sent.0 did) }
+{
+    match did {
+        Did::Duty => write_line(out, sink, &turn_head(wiring, head, b" duty")),
+        Did::Handled { who, state } => {
+            let head = turn_head(wiring, head, b" handled ");
+            write_standing_line(out, sink, wiring, &head, who, state)
+        }
+        Did::Deferred { who, state } => {
+            let head = turn_head(wiring, head, b" deferred ");
+            write_standing_line(out, sink, wiring, &head, who, state)
+        }
+        Did::Unhandled { who, state } => {
+            let head = turn_head(wiring, head, b" unhandled ");
+            write_standing_line(out, sink, wiring, &head, who, state)
+        }
+        Did::Stale { target } => {
+            let head = turn_head(wiring, head, b" stale ");
+            write_actor_line(out, sink, wiring, &head, target, &[])
+        }
+        Did::Empty { target } => {
+            let head = turn_head(wiring, head, b" empty ");
+            write_actor_line(out, sink, wiring, &head, target, &[])
+        }
+    }
+}
+
+fn write_fetch<K: Sink>(
+    out: &mut LineBuffer,
+    sink: &mut K,
+    wiring: &Wiring,
+    stamp: Stamp,
+    msg: &Msg,
+) -> Result<(), WriteFault>
+    ensures { Puts result (at_rest (K.written sink.old)) (at_rest (K.written sink.new))
+        (fetch_line wiring.now stamp.0 msg.now) }
+{
+    let head = [
+        Part::Number(stamp.0),
+        Part::Text(b" fetch "),
+        naming::party(wiring, msg.from),
+        Part::Text(b"@"),
+        Part::Number(msg.stamp.0),
+        Part::Text(b" "),
+    ];
+    write_message_line(out, sink, wiring, &head, msg)
+}
+
+fn write_post<K: Sink>(
+    out: &mut LineBuffer,
+    sink: &mut K,
+    wiring: &Wiring,
+    stamp: Stamp,
+    msg: &Msg,
+) -> Result<(), WriteFault>
+    ensures { Puts result (at_rest (K.written sink.old)) (at_rest (K.written sink.new))
+        (post_line wiring.now stamp.0 msg.now) }
+{
+    let head = [
+        Part::Number(stamp.0),
+        Part::Text(b" post "),
+        Part::Number(u64::from(msg.to.0)),
+        Part::Text(b" "),
+    ];
+    write_message_line(out, sink, wiring, &head, msg)
+}
+
+/// Writes a start and its notes.
+fn write_start<K: Sink>(
+    out: &mut LineBuffer,
+    sink: &mut K,
+    wiring: &Wiring,
+    who: Incarnation,
+    state: u16,
+    notes: &[Note],
+) -> Result<(), WriteFault>
+    ensures { Puts result (at_rest (K.written sink.old)) (at_rest (K.written sink.new))
+        (start_line wiring.now who state ++ note_lines wiring.now false (Some who.slot) notes.now) }
+{
+    write_standing_line(out, sink, wiring, &[Part::Text(b"start ")], who, state)?;
+    write_notes(out, sink, wiring, false, Some(who.slot), notes)
+}
+
+/// Writes a turn and its notes.
+fn write_turn_and_notes<K: Sink>(
+    out: &mut LineBuffer,
+    sink: &mut K,
+    wiring: &Wiring,
+    head: TurnHead,
+    did: Did,
+    notes: &[Note],
+) -> Result<(), WriteFault>
+    ensures { Puts result (at_rest (K.written sink.old)) (at_rest (K.written sink.new))
+        (turn_line wiring.now head.stamp.0 head.from.0 head.sent.0 did
+        ++ note_lines wiring.now (is_duty did) (speaker_of did) notes.now) }
+{
+    write_turn(out, sink, wiring, head, did)?;
+    write_notes_of(out, sink, wiring, did, notes)
+}
+
+/// Writes the notes of a turn.
+fn write_notes_of<K: Sink>(
+    out: &mut LineBuffer,
+    sink: &mut K,
+    wiring: &Wiring,
+    did: Did,
+    notes: &[Note],
+) -> Result<(), WriteFault>
+    ensures { Puts result (at_rest (K.written sink.old)) (at_rest (K.written sink.new))
+        (note_lines wiring.now (is_duty did) (speaker_of did) notes.now) }
+{
+    write_notes(out, sink, wiring, did.is_duty(), did.speaker(), notes)
+}
+
+/// Writes an entry and its notes.
+pub fn write_entry<K: Sink>(
+    out: &mut LineBuffer,
+    sink: &mut K,
+    wiring: &Wiring,
+    entry: &Entry,
+) -> Result<(), WriteFault>
+    ensures { Puts result (at_rest (K.written sink.old)) (at_rest (K.written sink.new))
+        (entry_text wiring.now entry.now) }
+{
+    match entry {
+        Entry::Start { who, state, notes } => {
+            write_start(out, sink, wiring, *who, *state, notes.as_slice())
+        }
+        Entry::Fetch { stamp, msg } => write_fetch(out, sink, wiring, *stamp, msg),
+        Entry::Turn {
+            stamp,
+            from,
+            sent,
+            did,
+            notes,
+        } => {
+            let head = TurnHead {
+                stamp: *stamp,
+                from: *from,
+                sent: *sent,
+            };
+            write_turn_and_notes(out, sink, wiring, head, *did, notes.as_slice())
+        }
+        Entry::Post { stamp, msg } => write_post(out, sink, wiring, *stamp, msg),
+    }
+}
+
+#[tactic(auto, unfolding(journal::specs::Text::journal_text))]
+pub fn write_journal<K: Sink>(
+    out: &mut LineBuffer,
+    sink: &mut K,
+    wiring: &Wiring,
+    entries: &[Entry],
+) -> Result<(), WriteFault>
+    ensures { Puts result (at_rest (K.written sink.old)) (at_rest (K.written sink.new))
+        (journal_text wiring.now entries.now) }
+{
+    for entry in entries {
+        write_entry(out, sink, wiring, entry)?;
+    }
+    Ok(())
+}
+
+/// Writes the line above a controller's journal.
+pub fn write_title<K: Sink>(
+    out: &mut LineBuffer,
+    sink: &mut K,
+    wiring: &Wiring,
+    c: usize,
+) -> Result<(), WriteFault>
+    ensures { Puts result (at_rest (K.written sink.old)) (at_rest (K.written sink.new))
+        (title_of wiring.now c) }
+{
+    let parts = [
+        Part::Text(b"controller "),
+        Part::Number(c as u64),
+        Part::Text(b" "),
+        Part::Text(naming::controller_name(wiring, c)),
+    ];
+    write_line(out, sink, &parts)
+}
+
+fn write_left_line<K: Sink>(
+    out: &mut LineBuffer,
+    sink: &mut K,
+    wiring: &Wiring,
+    left: &Left,
+) -> Result<(), WriteFault>
+    ensures { Puts result (at_rest (K.written sink.old)) (at_rest (K.written sink.new))
+        (left_line wiring.now left.now) }
+{
+    let place = where_word(left.pending);
+    let head = [
+        Part::Text(b"left "),
+        Part::Number(u64::from(left.to.0)),
+        Part::Text(place),
+        naming::party(wiring, left.msg.from),
+        Part::Text(b"@"),
+        Part::Number(left.msg.stamp.0),
+        Part::Text(b" "),
+    ];
+    write_message_line(out, sink, wiring, &head, &left.msg)
+}
+
+fn where_word(pending: bool) -> &'static [u8]
+    ensures { result.now ≡ where_text pending }
+{
+    if pending { b" pending " } else { b" lane " }
+}
+
+#[tactic(auto, unfolding(journal::specs::Text::left_text))]
+pub fn write_left<K: Sink>(
+    out: &mut LineBuffer,
+    sink: &mut K,
+    wiring: &Wiring,
+    left: &[Left],
+) -> Result<(), WriteFault>
+    ensures { Puts result (at_rest (K.written sink.old)) (at_rest (K.written sink.new))
+        (left_text wiring.now left.now) }
+{
+    for one in left {
+        write_left_line(out, sink, wiring, one)?;
+    }
+    Ok(())
+}
+
+fn write_unposted_line<K: Sink>(
+    out: &mut LineBuffer,
+    sink: &mut K,
+    number: u32,
+) -> Result<(), WriteFault>
+    ensures { Puts result (at_rest (K.written sink.old)) (at_rest (K.written sink.new)) (unposted_line number) }
+{
+    write_line(
+        out,
+        sink,
+        &[Part::Text(b"unposted "), Part::Number(u64::from(number))],
+    )
+}
+
+#[tactic(auto, unfolding(journal::specs::Text::unposted_text))]
+pub fn write_unposted<K: Sink>(
+    out: &mut LineBuffer,
+    sink: &mut K,
+    numbers: &[u32],
+) -> Result<(), WriteFault>
+    ensures { Puts result (at_rest (K.written sink.old)) (at_rest (K.written sink.new)) (unposted_text numbers.now) }
+{
+    for number in numbers {
+        write_unposted_line(out, sink, *number)?;
+    }
+    Ok(())
+}
+
+pub fn write_end<K: Sink>(
+    out: &mut LineBuffer,
+    sink: &mut K,
+    done: bool,
+) -> Result<(), WriteFault>
+    ensures { Puts result (at_rest (K.written sink.old)) (at_rest (K.written sink.new)) (end_line done) }
+{
+    if done {
+        write_line(out, sink, &[Part::Text(b"done")])
+    } else {
+        write_line(out, sink, &[Part::Text(b"spent")])
+    }
+}

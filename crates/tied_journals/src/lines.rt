@@ -1,0 +1,189 @@
+//! The lines of a journal, each written as one piece where a piece holds it.
+ghost use Rattle.std.specs.Prelude.{◌≡◌, [], ◌∷◌, ◌++◌};
+ghost use Rattle.std.specs.List.{concat};
+ghost use Rattle.journal.specs.Names.{incarnation_parts, endpoint_parts, source_parts};
+ghost use Rattle.room_outside.specs.line_text.Lines.{line};
+ghost use Rattle.journal.specs.Lines.{priority_parts, signal_parts, message_parts, standing_parts};
+ghost use Rattle.room_outside.specs.line_text.Parts.{part_texts};
+ghost use Rattle.room_outside.specs.line_text.Output.{Puts, at_rest};
+
+use crate::naming;
+use room_kinds::{Endpoint, Incarnation, Msg, Priority};
+use room_outside::{LineBuffer, Part, Sink, WriteFault};
+use room_wiring::Wiring;
+
+fn put_incarnation<K: Sink>(
+    out: &mut LineBuffer,
+    sink: &mut K,
+    wiring: &Wiring,
+    who: Incarnation,
+) -> Result<(), WriteFault>
+    ensures { Puts result
+        (record { written = K.written sink.old; held = out.old })
+        (record { written = K.written sink.new; held = out.new })
+        (concat (incarnation_parts wiring.now who)) }
+{
+    out.put_all(
+        sink,
+        &[
+            Part::Text(naming::path(wiring, who.slot)),
+            Part::Text(b"#"),
+            Part::Number(u64::from(who.generation.0)),
+        ],
+    )
+}
+
+fn put_endpoint<K: Sink>(
+    out: &mut LineBuffer,
+    sink: &mut K,
+    wiring: &Wiring,
+    endpoint: Endpoint,
+) -> Result<(), WriteFault>
+    ensures { Puts result
+        (record { written = K.written sink.old; held = out.old })
+        (record { written = K.written sink.new; held = out.new })
+        (concat (endpoint_parts wiring.now endpoint)) }
+{
+    out.put_all(
+        sink,
+        &[
+            Part::Text(naming::path(wiring, endpoint.slot)),
+            Part::Text(b"#"),
+            Part::Number(u64::from(endpoint.generation.0)),
+            Part::Text(b"."),
+            Part::Text(naming::port_name(wiring, endpoint.slot, endpoint.port)),
+            Part::Text(b"["),
+            Part::Number(u64::from(endpoint.place)),
+            Part::Text(b"]"),
+        ],
+    )
+}
+
+fn put_source<K: Sink>(
+    out: &mut LineBuffer,
+    sink: &mut K,
+    wiring: &Wiring,
+    source: Option<Endpoint>,
+) -> Result<(), WriteFault>
+    ensures { Puts result
+        (record { written = K.written sink.old; held = out.old })
+        (record { written = K.written sink.new; held = out.new })
+        (concat (source_parts wiring.now source)) }
+{
+    match source {
+        Some(endpoint) => put_endpoint(out, sink, wiring, endpoint),
+        None => out.put_all(sink, &[Part::Text(b"-")]),
+    }
+}
+
+/// The end of a message's line: its signal and its numbers.
+fn put_signal<'a, K: Sink>(
+    out: &mut LineBuffer,
+    sink: &mut K,
+    wiring: &'a Wiring,
+    msg: &'a Msg,
+) -> Result<(), WriteFault>
+    ensures { Puts result
+        (record { written = K.written sink.old; held = out.old })
+        (record { written = K.written sink.new; held = out.new })
+        (concat (signal_parts wiring.now msg.now)) }
+{
+    out.put_all(
+        sink,
+        &[
+            Part::Text(b" "),
+            Part::Text(naming::signal_name(wiring, msg)),
+            Part::Numbers(msg.payload.numbers()),
+        ],
+    )
+}
+
+fn put_priority<K: Sink>(
+    out: &mut LineBuffer,
+    sink: &mut K,
+    prio: Priority,
+) -> Result<(), WriteFault>
+    ensures { Puts result
+        (record { written = K.written sink.old; held = out.old })
+        (record { written = K.written sink.new; held = out.new })
+        (concat (priority_parts prio.0)) }
+{
+    out.put_all(sink, &[Part::Number(u64::from(prio.0)), Part::Text(b" ")])
+}
+
+fn put_message<K: Sink>(
+    out: &mut LineBuffer,
+    sink: &mut K,
+    wiring: &Wiring,
+    msg: &Msg,
+) -> Result<(), WriteFault>
+    ensures { Puts result
+        (record { written = K.written sink.old; held = out.old })
+        (record { written = K.written sink.new; held = out.new })
+        (concat (message_parts wiring.now msg.now)) }
+{
+    put_priority(out, sink, msg.prio)?;
+    put_source(out, sink, wiring, msg.source)?;
+    out.put_all(sink, &[Part::Text(b" ")])?;
+    put_endpoint(out, sink, wiring, msg.target)?;
+    put_signal(out, sink, wiring, msg)
+}
+
+/// Writes the line of a message: `head`, and then the message.
+pub fn write_message_line<K: Sink>(
+    out: &mut LineBuffer,
+    sink: &mut K,
+    wiring: &Wiring,
+    head: &[Part],
+    msg: &Msg,
+) -> Result<(), WriteFault>
+    ensures { Puts result (at_rest (K.written sink.old)) (at_rest (K.written sink.new))
+        (line (part_texts head.now ++ message_parts wiring.now msg.now)) }
+{
+    out.clear();
+    out.put_all(sink, head)?;
+    put_message(out, sink, wiring, msg)?;
+    out.end_line(sink)
+}
+
+/// Writes the line of an actor: `head`, the actor, and `tail`.
+pub fn write_actor_line<K: Sink>(
+    out: &mut LineBuffer,
+    sink: &mut K,
+    wiring: &Wiring,
+    head: &[Part],
+    who: Incarnation,
+    tail: &[Part],
+) -> Result<(), WriteFault>
+    ensures { Puts result (at_rest (K.written sink.old)) (at_rest (K.written sink.new))
+        (line (part_texts head.now ++ (incarnation_parts wiring.now who ++ part_texts tail.now))) }
+{
+    out.clear();
+    out.put_all(sink, head)?;
+    put_incarnation(out, sink, wiring, who)?;
+    out.put_all(sink, tail)?;
+    out.end_line(sink)
+}
+
+/// Writes the line of an actor and its state.
+pub fn write_standing_line<K: Sink>(
+    out: &mut LineBuffer,
+    sink: &mut K,
+    wiring: &Wiring,
+    head: &[Part],
+    who: Incarnation,
+    state: u16,
+) -> Result<(), WriteFault>
+    ensures { Puts result (at_rest (K.written sink.old)) (at_rest (K.written sink.new))
+        (line (part_texts head.now ++ standing_parts wiring.now who state)) }
+{
+    let label = naming::state_label(wiring, who.slot, state);
+    write_actor_line(
+        out,
+        sink,
+        wiring,
+        head,
+        who,
+        &[Part::Text(b" "), Part::Text(label)],
+    )
+}
