@@ -130,11 +130,7 @@ fn read_first_form(
 }
 
 /// Whether journals fit the wiring and are tied.
-fn is_tied_and_fits(
-    alloc: Global,
-    wiring: &Wiring,
-    journals: &Journals,
-) -> Result<bool, AllocError>
+fn is_tied_and_fits(alloc: Global, wiring: &Wiring, journals: &Journals) -> Result<bool, AllocError>
     ensures judged { IfOk result (λ r. IsTrue r
         ↔ (Fits wiring.now journals.now × Tied journals.now)) }
     ensures consistent { IsConsistent wiring.now }

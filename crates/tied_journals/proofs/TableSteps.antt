@@ -89,8 +89,10 @@ party_journal j p = go (nat_lt p (length j.controllers)) (nat_lt (length j.contr
   where
     cs : List (List Entry)
     cs = j.controllers
+
     chosen : Bool → Bool → List Entry
     chosen a b = cond a (get_or cs p []) (cond b [] j.environment)
+
     go : (a b : Bool) → nat_lt p (length cs) ≡ a → nat_lt (length cs) p ≡ b → get_or (cs ++ j.environment ∷ []) p [] ≡ chosen (nat_lt p (length cs)) (nat_lt (length cs) p)
     go true b e f = get_or-append cs (j.environment ∷ []) [] p (ltb-true p (length cs) e) ∙ ap (λ (x : Bool). chosen x (nat_lt (length cs) p)) (sym e)
     go false true e f =

@@ -1,8 +1,9 @@
 -- How far a loop has come that writes entries or controllers in form 2.
-use Rattle.std.proofs.Common.{Bool, true, false, add-one, ◌≡◌, ℕ, ◌+◌, ◌<◌, ◌≤◌, List, [], ◌∷◌, ◌++◌, length, get_or, drop, refl, sym, ◌∙◌, ap}
+use Rattle.std.proofs.Common.{Bool, true, false, add-one, ◌≡◌, ℕ, ◌+◌, ◌<◌, ◌≤◌, List, [], ◌∷◌, ◌++◌, length, get_or, drop, refl, sym, ◌∙◌, ap, Result}
 use Rattle.std.proofs.lemmas.List.{at_drop_more, at_drop_all}
 use Rattle.room_wiring.specs.declared.tables.Tables.{Tables}
-use Rattle.room_outside.specs.line_text.Output.{Output, Put}
+use Rattle.room_outside.specs.line_text.Output.{Output, Put, Puts}
+use Rattle.room_outside.proofs.line_text.OutputLemmas.{puts_second}
 use Rattle.room_outside.proofs.line_text.Going.{Going, going_end}
 use Rattle.journal.specs.declared.entry.Entry.{Entry}
 use Rattle.tied_journals.specs.Text.{is_fetch, fetches_end, tied_entry_text, tied_entries_text, tied_controller_text, tied_controllers_text}
@@ -40,3 +41,7 @@ pub going_controllers_end : (t : Tables) (a b : Output) (whole : List ℕ) (js :
 going_controllers_end t a b whole js i h g =
     let over = at_drop_all (tied_controllers_text t i) js i h in
     going_end a b whole (record { done = g.done; put = g.put; split = g.split ∙ ap (λ l. g.done ++ l) over })
+
+-- the last call of a text puts what is left
+pub going_puts : {E : Type 0} (r : Result Unit E) (a b c : Output) (whole x : List ℕ) → Going a b whole x → Puts r b c x → Puts r a c whole
+going_puts r a b c whole x g p = rw g.split (puts_second r a b c g.done x g.put p)

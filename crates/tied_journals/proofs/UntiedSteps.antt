@@ -79,6 +79,7 @@ below_step j c es h at below is p lt = go (lt_or_is p c lt)
         pick : (b : Bool) → nat_lt p c ≡ b → (p < c) ⊎ (p ≡ c)
         pick true e = inl (ltb-true p c e)
         pick false e = inr (let low = ltb-false p c e in omega arith)
+
     go : (p < c) ⊎ (p ≡ c) → AreTied j None (journal_of j p)
     go (inl lower) = below p lower
     go (inr same) = subst (λ (n : ℕ). AreTied j None (journal_of j n)) (sym same) (subst (λ (xs : List Entry). AreTied j None xs) (at ∙ of_controller j c es h) is)

@@ -6,9 +6,9 @@ ghost use Rattle.room_outside.specs.line_text.Parts.{part_texts};
 ghost use Rattle.journal.specs.Text.{title_of, journal_text, left_text, unposted_text, end_line};
 ghost use Rattle.room_outside.specs.line_text.Output.{Puts, at_rest};
 
-use journal::{Did, Entry, Left, speaker_after};
 use crate::lines::{write_actor_line, write_message_line, write_standing_line};
 use crate::naming;
+use journal::{Did, Entry, Left, speaker_after};
 use room_kinds::{ControllerId, Incarnation, Msg, Note, SlotId, Stamp};
 use room_outside::{LineBuffer, Part, Sink, WriteFault, write_line};
 use room_wiring::Wiring;
@@ -359,11 +359,7 @@ pub fn write_unposted<K: Sink>(
     Ok(())
 }
 
-pub fn write_end<K: Sink>(
-    out: &mut LineBuffer,
-    sink: &mut K,
-    done: bool,
-) -> Result<(), WriteFault>
+pub fn write_end<K: Sink>(out: &mut LineBuffer, sink: &mut K, done: bool) -> Result<(), WriteFault>
     ensures { Puts result (at_rest (K.written sink.old)) (at_rest (K.written sink.new)) (end_line done) }
 {
     if done {

@@ -96,11 +96,7 @@ fn put_fetch<K: Sink>(
 }
 
 /// Ends the line of fetches, if one stands open.
-fn end_fetches<K: Sink>(
-    out: &mut LineBuffer,
-    sink: &mut K,
-    begun: bool,
-) -> Result<(), WriteFault>
+fn end_fetches<K: Sink>(out: &mut LineBuffer, sink: &mut K, begun: bool) -> Result<(), WriteFault>
     ensures { Puts result
         (standing begun (K.written sink.old) out.old)
         (at_rest (K.written sink.new))

@@ -40,7 +40,7 @@ impl<'a> PartyPosts<'a> {
     fn add(&mut self, stamp: Stamp, msg: &'a Msg) -> Result<(), AllocError>
         ensures { OnOk result ((sent : ℕ) → kept_at self.new sent
             ≡ (if stamp.0 == sent then with_post (kept_at self.old sent) msg.now
-                else kept_at self.old sent)) }
+            else kept_at self.old sent)) }
     {
         let posted = match self.by_stamp.get(&stamp.0) {
             Some(_) => Posted::Often,

@@ -1,5 +1,5 @@
 //! The first fetch that is tied to no post.
-ghost use Rattle.std.specs.Prelude.{◌≡◌, ◌↔◌, ℕ, None, Some, IsTrue, IfOk, MatchOption};
+ghost use Rattle.std.specs.Prelude.{◌≡◌, ◌↔◌, ℕ, None, Some, IsTrue, IfOk, IfSome, MatchOption};
 ghost use Rattle.journal.specs.declared.entry.Entry.TheVariants as entries;
 ghost use Rattle.journal.specs.declared.entry.Journals.{Journals};
 ghost use Rattle.room_kinds.specs.declared.message.Msg.{Msg};

@@ -353,7 +353,7 @@ below_leads t fo cs j sized fits range =
 -- the controllers' journals in any form, and what stands below them
 pub body_leads : (t : Tables) (fo : Bool) (f : List Entry → List ℕ) (g : List Entry → List Entry) (j : Journals) → Sized t → Fits t j → IsInRange j → ReadFrom t fo f g 0 j.controllers
     → LeadsOn t (settled fo [] false (record { 0 = 0 }) [] [] [] false) (listed t f 0 j.controllers ++ (environment_line ++ below t j))
-        (settled fo (map g j.controllers) true (record { 0 = length t.controllers }) j.environment j.left j.unposted j.done)
+    (settled fo (map g j.controllers) true (record { 0 = length t.controllers }) j.environment j.left j.unposted j.done)
 body_leads t fo f g j sized fits range each =
     let last : ControllerId = record { 0 = length t.controllers } in
     let start : Draft = settled fo [] false (record { 0 = 0 }) [] [] [] false in

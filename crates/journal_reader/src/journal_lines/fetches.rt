@@ -6,9 +6,7 @@ use crate::journal_lines::draft::Draft;
 use crate::journal_lines::fields::party;
 use crate::journal_lines::rest::{Rest, number};
 use journal::Entry;
-use room_kinds::{
-    ControllerId, Endpoint, Generation, Msg, Payload, Priority, SlotId, Stamp,
-};
+use room_kinds::{ControllerId, Endpoint, Generation, Msg, Payload, Priority, SlotId, Stamp};
 use room_wiring::wiring_names::Names;
 use std::alloc::{AllocError, Global};
 
