@@ -64,8 +64,8 @@ abbrev pub border_keys : List Graph → List (List ℕ)
 border_keys graphs = map border_key graphs
 
 -- these are the graphs of a chart, with their keys, and how many transitions begin at each place
-pub record IsIndex (chart : Chart) (graphs : List Graph) (keys : List (List ℕ)) (begin begin_plainly : List ℕ → ℕ) : Type 0 where
+pub record IsIndex (chart : Chart) (graphs : List Graph) (keys : List (List ℕ)) (origins plain_origins : List ℕ → ℕ) : Type 0 where
   pub graphs_are : graphs ≡ chart.graphs
   pub keys_are : keys ≡ border_keys chart.graphs
-  pub begin_is : (key : List ℕ) → begin key ≡ beginning (steps_of chart) key
-  pub begin_plainly_is : (key : List ℕ) → begin_plainly key ≡ beginning_plainly (steps_of chart) key
+  pub origins_are : (key : List ℕ) → origins key ≡ beginning (steps_of chart) key
+  pub plain_origins_are : (key : List ℕ) → plain_origins key ≡ beginning_plainly (steps_of chart) key

@@ -5,4 +5,4 @@ use Rattle.chart_reader.specs.chart_rules.Index.{beginning}
 use Rattle.chart_reader.proofs.chart_rules.index.ChartIndex.beginning.Goals as goal
 
 pub returns : goal.returns
-returns c = c.count.ensures ∙ c.self.invariant.begin_is c.args.key.now ∙ ap (λ (chart : Chart). beginning (steps_of chart) c.args.key.now) c.self.view_is
+returns c = c.count.ensures ∙ c.self.invariant.origins_are c.args.key.now ∙ ap (λ (chart : Chart). beginning (steps_of chart) c.args.key.now) c.self.view_is

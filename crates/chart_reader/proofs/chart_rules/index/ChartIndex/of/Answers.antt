@@ -7,6 +7,6 @@ pub invariant_of-result : goal.invariant_of-result
 invariant_of-result c = record {
   graphs_are = c.in_ok-graphs.ensures;
   keys_are = c.in_ok-keys.ensures ∙ c.requires.keyed;
-  begin_is = subst (λ (steps : List StepTree). (key : List ℕ) → c.in_ok-origins.origins key ≡ beginning steps key) c.requires.stepped c.in_ok-origins.ensures;
-  begin_plainly_is = subst (λ (steps : List StepTree). (key : List ℕ) → c.in_ok-plain_origins.plain_origins key ≡ beginning_plainly steps key) c.requires.stepped c.in_ok-plain_origins.ensures;
+  origins_are = subst (λ (steps : List StepTree). (key : List ℕ) → c.in_ok-origins.origins key ≡ beginning steps key) c.requires.stepped c.in_ok-origins.ensures;
+  plain_origins_are = subst (λ (steps : List StepTree). (key : List ℕ) → c.in_ok-plain_origins.plain_origins key ≡ beginning_plainly steps key) c.requires.stepped c.in_ok-plain_origins.ensures;
 }
