@@ -56,12 +56,7 @@ fn nothing_put_out(alloc: Global) -> Output
 }
 
 /// Tells that an actor came up in a state, and then what its initial transition told.
-fn tell_up(
-    notes: &mut Notes,
-    who: Incarnation,
-    state: u16,
-    told: &[Note],
-) -> Result<(), AllocError>
+fn tell_up(notes: &mut Notes, who: Incarnation, state: u16, told: &[Note]) -> Result<(), AllocError>
     ensures { OnOk result (notes.new ≡ notes.old ++ Up who state ∷ told.now) }
 {
     notes.push(Note::Up { who, state })?;
