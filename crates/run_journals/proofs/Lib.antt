@@ -1,0 +1,3 @@
+pub mod OnePost
+pub mod InARow
+pub mod TiedLaw

@@ -1,0 +1,3 @@
+use Rattle.std.specs.Prelude.{◌≡◌, ℕ}
+abbrev pub Probing : Type 0
+Probing = (n : ℕ) → n ≡ n
