@@ -1,0 +1,3 @@
+pub mod Tied
+pub mod Text
+pub mod Untied
