@@ -1,13 +1,26 @@
--- A fetch directly after a fetch is stamped by the stamp before it and by its message.
-use Rattle.std.proofs.Common.{◌≡◌, ℕ, ◌+◌, max, List, [], ◌∷◌, ◌++◌, refl, sym, ap, ◌∙◌, subst}
+-- Along a replay each fetch is tied, where each fetched message is that of the only post with its stamp.
+use Rattle.std.proofs.Common.{◌≡◌, ℕ, ◌+◌, max, List, [], ◌∷◌, ◌++◌, Option, Some, None, refl, sym, ap, ◌∙◌, subst}
+use Rattle.std.specs.List.{AllByRecursion as Each, Contains}
 use Rattle.room_kinds.specs.declared.message.Msg.{Msg}
 use Rattle.room_kinds.specs.declared.numbers.Stamp.{Stamp}
 use Rattle.journal.specs.declared.entry.Entry.{Entry}
 use Rattle.journal.specs.declared.entry.Entry.TheVariants as entry
+use Rattle.journal.specs.declared.entry.Journals.{Journals}
 use Rattle.actor_merge.specs.Mail.{stamp_of}
-use Rattle.actor_merge.specs.Parties.{State, Plant, fetch_stamp, fetch, Replays}
-use Rattle.run_promises.proofs.Starts.{IsStart, AllStarts}
-use Rattle.run_promises.proofs.Lines.{IsLine, PostsLines}
+use Rattle.actor_merge.specs.Parties.{State, Plant, fetch, Does, Replays}
+use Rattle.run_promises.proofs.Starts.{AllStarts}
+use Rattle.tied_journals.specs.Tied.{fetched_at, Follows, IsPosted, IsTiedEntry, AreTied}
+use Rattle.run_journals.specs.InPlace.{IsPost}
+use Rattle.run_journals.proofs.OnePost.{as_first, as_later}
+
+-- what each entry fetches was posted
+abbrev pub EachPosted : Journals → List Entry → Type 0
+EachPosted j es = (stamp : Stamp) (m : Msg) → Contains es (entry.Fetch stamp m) → IsPosted j m
+
+-- the clock directly after a fetch, if there is one, is its stamp
+abbrev ClockIs : Option ℕ → ℕ → Type 0
+ClockIs None clock = Unit {0}
+ClockIs (Some stamp) clock = clock ≡ stamp
 
 -- the stamp of a fetch becomes the clock
 clock_after : {B : Type 0} (s next : State B) (stamp : Stamp) (m : Msg) → fetch s m ≡ (next, entry.Fetch stamp m) → next.clock ≡ stamp.0
@@ -18,37 +31,42 @@ stamp_by : {B : Type 0} (s next : State B) (stamp : Stamp) (m : Msg) → fetch s
 unfolding fetch
 stamp_by {B} s next stamp m h = sym (ap (λ (z : State B × Entry). stamp_of z.1) h)
 
-pub in_a_row : {B : Type 0} (plant : Plant B) (c : ℕ) (before after : List Entry) (first second : Stamp) (x m : Msg) (s end : State B)
-    → Replays plant c s (before ++ entry.Fetch first x ∷ (entry.Fetch second m ∷ after)) end → second.0 ≡ max first.0 m.stamp.0 + 1
-in_a_row plant c [] after first second x m s end r =
-    stamp_by r.0 r.2.0 second m r.2.1 ∙ ap (λ (k : ℕ). max k m.stamp.0 + 1) (clock_after s r.0 first x r.1)
-in_a_row plant c (e ∷ before) after first second x m s end r = in_a_row plant c before after first second x m r.0 end r.2
+module _ {B : Type 0} (plant : Plant B) (c : ℕ) (j : Journals) where
+  follows : (before : Option ℕ) (s next : State B) (stamp : Stamp) (m : Msg) → ClockIs before s.clock → fetch s m ≡ (next, entry.Fetch stamp m)
+      → Follows before stamp.0 m.stamp.0
+  follows None s next stamp m is h = tt
+  follows (Some k) s next stamp m is h = stamp_by s next stamp m h ∙ ap (λ (z : ℕ). max z m.stamp.0 + 1) is
 
--- behind starts
-pub behind_starts : (starts es before more : List Entry) (first : Stamp) (x : Msg) → AllStarts starts → starts ++ es ≡ before ++ entry.Fetch first x ∷ more
-    → (front : List Entry) × (es ≡ front ++ entry.Fetch first x ∷ more)
-behind_starts [] es before more first x a h = (before, h)
-behind_starts (e ∷ starts) es [] more first x a h = absurd (subst IsStart (same h) a.0)
-  where
-    same : e ∷ (starts ++ es) ≡ entry.Fetch first x ∷ more → e ≡ entry.Fetch first x
-    same k = cc
-behind_starts (e ∷ starts) es (b ∷ before) more first x a h = behind_starts starts es before more first x a.1 (tail h)
-  where
-    tail : e ∷ (starts ++ es) ≡ b ∷ (before ++ entry.Fetch first x ∷ more) → starts ++ es ≡ before ++ entry.Fetch first x ∷ more
-    tail k = cc
+  clock_is : (e : Entry) (s next : State B) → Does plant c s e next → ClockIs (fetched_at e) next.clock
+  clock_is (entry.Start who state notes) s next d = tt
+  clock_is (entry.Fetch stamp m) s next d = clock_after s next stamp m d
+  clock_is (entry.Turn stamp from sent did notes) s next d = tt
+  clock_is (entry.Post stamp m) s next d = tt
 
--- lines are posted, and not fetched
-pub lines_fetch_none : {B : Type 0} (plant : Plant B) (at end : ℕ) (before more : List Entry) (first : Stamp) (x : Msg)
-    → PostsLines plant at (before ++ entry.Fetch first x ∷ more) end → ⊥
-lines_fetch_none plant at end [] more first x p = go p.0
-  where
-    go : IsLine plant at (entry.Fetch first x) → ⊥
-    go l = never l.is
-      where
-        never : {stamp : Stamp} {m : Msg} → entry.Fetch first x ≡ entry.Post stamp m → ⊥
-        never e = absurd cc
-lines_fetch_none plant at end (b ∷ before) more first x p = lines_fetch_none plant (at + 1) end before more first x p.1
+  pub replay_tied : (es : List Entry) (before : Option ℕ) (s end : State B) → Replays plant c s es end → ClockIs before s.clock → EachPosted j es → AreTied j before es
+  replay_tied [] before s end r is posted = tt
+  replay_tied (e ∷ es) before s end r is posted =
+      (here e r.1 (λ stamp m same. posted stamp m (subst (λ (z : Entry). Contains (z ∷ es) (entry.Fetch stamp m)) (sym same) (as_first (entry.Fetch stamp m) es))),
+      replay_tied es (fetched_at e) r.0 end r.2 (clock_is e s r.0 r.1) (λ stamp m there. posted stamp m (as_later e es (entry.Fetch stamp m) there)))
+    where
+      here : (e : Entry) → Does plant c s e r.0 → ((stamp : Stamp) (m : Msg) → e ≡ entry.Fetch stamp m → IsPosted j m) → IsTiedEntry j before e
+      here (entry.Start who state notes) d p = tt
+      here (entry.Fetch stamp m) d p = record { posted = p stamp m refl; follows = follows before s r.0 stamp m is d }
+      here (entry.Turn stamp from sent did notes) d p = tt
+      here (entry.Post stamp m) d p = tt
 
-pub nothing_fetches : (before more : List Entry) (first : Stamp) (x : Msg) → ◌≡◌ {A = List Entry} [] (before ++ entry.Fetch first x ∷ more) → ⊥
-nothing_fetches [] more first x e = absurd cc
-nothing_fetches (b ∷ before) more first x e = absurd cc
+-- starts before, which fetch nothing
+pub starts_tied : (j : Journals) (starts es : List Entry) → AllStarts starts → AreTied j None es → AreTied j None (starts ++ es)
+starts_tied j [] es a h = h
+starts_tied j (entry.Start who state notes ∷ starts) es a h = (tt, starts_tied j starts es a.1 h)
+starts_tied j (entry.Fetch stamp m ∷ starts) es a h = absurd a.0
+starts_tied j (entry.Turn stamp from sent did notes ∷ starts) es a h = absurd a.0
+starts_tied j (entry.Post stamp m ∷ starts) es a h = absurd a.0
+
+-- nor do posts
+pub posts_tied : (j : Journals) (before : Option ℕ) (es : List Entry) → Each IsPost es → AreTied j before es
+posts_tied j before [] h = tt
+posts_tied j before (entry.Post stamp m ∷ es) h = (tt, posts_tied j None es h.1)
+posts_tied j before (entry.Start who state notes ∷ es) h = absurd h.0
+posts_tied j before (entry.Fetch stamp m ∷ es) h = absurd h.0
+posts_tied j before (entry.Turn stamp from sent did notes ∷ es) h = absurd h.0

@@ -1,3 +1,9 @@
 pub mod OnePost
+pub mod OneRun
 pub mod InARow
 pub mod TiedLaw
+pub mod Climbing
+pub mod Waiting
+pub mod Entries
+pub mod InPlaceLaw
+pub mod OutsideLaw

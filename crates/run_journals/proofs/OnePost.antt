@@ -1,6 +1,6 @@
 -- In a journal whose stamps rise one post has a stamp.
-use Rattle.std.proofs.Common.{◌≡◌, ℕ, ◌+◌, ◌<◌, ◌≤◌, ◌==◌, Bool, true, false, List, [], ◌∷◌, ◌++◌, refl, sym, ap, ◌∙◌, subst, eq-eqb, arith, ◌⊎◌, inl, inr, ⊎_elim}
-use Rattle.std.specs.List.{Contains, count_by}
+use Rattle.std.proofs.Common.{◌≡◌, ℕ, ◌+◌, ◌<◌, ◌≤◌, ◌==◌, Bool, true, false, if◌then◌else◌, List, [], ◌∷◌, ◌++◌, refl, sym, ap, ◌∙◌, subst, eq-eqb, arith, ◌⊎◌, inl, inr, ⊎_elim}
+use Rattle.std.specs.List.{Contains}
 use Rattle.std.proofs.lemmas.Bool.{cases_eq, ne_eqb}
 use Rattle.std.proofs.lemmas.List.Elements.{Contains-append_left, Contains-append_right, Contains-append_cases, Contains-push, Contains-push_cases}
 use Rattle.room_kinds.specs.declared.message.Msg.{Msg}
@@ -12,7 +12,7 @@ use Rattle.actor_merge.specs.Merge.{Rising, IsStamped, AllStamped}
 use Rattle.actor_world.specs.world_laws.Whereabouts.{fetched}
 use Rattle.run_promises.specs.Mail.{posted}
 use Rattle.run_promises.specs.Stamps.{events, Rise}
-use Rattle.run_journals.specs.Tied.{posts_at, IsOnlyPost}
+use Rattle.tied_journals.specs.Tied.{posted_by, posted_at}
 
 -- ---- entries in lists
 
@@ -44,38 +44,17 @@ entry_fetched (e ∷ es) stamp m h = go e (first_or_later e es (entry.Fetch stam
     go (entry.Turn s from sent did notes) (inr there) ih = ih there
     go (entry.Post s y) (inr there) ih = ih there
 
--- what is posted is posted by an entry of its stamp
-pub posted_entry : (es : List Entry) → AllStamped es → (m : Msg) → Contains (posted es) m → Contains es (entry.Post m.stamp m)
-posted_entry [] s m h = absurd (none_in m h)
-posted_entry (e ∷ es) s m h = go e s.0 h (posted_entry es s.1 m)
-  where
-    here : (stamp : Stamp) (y : Msg) → y.stamp.0 ≡ stamp.0 → y ≡ m → Contains (entry.Post stamp y ∷ es) (entry.Post m.stamp m)
-    here stamp y i same =
-        subst (λ (z : Msg). Contains (entry.Post stamp y ∷ es) (entry.Post z.stamp z)) same
-        (subst (λ (k : ℕ). Contains (entry.Post stamp y ∷ es) (entry.Post (record { 0 = k }) y)) (sym i) (as_first (entry.Post stamp y) es))
-
-    go : (e : Entry) → IsStamped e → Contains (posted (e ∷ es)) m → (Contains (posted es) m → Contains es (entry.Post m.stamp m))
-        → Contains (e ∷ es) (entry.Post m.stamp m)
-    go (entry.Start who state notes) i k ih = as_later _ es _ (ih k)
-    go (entry.Fetch stamp y) i k ih = as_later _ es _ (ih k)
-    go (entry.Turn stamp from sent did notes) i k ih = as_later _ es _ (ih k)
-    go (entry.Post stamp y) i k ih = ⊎_elim (λ same. here stamp y i same) (λ there. as_later (entry.Post stamp y) es _ (ih there)) (first_or_later y (posted es) m k)
-
 -- ---- one post has a stamp
 
-none_later : (k j : ℕ) → k ≤ j → (es : List Entry) → Rising j (events es) → count_by (posts_at k) es ≡ 0
+none_later : (k j : ℕ) → k ≤ j → (es : List Entry) → Rising j (events es) → posted_at k es ≡ []
 none_later k j low [] r = refl
-none_later k j low (entry.Start who state notes ∷ es) r = let z = none_later k j low es r in omega (arith, z)
-none_later k j low (entry.Fetch stamp m ∷ es) r =
-    let step : j < stamp.0 = r.0 in
-    let z = none_later k stamp.0 (omega (arith, low, step)) es r.1 in omega (arith, z)
-none_later k j low (entry.Turn stamp from sent did notes ∷ es) r =
-    let step : j < stamp.0 = r.0 in
-    let z = none_later k stamp.0 (omega (arith, low, step)) es r.1 in omega (arith, z)
+none_later k j low (entry.Start who state notes ∷ es) r = none_later k j low es r
+none_later k j low (entry.Fetch stamp m ∷ es) r = let step : j < stamp.0 = r.0 in none_later k stamp.0 (omega (arith, low, step)) es r.1
+none_later k j low (entry.Turn stamp from sent did notes ∷ es) r = let step : j < stamp.0 = r.0 in none_later k stamp.0 (omega (arith, low, step)) es r.1
 none_later k j low (entry.Post stamp m ∷ es) r =
     let step : j < stamp.0 = r.0 in
-    let z = none_later k stamp.0 (omega (arith, low, step)) es r.1 in
-    rw (ne_eqb stamp.0 k (λ e. omega (arith, low, step, e))) (omega (arith, z))
+    ap (λ (b : Bool). (if b then m ∷ [] else []) ++ posted_at k es) (ne_eqb stamp.0 k (λ e. omega (arith, low, step, e)))
+    ∙ none_later k stamp.0 (omega (arith, low, step)) es r.1
 
 rising_rise : (k : ℕ) (es : List Entry) → Rising k es → Rise es
 rising_rise k [] r = tt
@@ -87,31 +66,33 @@ rise_later (entry.Fetch stamp m) es r = rising_rise stamp.0 (events es) r
 rise_later (entry.Turn stamp from sent did notes) es r = rising_rise stamp.0 (events es) r
 rise_later (entry.Post stamp m) es r = rising_rise stamp.0 (events es) r
 
-once : (es : List Entry) → Rise (events es) → (m : Msg) → Contains es (entry.Post m.stamp m) → count_by (posts_at m.stamp.0) es ≡ 1
-once [] r m h = absurd (none_in _ h)
-once (e ∷ es) r m h = go e r (first_or_later e es (entry.Post m.stamp m) h) (once es (rise_later e es r) m)
-  where
-    go : (e : Entry) → Rise (events (e ∷ es)) → (e ≡ entry.Post m.stamp m) ⊎ Contains es (entry.Post m.stamp m)
-        → (Contains es (entry.Post m.stamp m) → count_by (posts_at m.stamp.0) es ≡ 1) → count_by (posts_at m.stamp.0) (e ∷ es) ≡ 1
-    go (entry.Start who state notes) rise (inl same) ih = absurd cc
-    go (entry.Fetch stamp y) rise (inl same) ih = absurd cc
-    go (entry.Turn stamp from sent did notes) rise (inl same) ih = absurd cc
-    go (entry.Start who state notes) rise (inr there) ih = let z = ih there in omega (arith, z)
-    go (entry.Fetch stamp y) rise (inr there) ih = let z = ih there in omega (arith, z)
-    go (entry.Turn stamp from sent did notes) rise (inr there) ih = let z = ih there in omega (arith, z)
-    go (entry.Post stamp y) rise h ih = post (cases_eq stamp.0 m.stamp.0) h
-      where
-        first_of : entry.Post stamp y ≡ entry.Post m.stamp m → stamp.0 ≡ m.stamp.0
-        first_of same = ap stamp_of same
-
-        post : (stamp.0 ≡ m.stamp.0) ⊎ (stamp.0 ≡ m.stamp.0 → ⊥) → (entry.Post stamp y ≡ entry.Post m.stamp m) ⊎ Contains es (entry.Post m.stamp m)
-            → count_by (posts_at m.stamp.0) (entry.Post stamp y ∷ es) ≡ 1
-        post (inl same) h =
-            let z = none_later m.stamp.0 stamp.0 (omega (arith, same)) es rise in rw (eq-eqb stamp.0 m.stamp.0 same) (omega (arith, z))
-        post (inr other) (inl same) = absurd (other (first_of same))
-        post (inr other) (inr there) = let z = ih there in rw (ne_eqb stamp.0 m.stamp.0 other) (omega (arith, z))
-
 -- what a journal posts is its only post with that stamp
-pub only_post : (es : List Entry) → Rise (events es) → AllStamped es → (m : Msg) → Contains (posted es) m → IsOnlyPost es m
-only_post es rise stamped m h =
-    let there = posted_entry es stamped m h in record { posted = there; only = once es rise m there }
+pub only_post : (es : List Entry) → Rise (events es) → AllStamped es → (m : Msg) → Contains (posted es) m → posted_at m.stamp.0 es ≡ m ∷ []
+only_post [] r s m h = absurd (none_in m h)
+only_post (e ∷ es) r s m h = go e r s.0 h (only_post es (rise_later e es r) s.1 m)
+  where
+    go : (e : Entry) → Rise (events (e ∷ es)) → IsStamped e → Contains (posted (e ∷ es)) m → (Contains (posted es) m → posted_at m.stamp.0 es ≡ m ∷ [])
+        → posted_at m.stamp.0 (e ∷ es) ≡ m ∷ []
+    go (entry.Start who state notes) rise i k ih = ih k
+    go (entry.Fetch stamp y) rise i k ih = ih k
+    go (entry.Turn stamp from sent did notes) rise i k ih = ih k
+    go (entry.Post stamp y) rise i k ih = post (cases_eq stamp.0 m.stamp.0) (first_or_later y (posted es) m k)
+      where
+        here : (b : Bool) → (stamp.0 == m.stamp.0) ≡ b → (rest : List Msg) → posted_at m.stamp.0 es ≡ rest
+            → posted_at m.stamp.0 (entry.Post stamp y ∷ es) ≡ (if b then y ∷ [] else []) ++ rest
+        here b e rest is =
+            ap (λ (z : Bool). (if z then y ∷ [] else []) ++ posted_at m.stamp.0 es) e ∙ ap (λ (z : List Msg). (if b then y ∷ [] else []) ++ z) is
+
+        -- a later post is stamped later
+        never : stamp.0 ≡ m.stamp.0 → Contains (posted es) m → ⊥
+        never same there =
+            let none : posted_at m.stamp.0 es ≡ [] = none_later m.stamp.0 stamp.0 (omega (arith, same)) es rise in
+            let both : ◌≡◌ {A = List Msg} (m ∷ []) [] = sym (ih there) ∙ none in
+            absurd cc
+
+        post : (stamp.0 ≡ m.stamp.0) ⊎ (stamp.0 ≡ m.stamp.0 → ⊥) → (y ≡ m) ⊎ Contains (posted es) m → posted_at m.stamp.0 (entry.Post stamp y ∷ es) ≡ m ∷ []
+        post (inl same) (inl first) =
+            here true (eq-eqb stamp.0 m.stamp.0 same) [] (none_later m.stamp.0 stamp.0 (omega (arith, same)) es rise) ∙ ap (λ (z : Msg). z ∷ []) first
+        post (inl same) (inr there) = absurd (never same there)
+        post (inr other) (inl first) = absurd (other (sym i ∙ ap (λ (z : Msg). z.stamp.0) first))
+        post (inr other) (inr there) = here false (ne_eqb stamp.0 m.stamp.0 other) (m ∷ []) (ih there)

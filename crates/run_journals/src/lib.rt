@@ -1,14 +1,31 @@
-//! What the journals of every run are: tied, which is what lets a text name a fetched message by its sender
-//! and its stamp alone.
+//! What the journals of every run are, over definitions alone: tied, so that a text can tell a fetch by the
+//! post that it names; and in place, each entry in the journal where it belongs, and what is left in order.
+//! These hold of every plant and all lines. Over lines that name what the wiring has, the environment's journal
+//! fits it. What controllers' journals that fit a wiring name besides is not said here.
 //!
 //! No code: the laws, as functions without a body.
 #![tactic(auto)]
 
-ghost use Rattle.run_journals.specs.Tied.{RunsAreTied};
+ghost use Rattle.run_journals.specs.InPlace.{RunsAreInPlace};
+ghost use Rattle.run_journals.specs.Outside.{EnvironmentFits};
+ghost use Rattle.run_journals.specs.Tying.{RunsAreTied};
 
-/// The journals of every run are tied. A fetched message is that of the only post of its sender with its
-/// stamp; and a fetch directly after a fetch is stamped one more than the greater of the stamp before it and
+/// The journals of every run are tied: a fetched message is that of the only post of its sender with its
+/// stamp, and a fetch directly after a fetch is stamped one more than the greater of the stamp before it and
 /// the stamp of its message.
 pub fn runs_are_tied()
     ensures { RunsAreTied }
+{}
+
+/// The journals of every run have each entry in its place. There is one journal for each controller; a
+/// controller fetches what parties sent to it; who posts is the message's sender, and its stamp that of the
+/// post; the environment posts alone; and what is left stands under its receiver, in order.
+pub fn runs_are_in_place()
+    ensures { RunsAreInPlace }
+{}
+
+/// What the environment of a run posts fits the wiring, in the sense in which a reader of journals judges it,
+/// where the lines name what the wiring has.
+pub fn environment_fits()
+    ensures { EnvironmentFits }
 {}
