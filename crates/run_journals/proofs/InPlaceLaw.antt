@@ -78,7 +78,7 @@ module _ (plant : Plant) (lines : List Line) (fuel : ℕ) (j : Journals) (run : 
 
   -- ---- the journals of controllers
 
-  known : (party : ℕ) (m : Msg) → Contains (fetched (journal_of j party)) m → IsParty plant.wiring m.from.0
+  pub known : (party : ℕ) (m : Msg) → Contains (fetched (journal_of j party)) m → IsParty plant.wiring m.from.0
   known party m there = go (cases_order m.from.0 (length plant.wiring.controllers))
     where
       posted_there : Contains (posted (journal_of j m.from.0)) m
@@ -95,7 +95,7 @@ module _ (plant : Plant) (lines : List Line) (fuel : ℕ) (j : Journals) (run : 
       (lt-ltb c (length j.controllers) (slice_get_within j.controllers c es there))
       ∙ sym (unwrap_or-slice_get j.controllers c []) ∙ ap (λ (o : Option (List Entry)). unwrap_or o []) there
 
-  of_each : (P : ℕ → Entry → Type 0) → ((c : ℕ) → c < length j.controllers → Each (P c) (journal_of j c)) → OfControllers j P
+  pub of_each : (P : ℕ → Entry → Type 0) → ((c : ℕ) → c < length j.controllers → Each (P c) (journal_of j c)) → OfControllers j P
   of_each P h c es there =
       All-from_recursion (P c) es (subst (Each (P c)) (journal_is c es there) (h c (slice_get_within j.controllers c es there)))
 

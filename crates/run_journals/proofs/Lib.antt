@@ -7,3 +7,5 @@ pub mod Waiting
 pub mod Entries
 pub mod InPlaceLaw
 pub mod OutsideLaw
+pub mod Reaching
+pub mod ReachingLaw

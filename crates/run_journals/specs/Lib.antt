@@ -1,3 +1,4 @@
 pub mod Tying
 pub mod InPlace
 pub mod Outside
+pub mod Reaching

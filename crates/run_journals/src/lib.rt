@@ -8,6 +8,7 @@
 
 ghost use Rattle.run_journals.specs.InPlace.{RunsAreInPlace};
 ghost use Rattle.run_journals.specs.Outside.{EnvironmentFits};
+ghost use Rattle.run_journals.specs.Reaching.{RunsReachControllers};
 ghost use Rattle.run_journals.specs.Tying.{RunsAreTied};
 
 /// The journals of every run are tied: a fetched message is that of the only post of its sender with its
@@ -28,4 +29,10 @@ pub fn runs_are_in_place()
 /// where the lines name what the wiring has.
 pub fn environment_fits()
     ensures { EnvironmentFits }
+{}
+
+/// What the controllers of a run post goes to controllers, at one of the six priorities, where the programs
+/// send at no other and the lines name what the wiring has.
+pub fn runs_reach_controllers()
+    ensures { RunsReachControllers }
 {}

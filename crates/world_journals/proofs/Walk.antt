@@ -214,12 +214,12 @@ module _ {B : Type 0} (plant : Plant B) (P O : Msg → Type 0) (Q : ℕ → B �
     -- ---- the run
 
     step : (w next : World B) (x : Placed) → IsGoodWorld w → Happened plant w x next → IsGoodEntry x.party x.entry × IsGoodWorld next
+    unfolding put
     step w next x good (controller below s does same) =
         let r : IsGoodStep x.party w x.entry s = steps w good x.party below x.entry s does in
         (r.entry, subst IsGoodWorld (sym same) (record { controllers = others r.state; lanes = r.lanes }))
       where
         others : IsGoodState x.party s → (c : ℕ) → c < plant.controllers → IsGoodState c (put w.controllers x.party s c)
-        unfolding put
         others h c k = go (c == x.party) refl
           where
             go : (b : Bool) → (c == x.party) ≡ b → IsGoodState c (if b then s else w.controllers c)
