@@ -5,13 +5,11 @@ use Rattle.std.proofs.lemmas.List.Elements.{All-from_recursion}
 use Rattle.std.proofs.lemmas.Option.{slice_get_within}
 use Rattle.std.proofs.lemmas.Bool.{cases_order}
 use Rattle.room_kinds.specs.declared.message.Msg.{Msg}
-use Rattle.room_wiring.specs.Consistent.{IsConsistent}
 use Rattle.room_wiring.specs.declared.tables.Tables.{Tables}
 use Rattle.journal.specs.Fits.{IsParty}
 use Rattle.journal.specs.declared.entry.Entry.{Entry}
 use Rattle.journal.specs.declared.entry.Entry.TheVariants as entry
 use Rattle.journal.specs.declared.entry.Journals.{Journals}
-use Rattle.inject_reader.specs.Fitting.{FitsWhat, FitLines}
 use Rattle.inject_reader.specs.declared.inject_lines.accepted.Line.{Line as Asked}
 use Rattle.inject_reader.specs.declared.inject_lines.accepted.What.{What}
 use Rattle.inject_reader.specs.declared.inject_lines.accepted.What.TheVariants as whats
@@ -36,6 +34,7 @@ use Rattle.run_promises.proofs.PromisesLaw.{promises}
 use Rattle.run_promises.proofs.Starts.{AllStarts, start_entries_start}
 use Rattle.run_promises.proofs.run_texts.Party.{did, nobody}
 use Rattle.run_journals.specs.InPlace.{OfControllers}
+use Rattle.run_journals.specs.Outside.{WhatNames, LinesName}
 use Rattle.run_journals.specs.Reaching.{ReachesController, NamesReceiver}
 use Rattle.run_journals.proofs.Entries.{each_fetched}
 use Rattle.run_journals.proofs.InPlaceLaw.{known, of_each}
@@ -48,14 +47,14 @@ use Rattle.run_journals.proofs.Reaching.{PostsWithin, AllAnswerable, posts_withi
 abbrev IsAbove : Msg → Type 0
 IsAbove m = 1 ≤ m.prio.0
 
-lines_above : (t : Tables) (lines : List Asked) (part : ℕ) → FitLines t lines → Each (λ (l : Line). IsAbove l.message) (lines_from part (items_of t lines))
+lines_above : (t : Tables) (lines : List Asked) (part : ℕ) → LinesName t lines → Each (λ (l : Line). IsAbove l.message) (lines_from part (items_of t lines))
 lines_above t [] part h = tt
 lines_above t (x ∷ lines) part h = go x.what h.0 (λ p. lines_above t lines p h.1)
   where
-    go : (what : What) → FitsWhat t what → ((p : ℕ) → Each (λ (l : Line). IsAbove l.message) (lines_from p (items_of t lines)))
+    go : (what : What) → WhatNames t what → ((p : ℕ) → Each (λ (l : Line). IsAbove l.message) (lines_from p (items_of t lines)))
         → Each (λ (l : Line). IsAbove l.message) (lines_from part (item_of t x.number what ∷ items_of t lines))
     go whats.Settle f rest = rest (part + 1)
-    go (whats.Message target signal payload prio) f rest = (f.least, rest part)
+    go (whats.Message target signal payload prio) f rest = (f.worded, rest part)
 
 line_above : (ls : List Line) (i : ℕ) (l : Line) → Each (λ (l : Line). IsAbove l.message) ls → slice_get ls i ≡ Some l → IsAbove l.message
 line_above [] i l h e = absurd cc
@@ -91,13 +90,10 @@ names_each t (entry.Fetch stamp m ∷ es) p = (tt, names_each t es p.1)
 names_each t (entry.Post stamp m ∷ es) p =
     let low : m.prio.0 < 6 = p.0.1 in (record { controller = p.0.0; priority = omega (arith, low) }, names_each t es p.1)
 
-module _ (plant : Plant) (lines : List Asked) (consistent : IsConsistent plant.wiring) (classes : ClassesAsk is_ranked plant.tables.items) (fit : FitLines plant.wiring lines)
+module _ (plant : Plant) (lines : List Asked) (owners : OwnersAreThere plant.wiring) (classes : ClassesAsk is_ranked plant.tables.items) (fit : LinesName plant.wiring lines)
     (fuel : ℕ) (j : Journals) (run : IsRun plant lines fuel j) where
   asks : AsksOnly is_ranked (model_of plant)
   asks = asks_only plant.wiring plant.tables.items is_ranked classes
-
-  owners : OwnersAreThere plant.wiring
-  owners = consistent.owners_known
 
   -- what is fetched at the system's level comes from a controller
   answer : (c : ℕ) (m : Msg) → Contains (fetched (journal_of j c)) m → IsAnswerable (length plant.wiring.controllers) m
@@ -143,8 +139,8 @@ module _ (plant : Plant) (lines : List Asked) (consistent : IsConsistent plant.w
         (starts_first plant.wiring (start_entries (model_of plant) plant.wiring c) (did plant lines fuel j run c) (start_entries_start (model_of plant) plant.wiring c)
         (names_each plant.wiring (did plant lines fuel j run c) posts_here))
 
-pub reach : (plant : Plant) (lines : List Asked) → IsConsistent plant.wiring → ClassesAsk is_ranked plant.tables.items → FitLines plant.wiring lines
+pub reach : (plant : Plant) (lines : List Asked) → OwnersAreThere plant.wiring → ClassesAsk is_ranked plant.tables.items → LinesName plant.wiring lines
     → (fuel : ℕ) (j : Journals) → IsRun plant lines fuel j → OfControllers j (λ c. NamesReceiver plant.wiring)
-reach plant lines consistent classes fit fuel j run =
+reach plant lines owners classes fit fuel j run =
     of_each plant lines fuel j run (λ c. NamesReceiver plant.wiring)
-    (λ c below. let count = run.count in named plant lines consistent classes fit fuel j run c (omega (arith, count, below)))
+    (λ c below. let count = run.count in named plant lines owners classes fit fuel j run c (omega (arith, count, below)))

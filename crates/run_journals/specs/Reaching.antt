@@ -2,18 +2,17 @@
 -- This is a point of the definition of journals that fit a wiring (`Fits` of `journal`).
 use Rattle.std.specs.Prelude.{ℕ, ◌≤◌, ◌<◌, List, length}
 use Rattle.room_kinds.specs.declared.message.Msg.{Msg}
-use Rattle.room_wiring.specs.Consistent.{IsConsistent}
 use Rattle.room_wiring.specs.declared.tables.Tables.{Tables}
 use Rattle.journal.specs.declared.entry.Entry.{Entry}
 use Rattle.journal.specs.declared.entry.Entry.TheVariants as entry
 use Rattle.journal.specs.declared.entry.Journals.{Journals}
-use Rattle.inject_reader.specs.Fitting.{FitLines}
 use Rattle.inject_reader.specs.declared.inject_lines.accepted.Line.{Line}
-use Rattle.bounded_sends.specs.Sends.{is_ranked}
+use Rattle.bounded_sends.specs.Sends.{OwnersAreThere, is_ranked}
 use Rattle.chart_behaviour.specs.Asked.{ClassesAsk}
 use Rattle.controller_actors.specs.declared.plant.Plant.{Plant}
 use Rattle.model_run.specs.run_ends.Runs.{IsRun}
 use Rattle.run_journals.specs.InPlace.{OfControllers}
+use Rattle.run_journals.specs.Outside.{LinesName}
 
 -- a message goes to a controller, at one of the six priorities
 pub record ReachesController (t : Tables) (m : Msg) : Type 0 where
@@ -30,5 +29,5 @@ NamesReceiver t (entry.Turn stamp from sent did notes) = Unit {0}
 -- over every run of a plant whose programs send at no other priority, over lines that name what its wiring has
 abbrev pub RunsReachControllers : Type 0
 RunsReachControllers =
-    (plant : Plant) (lines : List Line) → IsConsistent plant.wiring → ClassesAsk is_ranked plant.tables.items → FitLines plant.wiring lines
+    (plant : Plant) (lines : List Line) → OwnersAreThere plant.wiring → ClassesAsk is_ranked plant.tables.items → LinesName plant.wiring lines
     → (fuel : ℕ) (j : Journals) → IsRun plant lines fuel j → OfControllers j (λ c. NamesReceiver plant.wiring)

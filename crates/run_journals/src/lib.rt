@@ -7,7 +7,7 @@
 #![tactic(auto)]
 
 ghost use Rattle.run_journals.specs.InPlace.{RunsAreInPlace};
-ghost use Rattle.run_journals.specs.Outside.{EnvironmentFits};
+ghost use Rattle.run_journals.specs.Outside.{EnvironmentFits, FitLinesName};
 ghost use Rattle.run_journals.specs.Reaching.{RunsReachControllers};
 ghost use Rattle.run_journals.specs.Tying.{RunsAreTied};
 
@@ -26,9 +26,10 @@ pub fn runs_are_in_place()
 {}
 
 /// What the environment of a run posts fits the wiring, in the sense in which a reader of journals judges it,
-/// where the lines name what the wiring has.
+/// where the lines name what the wiring has; and so do lines that are read.
 pub fn environment_fits()
-    ensures { EnvironmentFits }
+    ensures environment { EnvironmentFits }
+    ensures lines { FitLinesName }
 {}
 
 /// What the controllers of a run post goes to controllers, at one of the six priorities, where the programs

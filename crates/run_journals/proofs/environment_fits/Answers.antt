@@ -1,5 +1,8 @@
-use Rattle.run_journals.proofs.OutsideLaw.{environment_fits}
+use Rattle.run_journals.proofs.OutsideLaw.{environment_fits, fit_lines_name}
 use Rattle.run_journals.proofs.environment_fits.Goals as goal
 
-pub returns : goal.returns
-returns c = environment_fits
+pub returns-clause-environment : goal.returns-clause-environment
+returns-clause-environment c = environment_fits
+
+pub returns-clause-lines : goal.returns-clause-lines
+returns-clause-lines c = fit_lines_name

@@ -1,0 +1,18 @@
+//! What is so of the journals of every run of a plant that fits, over lines that fit: they are tied, each entry
+//! is in its place, the environment's journal fits the wiring, and what controllers post goes to controllers.
+//! There are no premises but these two.
+//!
+//! No code but a call of the law that the owner of each slot of a model is a controller.
+#![tactic(auto)]
+
+ghost use Rattle.fitting_journals.specs.Fitting.{FittingRunsAreInPlace};
+
+use model_laws::settled_models::wirings::owners_are_there;
+
+/// The journals of every run of a plant that fits, over lines that name what its wiring has, are tied and in
+/// place; the environment's fits the wiring; and what controllers post goes to controllers.
+pub fn fitting_runs_journals()
+    ensures { FittingRunsAreInPlace }
+{
+    owners_are_there();
+}
