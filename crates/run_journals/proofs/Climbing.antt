@@ -117,7 +117,8 @@ module _ {B : Type 0} (t : Tables) (plant : Plant B) (many : plant.controllers �
     outside_first = ap (λ (b : Bool). if b then 1 + length t.controllers else 0) (le-ltb (length t.controllers) (length t.controllers) (omega arith))
 
     controllers_then : (s : ℕ) → s < length t.controllers → sender_rank t s ≡ s + 1
-    controllers_then s b = ap (λ (z : Bool). if z then 1 + s else 0) (lt-ltb s (length t.controllers) b) ∙ omega arith
+    controllers_then s b =
+        let swapped : 1 + s ≡ s + 1 = omega arith in ap (λ (z : Bool). if z then 1 + s else 0) (lt-ltb s (length t.controllers) b) ∙ swapped
 
     abbrev from_sender : ℕ → ℕ → List Left
     from_sender p s = map (left c false) (w.lanes (lane s c p))
@@ -133,19 +134,33 @@ module _ {B : Type 0} (t : Tables) (plant : Plant B) (many : plant.controllers �
         ends : level p ((0 + length t.controllers) + 1) ≡ level (p + 1) 0
         ends = let z = times_next (1 + length t.controllers) p in omega (arith, z)
 
+    abbrev all_waiting : List Left
+    all_waiting = flat_map (λ p. map (left c true) ((w.controllers c).pending p)) priorities
+
+    abbrev all_travelling : ℕ → List Left
+    all_travelling k = flat_map (λ p. flat_map (λ s. map (left c false) (w.lanes (lane s c p))) (k ∷ range_with_len 0 k)) priorities
+
+    waits : Climbs (left_rank t) (base c) (base c + lists) all_waiting
+    waits =
+        let low : base c + (1 + length t.controllers) * 0 ≡ base c = omega arith in
+        let high : base c + (1 + length t.controllers) * (0 + 6) ≡ base c + lists = omega arith in
+        subst (λ (a : ℕ). Climbs (left_rank t) a (base c + lists) all_waiting) low
+        (subst (λ (a : ℕ). Climbs (left_rank t) (base c + (1 + length t.controllers) * 0) a all_waiting) high
+        (climbs_flat (left_rank t) (λ p. map (left c true) ((w.controllers c).pending p)) (λ (p : ℕ). base c + (1 + length t.controllers) * p) 0 6 (λ p a b. waiting p)))
+
+    travels : Climbs (left_rank t) (base c + lists) (base (c + 1)) (all_travelling (length t.controllers))
+    travels =
+        let more = times_next (2 * (6 * (1 + length t.controllers))) c in
+        let low : level 0 0 ≡ base c + lists = omega arith in
+        let high : level (0 + 6) 0 ≡ base (c + 1) = omega (arith, more) in
+        subst (λ (a : ℕ). Climbs (left_rank t) a (base (c + 1)) (all_travelling (length t.controllers))) low
+        (subst (λ (a : ℕ). Climbs (left_rank t) (level 0 0) a (all_travelling (length t.controllers))) high
+        (climbs_flat (left_rank t) (λ p. flat_map (from_sender p) (length t.controllers ∷ range_with_len 0 (length t.controllers))) (λ (p : ℕ). level p 0) 0 6 (λ p a b. travelling p)))
+
     for_one : Climbs (left_rank t) (base c) (base (c + 1)) (left_for plant w c)
     for_one =
-        subst (λ (k : ℕ). Climbs (left_rank t) (base c) (base (c + 1))
-        (flat_map (λ p. map (left c true) ((w.controllers c).pending p)) priorities
-        ++ flat_map (λ p. flat_map (λ s. map (left c false) (w.lanes (lane s c p))) (k ∷ range_with_len 0 k)) priorities)) (sym many)
-        (climbs_both (left_rank t) (base c) (base c + lists) (base (c + 1)) _ _
-        (subst (λ (a : ℕ). Climbs (left_rank t) a (base c + lists) (flat_map (λ p. map (left c true) ((w.controllers c).pending p)) priorities)) (omega arith)
-        (subst (λ (a : ℕ). Climbs (left_rank t) (base c + (1 + length t.controllers) * 0) a (flat_map (λ p. map (left c true) ((w.controllers c).pending p)) priorities)) (omega arith)
-        (climbs_flat (left_rank t) (λ p. map (left c true) ((w.controllers c).pending p)) (λ (p : ℕ). base c + (1 + length t.controllers) * p) 0 6 (λ p low high. waiting p))))
-        (subst (λ (a : ℕ). Climbs (left_rank t) a (base (c + 1)) (flat_map (λ p. flat_map (from_sender p) (length t.controllers ∷ range_with_len 0 (length t.controllers))) priorities)) (omega arith)
-        (subst (λ (a : ℕ). Climbs (left_rank t) (level 0 0) a (flat_map (λ p. flat_map (from_sender p) (length t.controllers ∷ range_with_len 0 (length t.controllers))) priorities))
-        (let z = times_next (2 * (6 * (1 + length t.controllers))) c in omega (arith, z))
-        (climbs_flat (left_rank t) (λ p. flat_map (from_sender p) (length t.controllers ∷ range_with_len 0 (length t.controllers))) (λ (p : ℕ). level p 0) 0 6 (λ p low high. travelling p)))))
+        subst (λ (k : ℕ). Climbs (left_rank t) (base c) (base (c + 1)) (all_waiting ++ all_travelling k)) (sym many)
+        (climbs_both (left_rank t) (base c) (base c + lists) (base (c + 1)) all_waiting (all_travelling (length t.controllers)) waits travels)
 
   pub left_climbs : ((c p : ℕ) → c < length t.controllers → Each (λ (m : Msg). m.prio.0 ≡ p) ((w.controllers c).pending p))
       → ((s c p : ℕ) → Each (λ (m : Msg). (m.from.0 ≡ s) × (m.prio.0 ≡ p)) (w.lanes (lane s c p)))

@@ -34,7 +34,7 @@ use Rattle.run_promises.specs.Promises.{RunPromises}
 use Rattle.run_promises.proofs.Party.{fetched_is}
 use Rattle.run_promises.proofs.PromisesLaw.{promises}
 use Rattle.run_promises.proofs.run_texts.Party.{did, nobody, outside}
-use Rattle.run_journals.specs.InPlace.{IsFetchedBy, IsPostedBy, ComesFromParty, IsLeftInPlace, OfControllers, AreInPlace}
+use Rattle.run_journals.specs.InPlace.{IsFetchedBy, IsPostedBy, ComesFromParty, IsPost, IsLeftInPlace, OfControllers, AreInPlace}
 use Rattle.run_journals.proofs.Climbing.{left_climbs}
 use Rattle.run_journals.proofs.Entries.{each_fetched, fetched_by, posted_by, from_parties}
 use Rattle.run_journals.proofs.OnePost.{none_in}
@@ -140,13 +140,13 @@ module _ (plant : Plant) (lines : List Line) (fuel : ℕ) (j : Journals) (run : 
 
     pending_in_place : (p : ℕ) → p < 6 → Each (λ (m : Msg). IsLeftInPlace plant.wiring (left c true m)) ((run.world.controllers c).pending p)
     pending_in_place p low =
-        each_weaker (λ (m : Msg). ((m.to.0 == c) ≡ true) × (nat_le m.from.0 (length plant.wiring.controllers) ≡ true) × (m.prio.0 ≡ p)) (λ (m : Msg). IsLeftInPlace plant.wiring (left c true m))
+        each_weaker (λ (m : Msg). ((m.to.0 == c) ≡ true) × ((nat_le m.from.0 (length plant.wiring.controllers) ≡ true) × (m.prio.0 ≡ p))) (λ (m : Msg). IsLeftInPlace plant.wiring (left c true m))
         (λ m k.
-            let priority : m.prio.0 ≡ p = k.2 in
+            let priority : m.prio.0 ≡ p = k.1.1 in
             record {
               receiver = eqb-true m.to.0 c k.0;
               controller = below;
-              sender = record { known = leb-true m.from.0 (length plant.wiring.controllers) k.1 };
+              sender = record { known = leb-true m.from.0 (length plant.wiring.controllers) k.1.0 };
               priority = omega (arith, priority, low);
             })
         ((run.world.controllers c).pending p)
@@ -176,26 +176,38 @@ module _ (plant : Plant) (lines : List Line) (fuel : ℕ) (j : Journals) (run : 
           })
       (run.world.lanes (lane s c p)) (lane_goes s c p)
 
-  abbrev In : Left → Type 0
-  In l = IsLeftInPlace plant.wiring l
+  abbrev all_waiting : ℕ → List Left
+  all_waiting c = flat_map (λ p. map (left c true) ((run.world.controllers c).pending p)) priorities
 
-  left_for_one : (c : ℕ) → c < length plant.wiring.controllers → Each (IsLeftInPlace plant.wiring)
-      (left_for (plant_of (model_of plant) plant.wiring (lines_of (items_of plant.wiring lines))) run.world c)
-  left_for_one c below =
-      each_append (IsLeftInPlace plant.wiring) _ _
-      (each_flat (IsLeftInPlace plant.wiring) (λ (p : ℕ). p < 6) (λ p. map (left c true) ((run.world.controllers c).pending p))
+  abbrev all_travelling : ℕ → List Left
+  all_travelling c =
+      flat_map (λ p. flat_map (λ s. map (left c false) (run.world.lanes (lane s c p))) (length plant.wiring.controllers ∷ range_with_len 0 (length plant.wiring.controllers))) priorities
+
+  waiting_for_one : (c : ℕ) → c < length plant.wiring.controllers → Each (IsLeftInPlace plant.wiring) (all_waiting c)
+  waiting_for_one c below =
+      each_flat (IsLeftInPlace plant.wiring) (λ (p : ℕ). p < 6) (λ p. map (left c true) ((run.world.controllers c).pending p))
       (λ p low. each_map (IsLeftInPlace plant.wiring) (λ (m : Msg). IsLeftInPlace plant.wiring (left c true m)) (left c true) (λ m h. h) ((run.world.controllers c).pending p) (pending_in_place c below p low))
-      priorities (below_end 6 0 6 (omega arith)))
-      (each_flat (IsLeftInPlace plant.wiring) (λ (p : ℕ). p < 6)
+      priorities (below_end 6 0 6 (omega arith))
+
+  senders : Each (λ (s : ℕ). s ≤ length plant.wiring.controllers) (length plant.wiring.controllers ∷ range_with_len 0 (length plant.wiring.controllers))
+  senders =
+      (omega arith,
+      each_weaker (λ (s : ℕ). s < length plant.wiring.controllers) (λ (s : ℕ). s ≤ length plant.wiring.controllers) (λ s h. omega (arith, h)) (range_with_len 0 (length plant.wiring.controllers))
+      (below_end (length plant.wiring.controllers) 0 (length plant.wiring.controllers) (omega arith)))
+
+  travelling_for_one : (c : ℕ) → c < length plant.wiring.controllers → Each (IsLeftInPlace plant.wiring) (all_travelling c)
+  travelling_for_one c below =
+      each_flat (IsLeftInPlace plant.wiring) (λ (p : ℕ). p < 6)
       (λ p. flat_map (λ s. map (left c false) (run.world.lanes (lane s c p))) (length plant.wiring.controllers ∷ range_with_len 0 (length plant.wiring.controllers)))
       (λ p low.
           each_flat (IsLeftInPlace plant.wiring) (λ (s : ℕ). s ≤ length plant.wiring.controllers) (λ s. map (left c false) (run.world.lanes (lane s c p)))
           (λ s known. each_map (IsLeftInPlace plant.wiring) (λ (m : Msg). IsLeftInPlace plant.wiring (left c false m)) (left c false) (λ m h. h) (run.world.lanes (lane s c p)) (lane_in_place c s p below known low))
-          (length plant.wiring.controllers ∷ range_with_len 0 (length plant.wiring.controllers))
-          (omega arith,
-          each_weaker (λ (s : ℕ). s < length plant.wiring.controllers) (λ (s : ℕ). s ≤ length plant.wiring.controllers) (λ s h. omega (arith, h)) (range_with_len 0 (length plant.wiring.controllers))
-          (below_end (length plant.wiring.controllers) 0 (length plant.wiring.controllers) (omega arith))))
-      priorities (below_end 6 0 6 (omega arith)))
+          (length plant.wiring.controllers ∷ range_with_len 0 (length plant.wiring.controllers)) senders)
+      priorities (below_end 6 0 6 (omega arith))
+
+  left_for_one : (c : ℕ) → c < length plant.wiring.controllers → Each (IsLeftInPlace plant.wiring)
+      (left_for (plant_of (model_of plant) plant.wiring (lines_of (items_of plant.wiring lines))) run.world c)
+  left_for_one c below = each_append (IsLeftInPlace plant.wiring) (all_waiting c) (all_travelling c) (waiting_for_one c below) (travelling_for_one c below)
 
   all_left : Each (IsLeftInPlace plant.wiring) (left_of (plant_of (model_of plant) plant.wiring (lines_of (items_of plant.wiring lines))) run.world)
   all_left =
@@ -209,8 +221,8 @@ module _ (plant : Plant) (lines : List Line) (fuel : ℕ) (j : Journals) (run : 
     fetched_by_receiver = fetched_here;
     sent_by_parties = parties;
     posted_by_sender = posted_here;
-    environment_posts = All-from_recursion _ j.environment (environment_posts plant lines fuel j run);
-    environment_is_sender = All-from_recursion _ j.environment environment_sends;
+    environment_posts = All-from_recursion IsPost j.environment (environment_posts plant lines fuel j run);
+    environment_is_sender = All-from_recursion (IsPostedBy (length plant.wiring.controllers)) j.environment environment_sends;
     left = All-from_recursion (IsLeftInPlace plant.wiring) j.left (subst (Each (IsLeftInPlace plant.wiring)) (sym run.lawful.left_is) all_left);
     left_in_order =
         subst (λ (z : List Left). IsNonDecreasing (map (left_rank plant.wiring) z)) (sym run.lawful.left_is)

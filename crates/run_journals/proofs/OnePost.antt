@@ -33,16 +33,16 @@ module _ {X : Type 0} where
 
 -- what an entry fetches is fetched
 pub entry_fetched : (es : List Entry) (stamp : Stamp) (m : Msg) → Contains es (entry.Fetch stamp m) → Contains (fetched es) m
-entry_fetched [] stamp m h = absurd (none_in _ h)
-entry_fetched (e ∷ es) stamp m h = go e (first_or_later e es (entry.Fetch stamp m) h) (entry_fetched es stamp m)
+entry_fetched [] stamp m h = absurd (none_in (entry.Fetch stamp m) h)
+entry_fetched (e ∷ es) stamp m h =
+    ⊎_elim (λ same. subst (λ (z : Entry). Contains (fetched (z ∷ es)) m) (sym same) (as_first m (fetched es)))
+    (λ there. later e (entry_fetched es stamp m there)) (first_or_later e es (entry.Fetch stamp m) h)
   where
-    go : (e : Entry) → (e ≡ entry.Fetch stamp m) ⊎ Contains es (entry.Fetch stamp m) → (Contains es (entry.Fetch stamp m) → Contains (fetched es) m)
-        → Contains (fetched (e ∷ es)) m
-    go e (inl same) ih = subst (λ (z : Entry). Contains (fetched (z ∷ es)) m) (sym same) (as_first m (fetched es))
-    go (entry.Start who state notes) (inr there) ih = ih there
-    go (entry.Fetch s y) (inr there) ih = as_later y (fetched es) m (ih there)
-    go (entry.Turn s from sent did notes) (inr there) ih = ih there
-    go (entry.Post s y) (inr there) ih = ih there
+    later : (e : Entry) → Contains (fetched es) m → Contains (fetched (e ∷ es)) m
+    later (entry.Start who state notes) there = there
+    later (entry.Fetch s y) there = as_later y (fetched es) m there
+    later (entry.Turn s from sent did notes) there = there
+    later (entry.Post s y) there = there
 
 -- ---- one post has a stamp
 

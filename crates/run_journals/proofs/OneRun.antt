@@ -16,7 +16,7 @@ use Rattle.controller_actors.specs.declared.plant.Plant.{Plant}
 use Rattle.model_run.specs.part_posts.Items.{items_of}
 use Rattle.model_run.specs.run_ends.Runs.{journal_of, IsRun}
 use Rattle.run_promises.proofs.Lines.{PostsLines, all_posts}
-use Rattle.run_promises.proofs.Party as party
+use Rattle.run_promises.proofs.Party as parties
 use Rattle.run_promises.proofs.Stamps.{IsFrom}
 use Rattle.run_promises.proofs.run_texts.Party.{did, nobody, outside}
 use Rattle.run_journals.specs.InPlace.{IsPost}
@@ -38,21 +38,21 @@ module _ (plant : Plant) (lines : List Line) (fuel : ℕ) (j : Journals) (run : 
   happened party = did plant lines fuel j run party
 
   pub own : (c : ℕ) → c < length plant.wiring.controllers → journal_of j c ≡ start_entries (model_of plant) plant.wiring c ++ did plant lines fuel j run c
-  own c below = party.own (model_of plant) plant.wiring (lines_of (items_of plant.wiring lines)) fuel (journal_of j) j.left run.world run.lawful (nobody plant lines fuel j run) c below
+  own c below = parties.own (model_of plant) plant.wiring (lines_of (items_of plant.wiring lines)) fuel (journal_of j) j.left run.world run.lawful (nobody plant lines fuel j run) c below
 
   pub replay : (c : ℕ) → c < length plant.wiring.controllers
       → Replays (plant_of (model_of plant) plant.wiring (lines_of (items_of plant.wiring lines))) c (first_state (model_of plant) plant.wiring c) (did plant lines fuel j run c) (run.lawful.run.end.controllers c)
-  replay c below = party.replay (model_of plant) plant.wiring (lines_of (items_of plant.wiring lines)) fuel (journal_of j) j.left run.world run.lawful (nobody plant lines fuel j run) c below
+  replay c below = parties.replay (model_of plant) plant.wiring (lines_of (items_of plant.wiring lines)) fuel (journal_of j) j.left run.world run.lawful (nobody plant lines fuel j run) c below
 
   pub queue : (l : Lane) → given l l.sender (did plant lines fuel j run l.sender) ≡ taken l l.receiver (did plant lines fuel j run l.receiver) ++ run.world.lanes l
-  queue l = party.queue (model_of plant) plant.wiring (lines_of (items_of plant.wiring lines)) fuel (journal_of j) j.left run.world run.lawful (nobody plant lines fuel j run) l
+  queue l = parties.queue (model_of plant) plant.wiring (lines_of (items_of plant.wiring lines)) fuel (journal_of j) j.left run.world run.lawful (nobody plant lines fuel j run) l
 
   pub from_own : (p : ℕ) → Each (IsFrom p) (did plant lines fuel j run p)
-  from_own p = party.from_own (model_of plant) plant.wiring (lines_of (items_of plant.wiring lines)) fuel (journal_of j) j.left run.world run.lawful (nobody plant lines fuel j run) p
+  from_own p = parties.from_own (model_of plant) plant.wiring (lines_of (items_of plant.wiring lines)) fuel (journal_of j) j.left run.world run.lawful (nobody plant lines fuel j run) p
 
   -- the environment posts alone
   pub environment_posts : Each IsPost j.environment
   environment_posts =
       subst (Each IsPost) (run.lawful.run.is.whole (length plant.wiring.controllers) ∙ sym run.lawful.environment ∙ outside plant lines fuel j run)
       (all_posts (plant_of (model_of plant) plant.wiring (lines_of (items_of plant.wiring lines))) IsPost (λ stamp m. tt) (did plant lines fuel j run (length plant.wiring.controllers)) 0 run.world.environment.posted
-      (party.environment_lines (model_of plant) plant.wiring (lines_of (items_of plant.wiring lines)) fuel (journal_of j) j.left run.world run.lawful (nobody plant lines fuel j run)))
+      (parties.environment_lines (model_of plant) plant.wiring (lines_of (items_of plant.wiring lines)) fuel (journal_of j) j.left run.world run.lawful (nobody plant lines fuel j run)))

@@ -1,5 +1,5 @@
 -- What controllers post goes to controllers.
-use Rattle.std.proofs.Common.{◌≡◌, ℕ, zero, suc, ◌+◌, ◌<◌, ◌≤◌, List, [], ◌∷◌, ◌++◌, length, slice_get, Some, refl, sym, ap, ◌∙◌, subst, arith, ◌⊎◌, inl, inr}
+use Rattle.std.proofs.Common.{◌≡◌, ℕ, zero, suc, ◌+◌, ◌<◌, ◌≤◌, List, [], ◌∷◌, ◌++◌, length, slice_get, Some, refl, sym, ap, ◌∙◌, subst, arith, ⊎_elim, ◌⊎◌, inl, inr}
 use Rattle.std.specs.List.{AllByRecursion as Each, Contains}
 use Rattle.std.proofs.lemmas.List.Elements.{All-from_recursion}
 use Rattle.std.proofs.lemmas.Option.{slice_get_within}
@@ -69,11 +69,7 @@ posts_above plant (e ∷ es) at end h p =
 
 each_has : {X : Type 0} (P : X → Type 0) (xs : List X) (x : X) → Each P xs → Contains xs x → P x
 each_has P [] x h there = absurd (none_in x there)
-each_has P (y ∷ ys) x h there = go (first_or_later y ys x there)
-  where
-    go : (y ≡ x) ⊎ Contains ys x → P x
-    go (inl same) = subst P same h.0
-    go (inr later) = each_has P ys x h.1 later
+each_has P (y ∷ ys) x h there = ⊎_elim (λ same. subst P same h.0) (λ later. each_has P ys x h.1 later) (first_or_later y ys x there)
 
 starts_first : (t : Tables) (starts es : List Entry) → AllStarts starts → Each (NamesReceiver t) es → Each (NamesReceiver t) (starts ++ es)
 starts_first t [] es a h = h

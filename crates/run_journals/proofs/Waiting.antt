@@ -14,7 +14,9 @@ use Rattle.run_promises.proofs.Stamps.{IsFrom}
 
 pub none_counted : (p : ℕ) (ok : Msg → Bool) (ms : List Msg) → Each (λ (m : Msg). ok m ≡ true) ms → count (of_priority p (λ (m : Msg). not (ok m))) ms ≡ 0
 none_counted p ok [] h = refl
-none_counted p ok (m ∷ ms) h = rw h.0 (go (m.prio.0 == p) (none_counted p ok ms h.1))
+none_counted p ok (m ∷ ms) h =
+    ap (λ (q : Bool). (if (m.prio.0 == p) && not q then 1 else 0) + count (of_priority p (λ (m : Msg). not (ok m))) ms) h.0
+    ∙ go (m.prio.0 == p) (none_counted p ok ms h.1)
   where
     go : (b : Bool) → count (of_priority p (λ (m : Msg). not (ok m))) ms ≡ 0
         → (if b && false then 1 else 0) + count (of_priority p (λ (m : Msg). not (ok m))) ms ≡ 0
