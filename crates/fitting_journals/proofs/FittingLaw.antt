@@ -11,7 +11,6 @@ use Rattle.inject_reader.specs.declared.inject_lines.accepted.What.TheVariants a
 use Rattle.actor_duties.specs.Words.{owner_of}
 use Rattle.bounded_sends.specs.Sends.{OwnersAreThere, is_ranked}
 use Rattle.chart_behaviour.specs.Asked.{ClassesAsk}
-use Rattle.chart_behaviour.specs.chart_asks.Asking.{TablesAsk}
 use Rattle.chart_model.specs.Chart.{Chart}
 use Rattle.chart_run.specs.declared.chart_tables.tables.Tables.{Tables}
 use Rattle.chart_compile.specs.chart_parts.Compiled.{Compiles}

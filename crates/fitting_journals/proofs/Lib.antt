@@ -1,1 +1,3 @@
 pub mod FittingLaw
+pub mod Testing
+pub mod NamingLaw

@@ -6,6 +6,7 @@
 #![tactic(auto)]
 
 ghost use Rattle.fitting_journals.specs.Fitting.{FittingRunsAreInPlace};
+ghost use Rattle.fitting_journals.specs.Naming.{NamedJournalsFit};
 
 use model_laws::settled_models::wirings::owners_are_there;
 
@@ -13,6 +14,14 @@ use model_laws::settled_models::wirings::owners_are_there;
 /// place; the environment's fits the wiring; and what controllers post goes to controllers.
 pub fn fitting_runs_journals()
     ensures { FittingRunsAreInPlace }
+{
+    owners_are_there();
+}
+
+/// The journals of such a run fit the wiring where what the controllers name in their entries is there: all else
+/// that this asks is so of each.
+pub fn named_journals_fit()
+    ensures { NamedJournalsFit }
 {
     owners_are_there();
 }

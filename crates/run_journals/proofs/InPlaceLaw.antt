@@ -41,20 +41,20 @@ use Rattle.run_journals.proofs.OnePost.{none_in}
 use Rattle.run_journals.proofs.OneRun.{replay, queue, from_own, environment_posts}
 use Rattle.run_journals.proofs.Waiting.{GoesBy, none_counted, all_counted, given_goes, each_behind, each_weaker}
 
-each_append : {X : Type 0} (P : X → Type 0) (xs ys : List X) → Each P xs → Each P ys → Each P (xs ++ ys)
+pub each_append : {X : Type 0} (P : X → Type 0) (xs ys : List X) → Each P xs → Each P ys → Each P (xs ++ ys)
 each_append P [] ys h k = k
 each_append P (x ∷ xs) ys h k = (h.0, each_append P xs ys h.1 k)
 
-each_flat : {X Y : Type 0} (P : Y → Type 0) (Q : X → Type 0) (f : X → List Y) → ((x : X) → Q x → Each P (f x)) → (xs : List X) → Each Q xs → Each P (flat_map f xs)
+pub each_flat : {X Y : Type 0} (P : Y → Type 0) (Q : X → Type 0) (f : X → List Y) → ((x : X) → Q x → Each P (f x)) → (xs : List X) → Each Q xs → Each P (flat_map f xs)
 each_flat P Q f h [] q = tt
 each_flat P Q f h (x ∷ xs) q = each_append P (f x) (flat_map f xs) (h x q.0) (each_flat P Q f h xs q.1)
 
-each_map : {X Y : Type 0} (P : Y → Type 0) (Q : X → Type 0) (f : X → Y) → ((x : X) → Q x → P (f x)) → (xs : List X) → Each Q xs → Each P (map f xs)
+pub each_map : {X Y : Type 0} (P : Y → Type 0) (Q : X → Type 0) (f : X → Y) → ((x : X) → Q x → P (f x)) → (xs : List X) → Each Q xs → Each P (map f xs)
 each_map P Q f h [] q = tt
 each_map P Q f h (x ∷ xs) q = (h x q.0, each_map P Q f h xs q.1)
 
 -- the numbers of a range are below its end
-below_end : (n at k : ℕ) → at + k ≤ n → Each (λ (i : ℕ). i < n) (range_with_len at k)
+pub below_end : (n at k : ℕ) → at + k ≤ n → Each (λ (i : ℕ). i < n) (range_with_len at k)
 below_end n at zero l = tt
 below_end n at (suc k) l = (omega (arith, l), below_end n (at + 1) k (omega (arith, l)))
 
@@ -89,7 +89,7 @@ module _ (plant : Plant) (lines : List Line) (fuel : ℕ) (j : Journals) (run : 
       go (inr (inl below)) = record { known = omega (arith, below) }
       go (inr (inr above)) = absurd (none_in m (subst (λ (z : List Entry). Contains (posted z) m) (nobody plant lines fuel j run m.from.0 above) posted_there))
 
-  journal_is : (c : ℕ) (es : List Entry) → slice_get j.controllers c ≡ Some es → journal_of j c ≡ es
+  pub journal_is : (c : ℕ) (es : List Entry) → slice_get j.controllers c ≡ Some es → journal_of j c ≡ es
   journal_is c es there =
       ap (λ (b : Bool). if b then slice_index_or j.controllers c [] else if nat_lt (length j.controllers) c then [] else j.environment)
       (lt-ltb c (length j.controllers) (slice_get_within j.controllers c es there))
@@ -118,7 +118,7 @@ module _ (plant : Plant) (lines : List Line) (fuel : ℕ) (j : Journals) (run : 
   -- ---- what is left
 
   module _ (c : ℕ) (below : c < length plant.wiring.controllers) where
-    adds : AddsUp plant.wiring (fetched (did plant lines fuel j run c)) (run.world.controllers c)
+    pub adds : AddsUp plant.wiring (fetched (did plant lines fuel j run c)) (run.world.controllers c)
         (done_with (plant_of (model_of plant) plant.wiring (lines_of (items_of plant.wiring lines))) plant.wiring c (first_state (model_of plant) plant.wiring c) (did plant lines fuel j run c))
     adds =
         subst (λ (s : State (Body Actor)). AddsUp plant.wiring (fetched (did plant lines fuel j run c)) s
