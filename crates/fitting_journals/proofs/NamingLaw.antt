@@ -71,15 +71,16 @@ posts_fit t c below (entry.Start who state notes ∷ es) o r n = posts_fit t c b
 posts_fit t c below (entry.Turn stamp from sent did notes ∷ es) o r n = posts_fit t c below es o.1 r.1 n.1
 posts_fit t c below (entry.Fetch stamp m ∷ es) o r n = posts_fit t c below es o.1 r.1 n.1
 posts_fit t c below (entry.Post stamp m ∷ es) o r n =
-    let own : m.from.0 ≡ c = o.0.0 in
-    (record {
-      from = record { known = omega (arith, own, below) };
-      to = r.0.controller;
-      source = n.0.source;
-      target = n.0.target;
-      signal = n.0.signal;
-    },
-    posts_fit t c below es o.1 r.1 n.1)
+    let own : m.from.0 ≡ c = o.0.0 in (
+      record {
+        from = record { known = omega (arith, own, below) };
+        to = r.0.controller;
+        source = n.0.source;
+        target = n.0.target;
+        signal = n.0.signal;
+      },
+      posts_fit t c below es o.1 r.1 n.1,
+    )
 
 -- what the environment posts
 outside_fits : (t : Tables) (es : List Entry) → Each (FitsEnvironment t) es → Each (FitsMessage t) (posted es)
@@ -200,10 +201,10 @@ module _ (owned : ModelsHaveOwners) (plant : Plant) (lines : List Line) (fuel : 
       each_flat LeftFits (λ (p : ℕ). Unit {0})
       (λ p. flat_map (λ s. map (left c false) (run.world.lanes (lane s c p))) (length plant.wiring.controllers ∷ range_with_len 0 (length plant.wiring.controllers)))
       (λ p u.
-          each_flat LeftFits (λ (s : ℕ). Unit {0}) (λ s. map (left c false) (run.world.lanes (lane s c p)))
-          (λ s v. each_map LeftFits (FitsMessage plant.wiring) (left c false) (λ m h. h) (run.world.lanes (lane s c p)) (lane_fits s c p))
-          (length plant.wiring.controllers ∷ range_with_len 0 (length plant.wiring.controllers))
-          (of_all (λ (s : ℕ). Unit {0}) (λ s. tt) (length plant.wiring.controllers ∷ range_with_len 0 (length plant.wiring.controllers))))
+      each_flat LeftFits (λ (s : ℕ). Unit {0}) (λ s. map (left c false) (run.world.lanes (lane s c p)))
+      (λ s v. each_map LeftFits (FitsMessage plant.wiring) (left c false) (λ m h. h) (run.world.lanes (lane s c p)) (lane_fits s c p))
+      (length plant.wiring.controllers ∷ range_with_len 0 (length plant.wiring.controllers))
+      (of_all (λ (s : ℕ). Unit {0}) (λ s. tt) (length plant.wiring.controllers ∷ range_with_len 0 (length plant.wiring.controllers))))
       priorities (of_all (λ (p : ℕ). Unit {0}) (λ p. tt) priorities)
 
   all_left : Each LeftFits (left_of (plant_of (model_of plant) plant.wiring (lines_of (items_of plant.wiring lines))) run.world)

@@ -45,9 +45,10 @@ module _ {B : Type 0} (plant : Plant B) (c : ℕ) (j : Journals) where
 
   pub replay_tied : (es : List Entry) (before : Option ℕ) (s end : State B) → Replays plant c s es end → ClockIs before s.clock → EachPosted j es → AreTied j before es
   replay_tied [] before s end r is posted = tt
-  replay_tied (e ∷ es) before s end r is posted =
-      (here e r.1 (λ stamp m same. posted stamp m (subst (λ (z : Entry). Contains (z ∷ es) (entry.Fetch stamp m)) (sym same) (as_first (entry.Fetch stamp m) es))),
-      replay_tied es (fetched_at e) r.0 end r.2 (clock_is e s r.0 r.1) (λ stamp m there. posted stamp m (as_later e es (entry.Fetch stamp m) there)))
+  replay_tied (e ∷ es) before s end r is posted = (
+    here e r.1 (λ stamp m same. posted stamp m (subst (λ (z : Entry). Contains (z ∷ es) (entry.Fetch stamp m)) (sym same) (as_first (entry.Fetch stamp m) es))),
+    replay_tied es (fetched_at e) r.0 end r.2 (clock_is e s r.0 r.1) (λ stamp m there. posted stamp m (as_later e es (entry.Fetch stamp m) there)),
+  )
     where
       here : (e : Entry) → Does plant c s e r.0 → ((stamp : Stamp) (m : Msg) → e ≡ entry.Fetch stamp m → IsPosted j m) → IsTiedEntry j before e
       here (entry.Start who state notes) d p = tt

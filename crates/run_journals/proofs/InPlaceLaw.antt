@@ -142,13 +142,13 @@ module _ (plant : Plant) (lines : List Line) (fuel : ℕ) (j : Journals) (run : 
     pending_in_place p low =
         each_weaker (λ (m : Msg). ((m.to.0 == c) ≡ true) × ((nat_le m.from.0 (length plant.wiring.controllers) ≡ true) × (m.prio.0 ≡ p))) (λ (m : Msg). IsLeftInPlace plant.wiring (left c true m))
         (λ m k.
-            let priority : m.prio.0 ≡ p = k.1.1 in
-            record {
-              receiver = eqb-true m.to.0 c k.0;
-              controller = below;
-              sender = record { known = leb-true m.from.0 (length plant.wiring.controllers) k.1.0 };
-              priority = omega (arith, priority, low);
-            })
+        let priority : m.prio.0 ≡ p = k.1.1 in
+        record {
+          receiver = eqb-true m.to.0 c k.0;
+          controller = below;
+          sender = record { known = leb-true m.from.0 (length plant.wiring.controllers) k.1.0 };
+          priority = omega (arith, priority, low);
+        })
         ((run.world.controllers c).pending p)
         (each_and (λ (m : Msg). (m.to.0 == c) ≡ true) (λ (m : Msg). (nat_le m.from.0 (length plant.wiring.controllers) ≡ true) × (m.prio.0 ≡ p)) ((run.world.controllers c).pending p)
         (pending_ok (λ (m : Msg). m.to.0 == c) (λ m there. eq-eqb m.to.0 c (kept.mail.fetched_was_posted c m there).0) p)
@@ -166,14 +166,14 @@ module _ (plant : Plant) (lines : List Line) (fuel : ℕ) (j : Journals) (run : 
   lane_in_place c s p below known low =
       each_weaker (GoesBy (lane s c p)) (λ (m : Msg). IsLeftInPlace plant.wiring (left c false m))
       (λ m g.
-          let from : m.from.0 ≡ s = g.sender in
-          let priority : m.prio.0 ≡ p = g.priority in
-          record {
-            receiver = g.receiver;
-            controller = below;
-            sender = record { known = omega (arith, from, known) };
-            priority = omega (arith, priority, low);
-          })
+      let from : m.from.0 ≡ s = g.sender in
+      let priority : m.prio.0 ≡ p = g.priority in
+      record {
+        receiver = g.receiver;
+        controller = below;
+        sender = record { known = omega (arith, from, known) };
+        priority = omega (arith, priority, low);
+      })
       (run.world.lanes (lane s c p)) (lane_goes s c p)
 
   abbrev all_waiting : ℕ → List Left
@@ -190,19 +190,20 @@ module _ (plant : Plant) (lines : List Line) (fuel : ℕ) (j : Journals) (run : 
       priorities (below_end 6 0 6 (omega arith))
 
   senders : Each (λ (s : ℕ). s ≤ length plant.wiring.controllers) (length plant.wiring.controllers ∷ range_with_len 0 (length plant.wiring.controllers))
-  senders =
-      (omega arith,
-      each_weaker (λ (s : ℕ). s < length plant.wiring.controllers) (λ (s : ℕ). s ≤ length plant.wiring.controllers) (λ s h. omega (arith, h)) (range_with_len 0 (length plant.wiring.controllers))
-      (below_end (length plant.wiring.controllers) 0 (length plant.wiring.controllers) (omega arith)))
+  senders = (
+    omega arith,
+    each_weaker (λ (s : ℕ). s < length plant.wiring.controllers) (λ (s : ℕ). s ≤ length plant.wiring.controllers) (λ s h. omega (arith, h)) (range_with_len 0 (length plant.wiring.controllers))
+        (below_end (length plant.wiring.controllers) 0 (length plant.wiring.controllers) (omega arith)),
+  )
 
   travelling_for_one : (c : ℕ) → c < length plant.wiring.controllers → Each (IsLeftInPlace plant.wiring) (all_travelling c)
   travelling_for_one c below =
       each_flat (IsLeftInPlace plant.wiring) (λ (p : ℕ). p < 6)
       (λ p. flat_map (λ s. map (left c false) (run.world.lanes (lane s c p))) (length plant.wiring.controllers ∷ range_with_len 0 (length plant.wiring.controllers)))
       (λ p low.
-          each_flat (IsLeftInPlace plant.wiring) (λ (s : ℕ). s ≤ length plant.wiring.controllers) (λ s. map (left c false) (run.world.lanes (lane s c p)))
-          (λ s known. each_map (IsLeftInPlace plant.wiring) (λ (m : Msg). IsLeftInPlace plant.wiring (left c false m)) (left c false) (λ m h. h) (run.world.lanes (lane s c p)) (lane_in_place c s p below known low))
-          (length plant.wiring.controllers ∷ range_with_len 0 (length plant.wiring.controllers)) senders)
+      each_flat (IsLeftInPlace plant.wiring) (λ (s : ℕ). s ≤ length plant.wiring.controllers) (λ s. map (left c false) (run.world.lanes (lane s c p)))
+      (λ s known. each_map (IsLeftInPlace plant.wiring) (λ (m : Msg). IsLeftInPlace plant.wiring (left c false m)) (left c false) (λ m h. h) (run.world.lanes (lane s c p)) (lane_in_place c s p below known low))
+      (length plant.wiring.controllers ∷ range_with_len 0 (length plant.wiring.controllers)) senders)
       priorities (below_end 6 0 6 (omega arith))
 
   left_for_one : (c : ℕ) → c < length plant.wiring.controllers → Each (IsLeftInPlace plant.wiring)

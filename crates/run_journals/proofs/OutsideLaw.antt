@@ -127,9 +127,10 @@ module _ (t : Tables) (owners : OwnersAreThere t) where
   posts_good : {B : Type 0} (plant : RunPlant B) → plant.controllers ≡ length t.controllers → (es : List Entry) (at end : ℕ) → Each LineIsGood plant.lines
       → PostsLines plant at es end → Each (FitsEnvironment t) es
   posts_good plant many [] at end h p = tt
-  posts_good plant many (e ∷ es) at end h p =
-      (subst (FitsEnvironment t) (sym (p.0.is ∙ ap (λ (n : ℕ). entry.Post (record { 0 = p.0.stamp }) (stamped n p.0.stamp p.0.line.message)) many)) post,
-      posts_good plant many es (at + 1) end h p.1)
+  posts_good plant many (e ∷ es) at end h p = (
+    subst (FitsEnvironment t) (sym (p.0.is ∙ ap (λ (n : ℕ). entry.Post (record { 0 = p.0.stamp }) (stamped n p.0.stamp p.0.line.message)) many)) post,
+    posts_good plant many es (at + 1) end h p.1,
+  )
     where
       post : FitsEnvironment t (entry.Post (record { 0 = p.0.stamp }) (stamped (length t.controllers) p.0.stamp p.0.line.message))
       post = record { message = line_at plant.lines at p.0.line h p.0.there p.0.stamp; own = refl; stamped = refl }

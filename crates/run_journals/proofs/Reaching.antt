@@ -122,11 +122,12 @@ module _ {M : Type 0} (model : Behaviour M) (asks : AsksOnly is_ranked model) (m
       → AreWithin (length t.controllers) s.outbox → Each (PostsWithin (length t.controllers)) es
   posts_within [] before s end r q old new h = tt
   posts_within (e ∷ es) before s end r q old new h =
-      let one = step s q.0 e h (pending_answerable before s r old) q.1 in
-      (one.0,
-      posts_within es (before ++ e ∷ []) q.0 end (more before e (first_state model t c) s r q.0 q.1) q.2
-      (λ m there. ⊎_elim (λ a. old m a) (λ b. new m (one_fetched e es m b)) (fetched_either before e m there))
-      (λ m there. new m (Contains-append_right (fetches e) (fetched es) m there)) one.1)
+      let one = step s q.0 e h (pending_answerable before s r old) q.1 in (
+        one.0,
+        posts_within es (before ++ e ∷ []) q.0 end (more before e (first_state model t c) s r q.0 q.1) q.2
+            (λ m there. ⊎_elim (λ a. old m a) (λ b. new m (one_fetched e es m b)) (fetched_either before e m there))
+            (λ m there. new m (Contains-append_right (fetches e) (fetched es) m there)) one.1,
+      )
     where
       more : (es : List Entry) (e : Entry) (s end : State (Body M)) → Replays (plant_of model t lines) c s es end → (next : State (Body M))
           → Does (plant_of model t lines) c end e next → Replays (plant_of model t lines) c s (es ++ e ∷ []) next

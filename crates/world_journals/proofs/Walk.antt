@@ -227,12 +227,13 @@ module _ {B : Type 0} (plant : Plant B) (P O : Msg → Type 0) (Q : ℕ → B �
             go false e = good.controllers c k
     step w next x good (environment is v does same) =
         let does' : environment_does plant w (event_of x.entry) ≡ Some (v, x.entry) = does in
-        let r : IsGoodLine w x.entry = line_steps w good x.entry v does' in
-        (subst (λ (z : ℕ). IsGoodEntry z x.entry) (sym is) r.entry,
-        subst IsGoodWorld (sym same) (record {
-          controllers = good.controllers;
-          lanes = subst (λ (z : ℕ). (l : Lane) → Each P (lanes_after w z (event_of x.entry) x.entry l)) (sym is) r.lanes;
-        }))
+        let r : IsGoodLine w x.entry = line_steps w good x.entry v does' in (
+          subst (λ (z : ℕ). IsGoodEntry z x.entry) (sym is) r.entry,
+          subst IsGoodWorld (sym same) (record {
+            controllers = good.controllers;
+            lanes = subst (λ (z : ℕ). (l : Lane) → Each P (lanes_after w z (event_of x.entry) x.entry l)) (sym is) r.lanes;
+          }),
+        )
 
     pub walk : (xs : List Placed) (w end : World B) → Runs plant w xs end → IsGoodWorld w → Each (λ (x : Placed). IsGoodEntry x.party x.entry) xs × IsGoodWorld end
     walk [] w end r good = (tt, subst IsGoodWorld (sym r) good)
