@@ -10,7 +10,7 @@ use Rattle.chart_run.specs.chart_tables.Tables.{ArrowTree, Follows, LeadsLower, 
 use Rattle.chart_run.specs.declared.chart_tables.tables.Tables.{Tables as ChartTables}
 use Rattle.room_wiring.specs.declared.tables.Tables.{Tables as Wiring}
 use Rattle.service_messages.specs.slot_runs.Runs.{IsDepthFirst}
-use Rattle.frame_imports.specs.Numbered.{ArePortsNumbered}
+use Rattle.frame_service.specs.frame_imports.Numbered.{ArePortsNumbered}
 use Rattle.chart_behaviour.specs.Asked.{ClassesAsk}
 use Rattle.chart_behaviour.specs.chart_asks.Asking.{StatementAsks, ProgramAsks, BranchesAsk, ArrowAsks, GoesOn, TablesAsk}
 use Rattle.bounded_sends.specs.Sends.{OwnersAreThere, is_ranked}

@@ -1,5 +1,5 @@
 //! What could have stood where a text stops being a model.
-use room_lexer::{LexFault, Token, TokenKind, lex};
+use room_lexer::{LexFault, Token, TokenKind, lex, spelling, words_with};
 use room_parser::{ParseFault, parse};
 use std::alloc::{AllocError, Global};
 
@@ -12,14 +12,11 @@ pub struct Unread {
     pub could_stand: Vec<&'static [u8]>,
 }
 
-/// All that a token may be: an example of each kind, marks and reserved words.
-static ALL: &[u8] =
-    b"name 0 \"\" { } ( ) [ ] < > : , . * - = | / -> RoomModel import from LogicalSystem \
-SubSystemRef SubSystemClass LogicalThread ActorInstanceMapping eventdriven ProtocolClass incoming outgoing \
-Message DataClass Attribute true false ActorClass Interface SPP Structure Behavior StateMachine conjugated \
-Port external SAP ServiceImplementation of fixed optional imported ActorRef Binding and LayerConnection ref \
-satisfied_by usercode usercode1 usercode2 usercode3 State entry exit subgraph ChoicePoint TransitionPoint \
-EntryPoint ExitPoint Transition triggers cond action or guard initial cp my";
+/// All that a token may be but a reserved word: an example of each kind, and the marks.
+static OTHERS: &[u8] = b"name 0 \"\" { } ( ) [ ] < > : , . * - = | / ->";
+
+/// The letters of the longest reserved word.
+const LONGEST: usize = 21;
 
 /// Adds a token on a line of its own.
 fn add_line(lines: &mut Vec<u8>, token: &[u8]) -> Result<(), AllocError> {
@@ -82,9 +79,16 @@ pub fn could_stand(
     let token = line.saturating_sub(1).min(tokens.len());
     let before = lines_of(alloc, text, tokens.get(..token).unwrap_or(&[]))?;
     let mut could_stand = Vec::new(alloc);
-    for other in ALL.split(|b| *b == b' ') {
+    for other in OTHERS.split(|b| *b == b' ') {
         if can_stand(alloc, before.as_slice(), token, other)? {
             could_stand.push(other)?;
+        }
+    }
+    for len in 0..=LONGEST {
+        for word in words_with(len) {
+            if can_stand(alloc, before.as_slice(), token, spelling(*word))? {
+                could_stand.push(spelling(*word))?;
+            }
         }
     }
     Ok(Some(Unread { token, could_stand }))

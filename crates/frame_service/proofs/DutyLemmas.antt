@@ -16,9 +16,9 @@ use Rattle.frame_lives.specs.declared.done.DutyDone.{DutyDone}
 use Rattle.frame_lives.specs.Known.{Known}
 use Rattle.frame_lives.specs.Shown.{shown, with_lives, with_told}
 use Rattle.frame_lives.specs.Done.{done_of}
-use Rattle.frame_imports.specs.frame_peers.Parts.{frame_by}
+use Rattle.frame_service.specs.frame_imports.frame_peers.Parts.{frame_by}
 use Rattle.frame_service.specs.frame_endings.Ends.{left_of}
-use Rattle.frame_imports.specs.import_places.Lending.{Kept, Lending, lending, with_places, with_plugs}
+use Rattle.frame_service.specs.frame_imports.import_places.Lending.{Kept, Lending, lending, with_places, with_plugs}
 use Rattle.frame_service.specs.declared.state.FrameState.{FrameState}
 use Rattle.frame_service.specs.State.{frame_in, IsFrameOf}
 use Rattle.frame_service.specs.Done.{nothing_left, IsDone, IsRequested}

@@ -18,7 +18,7 @@ use Rattle.actor_duties.specs.Words.{is_frame, is_endpoint, is_own, is_optional,
 use Rattle.actor_duties.specs.State.{Frame}
 use Rattle.actor_duties.specs.Lives.{destroy_done, announce, has_part}
 use Rattle.actor_duties.specs.Frame.{FrameDone, nothing, only_sends, with_told, plainly, with_number, of_natural, frame_duty_of, is_request, is_forth, is_back, is_announced, is_part_told}
-use Rattle.frame_imports.proofs.frame_forms.Told.{told_past, optional_there}
+use Rattle.frame_service.proofs.frame_imports.frame_forms.Told.{told_past, optional_there}
 use Rattle.frame_service.specs.Forms.{may_go, has_form, first_number}
 
 not_empty : (n : ℕ) → (suc n == 0) ≡ false

@@ -6,9 +6,9 @@ use Rattle.service_messages.specs.slot_runs.Runs.{IsDepthFirst, AreRunEnds}
 use Rattle.frame_lives.specs.declared.row.Row.{Row}
 use Rattle.frame_lives.specs.Known.{Known}
 use Rattle.frame_lives.specs.Shown.{shown}
-use Rattle.frame_imports.specs.frame_peers.Parts.{frame_by}
+use Rattle.frame_service.specs.frame_imports.frame_peers.Parts.{frame_by}
 use Rattle.frame_service.specs.frame_start.First.{first_known}
-use Rattle.frame_imports.specs.import_places.Lending.{Kept, Lending, lending, nothing_lent}
+use Rattle.frame_service.specs.frame_imports.import_places.Lending.{Kept, Lending, lending, nothing_lent}
 use Rattle.frame_service.specs.declared.state.FrameState.{FrameState}
 use Rattle.frame_service.specs.State.{frame_in, IsFrameOf}
 

@@ -3,3 +3,4 @@ pub mod Forms
 pub mod Done
 pub mod frame_endings
 pub mod frame_start
+pub mod frame_imports

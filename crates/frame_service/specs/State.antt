@@ -9,8 +9,8 @@ use Rattle.room_wiring.specs.declared.tables.Tables.{Tables}
 use Rattle.actor_duties.specs.State.{Frame}
 use Rattle.service_messages.specs.slot_runs.Runs.{IsDepthFirst, AreRunEnds}
 use Rattle.frame_lives.specs.Shown.{shown}
-use Rattle.frame_imports.specs.frame_peers.Parts.{frame_by}
-use Rattle.frame_imports.specs.import_places.Lending.{lending}
+use Rattle.frame_service.specs.frame_imports.frame_peers.Parts.{frame_by}
+use Rattle.frame_service.specs.frame_imports.import_places.Lending.{lending}
 use Rattle.frame_service.specs.declared.state.FrameState.{FrameState}
 
 -- the state of the definitions

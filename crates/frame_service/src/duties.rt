@@ -3,7 +3,7 @@ ghost use Rattle.std.specs.Prelude.{◌≡◌, ◌<◌, ◌≤◌, ℕ, true, If
 ghost use Rattle.room_kinds.specs.Kinds.{number_of};
 ghost use Rattle.room_kinds.specs.declared.system.SysKind.{SysKind};
 ghost use Rattle.actor_duties.specs.Frame.{frame_duty_of, frame_duty, nothing};
-ghost use Rattle.frame_imports.specs.Numbered.{ArePortsNumbered};
+ghost use Rattle.frame_service.specs.frame_imports.Numbered.{ArePortsNumbered};
 ghost use Rattle.frame_service.specs.State.{frame_in, IsFrameOf};
 ghost use Rattle.frame_service.specs.Forms.{has_form};
 ghost use Rattle.frame_service.specs.Done.{nothing_left, IsDone};

@@ -3,7 +3,7 @@ ghost use Rattle.std.specs.Prelude.{◌≡◌, ◌≢◌, ◌<◌, pos, length, 
 ghost use Rattle.service_messages.specs.slot_runs.Runs.{IsDepthFirst, AreRunEnds};
 ghost use Rattle.frame_service.specs.Forms.{may_go, numbers_of, has_form, first_number};
 
-use frame_imports::{is_announced, is_answer, is_back, is_forth, is_part_told, is_request};
+use crate::frame_imports::{is_announced, is_answer, is_back, is_forth, is_part_told, is_request};
 use room_kinds::{ControllerId, Endpoint, Msg, SysKind};
 use room_wiring::Wiring;
 use service_messages::SlotRuns;

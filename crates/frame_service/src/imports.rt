@@ -5,12 +5,12 @@ ghost use Rattle.actor_duties.specs.Frame.{frame_duty_of};
 ghost use Rattle.frame_service.specs.State.{frame_in, IsFrameOf};
 ghost use Rattle.frame_service.specs.Forms.{has_form};
 ghost use Rattle.frame_service.specs.Done.{IsDone};
-ghost use Rattle.frame_imports.specs.Numbered.{ArePortsNumbered};
+ghost use Rattle.frame_service.specs.frame_imports.Numbered.{ArePortsNumbered};
 
 use crate::duties::nothing;
 use crate::forms::first_number;
+use crate::frame_imports::{Answer, What, deport, hear, import};
 use crate::state::FrameState;
-use frame_imports::{Answer, What, deport, hear, import};
 use frame_lives::DutyDone;
 use room_kinds::{Endpoint, Msg, Outbox};
 use room_wiring::Wiring;

@@ -8,6 +8,7 @@ mod answers;
 mod duties;
 mod forms;
 mod frame_endings;
+pub mod frame_imports;
 mod frame_start;
 mod imports;
 mod lives;

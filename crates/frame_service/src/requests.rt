@@ -5,8 +5,8 @@ ghost use Rattle.frame_service.specs.State.{frame_in, IsFrameOf};
 ghost use Rattle.frame_service.specs.Done.{IsRequested};
 ghost use Rattle.room_kinds.specs.declared.command.FrameCommand.TheVariants as commands;
 
+use crate::frame_imports::{Asked, request_deport, request_import};
 use crate::state::FrameState;
-use frame_imports::{Asked, request_deport, request_import};
 use frame_lives::{destroy, incarnate};
 use room_kinds::{FrameCommand, Incarnation, Outbox};
 use room_wiring::Wiring;

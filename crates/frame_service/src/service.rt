@@ -7,9 +7,9 @@ ghost use Rattle.service_messages.specs.slot_runs.Runs.{IsDepthFirst};
 ghost use Rattle.frame_lives.specs.Known.{live_in, some_generation};
 ghost use Rattle.frame_service.specs.State.{frame_in, IsFrameOf};
 
+use crate::frame_imports::Imports;
 use crate::frame_start::first_lives;
 use crate::state::FrameState;
-use frame_imports::Imports;
 use room_kinds::{ControllerId, Endpoint, Generation, Incarnation, SlotId};
 use room_wiring::Wiring;
 use service_messages::SlotRuns;
@@ -45,7 +45,7 @@ impl FrameState {
         ensures peer { result ≡ frame_peer wiring.now self.now.me.0 (frame_in self.now) (endpoint who.slot.0 who.generation.0 port place) }
         ensures near { IfSome result (λ e. place < 2 ^ 32) }
     {
-        frame_imports::peer(
+        crate::frame_imports::peer(
             &self.lives,
             &self.imports,
             wiring,

@@ -1,5 +1,5 @@
 //! The state of a frame service.
-use frame_imports::Imports;
+use crate::frame_imports::Imports;
 use frame_lives::SlotLives;
 use room_kinds::ControllerId;
 use service_messages::SlotRuns;

@@ -221,7 +221,7 @@ fn write_notes_of<K: Sink>(
 }
 
 /// Writes an entry and its notes.
-fn write_entry<K: Sink>(
+pub fn write_entry<K: Sink>(
     out: &mut LineBuffer,
     sink: &mut K,
     wiring: &Wiring,
@@ -253,8 +253,9 @@ fn write_entry<K: Sink>(
     }
 }
 
+/// Writes the entries of one journal, each with its notes.
 #[tactic(auto, unfolding(crate::specs::Text::journal_text))]
-fn write_journal<K: Sink>(
+pub fn write_journal<K: Sink>(
     out: &mut LineBuffer,
     sink: &mut K,
     wiring: &Wiring,
@@ -285,7 +286,8 @@ fn write_controller<K: Sink>(
     write_journal(out, sink, wiring, journal.as_slice())
 }
 
-fn write_title<K: Sink>(
+/// Writes the line above a controller's journal.
+pub fn write_title<K: Sink>(
     out: &mut LineBuffer,
     sink: &mut K,
     wiring: &Wiring,
@@ -346,8 +348,9 @@ fn where_word(pending: bool) -> &'static [u8]
     if pending { b" pending " } else { b" lane " }
 }
 
+/// Writes what was left untaken, a line a message.
 #[tactic(auto, unfolding(crate::specs::Text::left_text))]
-fn write_left<K: Sink>(
+pub fn write_left<K: Sink>(
     out: &mut LineBuffer,
     sink: &mut K,
     wiring: &Wiring,
@@ -376,8 +379,9 @@ fn write_unposted_line<K: Sink>(
     )
 }
 
+/// Writes the numbers of the lines that were not posted, each on a line.
 #[tactic(auto, unfolding(crate::specs::Text::unposted_text))]
-fn write_unposted<K: Sink>(
+pub fn write_unposted<K: Sink>(
     out: &mut LineBuffer,
     sink: &mut K,
     numbers: &[u32],
@@ -390,7 +394,8 @@ fn write_unposted<K: Sink>(
     Ok(())
 }
 
-fn write_end<K: Sink>(out: &mut LineBuffer, sink: &mut K, done: bool) -> Result<(), WriteFault>
+/// Writes the last line: `done` or `spent`.
+pub fn write_end<K: Sink>(out: &mut LineBuffer, sink: &mut K, done: bool) -> Result<(), WriteFault>
     ensures { Puts result (at_rest (K.written sink.old)) (at_rest (K.written sink.new)) (end_line done) }
 {
     if done {

@@ -1,10 +1,11 @@
-//! The journals of a run.
+//! The journals of a run, and their text (`text_to`). The lines are written by calls of their own
+//! (`entries`, `naming`), so that another form of the text can share them.
 #![tactic(auto)]
 
-mod entries;
+pub mod entries;
 mod entry;
 mod lines;
-mod naming;
+pub mod naming;
 mod speaker;
 mod text;
 

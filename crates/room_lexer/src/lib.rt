@@ -16,4 +16,4 @@ pub use cutting::{lex, spans};
 pub use fault::LexFault;
 pub use piece::word_len;
 pub use token::{Mark, Token, TokenKind};
-pub use word::Word;
+pub use word::{Word, spelling, words_with};

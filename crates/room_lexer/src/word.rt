@@ -201,9 +201,9 @@ pub fn spelling(word: Word) -> &'static [u8]
     }
 }
 
-/// The words of a length.
+/// The reserved words of a length, at most 21 bytes.
 #[tactic(auto, unfolding(crate::specs::Words::words_with))]
-fn words_with(len: usize) -> &'static [Word]
+pub fn words_with(len: usize) -> &'static [Word]
     ensures { result.now ≡ words_with len }
 {
     match len {

@@ -11,7 +11,7 @@ use Rattle.actor_duties.specs.State.{ImportPlace}
 use Rattle.service_messages.specs.slot_runs.Runs.{IsDepthFirst, IsRunEnd}
 use Rattle.service_messages.proofs.slot_runs.Kept.{kept, kept_one, kept_none}
 use Rattle.service_messages.proofs.slot_runs.RunLemmas.{false_from, part_in_run, part_not_between, run_nested}
-use Rattle.frame_imports.specs.import_places.Lending.{is_import_of}
+use Rattle.frame_service.specs.frame_imports.import_places.Lending.{is_import_of}
 use Rattle.frame_service.specs.frame_endings.Ends.{back_at, back_if_own, all_given_back}
 
 append_nothing : (ms : List Msg) → ms ++ [] ≡ ms

@@ -22,8 +22,8 @@ use Rattle.frame_lives.specs.Known.{Known}
 use Rattle.frame_lives.specs.Shown.{shown, with_lives}
 use Rattle.frame_lives.specs.Steps.{is_among, lives_without}
 use Rattle.frame_lives.proofs.Gone.{among_ended, without_ended}
-use Rattle.frame_imports.specs.frame_peers.Parts.{frame_by}
-use Rattle.frame_imports.specs.import_places.Lending.{Kept, Lending, lending, forgotten_where}
+use Rattle.frame_service.specs.frame_imports.frame_peers.Parts.{frame_by}
+use Rattle.frame_service.specs.frame_imports.import_places.Lending.{Kept, Lending, lending, forgotten_where}
 use Rattle.frame_service.specs.frame_endings.Ends.{end_sends, part_sends, left_of}
 use Rattle.frame_service.specs.declared.state.FrameState.{FrameState}
 use Rattle.frame_service.specs.State.{frame_in, IsFrameOf}

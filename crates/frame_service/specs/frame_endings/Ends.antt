@@ -12,7 +12,7 @@ use Rattle.actor_duties.specs.State.{ImportPlace}
 use Rattle.actor_duties.specs.Imports.{ended_plugs, given_back, imported_parts}
 use Rattle.actor_duties.specs.Lives.{announces, parts_told}
 use Rattle.actor_duties.specs.Frame.{FrameDone}
-use Rattle.frame_imports.specs.import_places.Lending.{is_import_of}
+use Rattle.frame_service.specs.frame_imports.import_places.Lending.{is_import_of}
 use Rattle.frame_lives.specs.declared.done.DutyDone.{DutyDone}
 
 -- a home that goes back from an import place

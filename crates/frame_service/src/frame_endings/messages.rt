@@ -5,7 +5,7 @@ ghost use Rattle.actor_duties.specs.Imports.{ended_plugs};
 ghost use Rattle.service_messages.specs.slot_runs.Runs.{IsDepthFirst, AreRunEnds};
 ghost use Rattle.frame_service.specs.frame_endings.Ends.{back_from, back_if_own, all_given_back, end_sends, part_sends};
 
-use frame_imports::Lent;
+use crate::frame_imports::Lent;
 use room_kinds::{ControllerId, Incarnation, Outbox, Payload, SlotId, SysKind};
 use room_wiring::Wiring;
 use service_messages::{

@@ -10,7 +10,7 @@ ghost use Rattle.check_mappings.specs.count_rules.Counts.{has_few_parts};
 ghost use Rattle.structure_check.specs.Rules.{first_broken};
 ghost use Rattle.structure_check.specs.List.{all_rules};
 ghost use Rattle.service_messages.specs.slot_runs.Runs.{IsDepthFirst};
-ghost use Rattle.frame_imports.specs.Numbered.{ArePortsNumbered};
+ghost use Rattle.frame_service.specs.frame_imports.Numbered.{ArePortsNumbered};
 
 /// Tables that have the slots and the classes of a model that breaks no rule, as its wiring has, meet
 /// what the frame service asks of a wiring.

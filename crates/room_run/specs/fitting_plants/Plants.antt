@@ -22,7 +22,7 @@ use Rattle.chart_run.specs.declared.chart_tables.tables.Tables.{Tables}
 use Rattle.chart_reader.specs.model_charts.Charts.{HasCharts}
 use Rattle.chart_compile.specs.chart_parts.Compiled.{Compiles}
 use Rattle.service_messages.specs.slot_runs.Runs.{IsDepthFirst}
-use Rattle.frame_imports.specs.Numbered.{ArePortsNumbered}
+use Rattle.frame_service.specs.frame_imports.Numbered.{ArePortsNumbered}
 use Rattle.actor_world.specs.Directories.{IsOpen}
 use Rattle.actor_world.specs.Life.{IsModest}
 use Rattle.actor_world.specs.world_laws.Whereabouts.{TellsDefers}

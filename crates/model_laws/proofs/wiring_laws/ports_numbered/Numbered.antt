@@ -20,7 +20,7 @@ use Rattle.structure_check.specs.List.{all_rules}
 use Rattle.structure_check.proofs.KeptRules.{all_few}
 use Rattle.wiring_plan.specs.wiring_classes.Parts.{named, port_names_of}
 use Rattle.wiring_plan.specs.wiring_classes.Classes.{labelled_signals, ports_in, class_names, classes_of}
-use Rattle.frame_imports.specs.Numbered.{ArePortsNumbered}
+use Rattle.frame_service.specs.frame_imports.Numbered.{ArePortsNumbered}
 
 -- how many ports a class has; none where there is no class
 abbrev pub ports_of : Option ClassNames → ℕ

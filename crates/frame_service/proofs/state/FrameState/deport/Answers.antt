@@ -1,5 +1,5 @@
 use Rattle.actor_duties.specs.Frame.{deport_command}
-use Rattle.frame_imports.specs.import_places.Lending.{lending}
+use Rattle.frame_service.specs.frame_imports.import_places.Lending.{lending}
 use Rattle.frame_service.specs.State.{frame_in}
 use Rattle.frame_service.proofs.DutyLemmas.{places_requested}
 use Rattle.frame_service.proofs.state.FrameState.deport.Goals as goal

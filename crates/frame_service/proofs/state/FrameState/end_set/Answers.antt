@@ -4,7 +4,7 @@ use Rattle.std.specs.List.{flat_map}
 use Rattle.room_kinds.specs.declared.numbers.Incarnation.{Incarnation}
 use Rattle.frame_lives.specs.Shown.{shown, with_lives}
 use Rattle.frame_lives.specs.Steps.{is_among, lives_without}
-use Rattle.frame_imports.specs.import_places.Lending.{lending, forgotten_where}
+use Rattle.frame_service.specs.frame_imports.import_places.Lending.{lending, forgotten_where}
 use Rattle.frame_service.specs.frame_endings.Ends.{end_sends, part_sends}
 use Rattle.frame_service.proofs.frame_endings.EndSet.{ended_there, set_ended}
 use Rattle.frame_service.proofs.state.FrameState.end_set.Goals as goal

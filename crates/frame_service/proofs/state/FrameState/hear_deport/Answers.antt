@@ -4,7 +4,7 @@ use Rattle.actor_duties.specs.Imports.{deport}
 use Rattle.actor_duties.specs.Frame as duties
 use Rattle.actor_duties.specs.Frame.{frame_duty_of, is_forth}
 use Rattle.frame_lives.specs.Shown.{shown}
-use Rattle.frame_imports.specs.import_places.Lending.{lending}
+use Rattle.frame_service.specs.frame_imports.import_places.Lending.{lending}
 use Rattle.frame_service.specs.State.{frame_in}
 use Rattle.frame_service.proofs.FormLemmas.{forth_there, plain_fit}
 use Rattle.frame_service.proofs.DutyLemmas.{plugs_done}

@@ -5,7 +5,7 @@ use Rattle.actor_duties.specs.Imports.{import_refused}
 use Rattle.actor_duties.specs.Frame as duties
 use Rattle.actor_duties.specs.Frame.{frame_duty_of, is_back}
 use Rattle.frame_lives.specs.Shown.{shown}
-use Rattle.frame_imports.specs.import_places.Lending.{lending, with_places}
+use Rattle.frame_service.specs.frame_imports.import_places.Lending.{lending, with_places}
 use Rattle.frame_service.specs.State.{frame_in}
 use Rattle.frame_service.specs.Forms.{first_number}
 use Rattle.frame_service.proofs.FormLemmas.{back_there, number_fit}

@@ -1,7 +1,7 @@
 use Rattle.std.proofs.Common.{ℤ, SFits, w64, rules, ap, ◌∙◌, ◌++◌}
 use Rattle.std.proofs.lemmas.Int.{to_z-of_z}
 use Rattle.actor_duties.specs.Frame.{import_command}
-use Rattle.frame_imports.specs.import_places.Lending.{lending, with_places}
+use Rattle.frame_service.specs.frame_imports.import_places.Lending.{lending, with_places}
 use Rattle.frame_service.specs.State.{frame_in}
 use Rattle.frame_service.proofs.DutyLemmas.{places_requested}
 use Rattle.frame_service.proofs.state.FrameState.import.Goals as goal

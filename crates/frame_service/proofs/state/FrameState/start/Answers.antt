@@ -1,5 +1,5 @@
 use Rattle.std.proofs.Common.{ap, ◌∙◌}
-use Rattle.frame_imports.specs.import_places.Lending.{nothing_lent}
+use Rattle.frame_service.specs.frame_imports.import_places.Lending.{nothing_lent}
 use Rattle.frame_service.proofs.StateLemmas.{start_fits, start_frame}
 use Rattle.frame_service.proofs.state.FrameState.start.Goals as goal
 

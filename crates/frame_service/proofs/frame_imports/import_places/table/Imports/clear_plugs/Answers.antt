@@ -1,0 +1,18 @@
+use Rattle.std.proofs.Common.{◌<◌, length, arith, List, []}
+use Rattle.room_kinds.specs.declared.numbers.Incarnation.{Incarnation}
+use Rattle.frame_service.proofs.frame_imports.import_places.Written.{plugs_there, plugs_changed}
+use Rattle.frame_service.proofs.frame_imports.import_places.table.Imports.clear_plugs.Goals as goal
+
+pub index_mut-requires : goal.index_mut-requires
+index_mut-requires c =
+    let there : c.from.result < length c.self.inside.plugs.items =
+    plugs_there c.args.self.now c.self.inside.places.items c.self.inside.plugs.items c.args.slot.0 c.from.result c.self.view_is c.self.invariant c.requires c.from.ensures in
+    omega (arith, c.self.inside.plugs.ok.0)
+
+pub returns : goal.returns
+returns c =
+    let plugs : List (List Incarnation) = c.self.inside.plugs.items in
+    let there : c.from.result < length plugs =
+    plugs_there c.args.self.now c.self.inside.places.items plugs c.args.slot.0 c.from.result c.self.view_is c.self.invariant c.requires c.from.ensures in
+    plugs_changed c.args.self.now c.self.inside.places.items plugs c.args.slot.0 c.from.result c.index_mut.result.now c.clear.new.self (λ (xs : List Incarnation). [])
+    c.self.view_is c.from.ensures there c.index_mut.ensures.value c.clear.ensures
