@@ -19,11 +19,11 @@ use Rattle.model_laws.proofs.settled_models.Models.{models_ranked}
 use Rattle.model_laws.specs.settled_models.Wirings.{ModelsHaveOwners}
 use Rattle.model_run.specs.run_ends.Runs.{IsRun}
 use Rattle.named_runs.specs.Charts.{ShowsChart, ShowCharts}
-use Rattle.run_journals.specs.Outside.{WhatNames, LinesName}
-use Rattle.run_journals.proofs.InPlaceLaw.{in_place}
-use Rattle.run_journals.proofs.OutsideLaw.{line_names, environment_fits}
-use Rattle.run_journals.proofs.ReachingLaw.{reach}
-use Rattle.run_journals.proofs.TiedLaw.{tied}
+use Rattle.run_promises.specs.run_journals.Outside.{WhatNames, LinesName}
+use Rattle.run_promises.proofs.run_journals.InPlaceLaw.{in_place}
+use Rattle.run_promises.proofs.run_journals.OutsideLaw.{line_names, environment_fits}
+use Rattle.run_promises.proofs.run_journals.ReachingLaw.{reach}
+use Rattle.run_promises.proofs.run_journals.TiedLaw.{tied}
 use Rattle.room_run.specs.fitting_plants.Lines.{WhatFits, LinesFit}
 use Rattle.room_run.specs.fitting_plants.Plants.{PlantFits}
 use Rattle.fitting_journals.specs.Fitting.{JournalsInPlace, FittingRunsAreInPlace}

@@ -26,13 +26,13 @@ use Rattle.run_promises.specs.Mail.{posted}
 use Rattle.run_promises.proofs.Party.{fetched_is, posted_is}
 use Rattle.run_promises.proofs.PromisesLaw.{promises}
 use Rattle.run_promises.proofs.run_texts.Party.{did, nobody, outside}
-use Rattle.run_journals.specs.InPlace.{IsFetchedBy, IsPostedBy, ComesFromParty, IsLeftInPlace, AreInPlace}
-use Rattle.run_journals.specs.Reaching.{NamesReceiver}
-use Rattle.run_journals.proofs.Entries.{each_fetched}
-use Rattle.run_journals.proofs.InPlaceLaw.{adds, journal_is, each_flat, each_map, each_append, below_end}
-use Rattle.run_journals.proofs.OnePost.{none_in, as_first, as_later}
-use Rattle.run_journals.proofs.OneRun.{queue}
-use Rattle.run_journals.proofs.Waiting.{all_counted, each_behind, each_weaker}
+use Rattle.run_promises.specs.run_journals.InPlace.{IsFetchedBy, IsPostedBy, ComesFromParty, IsLeftInPlace, AreInPlace}
+use Rattle.run_promises.specs.run_journals.Reaching.{NamesReceiver}
+use Rattle.run_promises.proofs.run_journals.Entries.{each_fetched}
+use Rattle.run_promises.proofs.run_journals.InPlaceLaw.{adds, journal_is, each_flat, each_map, each_append, below_end}
+use Rattle.run_promises.proofs.run_journals.OnePost.{none_in, as_first, as_later}
+use Rattle.run_promises.proofs.run_journals.OneRun.{queue}
+use Rattle.run_promises.proofs.run_journals.Waiting.{all_counted, each_behind, each_weaker}
 use Rattle.room_run.specs.fitting_plants.Lines.{LinesFit}
 use Rattle.room_run.specs.fitting_plants.Plants.{PlantFits}
 use Rattle.fitting_journals.specs.Fitting.{JournalsInPlace}

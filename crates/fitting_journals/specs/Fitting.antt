@@ -7,12 +7,12 @@ use Rattle.std.specs.Prelude.{ℕ, List, All}
 use Rattle.room_wiring.specs.declared.tables.Tables.{Tables}
 use Rattle.journal.specs.Fits.{FitsEnvironment}
 use Rattle.journal.specs.declared.entry.Journals.{Journals}
-use Rattle.run_journals.specs.Tied.{Tied}
+use Rattle.run_promises.specs.run_journals.Tied.{Tied}
 use Rattle.inject_reader.specs.declared.inject_lines.accepted.Line.{Line}
 use Rattle.controller_actors.specs.declared.plant.Plant.{Plant}
 use Rattle.model_run.specs.run_ends.Runs.{IsRun}
-use Rattle.run_journals.specs.InPlace.{OfControllers, AreInPlace}
-use Rattle.run_journals.specs.Reaching.{NamesReceiver}
+use Rattle.run_promises.specs.run_journals.InPlace.{OfControllers, AreInPlace}
+use Rattle.run_promises.specs.run_journals.Reaching.{NamesReceiver}
 use Rattle.room_run.specs.fitting_plants.Lines.{LinesFit}
 use Rattle.room_run.specs.fitting_plants.Plants.{PlantFits}
 

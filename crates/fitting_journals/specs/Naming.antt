@@ -13,7 +13,7 @@ use Rattle.journal.specs.declared.entry.Journals.{Journals}
 use Rattle.inject_reader.specs.declared.inject_lines.accepted.Line.{Line}
 use Rattle.controller_actors.specs.declared.plant.Plant.{Plant}
 use Rattle.model_run.specs.run_ends.Runs.{IsRun}
-use Rattle.run_journals.specs.InPlace.{OfControllers}
+use Rattle.run_promises.specs.run_journals.InPlace.{OfControllers}
 use Rattle.room_run.specs.fitting_plants.Lines.{LinesFit}
 use Rattle.room_run.specs.fitting_plants.Plants.{PlantFits}
 

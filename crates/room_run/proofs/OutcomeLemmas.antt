@@ -12,8 +12,8 @@ use Rattle.chart_model.specs.Chart.{Chart}
 use Rattle.model_run.specs.run_ends.Runs.{IsRun}
 use Rattle.named_runs.specs.Charts.{IsRunByCharts}
 use Rattle.named_runs.proofs.ByCharts.{by_charts}
-use Rattle.run_journals.proofs.InPlaceLaw.{in_place}
-use Rattle.run_journals.proofs.TiedLaw.{tied}
+use Rattle.run_promises.proofs.run_journals.InPlaceLaw.{in_place}
+use Rattle.run_promises.proofs.run_journals.TiedLaw.{tied}
 use Rattle.run_promises.proofs.PromisesLaw.{promises}
 use Rattle.room_run.specs.Agreement.{AllAgree}
 use Rattle.run_promises.specs.run_texts.Texts.{TextTells}

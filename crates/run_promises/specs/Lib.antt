@@ -5,3 +5,4 @@ pub mod Promises
 pub mod Stamps
 pub mod Turns
 pub mod run_texts
+pub mod run_journals

@@ -4,6 +4,7 @@
 //! No code: the laws.
 #![tactic(auto)]
 
+pub mod run_journals;
 pub mod run_texts;
 
 ghost use Rattle.run_promises.specs.Promises.{RunsKeepPromises};

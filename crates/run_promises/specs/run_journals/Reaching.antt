@@ -11,8 +11,8 @@ use Rattle.bounded_sends.specs.Sends.{OwnersAreThere, is_ranked}
 use Rattle.chart_behaviour.specs.Asked.{ClassesAsk}
 use Rattle.controller_actors.specs.declared.plant.Plant.{Plant}
 use Rattle.model_run.specs.run_ends.Runs.{IsRun}
-use Rattle.run_journals.specs.InPlace.{OfControllers}
-use Rattle.run_journals.specs.Outside.{LinesName}
+use Rattle.run_promises.specs.run_journals.InPlace.{OfControllers}
+use Rattle.run_promises.specs.run_journals.Outside.{LinesName}
 
 -- a message goes to a controller, at one of the six priorities
 pub record ReachesController (t : Tables) (m : Msg) : Type 0 where

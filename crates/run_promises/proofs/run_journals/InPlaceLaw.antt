@@ -34,12 +34,12 @@ use Rattle.run_promises.specs.Promises.{RunPromises}
 use Rattle.run_promises.proofs.Party.{fetched_is}
 use Rattle.run_promises.proofs.PromisesLaw.{promises}
 use Rattle.run_promises.proofs.run_texts.Party.{did, nobody, outside}
-use Rattle.run_journals.specs.InPlace.{IsFetchedBy, IsPostedBy, ComesFromParty, IsPost, IsLeftInPlace, OfControllers, AreInPlace}
-use Rattle.run_journals.proofs.Climbing.{left_climbs}
-use Rattle.run_journals.proofs.Entries.{each_fetched, fetched_by, posted_by, from_parties}
-use Rattle.run_journals.proofs.OnePost.{none_in}
-use Rattle.run_journals.proofs.OneRun.{replay, queue, from_own, environment_posts}
-use Rattle.run_journals.proofs.Waiting.{GoesBy, none_counted, all_counted, given_goes, each_behind, each_weaker}
+use Rattle.run_promises.specs.run_journals.InPlace.{IsFetchedBy, IsPostedBy, ComesFromParty, IsPost, IsLeftInPlace, OfControllers, AreInPlace}
+use Rattle.run_promises.proofs.run_journals.Climbing.{left_climbs}
+use Rattle.run_promises.proofs.run_journals.Entries.{each_fetched, fetched_by, posted_by, from_parties}
+use Rattle.run_promises.proofs.run_journals.OnePost.{none_in}
+use Rattle.run_promises.proofs.run_journals.OneRun.{replay, queue, from_own, environment_posts}
+use Rattle.run_promises.proofs.run_journals.Waiting.{GoesBy, none_counted, all_counted, given_goes, each_behind, each_weaker}
 
 pub each_append : {X : Type 0} (P : X → Type 0) (xs ys : List X) → Each P xs → Each P ys → Each P (xs ++ ys)
 each_append P [] ys h k = k

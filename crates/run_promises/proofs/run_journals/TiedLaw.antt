@@ -19,10 +19,10 @@ use Rattle.run_promises.specs.Promises.{RunPromises}
 use Rattle.run_promises.proofs.PromisesLaw.{promises}
 use Rattle.run_promises.proofs.Starts.{start_entries_start}
 use Rattle.run_promises.proofs.run_texts.Party.{did, nobody, outside}
-use Rattle.run_journals.specs.Tied.{IsPosted, AreTied, Tied}
-use Rattle.run_journals.proofs.OnePost.{entry_fetched, only_post}
-use Rattle.run_journals.proofs.InARow.{EachPosted, replay_tied, starts_tied, posts_tied}
-use Rattle.run_journals.proofs.OneRun.{own, replay, environment_posts}
+use Rattle.run_promises.specs.run_journals.Tied.{IsPosted, AreTied, Tied}
+use Rattle.run_promises.proofs.run_journals.OnePost.{entry_fetched, only_post}
+use Rattle.run_promises.proofs.run_journals.InARow.{EachPosted, replay_tied, starts_tied, posts_tied}
+use Rattle.run_promises.proofs.run_journals.OneRun.{own, replay, environment_posts}
 
 module _ (plant : Plant) (lines : List Line) (fuel : ℕ) (j : Journals) (run : IsRun plant lines fuel j) where
   was_posted : (party : ℕ) → EachPosted j (journal_of j party)

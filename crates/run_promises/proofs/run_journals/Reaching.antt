@@ -22,8 +22,8 @@ use Rattle.chart_behaviour.specs.Asked.{AsksOnly}
 use Rattle.controller_mail.specs.Within.{IsWithin, AreWithin, IsAnswerable, is_answerable}
 use Rattle.controller_mail.proofs.Waiting.{answerable}
 use Rattle.run_promises.proofs.TurnSteps.{next_first}
-use Rattle.run_journals.proofs.Entries.{each_fetched}
-use Rattle.run_journals.proofs.Waiting.{none_counted, all_counted}
+use Rattle.run_promises.proofs.run_journals.Entries.{each_fetched}
+use Rattle.run_promises.proofs.run_journals.Waiting.{none_counted, all_counted}
 
 -- what an entry posts is within
 abbrev pub PostsWithin : ℕ → Entry → Type 0

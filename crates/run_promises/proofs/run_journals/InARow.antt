@@ -9,9 +9,9 @@ use Rattle.journal.specs.declared.entry.Journals.{Journals}
 use Rattle.actor_merge.specs.Mail.{stamp_of}
 use Rattle.actor_merge.specs.Parties.{State, Plant, fetch, Does, Replays}
 use Rattle.run_promises.proofs.Starts.{AllStarts}
-use Rattle.run_journals.specs.Tied.{fetched_at, Follows, IsPosted, IsTiedEntry, AreTied}
-use Rattle.run_journals.specs.InPlace.{IsPost}
-use Rattle.run_journals.proofs.OnePost.{as_first, as_later}
+use Rattle.run_promises.specs.run_journals.Tied.{fetched_at, Follows, IsPosted, IsTiedEntry, AreTied}
+use Rattle.run_promises.specs.run_journals.InPlace.{IsPost}
+use Rattle.run_promises.proofs.run_journals.OnePost.{as_first, as_later}
 
 -- what each entry fetches was posted
 abbrev pub EachPosted : Journals → List Entry → Type 0

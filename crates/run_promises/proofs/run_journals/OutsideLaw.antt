@@ -36,7 +36,7 @@ use Rattle.model_run.specs.run_ends.Runs.{journal_of, IsRun}
 use Rattle.run_promises.proofs.Lines.{PostsLines}
 use Rattle.run_promises.proofs.Party.{environment_lines}
 use Rattle.run_promises.proofs.run_texts.Party.{did, nobody, outside}
-use Rattle.run_journals.specs.Outside.{NamesPlace, WhatNames, LinesName, FitLinesName}
+use Rattle.run_promises.specs.run_journals.Outside.{NamesPlace, WhatNames, LinesName, FitLinesName}
 
 -- ---- what lines that are read name
 

@@ -1,5 +1,5 @@
-use Rattle.run_journals.proofs.OutsideLaw.{environment_fits, fit_lines_name}
-use Rattle.run_journals.proofs.environment_fits.Goals as goal
+use Rattle.run_promises.proofs.run_journals.OutsideLaw.{environment_fits, fit_lines_name}
+use Rattle.run_promises.proofs.run_journals.environment_fits.Goals as goal
 
 pub returns-clause-environment : goal.returns-clause-environment
 returns-clause-environment c = environment_fits

@@ -14,8 +14,8 @@ use Rattle.actor_merge.specs.Merge.{AllStamped}
 use Rattle.actor_world.specs.world_laws.Whereabouts.{fetches, fetched}
 use Rattle.run_promises.specs.Mail.{posted}
 use Rattle.run_promises.specs.Turns.{TurnIsRight, TurnsAreKept}
-use Rattle.run_journals.specs.InPlace.{IsFetchedBy, IsPostedBy, ComesFromParty}
-use Rattle.run_journals.proofs.OnePost.{none_in, as_first, as_later}
+use Rattle.run_promises.specs.run_journals.InPlace.{IsFetchedBy, IsPostedBy, ComesFromParty}
+use Rattle.run_promises.proofs.run_journals.OnePost.{none_in, as_first, as_later}
 
 pub each_fetched : (P : Msg → Type 0) (ms : List Msg) → ((m : Msg) → Contains ms m → P m) → Each P ms
 each_fetched P [] h = tt

@@ -33,14 +33,14 @@ use Rattle.run_promises.proofs.Party.{fetched_is, posted_is, environment_lines}
 use Rattle.run_promises.proofs.PromisesLaw.{promises}
 use Rattle.run_promises.proofs.Starts.{AllStarts, start_entries_start}
 use Rattle.run_promises.proofs.run_texts.Party.{did, nobody}
-use Rattle.run_journals.specs.InPlace.{OfControllers}
-use Rattle.run_journals.specs.Outside.{WhatNames, LinesName}
-use Rattle.run_journals.specs.Reaching.{ReachesController, NamesReceiver}
-use Rattle.run_journals.proofs.Entries.{each_fetched}
-use Rattle.run_journals.proofs.InPlaceLaw.{known, of_each}
-use Rattle.run_journals.proofs.OnePost.{none_in, first_or_later}
-use Rattle.run_journals.proofs.OneRun.{own, replay}
-use Rattle.run_journals.proofs.Reaching.{PostsWithin, AllAnswerable, posts_within}
+use Rattle.run_promises.specs.run_journals.InPlace.{OfControllers}
+use Rattle.run_promises.specs.run_journals.Outside.{WhatNames, LinesName}
+use Rattle.run_promises.specs.run_journals.Reaching.{ReachesController, NamesReceiver}
+use Rattle.run_promises.proofs.run_journals.Entries.{each_fetched}
+use Rattle.run_promises.proofs.run_journals.InPlaceLaw.{known, of_each}
+use Rattle.run_promises.proofs.run_journals.OnePost.{none_in, first_or_later}
+use Rattle.run_promises.proofs.run_journals.OneRun.{own, replay}
+use Rattle.run_promises.proofs.run_journals.Reaching.{PostsWithin, AllAnswerable, posts_within}
 
 -- ---- lines have a priority from 1 on
 

@@ -4,12 +4,11 @@
 //! fits it. What controllers' journals that fit a wiring name besides is not said here.
 //!
 //! No code: the laws, as functions without a body.
-#![tactic(auto)]
 
-ghost use Rattle.run_journals.specs.InPlace.{RunsAreInPlace};
-ghost use Rattle.run_journals.specs.Outside.{EnvironmentFits, FitLinesName};
-ghost use Rattle.run_journals.specs.Reaching.{RunsReachControllers};
-ghost use Rattle.run_journals.specs.Tying.{RunsAreTied};
+ghost use Rattle.run_promises.specs.run_journals.InPlace.{RunsAreInPlace};
+ghost use Rattle.run_promises.specs.run_journals.Outside.{EnvironmentFits, FitLinesName};
+ghost use Rattle.run_promises.specs.run_journals.Reaching.{RunsReachControllers};
+ghost use Rattle.run_promises.specs.run_journals.Tying.{RunsAreTied};
 
 /// The journals of every run are tied: a fetched message is that of the only post of its sender with its
 /// stamp, and a fetch directly after a fetch is stamped one more than the greater of the stamp before it and

@@ -19,7 +19,7 @@ use Rattle.run_promises.proofs.Lines.{PostsLines, all_posts}
 use Rattle.run_promises.proofs.Party as parties
 use Rattle.run_promises.proofs.Stamps.{IsFrom}
 use Rattle.run_promises.proofs.run_texts.Party.{did, nobody, outside}
-use Rattle.run_journals.specs.InPlace.{IsPost}
+use Rattle.run_promises.specs.run_journals.InPlace.{IsPost}
 
 module _ (plant : Plant) (lines : List Line) (fuel : ℕ) (j : Journals) (run : IsRun plant lines fuel j) where
   abbrev pub n : ℕ
