@@ -4,7 +4,7 @@ use Rattle.std.specs.Prelude.{◌&&◌, nat_le, nat_lt}
 use Rattle.std.specs.List.{list_all}
 use Rattle.std.proofs.lemmas.Bool.Decides.{nat_tests}
 use Rattle.room_ast.specs.declared.scope.Scope.{Scope}
-use Rattle.room_ast.specs.ChartTree.{GraphItemTree, AState, AChoice, APoint, ATransition, StateTree, StateOf, BodyTree, no_body, body, SubgraphTree, no_subgraph, subgraph, GraphItems, no_items, item}
+use Rattle.room_ast.specs.ChartTree.{GraphItemTree, AState, AChoice, APoint, ATransition, ARefinement, StateTree, StateOf, BodyTree, no_body, body, SubgraphTree, no_subgraph, subgraph, GraphItems, no_items, item}
 use Rattle.chart_model.specs.Chart.{Name, Path, State, Graph, Chart}
 use Rattle.chart_model.specs.Valid.{is_shallow, is_nothing}
 use Rattle.chart_reading.specs.Around.{Around, around, list_of}
@@ -73,6 +73,7 @@ item_keeps scope (AState (StateOf n b)) a owner p h = body_keeps scope b n owner
 item_keeps scope (AChoice c) a owner p h = h
 item_keeps scope (APoint q) a owner p h = h
 item_keeps scope (ATransition t) a owner p h = h
+item_keeps scope (ARefinement path change) a owner p h = h
 
 items_keep : (scope : Scope) (is : GraphItems) (a : Around) (owner : Path) (p : Piece) → HasDeep owner p → HasDeep owner (with_items scope is a owner p)
 items_keep scope no_items a owner p h = h
@@ -108,6 +109,7 @@ mutual
   item_deep (AChoice c) scope a owner p most e h = absurd cc
   item_deep (APoint q) scope a owner p most e h = absurd cc
   item_deep (ATransition t) scope a owner p most e h = absurd cc
+  item_deep (ARefinement path change) scope a owner p most e h = absurd cc
 
   state_deep : (s : StateTree) (scope : Scope) (owner : Path) (p : Piece) (most : ℕ) → length owner + most ≡ 16 → state_nests s most ≡ false → HasDeep owner (with_state scope s owner p)
   state_deep (StateOf n b) scope owner p zero e h = here scope b n owner p (too_long (length owner) e)

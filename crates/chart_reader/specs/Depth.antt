@@ -1,6 +1,6 @@
 -- How deep the states of a text nest.
 use Rattle.std.specs.Prelude.{ℕ, ◌-◌, ◌&&◌, nat_lt, Bool, true}
-use Rattle.room_ast.specs.ChartTree.{GraphItemTree, AState, AChoice, APoint, ATransition, StateTree, StateOf, BodyTree, no_body, body, SubgraphTree, no_subgraph, subgraph, GraphItems, no_items, item}
+use Rattle.room_ast.specs.ChartTree.{GraphItemTree, AState, AChoice, APoint, ATransition, ARefinement, StateTree, StateOf, BodyTree, no_body, body, SubgraphTree, no_subgraph, subgraph, GraphItems, no_items, item}
 
 -- The states of a graph, or a state, and those inside them nest at most so deep.
 abbrev mutual
@@ -9,6 +9,7 @@ abbrev mutual
   item_nests (AChoice c) most = true
   item_nests (APoint p) most = true
   item_nests (ATransition t) most = true
+  item_nests (ARefinement path change) most = true
 
   pub state_nests : StateTree → ℕ → Bool
   state_nests (StateOf name b) most = nat_lt 0 most && body_nests b (most - 1)

@@ -17,6 +17,7 @@ fn item_nests(item: &GraphItem, most: usize) -> bool
         GraphItem::Choice(_) => true,
         GraphItem::Point(_) => true,
         GraphItem::Transition(_) => true,
+        GraphItem::Refinement(_) => true,
     }
 }
 

@@ -9,7 +9,7 @@ use Rattle.room_ast.specs.declared.chart.Source.{Source as SourceTree}
 use Rattle.room_ast.specs.declared.chart.Source.TheVariants as sources
 use Rattle.room_ast.specs.declared.chart.Target.{Target as TargetTree}
 use Rattle.room_ast.specs.declared.chart.Target.TheVariants as targets
-use Rattle.room_ast.specs.ChartTree.{GraphItemTree, AState, AChoice, APoint, ATransition, StateTree, StateOf, BodyTree, no_body, body, SubgraphTree, no_subgraph, subgraph, GraphItems, no_items, item}
+use Rattle.room_ast.specs.ChartTree.{GraphItemTree, AState, AChoice, APoint, ATransition, ARefinement, StateTree, StateOf, BodyTree, no_body, body, SubgraphTree, no_subgraph, subgraph, GraphItems, no_items, item}
 use Rattle.name_tables.specs.name_numbers.Names.{same, is_among}
 use Rattle.chart_model.specs.Chart.{Name, Source, initial, from_state, from_point, from_choice, from_entry, from_exit, Target, to_state, to_choice, to_point, to_entry, to_exit}
 
@@ -31,6 +31,7 @@ state_name (AState s) = Some (name_of_state s)
 state_name (AChoice c) = None
 state_name (APoint p) = None
 state_name (ATransition t) = None
+state_name (ARefinement path change) = None
 
 abbrev pub entry_of : PointKind → Name → Option Name
 entry_of kinds.Transition n = None
@@ -42,6 +43,7 @@ entry_name (AState s) = None
 entry_name (AChoice c) = None
 entry_name (APoint p) = entry_of p.kind p.name
 entry_name (ATransition t) = None
+entry_name (ARefinement path change) = None
 
 abbrev pub entries_of : List GraphItemTree → List Name
 entries_of is = filter_map entry_name is
@@ -62,6 +64,7 @@ inner_entries (AState s) = Some (entries_in_state s)
 inner_entries (AChoice c) = None
 inner_entries (APoint p) = None
 inner_entries (ATransition t) = None
+inner_entries (ARefinement path change) = None
 
 abbrev pub around : List GraphItemTree → Around
 around is = record { states = filter_map state_name is; entries = entries_of is; inner = filter_map inner_entries is }

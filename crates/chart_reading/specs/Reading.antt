@@ -8,7 +8,7 @@ use Rattle.room_ast.specs.declared.chart.TransitionBody.{TransitionBody}
 use Rattle.room_ast.specs.declared.chart.Triggers.{Triggers}
 use Rattle.room_ast.specs.declared.scope.Scope.{Scope}
 use Rattle.room_ast.specs.declared.scope.ScopeAttribute.{ScopeAttribute}
-use Rattle.room_ast.specs.ChartTree.{GraphItemTree, AState, AChoice, APoint, ATransition, StateTree, StateOf, BodyTree, no_body, body, SubgraphTree, no_subgraph, subgraph, GraphItems, no_items, item}
+use Rattle.room_ast.specs.ChartTree.{GraphItemTree, AState, AChoice, APoint, ATransition, ARefinement, StateTree, StateOf, BodyTree, no_body, body, SubgraphTree, no_subgraph, subgraph, GraphItems, no_items, item}
 use Rattle.action_program.specs.Numbered.{no_stmt}
 use Rattle.chart_model.specs.Chart.{Name, Path, Transition, State, Point, Graph, Chart}
 use Rattle.chart_reading.specs.chart_graphs.Views.{kind_view}
@@ -95,6 +95,7 @@ abbrev mutual
   with_item scope (AChoice c) a owner p = record p { choices = p.choices ++ c.name ∷ [] }
   with_item scope (APoint q) a owner p = record p { points = p.points ++ point_of q ∷ [] }
   with_item scope (ATransition t) a owner p = with_transition scope a t p
+  with_item scope (ARefinement path change) a owner p = p
 
   pub with_state : Scope → StateTree → Path → Piece → Piece
   with_state scope (StateOf n b) owner p = with_body scope b n owner p

@@ -24,7 +24,10 @@ fn state_name<'a>(item: &'a GraphItem) -> Option<&'a Name>
 {
     match item {
         GraphItem::State(state) => Some(&state.name),
-        GraphItem::Choice(_) | GraphItem::Point(_) | GraphItem::Transition(_) => None,
+        GraphItem::Choice(_)
+        | GraphItem::Point(_)
+        | GraphItem::Transition(_)
+        | GraphItem::Refinement(_) => None,
     }
 }
 
@@ -36,7 +39,10 @@ fn entry_name<'a>(item: &'a GraphItem) -> Option<&'a Name>
             PointKind::Entry => Some(&point.name),
             PointKind::Transition | PointKind::Exit => None,
         },
-        GraphItem::State(_) | GraphItem::Choice(_) | GraphItem::Transition(_) => None,
+        GraphItem::State(_)
+        | GraphItem::Choice(_)
+        | GraphItem::Transition(_)
+        | GraphItem::Refinement(_) => None,
     }
 }
 
@@ -91,7 +97,10 @@ fn inner_entries<'a>(
             let entries = entries_in_state(alloc, state)?;
             Ok(Some(entries))
         }
-        GraphItem::Choice(_) | GraphItem::Point(_) | GraphItem::Transition(_) => Ok(None),
+        GraphItem::Choice(_)
+        | GraphItem::Point(_)
+        | GraphItem::Transition(_)
+        | GraphItem::Refinement(_) => Ok(None),
     }
 }
 

@@ -49,6 +49,7 @@ fn add_item(
         GraphItem::Transition(written) => {
             add_transition(alloc, written, around, scope, names, piece)
         }
+        GraphItem::Refinement(_) => Ok(()),
     }
 }
 

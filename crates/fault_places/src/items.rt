@@ -26,6 +26,7 @@ fn stands_inside(word: Word) -> bool {
             | Word::Initial
             | Word::Cp
             | Word::My
+            | Word::Extends
     )
 }
 

@@ -138,11 +138,42 @@ fn mapping_rule(rule: u8) -> Meaning {
     }
 }
 
+/// The rules on classes that extend others.
+fn base_rule(rule: u8) -> Meaning {
+    match rule {
+        26 => of(
+            "a class extends what is no actor class",
+            "name an ActorClass behind `extends`",
+        ),
+        27 => of(
+            "a class extends itself, at once or through its bases",
+            "leave one `extends` of the circle out; put what both classes need into a class of its own",
+        ),
+        28 => of(
+            "a refinement stands in a class without `extends`, or inside of a state",
+            "write it into the top graph of a class that extends another one, with the whole path: `RefinedState a.b`",
+        ),
+        29 => of(
+            "a refinement names no state of the base's chart, or no transition, or one of several with that name",
+            "correct the path; give the transition of the base a name of its own",
+        ),
+        30 => of(
+            "a class refines one state or one transition twice",
+            "write both into one refinement",
+        ),
+        _ => of(
+            "with all that its classes have from their bases the model has more than 2,000,000 tokens",
+            "fewer or shorter classes that extend a long one",
+        ),
+    }
+}
+
 /// A rule of models.
 pub fn rule_meaning(rule: u8) -> Meaning {
     match rule {
         1..=9 => class_rule(rule),
         10..=19 => structure_rule(rule),
+        26..=31 => base_rule(rule),
         _ => mapping_rule(rule),
     }
 }

@@ -5,7 +5,7 @@ use Rattle.room_lexer.specs.declared.token.Mark.TheVariants as marks
 use Rattle.room_lexer.specs.declared.word.Word.{Word}
 use Rattle.room_lexer.specs.declared.word.Word.TheVariants as words
 use Rattle.room_ast.specs.Values.{TokenValue, AWord, AName, ANumber, AString, ABlock, AMark, spelled}
-use Rattle.room_ast.specs.ChartTree.{GraphItemTree, AState, AChoice, APoint, ATransition, StateTree, StateOf, BodyTree, no_body, body, SubgraphTree, no_subgraph, subgraph, GraphItems, no_items, item}
+use Rattle.room_ast.specs.ChartTree.{GraphItemTree, AState, AChoice, APoint, ATransition, ARefinement, ChangeTree, OfState, OfTransition, StateTree, StateOf, BodyTree, no_body, body, SubgraphTree, no_subgraph, subgraph, GraphItems, no_items, item}
 use Rattle.room_ast.specs.MappingTree.{MappingTree, MappingOf, NestedTree, no_braces, in_braces, Mappings, no_mappings, mapping}
 use Rattle.room_ast.specs.Trees.{BehaviorTree, ActorTree, SubsystemItemTree, AReference, ABinding, ALayer, AThread, AMapping, SubsystemTree, ClassTree, ASystem, ASubsystem, AnActor, AProtocol, AData, ModelTree}
 use Rattle.room_ast.specs.declared.actor.ActorRef.{ActorRef}
@@ -355,19 +355,28 @@ point_word points.Exit = words.ExitPoint
 abbrev pub point : Point → List TokenValue
 point p = word (point_word p.kind) then name p.name
 
+-- a body in braces, where these are the tokens of its subgraph
+abbrev pub in_body : Option Code → Option Code → List TokenValue → List TokenValue
+in_body entry exit sub = mark marks.OpenBrace then maybe (word_code words.Entry) entry then maybe (word_code words.Exit) exit then sub then mark marks.CloseBrace
+
 abbrev mutual
   pub graph_item : GraphItemTree → List TokenValue
   graph_item (AState s) = state_tokens s
   graph_item (AChoice c) = choice_point c
   graph_item (APoint p) = point p
   graph_item (ATransition t) = transition t
+  graph_item (ARefinement path change) = refinement_tokens path change
 
   pub state_tokens : StateTree → List TokenValue
   state_tokens (StateOf n b) = word words.State then name n then body_tokens b
 
   pub body_tokens : BodyTree → List TokenValue
   body_tokens no_body = []
-  body_tokens (body entry exit sub) = mark marks.OpenBrace then maybe (word_code words.Entry) entry then maybe (word_code words.Exit) exit then subgraph_tokens sub then mark marks.CloseBrace
+  body_tokens (body entry exit sub) = in_body entry exit (subgraph_tokens sub)
+
+  pub refinement_tokens : Dotted → ChangeTree → List TokenValue
+  refinement_tokens path (OfState entry exit sub) = word words.RefinedState then dotted path then in_body entry exit (subgraph_tokens sub)
+  refinement_tokens path (OfTransition c) = word words.RefinedTransition then dotted path then mark marks.OpenBrace then word_code words.Action c then mark marks.CloseBrace
 
   pub subgraph_tokens : SubgraphTree → List TokenValue
   subgraph_tokens no_subgraph = []
@@ -391,10 +400,13 @@ machine g = word words.StateMachine then mark marks.OpenBrace then graph_tokens 
 abbrev pub behavior : BehaviorTree → List TokenValue
 behavior b = word words.Behavior then mark marks.OpenBrace then maybe machine b.machine then mark marks.CloseBrace
 
+abbrev pub extends : List ℕ → List TokenValue
+extends base = word words.Extends then name base
+
 abbrev pub actor_class : ActorTree → List TokenValue
 actor_class a =
-    word_if words.EventDriven a.event_driven then word words.ActorClass then name a.name then mark marks.OpenBrace then maybe interface a.interface then maybe structure a.structure
-    then maybe behavior a.behavior then mark marks.CloseBrace
+    word_if words.EventDriven a.event_driven then word words.ActorClass then name a.name then maybe extends a.base then mark marks.OpenBrace then maybe interface a.interface
+    then maybe structure a.structure then maybe behavior a.behavior then mark marks.CloseBrace
 
 -- ---- the model
 

@@ -29,6 +29,7 @@ pub record BehaviorTree : Type 0 where
 pub record ActorTree : Type 0 where
   pub event_driven : Bool
   pub name : List ℕ
+  pub base : Option (List ℕ)
   pub interface : Option (List InterfaceItem)
   pub structure : Option (List StructureItem)
   pub behavior : Option BehaviorTree
@@ -62,7 +63,7 @@ abbrev pub behavior_view : Behavior → BehaviorTree
 behavior_view b = record { machine = option_map (λ m. graph_view m.items.items) b.machine }
 
 abbrev pub actor_view : ActorClass → ActorTree
-actor_view a = record { event_driven = a.event_driven; name = a.name; interface = a.interface; structure = a.structure; behavior = option_map behavior_view a.behavior }
+actor_view a = record { event_driven = a.event_driven; name = a.name; base = a.base; interface = a.interface; structure = a.structure; behavior = option_map behavior_view a.behavior }
 
 abbrev pub subsystem_item_view : SubsystemItem → SubsystemItemTree
 subsystem_item_view (items.Reference r) = AReference r

@@ -5,11 +5,14 @@ use crate::name::Name;
 use crate::protocol::{Attribute, Usercode};
 use room_kinds::{ReferenceKind, Sequence};
 
-/// `eventdriven`, which may be missing, `ActorClass` name `{` interface, structure, behavior `}`
+/// `eventdriven`, which may be missing, `ActorClass` name, `extends` base, which may be missing, and
+/// `{` interface, structure, behavior `}`
 #[derive(Drop)]
 pub struct ActorClass {
     pub event_driven: bool,
     pub name: Name,
+    /// The class that this one extends.
+    pub base: Option<Name>,
     pub interface: Option<Sequence<InterfaceItem>>,
     pub structure: Option<Sequence<StructureItem>>,
     pub behavior: Option<Behavior>,

@@ -1,5 +1,6 @@
 //! State machines.
 
+use crate::model::Dotted;
 use crate::name::Name;
 use crate::text::Text;
 use room_kinds::Sequence;
@@ -17,6 +18,7 @@ pub enum GraphItem {
     Choice(ChoicePoint),
     Point(Point),
     Transition(Transition),
+    Refinement(Refinement),
 }
 
 /// `State` name, and its body in braces
@@ -34,6 +36,25 @@ pub struct StateBody {
     pub entry: Option<Code>,
     pub exit: Option<Code>,
     pub subgraph: Option<Vec<GraphItem>>,
+}
+
+/// What a class that extends another one changes in a state or a transition of its base.
+#[cycle(chart)]
+#[derive(Drop)]
+pub struct Refinement {
+    /// The names of the states that lead to it from the top graph, and then its own name.
+    pub path: Dotted,
+    pub change: Change,
+}
+
+/// What is added to what the base has.
+#[cycle(chart)]
+#[derive(Drop)]
+pub enum Change {
+    /// `RefinedState` path `{` `entry` code, `exit` code, and `subgraph` `{` graph `}` `}`
+    State(StateBody),
+    /// `RefinedTransition` path `{` `action` code `}`
+    Transition(Code),
 }
 
 /// `ChoicePoint` name

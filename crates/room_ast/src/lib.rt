@@ -17,8 +17,9 @@ pub use actor::{
     Port, ServiceAccess, ServiceImplementation, ServiceProvision, Side, StructureItem,
 };
 pub use chart::{
-    ChoicePoint, Code, CodeText, Event, EventMessage, GraphItem, Point, PointKind, Source, State,
-    StateBody, StateMachine, Target, Transition, TransitionBody, Trigger, Triggers,
+    Change, ChoicePoint, Code, CodeText, Event, EventMessage, GraphItem, Point, PointKind,
+    Refinement, Source, State, StateBody, StateMachine, Target, Transition, TransitionBody,
+    Trigger, Triggers,
 };
 pub use model::{Class, Dotted, Import, ImportSource, Model};
 pub use model_parts::{PortEntry, ReferenceEntry, TypeEntry, number_type};

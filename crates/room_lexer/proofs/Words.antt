@@ -27,6 +27,7 @@ spelled words.Attribute = refl
 spelled words.True = refl
 spelled words.False = refl
 spelled words.ActorClass = refl
+spelled words.Extends = refl
 spelled words.Interface = refl
 spelled words.Spp = refl
 spelled words.Structure = refl
@@ -68,6 +69,8 @@ spelled words.Guard = refl
 spelled words.Initial = refl
 spelled words.Cp = refl
 spelled words.My = refl
+spelled words.RefinedState = refl
+spelled words.RefinedTransition = refl
 
 pointwise_same : (xs ys : List ℕ) → pointwise nat_eq xs ys ≡ true → xs ≡ ys
 pointwise_same xs ys e = (bytes_eq-Decides xs ys).0 e

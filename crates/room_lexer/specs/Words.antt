@@ -24,6 +24,7 @@ spelling_of words.Attribute = codes "Attribute"
 spelling_of words.True = codes "true"
 spelling_of words.False = codes "false"
 spelling_of words.ActorClass = codes "ActorClass"
+spelling_of words.Extends = codes "extends"
 spelling_of words.Interface = codes "Interface"
 spelling_of words.Spp = codes "SPP"
 spelling_of words.Structure = codes "Structure"
@@ -65,6 +66,8 @@ spelling_of words.Guard = codes "guard"
 spelling_of words.Initial = codes "initial"
 spelling_of words.Cp = codes "cp"
 spelling_of words.My = codes "my"
+spelling_of words.RefinedState = codes "RefinedState"
+spelling_of words.RefinedTransition = codes "RefinedTransition"
 
 -- the text spells this word, or no word
 abbrev pub Spells : Option Word → List ℕ → Type 0
@@ -79,15 +82,16 @@ words_with n =
     if n == 4 then words.From ∷ words.True ∷ words.Port ∷ words.Exit ∷ words.Cond ∷ [] else
     if n == 5 then words.False ∷ words.Fixed ∷ words.State ∷ words.Entry ∷ words.Guard ∷ [] else
     if n == 6 then words.Import ∷ words.Action ∷ [] else
-    if n == 7 then words.Message ∷ words.Binding ∷ words.Initial ∷ [] else
+    if n == 7 then words.Extends ∷ words.Message ∷ words.Binding ∷ words.Initial ∷ [] else
     if n == 8 then words.Incoming ∷ words.Outgoing ∷ words.Behavior ∷ words.External ∷ words.Optional ∷ words.Imported ∷ words.ActorRef ∷ words.Usercode ∷ words.Subgraph ∷ words.Triggers ∷ [] else
     if n == 9 then words.RoomModel ∷ words.DataClass ∷ words.Attribute ∷ words.Interface ∷ words.Structure ∷ words.Usercode1 ∷ words.Usercode2 ∷ words.Usercode3 ∷ words.ExitPoint ∷ [] else
     if n == 10 then words.ActorClass ∷ words.Conjugated ∷ words.EntryPoint ∷ words.Transition ∷ [] else
     if n == 11 then words.EventDriven ∷ words.ChoicePoint ∷ [] else
-    if n == 12 then words.SubSystemRef ∷ words.StateMachine ∷ words.SatisfiedBy ∷ [] else
+    if n == 12 then words.SubSystemRef ∷ words.StateMachine ∷ words.SatisfiedBy ∷ words.RefinedState ∷ [] else
     if n == 13 then words.LogicalSystem ∷ words.LogicalThread ∷ words.ProtocolClass ∷ [] else
     if n == 14 then words.SubSystemClass ∷ [] else
     if n == 15 then words.LayerConnection ∷ words.TransitionPoint ∷ [] else
+    if n == 17 then words.RefinedTransition ∷ [] else
     if n == 20 then words.ActorInstanceMapping ∷ [] else
     if n == 21 then words.ServiceImplementation ∷ [] else
     []

@@ -23,6 +23,7 @@ pub enum Word {
     True,
     False,
     ActorClass,
+    Extends,
     Interface,
     Spp,
     Structure,
@@ -64,6 +65,8 @@ pub enum Word {
     Initial,
     Cp,
     My,
+    RefinedState,
+    RefinedTransition,
 }
 
 static TWO: [Word; 4] = [Word::Of, Word::Or, Word::Cp, Word::My];
@@ -82,7 +85,7 @@ static FIVE: [Word; 5] = [
 
 static SIX: [Word; 2] = [Word::Import, Word::Action];
 
-static SEVEN: [Word; 3] = [Word::Message, Word::Binding, Word::Initial];
+static SEVEN: [Word; 4] = [Word::Extends, Word::Message, Word::Binding, Word::Initial];
 
 static EIGHT: [Word; 10] = [
     Word::Incoming,
@@ -118,7 +121,12 @@ static TEN: [Word; 4] = [
 
 static ELEVEN: [Word; 2] = [Word::EventDriven, Word::ChoicePoint];
 
-static TWELVE: [Word; 3] = [Word::SubSystemRef, Word::StateMachine, Word::SatisfiedBy];
+static TWELVE: [Word; 4] = [
+    Word::SubSystemRef,
+    Word::StateMachine,
+    Word::SatisfiedBy,
+    Word::RefinedState,
+];
 
 static THIRTEEN: [Word; 3] = [
     Word::LogicalSystem,
@@ -129,6 +137,8 @@ static THIRTEEN: [Word; 3] = [
 static FOURTEEN: [Word; 1] = [Word::SubSystemClass];
 
 static FIFTEEN: [Word; 2] = [Word::LayerConnection, Word::TransitionPoint];
+
+static SEVENTEEN: [Word; 1] = [Word::RefinedTransition];
 
 static TWENTY: [Word; 1] = [Word::ActorInstanceMapping];
 
@@ -157,6 +167,7 @@ pub fn spelling(word: Word) -> &'static [u8]
         Word::True => b"true",
         Word::False => b"false",
         Word::ActorClass => b"ActorClass",
+        Word::Extends => b"extends",
         Word::Interface => b"Interface",
         Word::Spp => b"SPP",
         Word::Structure => b"Structure",
@@ -198,6 +209,8 @@ pub fn spelling(word: Word) -> &'static [u8]
         Word::Initial => b"initial",
         Word::Cp => b"cp",
         Word::My => b"my",
+        Word::RefinedState => b"RefinedState",
+        Word::RefinedTransition => b"RefinedTransition",
     }
 }
 
@@ -221,6 +234,7 @@ pub fn words_with(len: usize) -> &'static [Word]
         13 => &THIRTEEN,
         14 => &FOURTEEN,
         15 => &FIFTEEN,
+        17 => &SEVENTEEN,
         20 => &TWENTY,
         21 => &TWENTY_ONE,
         _ => &[],

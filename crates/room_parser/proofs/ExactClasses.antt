@@ -6,7 +6,7 @@ use Rattle.room_lexer.specs.declared.word.Word.TheVariants as words
 use Rattle.room_kinds.specs.declared.structure.ReferenceKind.{ReferenceKind}
 use Rattle.room_kinds.specs.declared.structure.ReferenceKind.TheVariants as kinds
 use Rattle.room_ast.specs.Values.{TokenValue, AWord, AName, AMark}
-use Rattle.room_ast.specs.Tokens.{each, maybe, word_if, ref_kind, section, import_tokens, interface_item, interface, structure_item, structure, machine, behavior, actor_class, class_tokens, model_tokens}
+use Rattle.room_ast.specs.Tokens.{each, maybe, word_if, ref_kind, section, import_tokens, interface_item, interface, structure_item, structure, machine, behavior, extends, actor_class, class_tokens, model_tokens}
 use Rattle.room_ast.specs.Trees.{BehaviorTree, ActorTree, ClassTree, ASystem, ASubsystem, AnActor, AProtocol, AData, ModelTree}
 use Rattle.room_ast.specs.declared.actor.InterfaceItem.{InterfaceItem}
 use Rattle.room_ast.specs.declared.actor.InterfaceItem.TheVariants as interfaces
@@ -32,7 +32,7 @@ use Rattle.structure_parser.proofs.ExactPorts.{port_exact, external_port_exact, 
 use Rattle.structure_parser.proofs.ExactReferences.{actor_ref_exact, binding_exact, layer_exact}
 use Rattle.structure_parser.proofs.ExactSubsystems.{subsystem_exact, system_exact}
 use Rattle.room_parser.proofs.chart_parser.ExactGraphs.{machine_exact}
-use Rattle.room_parser.specs.Classes.{interface_item_from, interface_item_at, interface_at, structure_item_from, structure_item_at, structure_at, behavior_at, actor_at, event_driven_from, event_driven_at, class_from, class_at, model_at, model}
+use Rattle.room_parser.specs.Classes.{interface_item_from, interface_item_at, interface_at, structure_item_from, structure_item_at, structure_at, behavior_at, extends_at, actor_at, event_driven_from, event_driven_at, class_from, class_at, model_at, model}
 
 -- ---- interfaces
 
@@ -179,17 +179,22 @@ unfolding comes_word
 no_structure None rest = refl
 no_structure (Some b) rest = refl
 
+extends_exact : Exact extends_at extends Anything
+unfolding extends_at
+extends_exact = Exact-behind (word_exact words.Extends) name_exact
+
 actor_exact : Exact actor_at actor_class Anything
 unfolding actor_at comes_word
 actor_exact =
-    Exact-as _ (λ a. (a.event_driven, (a.name, (a.interface, (a.structure, a.behavior))))) actor_class
+    Exact-as _ (λ a. (a.event_driven, (a.name, (a.base, (a.interface, (a.structure, a.behavior)))))) actor_class
     (Exact-⊕ (Exact-flag (comes_word words.EventDriven) (word_if words.EventDriven) (word_exact words.EventDriven) refl refl (λ rest. refl))
-    (Exact-behind (word_exact words.ActorClass) (Exact-then name_exact (Exact-behind (mark_exact marks.OpenBrace)
+    (Exact-behind (word_exact words.ActorClass) (Exact-then name_exact (Exact-⊕ (Exact-maybe (comes_word words.Extends) extends_exact (λ n rest. refl)) (Exact-behind (mark_exact marks.OpenBrace)
     (Exact-⊕ (Exact-maybe (comes_word words.Interface) interface_exact (λ i rest. refl))
     (Exact-⊕ (Exact-maybe (comes_word words.Structure) structure_exact (λ s rest. refl))
     (Exact-before (Exact-maybe (comes_word words.Behavior) behavior_exact (λ b rest. refl)) (mark_exact marks.CloseBrace) (λ rest. (refl, tt)))
     (λ b rest any. (no_structure b rest, tt)))
-    (λ y rest any. (no_interface y.0 y.1 rest, tt))))))
+    (λ y rest any. (no_interface y.0 y.1 rest, tt))))
+    (λ y rest any. (refl, tt)))))
     (λ y rest any. (refl, tt))) (λ x. refl) (λ y. refl)
 
 -- ---- classes

@@ -66,12 +66,16 @@ structure_at = word words.Structure ▹ braces_at structure_item_at
 unfoldable pub behavior_at : Reader TokenValue BehaviorTree
 behavior_at = reads_as (λ x. record { machine = x }) (word words.Behavior ▹ mark marks.OpenBrace ▹ optional (comes_word words.StateMachine) machine_at ◃ mark marks.CloseBrace)
 
--- [ "eventdriven" ] "ActorClass" name "{" [ interface ] [ structure ] [ behavior ] "}"
+-- "extends" name
+unfoldable pub extends_at : Reader TokenValue (List ℕ)
+extends_at = word words.Extends ▹ name_at
+
+-- [ "eventdriven" ] "ActorClass" name [ extends ] "{" [ interface ] [ structure ] [ behavior ] "}"
 unfoldable pub actor_at : Reader TokenValue ActorTree
 actor_at =
-    reads_as (λ x. record { event_driven = x.0; name = x.1.0; interface = x.1.1.0; structure = x.1.1.1.0; behavior = x.1.1.1.1 })
-    (flag (comes_word words.EventDriven) (word words.EventDriven) ⊕ word words.ActorClass ▹ name_at ⊕ mark marks.OpenBrace ▹ optional (comes_word words.Interface) interface_at
-    ⊕ optional (comes_word words.Structure) structure_at ⊕ optional (comes_word words.Behavior) behavior_at ◃ mark marks.CloseBrace)
+    reads_as (λ x. record { event_driven = x.0; name = x.1.0; base = x.1.1.0; interface = x.1.1.1.0; structure = x.1.1.1.1.0; behavior = x.1.1.1.1.1 })
+    (flag (comes_word words.EventDriven) (word words.EventDriven) ⊕ word words.ActorClass ▹ name_at ⊕ optional (comes_word words.Extends) extends_at
+    ⊕ mark marks.OpenBrace ▹ optional (comes_word words.Interface) interface_at ⊕ optional (comes_word words.Structure) structure_at ⊕ optional (comes_word words.Behavior) behavior_at ◃ mark marks.CloseBrace)
 
 -- ---- the model
 

@@ -6,10 +6,10 @@ ghost use Rattle.room_ast.specs.Trees.{behavior_view, actor_view};
 ghost use Rattle.token_reading.specs.Reader.{Gives, optional};
 ghost use Rattle.token_reading.specs.Single.{left, comes_word as comes_word_at, before_close as before_close_at};
 ghost use Rattle.room_parser.specs.chart_parser.Graphs.{machine_at};
-ghost use Rattle.room_parser.specs.Classes.{interface_item_at, interface_at, structure_item_at, structure_at, behavior_at, actor_at};
+ghost use Rattle.room_parser.specs.Classes.{interface_item_at, interface_at, structure_item_at, structure_at, behavior_at, extends_at, actor_at};
 
 use crate::chart_parser::state_machine;
-use room_ast::{ActorClass, Behavior, InterfaceItem, StateMachine, StructureItem};
+use room_ast::{ActorClass, Behavior, InterfaceItem, Name, StateMachine, StructureItem};
 use room_kinds::Sequence;
 use room_lexer::{Mark, Word};
 use std::alloc::Global;
@@ -193,7 +193,21 @@ fn behavior_if<'a>(alloc: Global, rest: Rest<'a>) -> Result<(Option<Behavior>, R
     Ok((Some(found), rest))
 }
 
-/// `eventdriven`, which may be missing, `ActorClass` name `{` interface, structure, behavior `}`
+/// `extends` and the name of the base, if they come
+#[tactic(auto, unfolding(crate::specs::Classes::extends_at, token_reading::specs::Reader::optional))]
+fn base_if<'a>(alloc: Global, rest: Rest<'a>) -> Result<(Option<Name>, Rest<'a>), ReadFault>
+    ensures { Gives (λ x. (x.0, left x.1)) result (optional (comes_word_at words.Extends) extends_at (left rest.entry)) }
+{
+    if !comes_word(rest, Word::Extends) {
+        return Ok((None, rest));
+    }
+    let rest = take_word(rest, Word::Extends)?;
+    let (base, rest) = token_reading::name(alloc, rest)?;
+    Ok((Some(base), rest))
+}
+
+/// `eventdriven`, which may be missing, `ActorClass` name, `extends` base, which may be missing, and
+/// `{` interface, structure, behavior `}`
 #[tactic(auto, unfolding(crate::specs::Classes::actor_at))]
 pub fn actor_class<'a>(alloc: Global, rest: Rest<'a>) -> Result<(ActorClass, Rest<'a>), ReadFault>
     ensures { Gives (λ x. (actor_view x.0, left x.1)) result (actor_at (left rest.entry)) }
@@ -201,6 +215,7 @@ pub fn actor_class<'a>(alloc: Global, rest: Rest<'a>) -> Result<(ActorClass, Res
     let (event_driven, rest) = word_if(rest, Word::EventDriven)?;
     let rest = take_word(rest, Word::ActorClass)?;
     let (name, rest) = token_reading::name(alloc, rest)?;
+    let (base, rest) = base_if(alloc, rest)?;
     let rest = take_mark(rest, Mark::OpenBrace)?;
     let (interface, rest) = interface_if(alloc, rest)?;
     let (structure, rest) = structure_if(alloc, rest)?;
@@ -210,6 +225,7 @@ pub fn actor_class<'a>(alloc: Global, rest: Rest<'a>) -> Result<(ActorClass, Res
         ActorClass {
             event_driven,
             name,
+            base,
             interface,
             structure,
             behavior,

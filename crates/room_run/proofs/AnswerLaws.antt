@@ -17,9 +17,11 @@ use Rattle.room_wiring.specs.declared.tables.Tables.{Tables}
 use Rattle.inject_reader.specs.declared.inject_lines.accepted.Line.{Line}
 use Rattle.controller_actors.specs.declared.plant.Plant.{Plant}
 use Rattle.made_model.specs.Texts.{model_text, injections_text}
+use Rattle.room_inherit.specs.Flat.{flat}
+use Rattle.room_inherit.specs.Rules.{lowest_broken}
 use Rattle.room_run.specs.Words.{Files, Asked, Check, Tree, Run, Made, asked_by}
 use Rattle.room_run.specs.MadeShelf.{made_files, made_shelf}
-use Rattle.room_run.specs.Models.{most_bytes, HasTokens, HasTree, IsSound, IsModel, IsUncut, HasNoTree, BreaksRule, HasBadWiring, HasBadChart, SoundCauses, uncut, no_tree, breaks_rule, bad_wiring, bad_chart, no_memory}
+use Rattle.room_run.specs.Models.{most_bytes, HasTokens, IsWritten, HasTree, IsSound, IsModel, IsUncut, HasNoTree, BreaksBaseRule, BreaksRule, HasBadWiring, HasBadChart, SoundCauses, uncut, no_tree, breaks_base_rule, breaks_rule, bad_wiring, bad_chart, no_memory}
 use Rattle.room_run.specs.Causes.{IsInjections, HasBadLine, TextIs, AreOf, model_unread, model_long, model_no_memory, ModelCauses, no_text, model_refused, LinesCauses, faulty_line, no_memory_for_lines, InjectionsCauses, injections_unread, injections_long, injections_refused, injections_no_memory, RunCauses, of_model, of_injections, run_no_memory, Causes, no_such_words, of_check, of_tree, of_run, of_made, status_of}
 use Rattle.binding_expand.specs.tree_text.Text.{tree_text}
 use Rattle.room_run.specs.Outcome.{accepted, Answers, says_ok, says_tree, says_run, says_made, status_of_run, whole, cut_short, refused, refused_unheard}
@@ -37,15 +39,32 @@ use Rattle.room_run.proofs.OneCut.{not_both_cut, one_fault, one_cut}
 same_tokens : (text : List ℕ) (a b : List Token) → HasTokens text a → HasTokens text b → a ≡ b
 same_tokens text a b h k = h.placed ∙ one_cut text h.pieces k.pieces h.cut k.cut ∙ sym k.placed
 
-same_tree : (text : List ℕ) (a b : ModelTree) → HasTree text a → HasTree text b → a ≡ b
-same_tree text a b h k =
+same_written : (text : List ℕ) (a b : ModelTree) → IsWritten text a → IsWritten text b → a ≡ b
+same_written text a b h k =
     same_tokens_same_model a b (h.spelled ∙ ap (values text) (same_tokens text h.tokens k.tokens h.cut k.cut) ∙ sym k.spelled)
+
+same_tree : (text : List ℕ) (a b : ModelTree) → HasTree text a → HasTree text b → a ≡ b
+same_tree text a b h k = h.flat_is ∙ ap flat (same_written text h.written k.written h.is k.is) ∙ sym k.flat_is
 
 no_tokens : (text : List ℕ) (offset : ℕ) (ts : List Token) → IsUncut text offset → HasTokens text ts → ⊥
 no_tokens text offset ts h k = not_both_cut text h.cause offset k.pieces h.fails h.within k.cut
 
+not_written : (text : List ℕ) (written : ModelTree) → HasNoTree text → IsWritten text written → ⊥
+not_written text written h k = h.none written (k.spelled ∙ ap (values text) (same_tokens text k.tokens h.tokens k.cut h.cut))
+
 no_such_tree : (text : List ℕ) (tree : ModelTree) → HasNoTree text → HasTree text tree → ⊥
-no_such_tree text tree h k = h.none tree (k.spelled ∙ ap (values text) (same_tokens text k.tokens h.tokens k.cut h.cut))
+no_such_tree text tree h k = not_written text k.written h k.is
+
+-- a text that breaks a rule on bases has no tree
+no_flat_tree : (text : List ℕ) (rule : ℕ) (tree : ModelTree) → BreaksBaseRule text rule → HasTree text tree → ⊥
+no_flat_tree text rule tree h k =
+    let kept = subst (λ (z : ModelTree). lowest_broken z ≡ None) (same_written text k.written h.written k.is h.is) k.allowed in
+    let both : ◌≡◌ {A = Option ℕ} (Some rule) None = sym h.lowest ∙ kept in absurd cc
+
+same_base_rule : (text : List ℕ) (a b : ℕ) → BreaksBaseRule text a → BreaksBaseRule text b → a ≡ b
+same_base_rule text a b h k =
+    let other = subst (λ (z : ModelTree). lowest_broken z ≡ Some b) (same_written text k.written h.written k.is h.is) k.lowest in
+    let both : ◌≡◌ {A = Option ℕ} (Some a) (Some b) = sym h.lowest ∙ other in cc
 
 none_broken : (rs : List Rule) (m : ModelTree) (n : ℕ) → first_broken rs m ≡ None → IsBroken rs m n → ⊥
 none_broken [] m n e h = h
@@ -101,22 +120,35 @@ module _ (text : List ℕ) where
   one_byte offset h _ (uncut place k) =
       is_one (faults.Byte offset) (faults.Byte place) (ap (λ (n : ℕ). faults.Byte n) (one_fault text h.cause k.cause offset place h.fails h.within k.fails k.within))
   one_byte offset h _ (no_tree line k) = absurd (no_tokens text offset k.tokens h k.cut)
-  one_byte offset h _ (breaks_rule rule k) = absurd (no_tokens text offset k.read.tokens h k.read.cut)
-  one_byte offset h _ (bad_wiring n k) = absurd (no_tokens text offset k.read.tokens h k.read.cut)
-  one_byte offset h _ (bad_chart class n k) = absurd (no_tokens text offset k.read.tokens h k.read.cut)
+  one_byte offset h _ (breaks_base_rule rule k) = absurd (no_tokens text offset k.is.tokens h k.is.cut)
+  one_byte offset h _ (breaks_rule rule k) = absurd (no_tokens text offset k.read.is.tokens h k.read.is.cut)
+  one_byte offset h _ (bad_wiring n k) = absurd (no_tokens text offset k.read.is.tokens h k.read.is.cut)
+  one_byte offset h _ (bad_chart class n k) = absurd (no_tokens text offset k.read.is.tokens h k.read.is.cut)
   one_byte offset h _ no_memory = inr (inl refl)
 
   one_syntax : (line : ℕ) → HasNoTree text → (g : ModelFault) → SoundCauses text g → OneFault (faults.Syntax line) g
   one_syntax line h _ (uncut place k) = absurd (no_tokens text place h.tokens k h.cut)
   one_syntax line h _ (no_tree other k) = inr (inr (inr ((line, refl), (other, refl))))
+  one_syntax line h _ (breaks_base_rule rule k) = absurd (not_written text k.written h k.is)
   one_syntax line h _ (breaks_rule rule k) = absurd (no_such_tree text k.tree h k.read)
   one_syntax line h _ (bad_wiring n k) = absurd (no_such_tree text k.tree h k.read)
   one_syntax line h _ (bad_chart class n k) = absurd (no_such_tree text k.tree h k.read)
   one_syntax line h _ no_memory = inr (inl refl)
 
+  one_base_rule : (rule : ℕ) → BreaksBaseRule text rule → (g : ModelFault) → SoundCauses text g → OneFault (faults.Rule rule) g
+  one_base_rule rule h _ (uncut place k) = absurd (no_tokens text place h.is.tokens k h.is.cut)
+  one_base_rule rule h _ (no_tree other k) = absurd (not_written text h.written k h.is)
+  one_base_rule rule h _ (breaks_base_rule other k) =
+      is_one (faults.Rule rule) (faults.Rule other) (ap (λ (n : ℕ). faults.Rule n) (same_base_rule text rule other h k))
+  one_base_rule rule h _ (breaks_rule other k) = absurd (no_flat_tree text rule k.tree h k.read)
+  one_base_rule rule h _ (bad_wiring n k) = absurd (no_flat_tree text rule k.tree h k.read)
+  one_base_rule rule h _ (bad_chart class n k) = absurd (no_flat_tree text rule k.tree h k.read)
+  one_base_rule rule h _ no_memory = inr (inl refl)
+
   one_rule : (rule : ℕ) → BreaksRule text rule → (g : ModelFault) → SoundCauses text g → OneFault (faults.Rule rule) g
-  one_rule rule h _ (uncut place k) = absurd (no_tokens text place h.read.tokens k h.read.cut)
+  one_rule rule h _ (uncut place k) = absurd (no_tokens text place h.read.is.tokens k h.read.is.cut)
   one_rule rule h _ (no_tree other k) = absurd (no_such_tree text h.tree k h.read)
+  one_rule rule h _ (breaks_base_rule other k) = absurd (no_flat_tree text other h.tree k h.read)
   one_rule rule h _ (breaks_rule other k) =
       is_one (faults.Rule rule) (faults.Rule other) (ap (λ (n : ℕ). faults.Rule n) (same_rule text rule other h k))
   one_rule rule h _ (bad_wiring n k) = absurd (breaks_none text rule k.tree h k.read k.keeps)
@@ -124,8 +156,9 @@ module _ (text : List ℕ) where
   one_rule rule h _ no_memory = inr (inl refl)
 
   one_wiring : (n : ℕ) → HasBadWiring text n → (g : ModelFault) → SoundCauses text g → OneFault (faults.Wiring n) g
-  one_wiring n h _ (uncut place k) = absurd (no_tokens text place h.read.tokens k h.read.cut)
+  one_wiring n h _ (uncut place k) = absurd (no_tokens text place h.read.is.tokens k h.read.is.cut)
   one_wiring n h _ (no_tree other k) = absurd (no_such_tree text h.tree k h.read)
+  one_wiring n h _ (breaks_base_rule rule k) = absurd (no_flat_tree text rule h.tree k h.read)
   one_wiring n h _ (breaks_rule rule k) = absurd (breaks_none text rule h.tree k h.read h.keeps)
   one_wiring n h _ (bad_wiring other k) =
       is_one (faults.Wiring n) (faults.Wiring other) (ap (λ (z : ℕ). faults.Wiring z) (same_wiring_fault text n other h k))
@@ -134,8 +167,9 @@ module _ (text : List ℕ) where
 
   one_chart : (class : List ℕ) (n : ℕ) → HasBadChart text class n → (g : ModelFault) → SoundCauses text g
       → OneFault (faults.Chart class n) g
-  one_chart class n h _ (uncut place k) = absurd (no_tokens text place h.read.tokens k h.read.cut)
+  one_chart class n h _ (uncut place k) = absurd (no_tokens text place h.read.is.tokens k h.read.is.cut)
   one_chart class n h _ (no_tree other k) = absurd (no_such_tree text h.tree k h.read)
+  one_chart class n h _ (breaks_base_rule rule k) = absurd (no_flat_tree text rule h.tree k h.read)
   one_chart class n h _ (breaks_rule rule k) = absurd (breaks_none text rule h.tree k h.read h.keeps)
   one_chart class n h _ (bad_wiring other k) = absurd (wired_well text other h.tree k h.read h.wired.flawless)
   one_chart class n h _ (bad_chart other m k) =
@@ -147,6 +181,7 @@ module _ (text : List ℕ) where
   one_model_fault : (f g : ModelFault) → SoundCauses text f → SoundCauses text g → OneFault f g
   one_model_fault _ g (uncut offset h) k = one_byte offset h g k
   one_model_fault _ g (no_tree line h) k = one_syntax line h g k
+  one_model_fault _ g (breaks_base_rule rule h) k = one_base_rule rule h g k
   one_model_fault _ g (breaks_rule rule h) k = one_rule rule h g k
   one_model_fault _ g (bad_wiring n h) k = one_wiring n h g k
   one_model_fault _ g (bad_chart class n h) k = one_chart class n h g k
@@ -154,8 +189,9 @@ module _ (text : List ℕ) where
 
   -- a text with a fault but want of memory isn't that of a sound model
   sound_has_none : (wiring : Tables) → IsSound text wiring → (f : ModelFault) → SoundCauses text f → f ≡ faults.Memory
-  sound_has_none wiring s _ (uncut place k) = absurd (no_tokens text place s.is.read.tokens k s.is.read.cut)
+  sound_has_none wiring s _ (uncut place k) = absurd (no_tokens text place s.is.read.is.tokens k s.is.read.is.cut)
   sound_has_none wiring s _ (no_tree other k) = absurd (no_such_tree text s.is.tree k s.is.read)
+  sound_has_none wiring s _ (breaks_base_rule rule k) = absurd (no_flat_tree text rule s.is.tree k s.is.read)
   sound_has_none wiring s _ (breaks_rule rule k) = absurd (breaks_none text rule s.is.tree k s.is.read s.is.sound.keeps)
   sound_has_none wiring s _ (bad_wiring n k) = absurd (wired_well text n s.is.tree k s.is.read s.is.sound.wired.flawless)
   sound_has_none wiring s _ (bad_chart class n k) =
@@ -167,6 +203,7 @@ module _ (text : List ℕ) where
   short_unless : (f : ModelFault) → SoundCauses text f → (f ≡ faults.Memory) ⊎ (length text ≤ most_bytes)
   short_unless _ (uncut place k) = inr k.short
   short_unless _ (no_tree other k) = inr k.short
+  short_unless _ (breaks_base_rule rule k) = inr k.short
   short_unless _ (breaks_rule rule k) = inr k.short
   short_unless _ (bad_wiring n k) = inr k.short
   short_unless _ (bad_chart class n k) = inr k.short

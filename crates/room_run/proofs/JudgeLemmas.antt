@@ -7,6 +7,13 @@ use Rattle.room_lexer.specs.declared.piece.Cause.TheVariants.{BadByte, OpenStrin
 use Rattle.room_lexer.specs.declared.fault.LexFault.{LexFault}
 use Rattle.room_lexer.specs.declared.token.Token.{Token}
 use Rattle.room_ast.specs.Trees.{ModelTree}
+use Rattle.room_ast.specs.Tokens.{model_tokens}
+use Rattle.room_inherit.specs.Flat.{flat}
+use Rattle.room_inherit.specs.Flattening.{IsFlattened}
+use Rattle.room_inherit.specs.Rules.{lowest_broken}
+use Rattle.room_inherit.specs.declared.fault.InheritFault.{InheritFault}
+use Rattle.room_inherit.specs.declared.fault.InheritFault.TheVariants as bases
+use Rattle.room_inherit.proofs.NamesLaw.{names_stay}
 use Rattle.token_reading.specs.Single.{values}
 use Rattle.token_reading.specs.token_names.Names.{HasNames}
 use Rattle.token_reading.proofs.token_names.NamesLaw.{named as tokens_named}
@@ -39,8 +46,8 @@ use Rattle.binding_expand.specs.Faults.{number}
 use Rattle.binding_expand.specs.declared.fault.WiringFault.{WiringFault}
 use Rattle.binding_expand.specs.declared.fault.WiringFault.TheVariants as wiring_faults
 use Rattle.room_run.proofs.OneCut.{fails_within}
-use Rattle.room_run.specs.Models.{most_bytes, IsSoundTree, IsSoundText, IsGoodWiring, SoundCauses, uncut, no_tree, breaks_rule, bad_wiring, bad_chart, no_memory}
-use Rattle.room_run.specs.Reading.{HasItsTokens, HasItsTree, ChartCauses, first_faulty, no_memory_for_charts, TreeCauses, breaks, miswired, faulty, no_memory_for_tree, fault_of}
+use Rattle.room_run.specs.Models.{most_bytes, IsSoundTree, IsSoundText, IsGoodWiring, SoundCauses, uncut, no_tree, breaks_base_rule, breaks_rule, bad_wiring, bad_chart, no_memory}
+use Rattle.room_run.specs.Reading.{HasItsTokens, IsWrittenOnce, HasItsTree, ChartCauses, first_faulty, no_memory_for_charts, TreeCauses, breaks, miswired, faulty, no_memory_for_tree, fault_of}
 use Rattle.room_run.specs.declared.model_fault.ModelFault.{ModelFault}
 use Rattle.room_run.specs.declared.model_fault.ModelFault.TheVariants as faults
 
@@ -75,13 +82,28 @@ cut_fails text cause offset e short is read fails =
 
 -- ---- the tree
 
--- the one tree of the tokens is the one of the text
-pub tree_found : (text : List ℕ) (tokens : List Token) (tree : ModelTree) → HasItsTokens text tokens → IsOnlyModel (values text tokens) tree → HasItsTree text tree
+-- the one tree of the tokens is what is written in the text
+pub tree_found : (text : List ℕ) (tokens : List Token) (tree : ModelTree) → HasItsTokens text tokens → IsOnlyModel (values text tokens) tree → IsWrittenOnce text tree
 tree_found text tokens tree h one = record {
-  has = record { tokens = tokens; cut = h.has; spelled = one.tokens };
+  is = record { tokens = tokens; cut = h.has; spelled = one.tokens };
   only = λ other k. one.only other (k.spelled ∙ ap (values text) (h.only k.tokens k.cut));
   names = subst HasNames (sym one.tokens) h.names;
 }
+
+-- what is written in the text has one tree without bases
+pub tree_flat : (text : List ℕ) (written tree : ModelTree) → IsWrittenOnce text written → lowest_broken written ≡ None → tree ≡ flat written → HasItsTree text tree
+tree_flat text written tree h allowed is = record {
+  has = record { written = written; is = h.is; allowed = allowed; flat_is = is };
+  only = λ other k. k.flat_is ∙ ap flat (h.only k.written k.is) ∙ sym is;
+  names = subst (λ (m : ModelTree). HasNames (model_tokens m)) (sym is) (names_stay written h.names);
+}
+
+-- the lowest rule on bases that is broken was told
+pub base_rule_told : (text : List ℕ) (written : ModelTree) (rule : ℕ) (e : InheritFault) → length text ≤ most_bytes → IsWrittenOnce text written → IsFlattened written (Err e) → e ≡ bases.Rule rule → SoundCauses text (faults.Rule rule)
+base_rule_told text written rule (bases.Rule n) short h told is =
+    let same : n ≡ rule = cc in
+    breaks_base_rule rule (record { short = short; written = written; is = h.is; lowest = subst (λ k. lowest_broken written ≡ Some k) same told })
+base_rule_told text written rule bases.Memory short h told is = absurd cc
 
 parsed_none : (ts : List TokenValue) (line : ℕ) (e : ParseFault) → IsParsed ts (Err e) → e ≡ parsing.Syntax line → HasNoModel ts
 parsed_none ts line (parsing.Syntax other) h is = h

@@ -1,3 +1,4 @@
+pub mod Names
 pub mod OneCut
 pub mod AnswerLaws
 pub mod settled

@@ -1,7 +1,8 @@
 -- Which texts are those of models that keep all rules and whose wiring and charts have no fault, as what they run, and why others don't.
 -- `IsModel`: the text is that of a model which runs as this plant. It is short enough, it has
--- tokens, a tree has their values, the tree keeps all rules, it has a wiring without a fault and
--- charts; and the plant has its wiring, and for each actor class the tables that show its chart.
+-- tokens, a tree has their values and breaks none of the rules on bases; with its bases' parts in each
+-- actor class, the tree keeps all other rules, it has a wiring without a fault and charts; and the plant
+-- has its wiring, and for each actor class the tables that show its chart.
 use Rattle.std.specs.Prelude.{◌≡◌, ℕ, ◌<◌, ◌≤◌, List, [], length, Option, Some, None}
 use Rattle.room_lexer.specs.Cut.{Piece, CutTo, placed, FailsAt}
 use Rattle.room_lexer.specs.declared.piece.Cause.{Cause}
@@ -10,6 +11,8 @@ use Rattle.room_ast.specs.Trees.{ModelTree}
 use Rattle.room_ast.specs.Tokens.{model_tokens}
 use Rattle.token_reading.specs.Single.{values}
 use Rattle.room_parser.specs.Parsed.{HasNoModel}
+use Rattle.room_inherit.specs.Flat.{flat}
+use Rattle.room_inherit.specs.Rules.{lowest_broken}
 use Rattle.structure_check.specs.Rules.{first_broken, IsLowest}
 use Rattle.structure_check.specs.List.{all_rules}
 use Rattle.chart_model.specs.Chart.{Chart}
@@ -33,11 +36,19 @@ pub record HasTokens (text : List ℕ) (tokens : List Token) : Type 0 where
   pub cut : CutTo text pieces []
   pub placed : tokens ≡ placed 0 pieces
 
--- the tokens of the text have the values of this tree
-pub record HasTree (text : List ℕ) (tree : ModelTree) : Type 0 where
+-- the text is written so: its tokens have the values of this tree
+pub record IsWritten (text : List ℕ) (written : ModelTree) : Type 0 where
   pub tokens : List Token
   pub cut : HasTokens text tokens
-  pub spelled : model_tokens tree ≡ values text tokens
+  pub spelled : model_tokens written ≡ values text tokens
+
+-- the tree of the text: what is written breaks none of the rules on bases, and this is the same with each
+-- actor class replaced by its flat one, which has all that it has from its bases
+pub record HasTree (text : List ℕ) (tree : ModelTree) : Type 0 where
+  pub written : ModelTree
+  pub is : IsWritten text written
+  pub allowed : lowest_broken written ≡ None
+  pub flat_is : tree ≡ flat written
 
 -- this is the wiring of this model, which has no fault
 pub record IsGoodWiring (tree : ModelTree) (wiring : Tables) : Type 0 where
@@ -82,6 +93,14 @@ pub record HasNoTree (text : List ℕ) : Type 0 where
   pub cut : HasTokens text tokens
   pub none : HasNoModel (values text tokens)
 
+-- what is written breaks the rule on bases of this number, and none of a lower one; these rules, from 26 on,
+-- are told before all others
+pub record BreaksBaseRule (text : List ℕ) (rule : ℕ) : Type 0 where
+  pub short : length text ≤ most_bytes
+  pub written : ModelTree
+  pub is : IsWritten text written
+  pub lowest : lowest_broken written ≡ Some rule
+
 -- the text has a tree that breaks the rule of this number, and none of a lower one
 pub record BreaksRule (text : List ℕ) (rule : ℕ) : Type 0 where
   pub short : length text ≤ most_bytes
@@ -110,11 +129,12 @@ pub record HasBadChart (text : List ℕ) (class : List ℕ) (number : ℕ) : Typ
   pub first : HasFaultyChart tree class number
 
 -- Why a text may be refused as that of a model which keeps all rules and whose wiring and charts have
--- no fault. The order is: the cut, the tree, the rules in order of their numbers, the wiring,
--- the charts of the actor classes in order of declaration.
+-- no fault. The order is: the cut, the tree, the rules on bases, the other rules, each in order of their
+-- numbers, the wiring, the charts of the actor classes in order of declaration.
 pub data SoundCauses (text : List ℕ) : ModelFault → Type 0 where
   uncut : (offset : ℕ) → IsUncut text offset → SoundCauses text (faults.Byte offset)
   no_tree : (line : ℕ) → HasNoTree text → SoundCauses text (faults.Syntax line)
+  breaks_base_rule : (rule : ℕ) → BreaksBaseRule text rule → SoundCauses text (faults.Rule rule)
   breaks_rule : (rule : ℕ) → BreaksRule text rule → SoundCauses text (faults.Rule rule)
   bad_wiring : (number : ℕ) → HasBadWiring text number → SoundCauses text (faults.Wiring number)
   bad_chart : (class : List ℕ) (number : ℕ) → HasBadChart text class number → SoundCauses text (faults.Chart class number)

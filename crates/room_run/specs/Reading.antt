@@ -14,7 +14,7 @@ use Rattle.binding_expand.specs.Faults.{IsLowestFault, number}
 use Rattle.binding_expand.specs.declared.fault.WiringFault.{WiringFault}
 use Rattle.binding_expand.specs.declared.fault.WiringFault.TheVariants as wiring_faults
 use Rattle.chart_reader.specs.model_charts.Charts.{HasFaultyChart}
-use Rattle.room_run.specs.Models.{HasTokens, HasTree, IsGoodWiring}
+use Rattle.room_run.specs.Models.{HasTokens, IsWritten, HasTree, IsGoodWiring}
 use Rattle.room_run.specs.declared.model_fault.ModelFault.{ModelFault}
 use Rattle.room_run.specs.declared.model_fault.ModelFault.TheVariants as faults
 
@@ -23,6 +23,12 @@ pub record HasItsTokens (text : List ℕ) (tokens : List Token) : Type 0 where
   pub has : HasTokens text tokens
   pub only : (others : List Token) → HasTokens text others → others ≡ tokens
   pub names : HasNames (values text tokens)
+
+-- the text is written so and not otherwise, and its names are names of the language
+pub record IsWrittenOnce (text : List ℕ) (written : ModelTree) : Type 0 where
+  pub is : IsWritten text written
+  pub only : (other : ModelTree) → IsWritten text other → other ≡ written
+  pub names : HasNames (model_tokens written)
 
 -- the text has this tree and no other, and its names are names of the language
 pub record HasItsTree (text : List ℕ) (tree : ModelTree) : Type 0 where

@@ -8,7 +8,7 @@ ghost use Rattle.chart_reading.specs.chart_graphs.Views.{chart_view};
 ghost use Rattle.chart_reader.specs.model_charts.Charts.{AreValid, HasCharts};
 ghost use Rattle.room_run.specs.fitting_plants.Plants.{PlantFits};
 ghost use Rattle.room_run.specs.Models.{IsGoodWiring, IsModel, IsSound, IsSoundText, IsSoundTree, SoundCauses};
-ghost use Rattle.room_run.specs.Reading.{ChartCauses, HasItsTokens, HasItsTree, IsCheckedFor, TreeCauses, fault_of};
+ghost use Rattle.room_run.specs.Reading.{ChartCauses, HasItsTokens, HasItsTree, IsCheckedFor, IsWrittenOnce, TreeCauses, fault_of};
 
 use crate::model_fault::ModelFault;
 use crate::model_plants::plant_of;
@@ -17,6 +17,7 @@ use chart_reader::{ChartsFault, charts_of};
 use chart_reading::Chart;
 use controller::Plant;
 use room_ast::Model;
+use room_inherit::{InheritFault, flatten};
 use room_lexer::{LexFault, Token, lex};
 use room_parser::{ParseFault, parse};
 use room_wiring::Wiring;
@@ -39,10 +40,10 @@ fn read_tokens(alloc: Global, text: &[u8]) -> Result<Vec<Token>, ModelFault>
     }
 }
 
-/// The syntax tree of a text.
-fn read_tree(alloc: Global, text: &[u8]) -> Result<Model, ModelFault>
+/// The syntax tree of a text, as it is written.
+fn read_written(alloc: Global, text: &[u8]) -> Result<Model, ModelFault>
     requires { length text.now ≤ 1048576 }
-    ensures ok { IfOk result (λ tree. HasItsTree text.now (model_view tree)) }
+    ensures ok { IfOk result (λ tree. IsWrittenOnce text.now (model_view tree)) }
     ensures err { IfErr result (λ why. SoundCauses text.now why) }
 {
     let tokens = match read_tokens(alloc, text) {
@@ -53,6 +54,23 @@ fn read_tree(alloc: Global, text: &[u8]) -> Result<Model, ModelFault>
         Ok(tree) => Ok(tree),
         Err(ParseFault::Syntax { line }) => Err(ModelFault::Syntax { line }),
         Err(ParseFault::Memory) => Err(ModelFault::Memory),
+    }
+}
+
+/// The tree of a text, in which each actor class has all that it has from its bases.
+fn read_tree(alloc: Global, text: &[u8]) -> Result<Model, ModelFault>
+    requires { length text.now ≤ 1048576 }
+    ensures ok { IfOk result (λ tree. HasItsTree text.now (model_view tree)) }
+    ensures err { IfErr result (λ why. SoundCauses text.now why) }
+{
+    let written = match read_written(alloc, text) {
+        Ok(written) => written,
+        Err(why) => return Err(why),
+    };
+    match flatten(alloc, written) {
+        Ok(tree) => Ok(tree),
+        Err(InheritFault::Rule(rule)) => Err(ModelFault::Rule(rule)),
+        Err(InheritFault::Memory) => Err(ModelFault::Memory),
     }
 }
 

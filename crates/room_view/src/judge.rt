@@ -10,9 +10,11 @@ fn rank(fault: &ModelFault) -> (u8, u8) {
         ModelFault::Memory => (0, 0),
         ModelFault::Byte(_) => (1, 0),
         ModelFault::Syntax { .. } => (2, 0),
-        ModelFault::Rule(number) => (3, *number),
-        ModelFault::Wiring(number) => (4, *number),
-        ModelFault::Chart { number, .. } => (5, *number),
+        // the rules on bases are told before all others
+        ModelFault::Rule(number) if *number > 25 => (3, *number),
+        ModelFault::Rule(number) => (4, *number),
+        ModelFault::Wiring(number) => (5, *number),
+        ModelFault::Chart { number, .. } => (6, *number),
     }
 }
 

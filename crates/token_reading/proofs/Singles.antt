@@ -60,7 +60,7 @@ pub same_mark_is : (m n : Mark) → same_mark m n ≡ true → m ≡ n
 same_mark_is m n e = some_is m n (sym (mark_found m) ∙ ap (nth all_marks) (eqb-true (mark_number m) (mark_number n) e) ∙ mark_found n)
 
 all_words : List Word
-all_words = words.RoomModel ∷ words.Import ∷ words.From ∷ words.LogicalSystem ∷ words.SubSystemRef ∷ words.SubSystemClass ∷ words.LogicalThread ∷ words.ActorInstanceMapping ∷ words.EventDriven ∷ words.ProtocolClass ∷ words.Incoming ∷ words.Outgoing ∷ words.Message ∷ words.DataClass ∷ words.Attribute ∷ words.True ∷ words.False ∷ words.ActorClass ∷ words.Interface ∷ words.Spp ∷ words.Structure ∷ words.Behavior ∷ words.StateMachine ∷ words.Conjugated ∷ words.Port ∷ words.External ∷ words.Sap ∷ words.ServiceImplementation ∷ words.Of ∷ words.Fixed ∷ words.Optional ∷ words.Imported ∷ words.ActorRef ∷ words.Binding ∷ words.And ∷ words.LayerConnection ∷ words.Ref ∷ words.SatisfiedBy ∷ words.Usercode ∷ words.Usercode1 ∷ words.Usercode2 ∷ words.Usercode3 ∷ words.State ∷ words.Entry ∷ words.Exit ∷ words.Subgraph ∷ words.ChoicePoint ∷ words.TransitionPoint ∷ words.EntryPoint ∷ words.ExitPoint ∷ words.Transition ∷ words.Triggers ∷ words.Cond ∷ words.Action ∷ words.Or ∷ words.Guard ∷ words.Initial ∷ words.Cp ∷ words.My ∷ []
+all_words = words.RoomModel ∷ words.Import ∷ words.From ∷ words.LogicalSystem ∷ words.SubSystemRef ∷ words.SubSystemClass ∷ words.LogicalThread ∷ words.ActorInstanceMapping ∷ words.EventDriven ∷ words.ProtocolClass ∷ words.Incoming ∷ words.Outgoing ∷ words.Message ∷ words.DataClass ∷ words.Attribute ∷ words.True ∷ words.False ∷ words.ActorClass ∷ words.Extends ∷ words.Interface ∷ words.Spp ∷ words.Structure ∷ words.Behavior ∷ words.StateMachine ∷ words.Conjugated ∷ words.Port ∷ words.External ∷ words.Sap ∷ words.ServiceImplementation ∷ words.Of ∷ words.Fixed ∷ words.Optional ∷ words.Imported ∷ words.ActorRef ∷ words.Binding ∷ words.And ∷ words.LayerConnection ∷ words.Ref ∷ words.SatisfiedBy ∷ words.Usercode ∷ words.Usercode1 ∷ words.Usercode2 ∷ words.Usercode3 ∷ words.State ∷ words.Entry ∷ words.Exit ∷ words.Subgraph ∷ words.ChoicePoint ∷ words.TransitionPoint ∷ words.EntryPoint ∷ words.ExitPoint ∷ words.Transition ∷ words.Triggers ∷ words.Cond ∷ words.Action ∷ words.Or ∷ words.Guard ∷ words.Initial ∷ words.Cp ∷ words.My ∷ words.RefinedState ∷ words.RefinedTransition ∷ []
 
 word_found : (w : Word) → nth all_words (word_number w) ≡ Some w
 unfolding nth all_words
@@ -82,6 +82,7 @@ word_found words.Attribute = refl
 word_found words.True = refl
 word_found words.False = refl
 word_found words.ActorClass = refl
+word_found words.Extends = refl
 word_found words.Interface = refl
 word_found words.Spp = refl
 word_found words.Structure = refl
@@ -123,6 +124,8 @@ word_found words.Guard = refl
 word_found words.Initial = refl
 word_found words.Cp = refl
 word_found words.My = refl
+word_found words.RefinedState = refl
+word_found words.RefinedTransition = refl
 
 pub same_word_is : (v w : Word) → same_word v w ≡ true → v ≡ w
 same_word_is v w e = some_is v w (sym (word_found v) ∙ ap (nth all_words) (eqb-true (word_number v) (word_number w) e) ∙ word_found w)

@@ -5,7 +5,7 @@ use Rattle.room_ast.specs.declared.chart.Transition.{Transition as TransitionTre
 use Rattle.room_ast.specs.declared.chart.TransitionBody.{TransitionBody}
 use Rattle.room_ast.specs.declared.scope.Scope.{Scope}
 use Rattle.room_ast.specs.declared.scope.ScopeAttribute.{ScopeAttribute}
-use Rattle.room_ast.specs.ChartTree.{GraphItemTree, AState, AChoice, APoint, ATransition, StateTree, StateOf, BodyTree, no_body, body, SubgraphTree, no_subgraph, subgraph, GraphItems, no_items, item}
+use Rattle.room_ast.specs.ChartTree.{GraphItemTree, AState, AChoice, APoint, ATransition, ARefinement, StateTree, StateOf, BodyTree, no_body, body, SubgraphTree, no_subgraph, subgraph, GraphItems, no_items, item}
 use Rattle.action_program.specs.Numbered as numbered
 use Rattle.chart_model.specs.chart_plan.Plan.{Trigger}
 use Rattle.chart_model.specs.Chart.{Name, Path, Event, Source, Target, Transition, State, Graph, Chart}
@@ -73,6 +73,7 @@ module _ (s t : Scope) (e : scope_view s ≡ scope_view t) where
     item_same (AChoice c) a owner p = refl
     item_same (APoint q) a owner p = refl
     item_same (ATransition x) a owner p = with_transition_same a x p
+    item_same (ARefinement path change) a owner p = refl
 
     with_state_same : (x : StateTree) (owner : Path) (p : Piece) → with_state s x owner p ≡ with_state t x owner p
     with_state_same (StateOf n b) owner p = body_same b n owner p

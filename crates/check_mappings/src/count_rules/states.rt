@@ -27,6 +27,7 @@ fn states_in_item(item: &GraphItem) -> usize
         GraphItem::Choice(_) => 0,
         GraphItem::Point(_) => 0,
         GraphItem::Transition(_) => 0,
+        GraphItem::Refinement(_) => 0,
     }
 }
 

@@ -6,7 +6,7 @@ use Rattle.room_ast.specs.declared.chart.Code.{Code}
 use Rattle.room_ast.specs.declared.chart.Transition.{Transition as TransitionTree}
 use Rattle.room_ast.specs.declared.scope.Scope.{Scope}
 use Rattle.room_ast.specs.declared.scope.ScopeAttribute.{ScopeAttribute}
-use Rattle.room_ast.specs.ChartTree.{GraphItemTree, AState, AChoice, APoint, ATransition, StateTree, StateOf, BodyTree, no_body, body, SubgraphTree, no_subgraph, subgraph, GraphItems, no_items, item}
+use Rattle.room_ast.specs.ChartTree.{GraphItemTree, AState, AChoice, APoint, ATransition, ARefinement, StateTree, StateOf, BodyTree, no_body, body, SubgraphTree, no_subgraph, subgraph, GraphItems, no_items, item}
 use Rattle.room_wiring.specs.declared.names.ClassNames.{ClassNames}
 use Rattle.chart_model.specs.Chart.{Name, Path, Transition, State, Graph}
 use Rattle.chart_reading.specs.Around.{Around, around, list_of}
@@ -91,6 +91,7 @@ module _ (scope : Scope) (c : ClassNames) (fits : IsScopeOf scope c) where
     item_named (ATransition t) a owner p fit =
         let both = both_true (events_fit scope (trigger_list (triggers_in t.body))) p.come.events_fit fit in
         (both.1, λ h. transition_named a t p both.0 h)
+    item_named (ARefinement path change) a owner p fit = (fit, λ h. h)
 
     state_named : (s : StateTree) (owner : Path) (p : Piece) → Goes p (with_state scope s owner p)
     state_named (StateOf n b) owner p fit = body_named b n owner p fit

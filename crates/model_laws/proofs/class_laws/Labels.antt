@@ -6,7 +6,7 @@ use Rattle.std.specs.Option.{option_map_or}
 use Rattle.std.proofs.lemmas.Bool.{and_parts}
 use Rattle.std.proofs.lemmas.List.{map-append, reverse-append}
 use Rattle.std.proofs.lemmas.List.Elements.{All-head, All-tail}
-use Rattle.room_ast.specs.ChartTree.{GraphItemTree, AState, AChoice, APoint, ATransition, StateOf, BodyTree, no_body, body, no_subgraph, subgraph, GraphItems, no_items, item}
+use Rattle.room_ast.specs.ChartTree.{GraphItemTree, AState, AChoice, APoint, ATransition, ARefinement, StateOf, BodyTree, no_body, body, no_subgraph, subgraph, GraphItems, no_items, item}
 use Rattle.room_ast.specs.Trees.{ModelTree, ActorTree}
 use Rattle.room_ast.specs.declared.scope.Scope.{Scope}
 use Rattle.room_ast.specs.model_parts.Charts.{chart_of as machine_of}
@@ -66,6 +66,7 @@ mutual
   none_in_item (AChoice c) owner h = refl
   none_in_item (APoint p) owner h = refl
   none_in_item (ATransition t) owner h = refl
+  none_in_item (ARefinement path change) owner h = refl
 
   none_in_graph : (is : GraphItems) (owner : Path) → graph_nests is 0 ≡ true → paths_of_graph owner is ≡ []
   none_in_graph no_items owner h = refl
@@ -86,6 +87,7 @@ mutual
   texts_of_item (AChoice c) left owner h = refl
   texts_of_item (APoint p) left owner h = refl
   texts_of_item (ATransition t) left owner h = refl
+  texts_of_item (ARefinement path change) left owner h = refl
 
   texts_of_body : (b : BodyTree) (left : ℕ) (n : Name) (owner : Path) → body_nests b left ≡ true
       → states_of_body left (state_label (n ∷ owner)) b ≡ map state_label (paths_of_body (n ∷ owner) b)

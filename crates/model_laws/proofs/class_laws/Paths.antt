@@ -5,7 +5,7 @@ use Rattle.std.specs.Option.{option_map_or}
 use Rattle.std.proofs.lemmas.List.{map-append}
 use lib.Pointwise.{bytes_decides}
 use Rattle.room_ast.specs.declared.scope.Scope.{Scope}
-use Rattle.room_ast.specs.ChartTree.{GraphItemTree, AState, AChoice, APoint, ATransition, StateTree, StateOf, BodyTree, no_body, body, SubgraphTree, no_subgraph, subgraph, GraphItems, no_items, item}
+use Rattle.room_ast.specs.ChartTree.{GraphItemTree, AState, AChoice, APoint, ATransition, ARefinement, StateTree, StateOf, BodyTree, no_body, body, SubgraphTree, no_subgraph, subgraph, GraphItems, no_items, item}
 use Rattle.name_tables.specs.name_numbers.Names.{same, AreDistinct}
 use Rattle.chart_model.specs.Chart.{Name, Path, State, Graph, Chart}
 use Rattle.chart_model.specs.Named.{graph_at, same_path, first}
@@ -26,6 +26,7 @@ abbrev mutual
   paths_of_item owner (AChoice c) = []
   paths_of_item owner (APoint p) = []
   paths_of_item owner (ATransition t) = []
+  paths_of_item owner (ARefinement path change) = []
 
   pub paths_of_state : Path → StateTree → List Path
   paths_of_state owner (StateOf n b) = (n ∷ owner) ∷ paths_of_body (n ∷ owner) b
@@ -49,6 +50,7 @@ abbrev mutual
   graphs_in_item (AChoice c) = 0
   graphs_in_item (APoint p) = 0
   graphs_in_item (ATransition t) = 0
+  graphs_in_item (ARefinement path change) = 0
 
   graphs_in_state : StateTree → ℕ
   graphs_in_state (StateOf n b) = graphs_in_body b
@@ -80,6 +82,7 @@ abbrev mutual
   ItemHas chart owner (AChoice c) = Unit {0}
   ItemHas chart owner (APoint p) = Unit {0}
   ItemHas chart owner (ATransition t) = Unit {0}
+  ItemHas chart owner (ARefinement path change) = Unit {0}
 
   StateHas : Chart → Path → StateTree → Type 0
   StateHas chart owner (StateOf n b) = BodyHas chart (n ∷ owner) b
@@ -122,6 +125,7 @@ mutual
   item_states (AChoice c) chart n owner rest h enough = refl
   item_states (APoint p) chart n owner rest h enough = refl
   item_states (ATransition t) chart n owner rest h enough = refl
+  item_states (ARefinement path change) chart n owner rest h enough = refl
 
   body_states : (b : BodyTree) (chart : Chart) (n : ℕ) (owner : Path) → BodyHas chart owner b → graphs_in_body b ≤ n → states_below chart n owner ≡ paths_of_body owner b
   body_states no_body chart n owner h enough = none_below chart n owner h
@@ -194,6 +198,7 @@ module _ (scope : Scope) where
   item_names (AChoice c) a owner p rest = refl
   item_names (APoint q) a owner p rest = refl
   item_names (ATransition t) a owner p rest = refl
+  item_names (ARefinement path change) a owner p rest = refl
 
   items_names : (is : GraphItems) (a : Around) (owner : Path) (p : Piece) → named (with_items scope is a owner p).states ≡ named p.states ++ names_here is
   items_names no_items a owner p = sym (append-nil (named p.states))
@@ -223,6 +228,7 @@ module _ (scope : Scope) where
     items_within (item (AChoice c) is) a owner p h = items_within is a owner (with_item scope (AChoice c) a owner p) h
     items_within (item (APoint q) is) a owner p h = items_within is a owner (with_item scope (APoint q) a owner p) h
     items_within (item (ATransition t) is) a owner p h = items_within is a owner (with_item scope (ATransition t) a owner p) h
+    items_within (item (ARefinement path change) is) a owner p h = items_within is a owner (with_item scope (ARefinement path change) a owner p) h
 
   items_add : (is : GraphItems) (a : Around) (owner : Path) (p : Piece) → AddsApart owner (names_here is) p (with_items scope is a owner p)
   items_add no_items a owner p = record { more = []; is = sym (append-nil p.inner); apart = λ n h. tt }
@@ -237,6 +243,7 @@ module _ (scope : Scope) where
   items_add (item (AChoice c) is) a owner p = let later = items_add is a owner (with_item scope (AChoice c) a owner p) in record { more = later.more; is = later.is; apart = later.apart }
   items_add (item (APoint q) is) a owner p = let later = items_add is a owner (with_item scope (APoint q) a owner p) in record { more = later.more; is = later.is; apart = later.apart }
   items_add (item (ATransition t) is) a owner p = let later = items_add is a owner (with_item scope (ATransition t) a owner p) in record { more = later.more; is = later.is; apart = later.apart }
+  items_add (item (ARefinement path change) is) a owner p = let later = items_add is a owner (with_item scope (ARefinement path change) a owner p) in record { more = later.more; is = later.is; apart = later.apart }
 
   -- ---- how many they are
 
@@ -246,6 +253,7 @@ module _ (scope : Scope) where
     item_count (AChoice c) a owner p = omega arith
     item_count (APoint q) a owner p = omega arith
     item_count (ATransition t) a owner p = omega arith
+    item_count (ARefinement path change) a owner p = omega arith
 
     body_count : (b : BodyTree) (n : Name) (owner : Path) (p : Piece) → length (with_body scope b n owner p).inner ≡ length p.inner + graphs_in_body b
     body_count no_body n owner p = omega arith
@@ -327,6 +335,7 @@ module _ (scope : Scope) where
       items_have (item (AChoice c) is) a owner p before after e free distinct d = (tt, items_have is a owner (with_item scope (AChoice c) a owner p) before after e free distinct d.1)
       items_have (item (APoint q) is) a owner p before after e free distinct d = (tt, items_have is a owner (with_item scope (APoint q) a owner p) before after e free distinct d.1)
       items_have (item (ATransition t) is) a owner p before after e free distinct d = (tt, items_have is a owner (with_item scope (ATransition t) a owner p) before after e free distinct d.1)
+      items_have (item (ARefinement path change) is) a owner p before after e free distinct d = (tt, items_have is a owner (with_item scope (ARefinement path change) a owner p) before after e free distinct d.1)
 
   -- the states of the chart, by their paths
   pub chart_paths : (names : List Name) (is : GraphItems) → ChartDiffers (Some is) → states_of (chart_of scope names is) ≡ paths_of_graph [] is

@@ -4,7 +4,7 @@ use Rattle.std.specs.List.{AllByRecursion as Each}
 use Rattle.room_ast.specs.declared.chart.Code.{Code}
 use Rattle.room_ast.specs.declared.chart.Transition.{Transition as TransitionTree}
 use Rattle.room_ast.specs.declared.scope.Scope.{Scope}
-use Rattle.room_ast.specs.ChartTree.{GraphItemTree, AState, AChoice, APoint, ATransition, StateTree, StateOf, BodyTree, no_body, body, SubgraphTree, no_subgraph, subgraph, GraphItems, no_items, item}
+use Rattle.room_ast.specs.ChartTree.{GraphItemTree, AState, AChoice, APoint, ATransition, ARefinement, StateTree, StateOf, BodyTree, no_body, body, SubgraphTree, no_subgraph, subgraph, GraphItems, no_items, item}
 use Rattle.chart_model.specs.Chart.{Name, Path, Transition, State, Graph, Chart}
 use Rattle.model_laws.specs.settled_models.Open.{is_worded}
 use Rattle.chart_behaviour.specs.chart_asks.Asking.{ProgramAsks}
@@ -66,6 +66,7 @@ module _ (scope : Scope) where
     item_worded (AChoice c) a owner p h = record { states = h.states; transitions = h.transitions; inner = h.inner }
     item_worded (APoint q) a owner p h = record { states = h.states; transitions = h.transitions; inner = h.inner }
     item_worded (ATransition t) a owner p h = transition_worded a t p h
+    item_worded (ARefinement path change) a owner p h = h
 
     state_worded : (s : StateTree) (owner : Path) (p : Piece) → PieceWorded p → PieceWorded (with_state scope s owner p)
     state_worded (StateOf n b) owner p h = body_worded b n owner p h

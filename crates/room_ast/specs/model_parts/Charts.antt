@@ -1,16 +1,18 @@
 -- The number of a chart's states, and how deep they nest.
 use Rattle.std.specs.Prelude.{ℕ, ◌+◌, max, Option}
 use Rattle.std.specs.Option.{option_map_or, option_and_then}
-use Rattle.room_ast.specs.ChartTree.{GraphItemTree, AState, AChoice, APoint, ATransition, StateTree, StateOf, BodyTree, no_body, body, SubgraphTree, no_subgraph, subgraph, GraphItems, no_items, item}
+use Rattle.room_ast.specs.ChartTree.{GraphItemTree, AState, AChoice, APoint, ATransition, ARefinement, StateTree, StateOf, BodyTree, no_body, body, SubgraphTree, no_subgraph, subgraph, GraphItems, no_items, item}
 use Rattle.room_ast.specs.Trees.{ActorTree, BehaviorTree}
 
--- How many states stand in a graph, those of the graphs of its states counted too.
+-- How many states stand in a graph, those of the graphs of its states counted too. A refinement counts for nothing, as it
+-- does wherever a chart is spoken of: a chart that is put together from its class's bases has none.
 abbrev mutual
   pub states_in_item : GraphItemTree → ℕ
   states_in_item (AState s) = states_at s
   states_in_item (AChoice c) = 0
   states_in_item (APoint p) = 0
   states_in_item (ATransition t) = 0
+  states_in_item (ARefinement path change) = 0
 
   pub states_at : StateTree → ℕ
   states_at (StateOf name b) = 1 + states_in_body b
@@ -34,6 +36,7 @@ abbrev mutual
   depth_of_item (AChoice c) = 0
   depth_of_item (APoint p) = 0
   depth_of_item (ATransition t) = 0
+  depth_of_item (ARefinement path change) = 0
 
   pub depth_at : StateTree → ℕ
   depth_at (StateOf name b) = 1 + depth_of_body b

@@ -4,18 +4,20 @@ use Rattle.room_lexer.specs.declared.token.Mark.TheVariants as marks
 use Rattle.room_lexer.specs.declared.word.Word.{Word}
 use Rattle.room_lexer.specs.declared.word.Word.TheVariants as words
 use Rattle.room_ast.specs.Values.{TokenValue, AWord, AName, ANumber, AMark}
-use Rattle.room_ast.specs.Tokens.{each, maybe, word_code, choice_point, point, point_word, transition, graph_item, state_tokens, body_tokens, subgraph_tokens, graph_tokens, machine}
-use Rattle.room_ast.specs.ChartTree.{GraphItemTree, AState, AChoice, APoint, ATransition, StateTree, StateOf, BodyTree, no_body, body, SubgraphTree, no_subgraph, subgraph, GraphItems, no_items, item, items_of}
+use Rattle.room_ast.specs.Tokens.{each, maybe, word_code, dotted, choice_point, point, point_word, transition, in_body, graph_item, state_tokens, body_tokens, subgraph_tokens, graph_tokens, machine}
+use Rattle.room_ast.specs.ChartTree.{GraphItemTree, AState, AChoice, APoint, ATransition, ARefinement, OfState, OfTransition, StateTree, StateOf, BodyTree, no_body, body, BodyParts, body_of, SubgraphTree, no_subgraph, subgraph, GraphItems, no_items, item, items_of}
 use Rattle.room_ast.specs.declared.chart.Code.{Code}
 use Rattle.room_ast.specs.declared.chart.PointKind.{PointKind}
+use Rattle.room_ast.specs.declared.model.Dotted.{Dotted}
 use Rattle.room_ast.specs.declared.chart.PointKind.TheVariants as points
 use Rattle.token_reading.specs.Reader.{Reader, reads_as, optional, many, all_while}
 use Rattle.token_reading.specs.Single.{comes, comes_word, before_close, word_here}
 use Rattle.token_reading.proofs.Readers.{Sound, Reads, Sound-⊕, Reads-⊕, Sound-as, Reads-as, Sound-maybe, Reads-some, Reads-none, Sound-many, Anything}
 use Rattle.token_reading.proofs.Singles.{mark_sound, word_sound, name_sound, mark_reads, word_reads, name_reads, comes_is, comes_word_here}
 use Rattle.token_reading.proofs.Exact.{Exact, sound, reads, mark_exact, word_exact, Exact-behind, Exact-maybe, Sound-behind, Sound-before, Reads-behind, Reads-before, case_takes, case_again}
+use Rattle.structure_parser.proofs.value_parser.ExactNames.{dotted_exact}
 use Rattle.room_parser.specs.chart_parser.Codes.{word_code_at, point_at}
-use Rattle.room_parser.specs.chart_parser.Graphs.{subgraph_from, subgraph_at, body_at, body_from, body_if_at, state_at, item_from, item_with, closed_at, graph_below, item_to, graph_at, machine_at}
+use Rattle.room_parser.specs.chart_parser.Graphs.{subgraph_from, subgraph_at, body_at, body_if_at, state_at, refined_state_at, refined_transition_at, item_from, item_with, closed_at, graph_below, item_to, graph_at, machine_at}
 use Rattle.room_parser.proofs.chart_parser.ExactCodes.{word_code_exact, transition_exact, choice_point_exact, point_exact, EndsItem}
 
 -- ---- what is taken
@@ -41,24 +43,37 @@ subgraph_sound : (closed : Reader TokenValue GraphItems) → Sound closed closed
 unfolding subgraph_at
 subgraph_sound closed h = Sound-as subgraph_from subgraph_tokens (Sound-maybe (comes_word words.Subgraph) (Sound-behind (word_sound words.Subgraph) (Sound-behind (mark_sound marks.OpenBrace) h))) subgraph_same
 
-body_sound : (closed : Reader TokenValue GraphItems) → Sound closed closed_tokens → Sound (body_at closed) body_tokens
+abbrev parts_tokens : BodyParts → List TokenValue
+parts_tokens b = in_body b.entry b.exit (subgraph_tokens b.subgraph)
+
+body_sound : (closed : Reader TokenValue GraphItems) → Sound closed closed_tokens → Sound (body_at closed) parts_tokens
 unfolding body_at
 body_sound closed h =
-    Sound-as _ body_tokens
+    Sound-as _ parts_tokens
     (Sound-behind (mark_sound marks.OpenBrace) (Sound-⊕ (Sound-maybe (comes_word words.Entry) (sound (word_code_exact words.Entry))) (Sound-⊕ (Sound-maybe (comes_word words.Exit) (sound (word_code_exact words.Exit)))
     (Sound-before (subgraph_sound closed h) (mark_sound marks.CloseBrace))))) (λ x. refl)
 
-body_if_same : (o : Option BodyTree) → body_tokens (body_from o) ≡ maybe body_tokens o
+body_if_same : (o : Option BodyParts) → body_tokens (body_of o) ≡ maybe parts_tokens o
 body_if_same None = refl
 body_if_same (Some b) = refl
 
 body_if_sound : (closed : Reader TokenValue GraphItems) → Sound closed closed_tokens → Sound (body_if_at closed) body_tokens
 unfolding body_if_at
-body_if_sound closed h = Sound-as body_from body_tokens (Sound-maybe (comes marks.OpenBrace) (body_sound closed h)) body_if_same
+body_if_sound closed h = Sound-as body_of body_tokens (Sound-maybe (comes marks.OpenBrace) (body_sound closed h)) body_if_same
 
 state_sound : (closed : Reader TokenValue GraphItems) → Sound closed closed_tokens → Sound (state_at closed) state_tokens
 unfolding state_at
 state_sound closed h = Sound-as _ state_tokens (Sound-behind (word_sound words.State) (Sound-⊕ name_sound (body_if_sound closed h))) (λ x. refl)
+
+refined_state_sound : (closed : Reader TokenValue GraphItems) → Sound closed closed_tokens → Sound (refined_state_at closed) graph_item
+unfolding refined_state_at
+refined_state_sound closed h = Sound-as _ graph_item (Sound-behind (word_sound words.RefinedState) (Sound-⊕ (sound dotted_exact) (body_sound closed h))) (λ x. refl)
+
+refined_transition_sound : Sound refined_transition_at graph_item
+unfolding refined_transition_at
+refined_transition_sound =
+    Sound-as _ graph_item
+    (Sound-behind (word_sound words.RefinedTransition) (Sound-⊕ (sound dotted_exact) (Sound-behind (mark_sound marks.OpenBrace) (Sound-before (sound (word_code_exact words.Action)) (mark_sound marks.CloseBrace))))) (λ x. refl)
 
 item_takes : (closed : Reader TokenValue GraphItems) → Sound closed closed_tokens → (w : Option Word) (ts : List TokenValue) (z : GraphItemTree × List TokenValue) → item_from closed w ts ≡ Some z → ts ≡ graph_item z.0 ++ z.1
 item_takes closed h (Some words.State) ts z e = (Sound-as AState graph_item (state_sound closed h) (λ s. refl)).takes ts z e
@@ -67,6 +82,8 @@ item_takes closed h (Some words.TransitionPoint) ts z e = case_takes APoint grap
 item_takes closed h (Some words.EntryPoint) ts z e = case_takes APoint graph_item point_exact (λ x. refl) ts z e
 item_takes closed h (Some words.ExitPoint) ts z e = case_takes APoint graph_item point_exact (λ x. refl) ts z e
 item_takes closed h (Some words.Transition) ts z e = case_takes ATransition graph_item transition_exact (λ x. refl) ts z e
+item_takes closed h (Some words.RefinedState) ts z e = (refined_state_sound closed h).takes ts z e
+item_takes closed h (Some words.RefinedTransition) ts z e = refined_transition_sound.takes ts z e
 item_takes closed h w ts z e = absurd cc
 
 item_sound : (closed : Reader TokenValue GraphItems) → Sound closed closed_tokens → Sound (item_with closed) graph_item
@@ -108,13 +125,23 @@ no_exit (subgraph is) rest = refl
 code_if_reads : (w : Word) (o : Option Code) → Reads (optional (comes_word w) (word_code_at w)) (maybe (word_code w) o) o (λ rest. (comes_word w rest ≡ false) × Anything rest)
 code_if_reads w o = reads (Exact-maybe (comes_word w) (word_code_exact w) (λ c rest. comes_word_here w _)) o
 
+abbrev parts : Option Code → Option Code → SubgraphTree → BodyParts
+parts e x s = record { entry = e; exit = x; subgraph = s }
+
 body_reads : (closed : Reader TokenValue GraphItems) (e x : Option Code) (s : SubgraphTree) (F : List TokenValue → Type 0) → Reads (subgraph_at closed) (subgraph_tokens s) s F → ((rest : List TokenValue) → F (AMark marks.CloseBrace ∷ rest))
-    → Reads (body_at closed) (body_tokens (body e x s)) (body e x s) Anything
+    → Reads (body_at closed) (parts_tokens (parts e x s)) (parts e x s) Anything
 unfolding body_at
 body_reads closed e x s F h closes =
-    Reads-as (λ (y : Option Code × (Option Code × SubgraphTree)). body y.0 y.1.0 y.1.1)
+    Reads-as (λ (y : Option Code × (Option Code × SubgraphTree)). parts y.0 y.1.0 y.1.1)
     (Reads-behind (mark_reads marks.OpenBrace)
     (Reads-⊕ (code_if_reads words.Entry e) (Reads-⊕ (code_if_reads words.Exit x) (Reads-before h (mark_reads marks.CloseBrace) closes) (λ rest any. (no_exit s rest, tt))) (λ rest any. (no_entry x s rest, tt))))
+
+plain_body_reads : (closed : Reader TokenValue GraphItems) (e x : Option Code) → Reads (body_at closed) (parts_tokens (parts e x no_subgraph)) (parts e x no_subgraph) Anything
+unfolding comes_word
+plain_body_reads closed e x = body_reads closed e x no_subgraph NoSubgraph (no_subgraph_reads closed) (λ us. refl)
+
+graph_body_reads : (closed : Reader TokenValue GraphItems) (e x : Option Code) (is : GraphItems) → Reads closed (closed_tokens is) is Anything → Reads (body_at closed) (parts_tokens (parts e x (subgraph is))) (parts e x (subgraph is)) Anything
+graph_body_reads closed e x is h = body_reads closed e x (subgraph is) Anything (some_subgraph_reads closed is h) (λ us. tt)
 
 state_reads : (n : List ℕ) (closed : Reader TokenValue GraphItems) (b : BodyTree) (F : List TokenValue → Type 0) → Reads (body_if_at closed) (body_tokens b) b F → Reads (state_at closed) (state_tokens (StateOf n b)) (StateOf n b) F
 unfolding state_at
@@ -122,11 +149,24 @@ state_reads n closed b F h = Reads-as (λ (x : List ℕ × BodyTree). StateOf x.
 
 no_body_reads : (closed : Reader TokenValue GraphItems) → Reads (body_if_at closed) [] no_body NoBrace
 unfolding body_if_at
-no_body_reads closed = Reads-as body_from (Reads-none (comes marks.OpenBrace) _)
+no_body_reads closed = Reads-as body_of (Reads-none (comes marks.OpenBrace) _)
 
-some_body_reads : (closed : Reader TokenValue GraphItems) (e x : Option Code) (s : SubgraphTree) → Reads (body_at closed) (body_tokens (body e x s)) (body e x s) Anything → Reads (body_if_at closed) (body_tokens (body e x s)) (body e x s) Anything
+some_body_reads : (closed : Reader TokenValue GraphItems) (e x : Option Code) (s : SubgraphTree) → Reads (body_at closed) (parts_tokens (parts e x s)) (parts e x s) Anything → Reads (body_if_at closed) (body_tokens (body e x s)) (body e x s) Anything
 unfolding body_if_at comes
-some_body_reads closed e x s h = Reads-as body_from (Reads-some (comes marks.OpenBrace) (λ rest. refl) h)
+some_body_reads closed e x s h = Reads-as body_of (Reads-some (comes marks.OpenBrace) (λ rest. refl) h)
+
+refined_state_reads : (d : Dotted) (closed : Reader TokenValue GraphItems) (e x : Option Code) (s : SubgraphTree) → Reads (body_at closed) (parts_tokens (parts e x s)) (parts e x s) Anything
+    → Reads (refined_state_at closed) (graph_item (ARefinement d (OfState e x s))) (ARefinement d (OfState e x s)) Anything
+unfolding refined_state_at comes
+refined_state_reads d closed e x s h =
+    Reads-as (λ (y : Dotted × BodyParts). ARefinement y.0 (OfState y.1.entry y.1.exit y.1.subgraph)) (Reads-behind (word_reads words.RefinedState) (Reads-⊕ (reads dotted_exact d) h (λ rest any. refl)))
+
+refined_transition_reads : (d : Dotted) (c : Code) → Reads refined_transition_at (graph_item (ARefinement d (OfTransition c))) (ARefinement d (OfTransition c)) Anything
+unfolding refined_transition_at comes
+refined_transition_reads d c =
+    Reads-as (λ (y : Dotted × Code). ARefinement y.0 (OfTransition y.1))
+    (Reads-behind (word_reads words.RefinedTransition)
+    (Reads-⊕ (reads dotted_exact d) (Reads-behind (mark_reads marks.OpenBrace) (Reads-before (reads (word_code_exact words.Action) c) (mark_reads marks.CloseBrace) (λ rest. tt))) (λ rest any. refl)))
 
 abbrev list_of : GraphItems → List GraphItemTree
 list_of no_items = []
@@ -168,6 +208,8 @@ goes_on (AState (StateOf n b)) rest = refl
 goes_on (AChoice c) rest = refl
 goes_on (APoint p) rest = refl
 goes_on (ATransition t) rest = refl
+goes_on (ARefinement d (OfState e x s)) rest = refl
+goes_on (ARefinement d (OfTransition c)) rest = refl
 
 item_ends : (i : GraphItemTree) (rest : List TokenValue) → EndsItem (graph_item i ++ rest)
 unfolding comes comes_word
@@ -180,6 +222,8 @@ item_ends (APoint p) rest = point_ends p.kind _
     point_ends points.Entry us = record { no_of = refl; no_brace = refl }
     point_ends points.Exit us = record { no_of = refl; no_brace = refl }
 item_ends (ATransition t) rest = record { no_of = refl; no_brace = refl }
+item_ends (ARefinement d (OfState e x s)) rest = record { no_of = refl; no_brace = refl }
+item_ends (ARefinement d (OfTransition c)) rest = record { no_of = refl; no_brace = refl }
 
 close_ends : (rest : List TokenValue) → comes marks.CloseBrace rest ≡ true → EndsItem rest
 unfolding comes comes_word
@@ -194,13 +238,21 @@ some_token (AState (StateOf n b)) = omega arith
 some_token (AChoice c) = omega arith
 some_token (APoint p) = omega arith
 some_token (ATransition t) = omega arith
+some_token (ARefinement d (OfState e x s)) = omega arith
+some_token (ARefinement d (OfTransition c)) = omega arith
 
-inside_fits : (n : List ℕ) (e x : Option Code) (is : GraphItems) (depth : ℕ) → length (graph_item (AState (StateOf n (body e x (subgraph is))))) ≤ suc depth → length (graph_tokens is) ≤ depth
-inside_fits n e x is depth fits =
+in_body_fits : (e x : Option Code) (is : GraphItems) → length (graph_tokens is) ≤ length (parts_tokens (parts e x (subgraph is)))
+in_body_fits e x is =
     let exits = maybe (word_code words.Exit) x in
     let graph = AWord words.Subgraph ∷ AMark marks.OpenBrace ∷ closed_tokens is in
     let end = AMark marks.CloseBrace ∷ [] in
     omega (arith, length-append (maybe (word_code words.Entry) e) (exits ++ (graph ++ end)), length-append exits (graph ++ end), length-append graph end, length-append (graph_tokens is) end)
+
+inside_fits : (n : List ℕ) (e x : Option Code) (is : GraphItems) (depth : ℕ) → length (graph_item (AState (StateOf n (body e x (subgraph is))))) ≤ suc depth → length (graph_tokens is) ≤ depth
+inside_fits n e x is depth fits = omega (arith, in_body_fits e x is)
+
+refined_fits : (d : Dotted) (e x : Option Code) (is : GraphItems) (depth : ℕ) → length (graph_item (ARefinement d (OfState e x (subgraph is)))) ≤ suc depth → length (graph_tokens is) ≤ depth
+refined_fits d e x is depth fits = omega (arith, in_body_fits e x is, length-append (dotted d) (parts_tokens (parts e x (subgraph is))))
 
 state_item : (closed : Reader TokenValue GraphItems) (n : List ℕ) (b : BodyTree) (F : List TokenValue → Type 0) → Reads (body_if_at closed) (body_tokens b) b F → (rest : List TokenValue) → F rest → item_with closed (graph_item (AState (StateOf n b)) ++ rest) ≡ Some (AState (StateOf n b), rest)
 unfolding item_with word_here
@@ -221,13 +273,20 @@ mutual
   item_again (ATransition t) depth rest fits ends = case_again ATransition transition_exact t rest ends
   item_again (AState (StateOf n no_body)) depth rest fits ends = state_item (graph_below depth) n no_body NoBrace (no_body_reads (graph_below depth)) rest ends.no_brace
   item_again (AState (StateOf n (body e x no_subgraph))) depth rest fits ends =
-      state_item (graph_below depth) n (body e x no_subgraph) Anything (some_body_reads (graph_below depth) e x no_subgraph (body_reads (graph_below depth) e x no_subgraph NoSubgraph (no_subgraph_reads (graph_below depth)) (λ us. refl))) rest tt
+      state_item (graph_below depth) n (body e x no_subgraph) Anything (some_body_reads (graph_below depth) e x no_subgraph (plain_body_reads (graph_below depth) e x)) rest tt
   item_again (AState (StateOf n (body e x (subgraph is)))) zero rest fits ends = absurd (omega arith)
   item_again (AState (StateOf n (body e x (subgraph is)))) (suc depth) rest fits ends =
       let closed = graph_below (suc depth) in
-      state_item closed n (body e x (subgraph is)) Anything
-      (some_body_reads closed e x (subgraph is) (body_reads closed e x (subgraph is) Anything
-      (some_subgraph_reads closed is (below_reads is depth (λ m us turns closes. graph_again is depth m us (inside_fits n e x is depth fits) turns closes))) (λ us. tt))) rest tt
+      let inside = below_reads is depth (λ m us turns closes. graph_again is depth m us (inside_fits n e x is depth fits) turns closes) in
+      state_item closed n (body e x (subgraph is)) Anything (some_body_reads closed e x (subgraph is) (graph_body_reads closed e x is inside)) rest tt
+  item_again (ARefinement d (OfState e x no_subgraph)) depth rest fits ends =
+      (refined_state_reads d (graph_below depth) e x no_subgraph (plain_body_reads (graph_below depth) e x)).again rest tt
+  item_again (ARefinement d (OfState e x (subgraph is))) zero rest fits ends = absurd (omega arith)
+  item_again (ARefinement d (OfState e x (subgraph is))) (suc depth) rest fits ends =
+      let closed = graph_below (suc depth) in
+      let inside = below_reads is depth (λ m us turns closes. graph_again is depth m us (refined_fits d e x is depth fits) turns closes) in
+      (refined_state_reads d closed e x (subgraph is) (graph_body_reads closed e x is inside)).again rest tt
+  item_again (ARefinement d (OfTransition c)) depth rest fits ends = (refined_transition_reads d c).again rest tt
 
   pub graph_again : (is : GraphItems) (depth n : ℕ) (rest : List TokenValue) → length (graph_tokens is) ≤ depth → length (graph_tokens is) < n → comes marks.CloseBrace rest ≡ true
       → many before_close (item_to depth) n (graph_tokens is ++ rest) ≡ Some (list_of is, rest)

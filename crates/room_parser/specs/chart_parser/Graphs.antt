@@ -1,26 +1,22 @@
 -- The grammar of states and graphs, read from left to right.
-use Rattle.std.specs.Prelude.{ℕ, zero, suc, List, length, Option, Some, None}
+use Rattle.std.specs.Prelude.{ℕ, zero, suc, List, length, Option, Some, None, option_map}
 use Rattle.std.specs.Global.{Vec}
 use Rattle.room_lexer.specs.declared.token.Mark.TheVariants as marks
 use Rattle.room_lexer.specs.declared.word.Word.{Word}
 use Rattle.room_lexer.specs.declared.word.Word.TheVariants as words
 use Rattle.room_ast.specs.Values.{TokenValue}
-use Rattle.room_ast.specs.ChartTree.{GraphItemTree, AState, AChoice, APoint, ATransition, StateTree, StateOf, BodyTree, no_body, body, SubgraphTree, no_subgraph, subgraph, GraphItems, items_of, item_step, state_step, body_step, graph_view}
+use Rattle.room_ast.specs.ChartTree.{GraphItemTree, AState, AChoice, APoint, ATransition, ARefinement, OfState, OfTransition, StateTree, StateOf, BodyTree, BodyParts, body_of, SubgraphTree, no_subgraph, subgraph, GraphItems, items_of, body_view, graph_view}
 use Rattle.room_ast.specs.declared.chart.GraphItem.{GraphItem}
-use Rattle.room_ast.specs.declared.chart.GraphItem.TheFolds.{fold-StateBody}
 use Rattle.room_ast.specs.declared.chart.StateBody.{StateBody}
 use Rattle.token_reading.specs.Reader.{Reader, ◌⊕◌, ◌▹◌, ◌◃◌, reads_as, optional, all_while}
 use Rattle.token_reading.specs.Single.{comes, comes_word, mark, word, name_at, word_here, before_close}
+use Rattle.structure_parser.specs.value_parser.Names.{dotted_at}
 use Rattle.room_parser.specs.chart_parser.Codes.{word_code_at, transition_at, choice_point_at, point_at}
 
 -- ---- what the code's trees are seen as
 
-abbrev pub body_view : StateBody → BodyTree
-body_view = fold-StateBody GraphItemTree StateTree BodyTree item_step state_step body_step
-
 abbrev pub body_if_view : Option StateBody → BodyTree
-body_if_view None = no_body
-body_if_view (Some b) = body_view b
+body_if_view o = body_of (option_map body_view o)
 
 abbrev pub subgraph_view : Option (Vec GraphItem) → SubgraphTree
 subgraph_view None = no_subgraph
@@ -37,21 +33,25 @@ unfoldable pub subgraph_at : Reader TokenValue GraphItems → Reader TokenValue 
 subgraph_at closed = reads_as subgraph_from (optional (comes_word words.Subgraph) (word words.Subgraph ▹ mark marks.OpenBrace ▹ closed))
 
 -- "{" [ "entry" code ] [ "exit" code ] [ "subgraph" "{" graph "}" ] "}"
-unfoldable pub body_at : Reader TokenValue GraphItems → Reader TokenValue BodyTree
+unfoldable pub body_at : Reader TokenValue GraphItems → Reader TokenValue BodyParts
 body_at closed =
-    reads_as (λ x. body x.0 x.1.0 x.1.1)
+    reads_as (λ x. record { entry = x.0; exit = x.1.0; subgraph = x.1.1 })
     (mark marks.OpenBrace ▹ optional (comes_word words.Entry) (word_code_at words.Entry) ⊕ optional (comes_word words.Exit) (word_code_at words.Exit) ⊕ subgraph_at closed ◃ mark marks.CloseBrace)
 
-abbrev pub body_from : Option BodyTree → BodyTree
-body_from None = no_body
-body_from (Some b) = b
-
 unfoldable pub body_if_at : Reader TokenValue GraphItems → Reader TokenValue BodyTree
-body_if_at closed = reads_as body_from (optional (comes marks.OpenBrace) (body_at closed))
+body_if_at closed = reads_as body_of (optional (comes marks.OpenBrace) (body_at closed))
 
 -- "State" name [ body ]
 unfoldable pub state_at : Reader TokenValue GraphItems → Reader TokenValue StateTree
 state_at closed = reads_as (λ x. StateOf x.0 x.1) (word words.State ▹ name_at ⊕ body_if_at closed)
+
+-- "RefinedState" dotted body
+unfoldable pub refined_state_at : Reader TokenValue GraphItems → Reader TokenValue GraphItemTree
+refined_state_at closed = reads_as (λ x. ARefinement x.0 (OfState x.1.entry x.1.exit x.1.subgraph)) (word words.RefinedState ▹ dotted_at ⊕ body_at closed)
+
+-- "RefinedTransition" dotted "{" "action" code "}"
+unfoldable pub refined_transition_at : Reader TokenValue GraphItemTree
+refined_transition_at = reads_as (λ x. ARefinement x.0 (OfTransition x.1)) (word words.RefinedTransition ▹ dotted_at ⊕ mark marks.OpenBrace ▹ word_code_at words.Action ◃ mark marks.CloseBrace)
 
 -- the item of a graph that begins with a word
 abbrev pub item_from : Reader TokenValue GraphItems → Option Word → Reader TokenValue GraphItemTree
@@ -61,9 +61,11 @@ item_from closed (Some words.TransitionPoint) ts = reads_as APoint point_at ts
 item_from closed (Some words.EntryPoint) ts = reads_as APoint point_at ts
 item_from closed (Some words.ExitPoint) ts = reads_as APoint point_at ts
 item_from closed (Some words.Transition) ts = reads_as ATransition transition_at ts
+item_from closed (Some words.RefinedState) ts = refined_state_at closed ts
+item_from closed (Some words.RefinedTransition) ts = refined_transition_at ts
 item_from closed w ts = None
 
--- state | choice | point | transition
+-- state | choice | point | transition | refstate | reftrans
 unfoldable pub item_with : Reader TokenValue GraphItems → Reader TokenValue GraphItemTree
 item_with closed ts = item_from closed (word_here ts) ts
 

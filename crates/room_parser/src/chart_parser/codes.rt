@@ -57,8 +57,21 @@ fn code<'a>(alloc: Global, rest: Rest<'a>) -> Result<(Code, Rest<'a>), ReadFault
     Ok((Code::Single(text), rest))
 }
 
+/// A word and code
+#[tactic(auto, unfolding(crate::specs::chart_parser::Codes::word_code_at))]
+pub fn word_code<'a>(
+    alloc: Global,
+    rest: Rest<'a>,
+    word: Word,
+) -> Result<(Code, Rest<'a>), ReadFault>
+    ensures { Gives (λ x. (x.0, left x.1)) result (word_code_at word (left rest.entry)) }
+{
+    let rest = take_word(rest, word)?;
+    code(alloc, rest)
+}
+
 /// A word and code, if the word comes.
-#[tactic(auto, unfolding(crate::specs::chart_parser::Codes::word_code_at, token_reading::specs::Reader::optional))]
+#[tactic(auto, unfolding(token_reading::specs::Reader::optional))]
 pub fn code_if<'a>(
     alloc: Global,
     rest: Rest<'a>,
@@ -69,7 +82,6 @@ pub fn code_if<'a>(
     if !comes_word(rest, word) {
         return Ok((None, rest));
     }
-    let rest = take_word(rest, word)?;
-    let (found, rest) = code(alloc, rest)?;
+    let (found, rest) = word_code(alloc, rest, word)?;
     Ok((Some(found), rest))
 }

@@ -1,15 +1,16 @@
-//! States and graphs.
+//! States, graphs and refinements.
 ghost use Rattle.std.specs.Prelude.{◌≡◌};
-ghost use Rattle.room_ast.specs.ChartTree.{item_view, item_views, state_view, graph_view};
+ghost use Rattle.room_ast.specs.ChartTree.{item_view, item_views, state_view, body_view, refinement_view, graph_view};
 ghost use Rattle.token_reading.specs.Reader.{Gives, all_while};
 ghost use Rattle.token_reading.specs.Single.{left, before_close as before_close_at};
-ghost use Rattle.room_parser.specs.chart_parser.Graphs.{body_if_view, subgraph_view, subgraph_at, body_if_at, state_at, graph_below, item_to, graph_at, machine_at};
+ghost use Rattle.room_parser.specs.chart_parser.Graphs.{body_if_view, subgraph_view, subgraph_at, body_at, body_if_at, state_at, refined_state_at, refined_transition_at, graph_below, item_to, graph_at, machine_at};
 
-use crate::chart_parser::codes::code_if;
+use crate::chart_parser::codes::{code_if, word_code};
 use crate::chart_parser::transitions::{choice_point, point, transition};
-use room_ast::{GraphItem, State, StateBody, StateMachine};
+use room_ast::{Change, GraphItem, Refinement, State, StateBody, StateMachine};
 use room_lexer::{Mark, Word};
 use std::alloc::Global;
+use structure_parser::dotted;
 use token_reading::{
     ReadFault, Rest, before_close, comes, comes_word, place, take_mark, take_word, word_here,
 };
@@ -62,9 +63,30 @@ fn subgraph_if<'a>(
     Ok((Some(found), rest))
 }
 
-/// Entry code, exit code and subgraph in braces, if they come.
+/// Entry code, exit code and subgraph in braces
 #[cycle(graph)]
-#[tactic(auto, unfolding(crate::specs::chart_parser::Graphs::body_if_at, crate::specs::chart_parser::Graphs::body_at, token_reading::specs::Reader::optional))]
+#[tactic(auto, unfolding(crate::specs::chart_parser::Graphs::body_at))]
+fn body<'a>(alloc: Global, depth: usize, rest: Rest<'a>) -> Result<(StateBody, Rest<'a>), ReadFault>
+    ensures { Gives (λ x. (body_view x.0, left x.1)) result (body_at (graph_below depth) (left rest.entry)) }
+{
+    let rest = take_mark(rest, Mark::OpenBrace)?;
+    let (entry, rest) = code_if(alloc, rest, Word::Entry)?;
+    let (exit, rest) = code_if(alloc, rest, Word::Exit)?;
+    let (subgraph, rest) = subgraph_if(alloc, depth, rest)?;
+    let rest = take_mark(rest, Mark::CloseBrace)?;
+    Ok((
+        StateBody {
+            entry,
+            exit,
+            subgraph,
+        },
+        rest,
+    ))
+}
+
+/// The body of a state, if it comes.
+#[cycle(graph)]
+#[tactic(auto, unfolding(crate::specs::chart_parser::Graphs::body_if_at, token_reading::specs::Reader::optional))]
 fn body_if<'a>(
     alloc: Global,
     depth: usize,
@@ -75,19 +97,8 @@ fn body_if<'a>(
     if !comes(rest, Mark::OpenBrace) {
         return Ok((None, rest));
     }
-    let rest = take_mark(rest, Mark::OpenBrace)?;
-    let (entry, rest) = code_if(alloc, rest, Word::Entry)?;
-    let (exit, rest) = code_if(alloc, rest, Word::Exit)?;
-    let (subgraph, rest) = subgraph_if(alloc, depth, rest)?;
-    let rest = take_mark(rest, Mark::CloseBrace)?;
-    Ok((
-        Some(StateBody {
-            entry,
-            exit,
-            subgraph,
-        }),
-        rest,
-    ))
+    let (found, rest) = body(alloc, depth, rest)?;
+    Ok((Some(found), rest))
 }
 
 /// `State` name, and its body in braces
@@ -100,6 +111,40 @@ fn state<'a>(alloc: Global, depth: usize, rest: Rest<'a>) -> Result<(State, Rest
     let (name, rest) = token_reading::name(alloc, rest)?;
     let (body, rest) = body_if(alloc, depth, rest)?;
     Ok((State { name, body }, rest))
+}
+
+/// `RefinedState` path, and what is added to the state in braces
+#[cycle(graph)]
+#[tactic(auto, unfolding(crate::specs::chart_parser::Graphs::refined_state_at))]
+fn refined_state<'a>(
+    alloc: Global,
+    depth: usize,
+    rest: Rest<'a>,
+) -> Result<(Refinement, Rest<'a>), ReadFault>
+    ensures { Gives (λ x. (refinement_view x.0, left x.1)) result (refined_state_at (graph_below depth) (left rest.entry)) }
+{
+    let rest = take_word(rest, Word::RefinedState)?;
+    let (path, rest) = dotted(alloc, rest)?;
+    let (added, rest) = body(alloc, depth, rest)?;
+    let change = Change::State(added);
+    Ok((Refinement { path, change }, rest))
+}
+
+/// `RefinedTransition` path, and `action` code in braces
+#[tactic(auto, unfolding(crate::specs::chart_parser::Graphs::refined_transition_at))]
+fn refined_transition<'a>(
+    alloc: Global,
+    rest: Rest<'a>,
+) -> Result<(Refinement, Rest<'a>), ReadFault>
+    ensures { Gives (λ x. (refinement_view x.0, left x.1)) result (refined_transition_at (left rest.entry)) }
+{
+    let rest = take_word(rest, Word::RefinedTransition)?;
+    let (path, rest) = dotted(alloc, rest)?;
+    let rest = take_mark(rest, Mark::OpenBrace)?;
+    let (action, rest) = word_code(alloc, rest, Word::Action)?;
+    let rest = take_mark(rest, Mark::CloseBrace)?;
+    let change = Change::Transition(action);
+    Ok((Refinement { path, change }, rest))
 }
 
 /// An item of a graph, with graphs nested no deeper than the number.
@@ -124,6 +169,14 @@ fn item<'a>(alloc: Global, depth: usize, rest: Rest<'a>) -> Result<(GraphItem, R
         Some(Word::Transition) => {
             let (found, rest) = transition(alloc, rest)?;
             Ok((GraphItem::Transition(found), rest))
+        }
+        Some(Word::RefinedState) => {
+            let (found, rest) = refined_state(alloc, depth, rest)?;
+            Ok((GraphItem::Refinement(found), rest))
+        }
+        Some(Word::RefinedTransition) => {
+            let (found, rest) = refined_transition(alloc, rest)?;
+            Ok((GraphItem::Refinement(found), rest))
         }
         _ => Err(ReadFault::Syntax(place(rest))),
     }

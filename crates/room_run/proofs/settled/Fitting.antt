@@ -1,10 +1,5 @@
 -- The plant of a text fits, and so its runs settle.
 use Rattle.std.proofs.Common.{◌≡◌, ℕ, List, Option, Some, None, IfSome, refl, sym, subst}
-use Rattle.room_ast.specs.Trees.{ModelTree}
-use Rattle.room_ast.specs.Tokens.{model_tokens}
-use Rattle.token_reading.specs.Single.{values}
-use Rattle.token_reading.specs.token_names.Names.{HasNames}
-use Rattle.token_reading.proofs.token_names.NamesLaw.{named as tokens_named}
 use Rattle.chart_model.specs.Chart.{Chart}
 use Rattle.room_wiring.specs.declared.tables.Tables.{Tables}
 use Rattle.binding_expand.specs.Wirings.{IsWiringOf}
@@ -17,13 +12,9 @@ use Rattle.room_run.specs.fitting_plants.Plants.{PlantFits}
 use Rattle.room_run.specs.fitting_plants.Runs.{Settles}
 use Rattle.room_run.proofs.fitting_plants.Lines.{read_fit}
 use Rattle.room_run.proofs.fitting_plants.Runs.{runs_settle}
-use Rattle.room_run.specs.Models.{HasTree, IsSoundText, IsModel}
+use Rattle.room_run.specs.Models.{IsSoundText, IsModel}
 use Rattle.room_run.specs.Causes.{IsInjections}
-
--- the names in the tree of a text are names of the language
-names_read : (text : List ℕ) (tree : ModelTree) → HasTree text tree → HasNames (model_tokens tree)
-names_read text tree h =
-    subst HasNames (sym h.spelled) (subst (λ ts. HasNames (values text ts)) (sym h.cut.placed) (tokens_named text h.cut.pieces h.cut.cut))
+use Rattle.room_run.proofs.Names.{names_read}
 
 pub text_fits : (text : List ℕ) (wiring : Tables) (charts : List (Option Chart)) (p : Plant) → IsSoundText text wiring charts → p.wiring ≡ wiring → ShowCharts p.tables.items charts
     → PlantFits p

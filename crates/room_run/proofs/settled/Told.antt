@@ -1,11 +1,5 @@
 -- The text of a run of a model tells the run.
-use Rattle.std.proofs.Common.{ℕ, List, sym, subst}
-use Rattle.room_ast.specs.Trees.{ModelTree}
-use Rattle.room_ast.specs.Tokens.{model_tokens}
-use Rattle.room_lexer.specs.declared.token.Token.{Token}
-use Rattle.token_reading.specs.Single.{values}
-use Rattle.token_reading.specs.token_names.Names.{HasNames}
-use Rattle.token_reading.proofs.token_names.NamesLaw.{named as tokens_named}
+use Rattle.std.proofs.Common.{ℕ, List}
 use Rattle.model_laws.proofs.wiring_laws.chart_state_names.Models.{sound_well_named}
 use Rattle.journal.specs.declared.entry.Journals.{Journals}
 use Rattle.inject_reader.specs.declared.inject_lines.accepted.Line.{Line}
@@ -16,12 +10,8 @@ use Rattle.run_promises.specs.run_texts.Texts.{TextTells}
 use Rattle.run_promises.specs.run_texts.Fetches.{FetchesFit}
 use Rattle.run_promises.proofs.run_texts.TextsLaw.{texts_tell, fetches_fit}
 use Rattle.model_laws.proofs.settled_models.Wired.{wiring_consistent}
-use Rattle.room_run.specs.Models.{HasTree, IsModel}
-
--- the names among the tokens of a text are names of the language
-names_of : (text : List ℕ) (tree : ModelTree) → HasTree text tree → HasNames (model_tokens tree)
-names_of text tree h =
-    subst HasNames (sym h.spelled) (subst (λ (ts : List Token). HasNames (values text ts)) (sym h.cut.placed) (tokens_named text h.cut.pieces h.cut.cut))
+use Rattle.room_run.specs.Models.{IsModel}
+use Rattle.room_run.proofs.Names.{names_read}
 
 pub text_tells : (text : List ℕ) (plant : Plant) (lines : List Line) (fuel : ℕ) (j : Journals) → IsModel text plant
     → FitLines plant.wiring lines → IsRun plant lines fuel j
@@ -30,7 +20,7 @@ text_tells text plant lines fuel j model fit run =
     let tree = model.is.tree in
     let sound = model.is.sound in
     texts_tell plant lines (wiring_consistent tree plant.wiring sound.wired.wired sound.keeps sound.wired.flawless)
-    (sound_well_named tree plant.wiring model.charts sound.keeps (names_of text tree model.is.read) sound.faultless sound.wired.wired)
+    (sound_well_named tree plant.wiring model.charts sound.keeps (names_read text tree model.is.read) sound.faultless sound.wired.wired)
     fit fuel j run
 
 -- what a run of a model fetches fits

@@ -1,7 +1,7 @@
 -- The texts of a chart's states, in the order of their numbers.
 use Rattle.std.specs.Prelude.{ℕ, ◌-◌, nat_lt, if◌then◌else◌, List, [], ◌∷◌, ◌++◌, map}
 use Rattle.std.specs.Option.{option_map_or}
-use Rattle.room_ast.specs.ChartTree.{GraphItemTree, AState, AChoice, APoint, ATransition, StateTree, StateOf, BodyTree, no_body, body, SubgraphTree, no_subgraph, subgraph, GraphItems, no_items, item}
+use Rattle.room_ast.specs.ChartTree.{GraphItemTree, AState, AChoice, APoint, ATransition, ARefinement, StateTree, StateOf, BodyTree, no_body, body, SubgraphTree, no_subgraph, subgraph, GraphItems, no_items, item}
 use Rattle.room_ast.specs.Trees.{ActorTree}
 use Rattle.room_ast.specs.model_parts.Charts.{chart_of}
 use Rattle.wiring_plan.specs.wiring_classes.Labels.{label_of}
@@ -13,6 +13,7 @@ abbrev mutual
   states_of_item left prefix (AChoice c) = []
   states_of_item left prefix (APoint p) = []
   states_of_item left prefix (ATransition t) = []
+  states_of_item left prefix (ARefinement path change) = []
 
   pub states_of_state : ℕ → List ℕ → StateTree → List (List ℕ)
   states_of_state left prefix (StateOf name b) = (prefix ++ name) ∷ states_of_body left (prefix ++ name) b

@@ -42,6 +42,7 @@ fn add_item(
         GraphItem::Choice(_) => Ok(()),
         GraphItem::Point(_) => Ok(()),
         GraphItem::Transition(_) => Ok(()),
+        GraphItem::Refinement(_) => Ok(()),
     }
 }
 

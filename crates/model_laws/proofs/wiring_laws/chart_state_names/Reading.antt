@@ -3,7 +3,7 @@ use Rattle.std.proofs.Common.{◌≡◌, ◌∙◌, ℕ, true, false, List, [], 
 use Rattle.std.specs.List.{list_all, IsDistinct, AllByRecursion}
 use Rattle.std.proofs.lemmas.Bool.{and_parts}
 use Rattle.std.proofs.lemmas.List.{map-append, append-nil}
-use Rattle.room_ast.specs.ChartTree.{GraphItemTree, AState, AChoice, APoint, ATransition, StateTree, StateOf, BodyTree, no_body, body, SubgraphTree, no_subgraph, subgraph, GraphItems, no_items, item}
+use Rattle.room_ast.specs.ChartTree.{GraphItemTree, AState, AChoice, APoint, ATransition, ARefinement, StateTree, StateOf, BodyTree, no_body, body, SubgraphTree, no_subgraph, subgraph, GraphItems, no_items, item}
 use Rattle.room_ast.specs.declared.scope.Scope.{Scope}
 use Rattle.name_tables.specs.name_numbers.Names.{same, AreDistinct}
 use Rattle.name_tables.specs.distinct_names.Distinct.{is_distinct}
@@ -52,6 +52,7 @@ module _ (scope : Scope) where
   item_states (AChoice c) a owner p rest = refl
   item_states (APoint q) a owner p rest = refl
   item_states (ATransition t) a owner p rest = refl
+  item_states (ARefinement path change) a owner p rest = refl
 
   items_states : (is : GraphItems) (a : Around) (owner : Path) (p : Piece) → named (with_items scope is a owner p).states ≡ named p.states ++ names_here is
   items_states no_items a owner p = sym (append-nil (named p.states))
@@ -65,6 +66,7 @@ module _ (scope : Scope) where
     item_differs (AChoice c) a owner p h = (h, tt)
     item_differs (APoint q) a owner p h = (h, tt)
     item_differs (ATransition t) a owner p h = (h, tt)
+    item_differs (ARefinement path change) a owner p h = (h, tt)
 
     state_differs : (s : StateTree) (owner : Path) (p : Piece) → GoodAll (with_state scope s owner p).inner → GoodAll p.inner × StateDiffers s
     state_differs (StateOf n b) owner p h = body_differs b n owner p h

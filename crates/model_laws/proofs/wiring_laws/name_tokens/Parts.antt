@@ -4,7 +4,7 @@ use Rattle.std.specs.Prelude.{All, unwrap_or}
 use Rattle.std.specs.List.{filter_map, AllByRecursion}
 use Rattle.std.proofs.lemmas.List.Elements.{All-nil, All-cons, All-append}
 use Rattle.room_lexer.specs.declared.token.Mark.TheVariants as marks
-use Rattle.room_ast.specs.Tokens.{mark, each, maybe, braces, word_if, ref_kind, actor_ref, port, interface_item, structure_item, message, incoming, outgoing, usercode, protocol_class, interface, structure, behavior, actor_class, subsystem_item, subsystem}
+use Rattle.room_ast.specs.Tokens.{mark, each, maybe, braces, word_if, ref_kind, actor_ref, port, interface_item, structure_item, message, incoming, outgoing, usercode, protocol_class, interface, structure, behavior, extends, actor_class, subsystem_item, subsystem}
 use Rattle.room_ast.specs.Trees.{ActorTree, SubsystemItemTree, AReference, ABinding, ALayer, AThread, AMapping, SubsystemTree}
 use Rattle.room_ast.specs.Values.{TokenValue}
 use Rattle.room_ast.specs.declared.actor.ActorRef.{ActorRef}
@@ -107,7 +107,7 @@ outgoing_part (Some xs) h = in_braces message xs h
 
 module _ (a : ActorTree) (h : HasNames (actor_class a)) where
   inside : HasNames (maybe interface a.interface ++ (maybe structure a.structure ++ (maybe behavior a.behavior ++ mark marks.CloseBrace)))
-  inside = (has_both (word_if _ a.event_driven) _ h).1.1
+  inside = (has_both (maybe extends a.base) _ (has_both (word_if _ a.event_driven) _ h).1.1).1
 
   of_interface : AllByRecursion (λ x. HasNames (interface_item x)) (interface_of a)
   of_interface = interface_part a.interface (has_both (maybe interface a.interface) _ inside).0

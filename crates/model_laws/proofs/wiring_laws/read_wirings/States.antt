@@ -3,8 +3,8 @@ use Rattle.std.proofs.Common.{◌≡◌, List, [], ◌∷◌, Option, Some, None
 use Rattle.std.specs.Prelude.{All, option_and_then}
 use Rattle.std.specs.List.{filter_map, AllByRecursion}
 use Rattle.std.proofs.lemmas.List.Elements.{All-nil, All-cons, All-head, All-tail}
-use Rattle.room_ast.specs.ChartTree.{GraphItemTree, AState, AChoice, APoint, ATransition, StateTree, StateOf, BodyTree, no_body, body, SubgraphTree, no_subgraph, subgraph, GraphItems, no_items, item}
-use Rattle.room_ast.specs.Tokens.{maybe, word_if, word_code, graph_item, state_tokens, body_tokens, subgraph_tokens, graph_tokens, machine, behavior, interface, structure, actor_class, class_tokens, model_tokens}
+use Rattle.room_ast.specs.ChartTree.{GraphItemTree, AState, AChoice, APoint, ATransition, ARefinement, StateTree, StateOf, BodyTree, no_body, body, SubgraphTree, no_subgraph, subgraph, GraphItems, no_items, item}
+use Rattle.room_ast.specs.Tokens.{maybe, word_if, word_code, graph_item, state_tokens, body_tokens, subgraph_tokens, graph_tokens, machine, behavior, interface, structure, extends, actor_class, class_tokens, model_tokens}
 use Rattle.room_ast.specs.Trees.{ModelTree, ClassTree, ASystem, ASubsystem, AnActor, AProtocol, AData, ActorTree, BehaviorTree}
 use Rattle.room_wiring.specs.WellNamed.{IsWellNamed}
 use Rattle.room_wiring.specs.declared.tables.Tables.{Tables}
@@ -26,6 +26,7 @@ mutual
   item_named (AChoice c) h d = tt
   item_named (APoint p) h d = tt
   item_named (ATransition t) h d = tt
+  item_named (ARefinement path change) h d = tt
 
   state_named : (s : StateTree) → HasNames (state_tokens s) → StateDiffers s → StateIsNamed s
   state_named (StateOf name b) h d = (ident_of name h.0, body_named b h.1 d)
@@ -54,7 +55,8 @@ behavior_named (Some b) h d = machine_named b.machine (has_both (maybe machine b
 
 actor_named : (a : ActorTree) → HasNames (actor_class a) → ChartDiffers (chart_of a) → ChartIsNamed (chart_of a)
 actor_named a h d =
-    let inside = (has_both (word_if _ a.event_driven) _ h).1.1 in
+    let head = (has_both (word_if _ a.event_driven) _ h).1.1 in
+    let inside = (has_both (maybe extends a.base) _ head).1 in
     let behind = (has_both (maybe structure a.structure) _ (has_both (maybe interface a.interface) _ inside).1).1 in
     behavior_named a.behavior (has_both (maybe behavior a.behavior) _ behind).0 d
 

@@ -5,7 +5,7 @@ use Rattle.std.specs.List.{IsDistinct, AllByRecursion}
 use Rattle.std.specs.Option.{option_map_or}
 use Rattle.std.proofs.lemmas.List.Elements.{All-nil, All-cons, All-head, All-tail}
 use lib.Pointwise.{bytes_decides}
-use Rattle.room_ast.specs.ChartTree.{GraphItemTree, AState, AChoice, APoint, ATransition, StateTree, StateOf, BodyTree, no_body, body, SubgraphTree, no_subgraph, subgraph, GraphItems, no_items, item}
+use Rattle.room_ast.specs.ChartTree.{GraphItemTree, AState, AChoice, APoint, ATransition, ARefinement, StateTree, StateOf, BodyTree, no_body, body, SubgraphTree, no_subgraph, subgraph, GraphItems, no_items, item}
 use Rattle.room_ast.specs.Trees.{ModelTree, ActorTree}
 use Rattle.room_wiring.specs.WellNamed.{IsIdent, IsStateLabel}
 use Rattle.name_tables.specs.name_numbers.Names.{same, AreDistinct}
@@ -36,6 +36,7 @@ mutual
   item_formed (AChoice c) left pre p h = tt
   item_formed (APoint q) left pre p h = tt
   item_formed (ATransition t) left pre p h = tt
+  item_formed (ARefinement path change) left pre p h = tt
 
   state_formed : (s : StateTree) (left : ℕ) (pre : List ℕ) → IsPrefix pre → StateIsNamed s → Each IsStateLabel (states_of_state left pre s)
   state_formed (StateOf name b) left pre p h = let label = formed pre name p h.0 in (label, body_formed b left (pre ++ name) label h.1)
@@ -60,6 +61,7 @@ mutual
   item_under (AChoice c) left pre = tt
   item_under (APoint q) left pre = tt
   item_under (ATransition t) left pre = tt
+  item_under (ARefinement path change) left pre = tt
 
   state_under : (s : StateTree) (left : ℕ) (pre : List ℕ) → Each (Under pre) (states_of_state left pre s)
   state_under (StateOf name b) left pre =
@@ -103,6 +105,7 @@ items_away (item (AState (StateOf n b)) is) left pre name ident apart h =
 items_away (item (AChoice c) is) left pre name ident apart h = items_away is left pre name ident apart h.1
 items_away (item (APoint q) is) left pre name ident apart h = items_away is left pre name ident apart h.1
 items_away (item (ATransition t) is) left pre name ident apart h = items_away is left pre name ident apart h.1
+items_away (item (ARefinement path change) is) left pre name ident apart h = items_away is left pre name ident apart h.1
 
 cross : (name : List ℕ) (b : BodyTree) (left : ℕ) (pre : List ℕ) (ls : List (List ℕ)) → Each (AwayFrom (pre ++ name)) ls → Each (λ (x : List ℕ). Each (λ (y : List ℕ). x ≢ y) ls) (states_of_state left pre (StateOf name b))
 unfolding AwayFrom
@@ -129,6 +132,7 @@ mutual
   item_apart (AChoice c) is left pre distinct named others rest = rest distinct
   item_apart (APoint q) is left pre distinct named others rest = rest distinct
   item_apart (ATransition t) is left pre distinct named others rest = rest distinct
+  item_apart (ARefinement path change) is left pre distinct named others rest = rest distinct
 
   one_apart : (s : StateTree) (is : GraphItems) (left : ℕ) (pre : List ℕ) → AreDistinct (names_here (item (AState s) is)) → StateIsNamed s → ItemsAreNamed is → (AreDistinct (names_here is) → Apart (states_of_graph left pre is)) → Apart (states_of_state left pre s ++ states_of_graph left pre is)
   one_apart (StateOf name b) is left pre distinct named others rest =

@@ -1,6 +1,6 @@
 -- Charts in which the states of each graph have different names.
 use Rattle.std.specs.Prelude.{All, Option, Some, None}
-use Rattle.room_ast.specs.ChartTree.{GraphItemTree, AState, AChoice, APoint, ATransition, StateTree, StateOf, BodyTree, no_body, body, SubgraphTree, no_subgraph, subgraph, GraphItems, no_items, item}
+use Rattle.room_ast.specs.ChartTree.{GraphItemTree, AState, AChoice, APoint, ATransition, ARefinement, StateTree, StateOf, BodyTree, no_body, body, SubgraphTree, no_subgraph, subgraph, GraphItems, no_items, item}
 use Rattle.room_ast.specs.Trees.{ModelTree, ActorTree}
 use Rattle.name_tables.specs.name_numbers.Names.{AreDistinct}
 use Rattle.room_ast.specs.model_parts.Charts.{chart_of}
@@ -14,6 +14,7 @@ abbrev mutual
   ItemDiffers (AChoice c) = Unit {0}
   ItemDiffers (APoint p) = Unit {0}
   ItemDiffers (ATransition t) = Unit {0}
+  ItemDiffers (ARefinement path change) = Unit {0}
 
   pub StateDiffers : StateTree → Type 0
   StateDiffers (StateOf name b) = BodyDiffers b

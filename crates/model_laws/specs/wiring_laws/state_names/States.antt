@@ -1,6 +1,6 @@
 -- Charts whose states are called by identifiers, in each graph by different ones.
 use Rattle.std.specs.Prelude.{ℕ, List, [], ◌∷◌, All, Option, Some, None}
-use Rattle.room_ast.specs.ChartTree.{GraphItemTree, AState, AChoice, APoint, ATransition, StateTree, StateOf, BodyTree, no_body, body, SubgraphTree, no_subgraph, subgraph, GraphItems, no_items, item}
+use Rattle.room_ast.specs.ChartTree.{GraphItemTree, AState, AChoice, APoint, ATransition, ARefinement, StateTree, StateOf, BodyTree, no_body, body, SubgraphTree, no_subgraph, subgraph, GraphItems, no_items, item}
 use Rattle.room_ast.specs.Trees.{ModelTree, ActorTree}
 use Rattle.room_wiring.specs.WellNamed.{IsIdent, IsStateLabel, NamesDiffer}
 use Rattle.room_wiring.specs.declared.names.ClassNames.{ClassNames}
@@ -14,6 +14,7 @@ name_of_item (AState (StateOf name b)) names = name ∷ names
 name_of_item (AChoice c) names = names
 name_of_item (APoint p) names = names
 name_of_item (ATransition t) names = names
+name_of_item (ARefinement path change) names = names
 
 -- the names of the states of a graph, without those inside its states
 abbrev pub names_here : GraphItems → List (List ℕ)
@@ -27,6 +28,7 @@ abbrev mutual
   ItemIsNamed (AChoice c) = Unit {0}
   ItemIsNamed (APoint p) = Unit {0}
   ItemIsNamed (ATransition t) = Unit {0}
+  ItemIsNamed (ARefinement path change) = Unit {0}
 
   pub StateIsNamed : StateTree → Type 0
   StateIsNamed (StateOf name b) = IsIdent name × BodyIsNamed b

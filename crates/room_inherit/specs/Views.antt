@@ -1,0 +1,48 @@
+-- What the code's refinements stand for.
+use Rattle.std.specs.Prelude.{ℕ, List, [], ◌∷◌, map, Option, Some, None}
+use Rattle.std.specs.Prelude.{option_map}
+use Rattle.std.specs.Borrow.{Bor}
+use Rattle.std.specs.Global.{Vec}
+use Rattle.room_ast.specs.ChartTree.{GraphItemTree, StateTree, BodyParts, ChangeTree, OfState, SubgraphTree, no_subgraph, subgraph, GraphItems, graph_view, item_step, state_step, body_step, refinement_step, change_step}
+use Rattle.room_ast.specs.declared.chart.Change.{Change}
+use Rattle.room_ast.specs.declared.chart.GraphItem.{GraphItem}
+use Rattle.room_ast.specs.declared.chart.StateMachine.{StateMachine}
+use Rattle.room_ast.specs.declared.chart.Change.TheFolds.{fold-Change}
+use Rattle.room_ast.specs.Trees.{ActorTree, actor_view}
+use Rattle.room_ast.specs.declared.actor.ActorClass.{ActorClass}
+use Rattle.room_inherit.specs.Refining.{Refining}
+use Rattle.room_inherit.specs.declared.refining.paths.Pending.{Pending}
+use Rattle.room_inherit.specs.declared.rules.once.Path.{Path}
+
+abbrev pub change_view : Change → ChangeTree
+change_view = fold-Change ChangeTree GraphItemTree GraphItemTree StateTree BodyParts change_step item_step refinement_step state_step body_step
+
+-- What a refinement of a state adds.
+abbrev pub of_state : BodyParts → ChangeTree
+of_state b = OfState b.entry b.exit b.subgraph
+
+abbrev pub path_from : Option (Bor (List ℕ)) → List (List ℕ) → List (List ℕ)
+path_from None others = []
+path_from (Some first) others = first.now ∷ others
+
+abbrev pub refining_view : Pending → Refining
+refining_view p = record { path = path_from p.next p.others.now; change = change_view p.change.now }
+
+abbrev pub refining_views : List Pending → List Refining
+refining_views ps = map refining_view ps
+
+abbrev pub subgraph_tree : Option (Vec GraphItem) → SubgraphTree
+subgraph_tree None = no_subgraph
+subgraph_tree (Some v) = subgraph (graph_view v.items)
+
+abbrev pub machine_view : StateMachine → GraphItems
+machine_view m = graph_view m.items.items
+
+abbrev pub path_view : Path → List (List ℕ)
+path_view p = path_from p.next p.others.now
+
+abbrev pub path_views : List Path → List (List (List ℕ))
+path_views ps = map path_view ps
+
+abbrev pub flat_views : List (Option ActorClass) → List (Option ActorTree)
+flat_views fs = map (λ f. option_map actor_view f) fs

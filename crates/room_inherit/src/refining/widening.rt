@@ -1,0 +1,195 @@
+//! What refinements make of a state's body and of a transition.
+ghost use Rattle.std.specs.Prelude.{◌≡◌, ◌++◌, Some, IfOk, OnOk, map, option_map};
+ghost use Rattle.room_ast.specs.ChartTree.{body_of, body_view, item_view};
+ghost use Rattle.room_inherit.specs.Codes.{texts_of, joined, joined_if};
+ghost use Rattle.room_inherit.specs.Refining.{acting_also, action_for, joined_subgraph, new_body, refined_transition, widened};
+ghost use Rattle.room_inherit.specs.Views.{of_state, refining_views, subgraph_tree};
+
+use crate::copies::{copy_body, copy_code, copy_item, copy_text, copy_transition};
+use crate::refining::paths::{Pending, added_action};
+use room_ast::{Code, CodeText, GraphItem, Name, StateBody, Transition, TransitionBody};
+use room_kinds::Sequence;
+use std::alloc::{AllocError, Global};
+
+/// Adds copies of the texts of a code.
+fn add_texts(alloc: Global, texts: &mut Vec<CodeText>, code: &Code) -> Result<(), AllocError>
+    ensures { OnOk result (texts.new.items ≡ texts.old.items ++ texts_of code.now) }
+{
+    match code {
+        Code::Single(text) => {
+            let text = copy_text(alloc, text)?;
+            texts.push(text)?;
+            Ok(())
+        }
+        Code::Texts(more) => add_copies(alloc, texts, more.as_slice()),
+    }
+}
+
+fn add_copies(alloc: Global, texts: &mut Vec<CodeText>, more: &[CodeText]) -> Result<(), AllocError>
+    ensures { OnOk result (texts.new.items ≡ texts.old.items ++ more.now) }
+{
+    for text in more {
+        let text = copy_text(alloc, text)?;
+        texts.push(text)?;
+    }
+    Ok(())
+}
+
+/// The texts of a code and then those of another.
+fn joined(alloc: Global, first: &Code, second: &Code) -> Result<Code, AllocError>
+    ensures { IfOk result (λ c. c ≡ joined first.now second.now) }
+{
+    let mut texts = Vec::new(alloc);
+    add_texts(alloc, &mut texts, first)?;
+    add_texts(alloc, &mut texts, second)?;
+    Ok(Code::Texts(Sequence::from(texts)))
+}
+
+fn joined_if(
+    alloc: Global,
+    first: &Option<Code>,
+    second: &Option<Code>,
+) -> Result<Option<Code>, AllocError>
+    ensures { IfOk result (λ c. c ≡ joined_if first.now second.now) }
+{
+    match (first, second) {
+        (Some(first), Some(second)) => Ok(Some(joined(alloc, first, second)?)),
+        (Some(first), None) => Ok(Some(copy_code(alloc, first)?)),
+        (None, Some(second)) => Ok(Some(copy_code(alloc, second)?)),
+        (None, None) => Ok(None),
+    }
+}
+
+/// Adds copies of the items of a graph.
+pub(crate) fn add_items(
+    alloc: Global,
+    items: &mut Vec<GraphItem>,
+    more: &Vec<GraphItem>,
+) -> Result<(), AllocError>
+    ensures { OnOk result (map item_view items.new.items ≡ map item_view items.old.items ++ map item_view more.now.items) }
+{
+    for item in more {
+        let item = copy_item(alloc, item)?;
+        items.push(item)?;
+    }
+    Ok(())
+}
+
+/// The items of a subgraph and then those that a refinement has.
+#[tactic(auto, using(crate::proofs::Graphs::followed_lists))]
+fn joined_subgraph(
+    alloc: Global,
+    items: Option<Vec<GraphItem>>,
+    more: &Option<Vec<GraphItem>>,
+) -> Result<Option<Vec<GraphItem>>, AllocError>
+    ensures { IfOk result (λ s. subgraph_tree s ≡ joined_subgraph (subgraph_tree items) (subgraph_tree more.now)) }
+{
+    let Some(more) = more else {
+        return Ok(items);
+    };
+    let mut items = match items {
+        Some(items) => items,
+        None => Vec::new(alloc),
+    };
+    add_items(alloc, &mut items, more)?;
+    Ok(Some(items))
+}
+
+/// A state's body with what a refinement adds.
+fn widened_body(alloc: Global, body: StateBody, change: &StateBody) -> Result<StateBody, AllocError>
+    ensures { IfOk result (λ b. body_of (Some (body_view b)) ≡ widened (Some (of_state (body_view change.now))) (body_of (Some (body_view body)))) }
+{
+    let entry = joined_if(alloc, &body.entry, &change.entry)?;
+    let exit = joined_if(alloc, &change.exit, &body.exit)?;
+    let subgraph = joined_subgraph(alloc, body.subgraph, &change.subgraph)?;
+    Ok(StateBody {
+        entry,
+        exit,
+        subgraph,
+    })
+}
+
+/// A state's body, which may be missing, with what a refinement adds.
+pub(super) fn widened(
+    alloc: Global,
+    body: Option<StateBody>,
+    change: &StateBody,
+) -> Result<Option<StateBody>, AllocError>
+    ensures { IfOk result (λ b. body_of (option_map body_view b) ≡ widened (Some (of_state (body_view change.now))) (body_of (option_map body_view body))) }
+{
+    if let Some(body) = body {
+        let body = widened_body(alloc, body, change)?;
+        return Ok(Some(body));
+    }
+    new_body(alloc, change)
+}
+
+/// The body that a state without one gets.
+fn new_body(alloc: Global, change: &StateBody) -> Result<Option<StateBody>, AllocError>
+    ensures { IfOk result (λ b. body_of (option_map body_view b) ≡ new_body (body_view change.now).entry (body_view change.now).exit (body_view change.now).subgraph) }
+{
+    match (&change.entry, &change.exit, &change.subgraph) {
+        (None, None, None) => Ok(None),
+        _ => {
+            let body = copy_body(alloc, change)?;
+            Ok(Some(body))
+        }
+    }
+}
+
+/// A transition's body with an action that is added.
+fn acting_also(
+    alloc: Global,
+    body: Option<TransitionBody>,
+    code: &Code,
+) -> Result<TransitionBody, AllocError>
+    ensures { IfOk result (λ b. Some b ≡ acting_also (Some code.now) body) }
+{
+    let Some(body) = body else {
+        let action = copy_code(alloc, code)?;
+        return Ok(TransitionBody {
+            triggers: None,
+            condition: None,
+            action: Some(action),
+        });
+    };
+    let action = match &body.action {
+        Some(action) => joined(alloc, action, code)?,
+        None => copy_code(alloc, code)?,
+    };
+    Ok(TransitionBody {
+        triggers: body.triggers,
+        condition: body.condition,
+        action: Some(action),
+    })
+}
+
+fn action_for<'a>(name: &Option<Name>, pending: &[Pending<'a>]) -> Option<&'a Code>
+    ensures { option_map (λ c. c.now) result ≡ action_for name.now (refining_views pending.now) }
+{
+    match name {
+        Some(name) => added_action(name.as_bytes(), pending),
+        None => None,
+    }
+}
+
+/// A copy of a transition, with what refinements add to its action.
+pub(super) fn refined_transition<'a>(
+    alloc: Global,
+    transition: &Transition,
+    pending: &[Pending<'a>],
+) -> Result<Transition, AllocError>
+    ensures { IfOk result (λ t. t ≡ refined_transition (refining_views pending.now) transition.now) }
+{
+    let copy = copy_transition(alloc, transition)?;
+    let Some(code) = action_for(&transition.name, pending) else {
+        return Ok(copy);
+    };
+    let body = acting_also(alloc, copy.body, code)?;
+    Ok(Transition {
+        name: copy.name,
+        source: copy.source,
+        target: copy.target,
+        body: Some(body),
+    })
+}
