@@ -67,6 +67,7 @@ known_names : (classes : List ClassTree) (a : ActorTree) → rules.class_is_plai
 known_names classes a e = ap (λ o. option_map_or (λ b. rules.refines_known (flat_actor classes b) a) o true) (no_base_in classes a e)
 
 once : (a : ActorTree) → rules.class_is_plain a ≡ true → rules.refines_once a ≡ true
+unfolding rules.once_of
 once a e = ap rules.once_of (none_in_chart (chart_of a) (plain_chart a e))
 
 -- ---- no circles

@@ -102,7 +102,7 @@ module _ (cs : List ClassTree) (order : List ℕ) (is : IsContainmentOrder (map 
 
   -- ---- what was taken
 
-  target : ℕ → Option ActorTree
+  abbrev target : ℕ → Option ActorTree
   target i = option_map (flat_actor cs) (actor_at cs i)
 
   -- the flat classes once those at the first k places of the order are taken
@@ -156,7 +156,7 @@ module _ (cs : List ClassTree) (order : List ℕ) (is : IsContainmentOrder (map 
   set_length (x ∷ xs) zero v = refl
   set_length (x ∷ xs) (suc i) v = ap suc (set_length xs i v)
 
-  Outcome : ℕ → Option (List (Option ActorTree)) → Type 0
+  abbrev Outcome : ℕ → Option (List (Option ActorTree)) → Type 0
   Outcome k (Some flats) = Taken k flats
   Outcome k None = (j : ℕ) × ((a : ActorTree) × ((actor_at cs j ≡ Some a) × (names_known cs a ≡ false)))
 
@@ -303,7 +303,7 @@ dropped_none [] = refl
 dropped_none (x ∷ xs) = refl
 
 -- What the flat classes say of the rule on what refinements name, and of the model.
-pub FillsRightly : List ClassTree → Option (List (Option ActorTree)) → Type 0
+abbrev pub FillsRightly : List ClassTree → Option (List (Option ActorTree)) → Type 0
 FillsRightly cs None = list_all (of_actor (names_known cs)) cs ≡ false
 FillsRightly cs (Some fs) = (list_all (of_actor (names_known cs)) cs ≡ true) × (replaced cs fs ≡ map (flat_class cs) cs)
 

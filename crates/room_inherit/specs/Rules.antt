@@ -117,7 +117,7 @@ paths_differ [] = true
 paths_differ (path ∷ paths) = not (list_any (same_path path) paths) && paths_differ paths
 
 -- Whether no two of these refinements are of one state or of one transition.
-abbrev pub once_of : List Refining → Bool
+unfoldable pub once_of : List Refining → Bool
 once_of rs = paths_differ (filter_map (λ (r : Refining). state_path r.path r.change) rs) && paths_differ (filter_map (λ (r : Refining). transition_path r.path r.change) rs)
 
 abbrev pub refines_once : ActorTree → Bool
