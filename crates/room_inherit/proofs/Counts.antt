@@ -1,5 +1,5 @@
 -- Lists whose items have the same number of tokens each.
-use Rattle.std.proofs.Common.{◌≡◌, ℕ, suc, ◌+◌, ◌*◌, List, [], ◌∷◌, length, refl, ap, arith}
+use Rattle.std.proofs.Common.{◌≡◌, ℕ, suc, ◌*◌, List, [], ◌∷◌, length, refl, arith}
 use Rattle.room_ast.specs.Tokens.{each, dot_name, empty_string, code_text, event, bar_event, subsystem_ref}
 use Rattle.room_ast.specs.declared.chart.CodeText.{CodeText}
 use Rattle.room_ast.specs.declared.chart.CodeText.TheVariants as texts

@@ -7,7 +7,7 @@ use Rattle.number_graphs.specs.class_containment.Containment.{contains_itself, h
 use Rattle.room_ast.specs.ChartTree.{AState, AChoice, APoint, ATransition, ARefinement, GraphItems, no_items, item}
 use Rattle.room_ast.specs.Trees.{ModelTree, ClassTree, ASystem, ASubsystem, AnActor, AProtocol, AData, ActorTree}
 use Rattle.room_ast.specs.model_parts.Charts.{chart_of}
-use Rattle.room_ast.specs.model_parts.Classes.{as_actor, class_name, number_in}
+use Rattle.room_ast.specs.model_parts.Classes.{class_name, number_in}
 use Rattle.room_inherit.specs.Flat.{actor_at, base_in, over_base, flat_with, flat_actor, flat_class, flat}
 use Rattle.room_inherit.specs.Flattening.{size_rule}
 use Rattle.room_inherit.specs.Refining.{refinements}

@@ -1,14 +1,14 @@
 -- Flat classes that are taken in an order in which bases come first.
-use Rattle.std.proofs.Common.{◌≡◌, ◌⊎◌, inl, inr, ℕ, zero, suc, ◌+◌, ◌<◌, ◌≤◌, Bool, true, false, nat_eq, List, [], ◌∷◌, length, drop, map, Option, Some, None, refl, sym, ap, ◌∙◌, subst, arith}
+use Rattle.std.proofs.Common.{◌≡◌, inl, inr, ℕ, zero, suc, ◌<◌, ◌≤◌, Bool, true, false, nat_eq, List, [], ◌∷◌, length, drop, map, Option, Some, None, refl, sym, ap, ◌∙◌, subst, arith}
 use Rattle.std.specs.Prelude.{◌||◌, ◌&&◌, option_map, slice_get, slice_set, slice_index, if◌then◌else◌}
 use Rattle.std.specs.List.{list_any, list_all, slice_index_or}
 use Rattle.std.specs.Option.{option_map_or, option_and_then, option_to_list}
 use Rattle.std.proofs.lemmas.Bool.{cases_eq, cases_lt, eq-eqb}
-use Rattle.number_graphs.specs.class_containment.Containment.{parts_of, has_part, IsContainmentOrder}
+use Rattle.number_graphs.specs.class_containment.Containment.{has_part, IsContainmentOrder}
 use Rattle.room_ast.specs.Trees.{ClassTree, ASystem, ASubsystem, AnActor, AProtocol, AData, ActorTree}
-use Rattle.room_ast.specs.model_parts.Classes.{as_actor, class_name, number_in}
+use Rattle.room_ast.specs.model_parts.Classes.{as_actor, class_name}
 use Rattle.room_inherit.specs.Filling.{flat_there, base_there, known_there, with_actor, with_class, filled, none_taken, replaced_by, replaced}
-use Rattle.room_inherit.specs.Flat.{base_number, number_above, actor_at, base_in, over_base, flat_with, flat_actor, flat_class}
+use Rattle.room_inherit.specs.Flat.{base_number, actor_at, base_in, over_base, flat_with, flat_actor, flat_class}
 use Rattle.room_inherit.specs.Rules.{extended, of_actor, refines_known, names_known}
 
 -- ---- classes by number

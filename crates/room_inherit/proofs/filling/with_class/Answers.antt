@@ -1,9 +1,8 @@
-use Rattle.std.proofs.Common.{◌≡◌, ap, sym, ◌∙◌, Some, None}
+use Rattle.std.proofs.Common.{◌≡◌, ap, sym, ◌∙◌, Some}
 use Rattle.std.specs.Prelude.{option_map, slice_get, slice_set}
 use Rattle.std.proofs.lemmas.Option.{slice_get-get_or}
 use Rattle.room_ast.specs.Trees.{actor_view}
 use Rattle.room_ast.specs.declared.actor.ActorClass.{ActorClass}
-use Rattle.room_ast.specs.declared.model.Class.TheVariants as classes
 use Rattle.room_inherit.specs.Views.{flat_views}
 use Rattle.room_inherit.proofs.Bases.{taken_there}
 use Rattle.room_inherit.proofs.filling.with_class.Goals as goal
