@@ -1,6 +1,6 @@
 -- Orders of classes in which bases come first, and the flat classes that are taken in them.
-use Rattle.std.proofs.Common.{◌≡◌, ℕ, Bool, true, false, List, map, Option, Some, None, refl, sym, ap, ◌∙◌, subst}
-use Rattle.std.specs.Prelude.{not, is_none, option_map}
+use Rattle.std.proofs.Common.{◌≡◌, ℕ, true, false, List, map, Option, Some, None, refl, sym, ap, ◌∙◌, subst}
+use Rattle.std.specs.Prelude.{not, option_map}
 use Rattle.std.specs.Global.{Vec}
 use Rattle.number_graphs.specs.class_containment.Containment.{IsContainmentOrder}
 use Rattle.number_graphs.specs.class_containment.Walks.{Orders}

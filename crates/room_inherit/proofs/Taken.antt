@@ -1,14 +1,14 @@
 -- Flat classes that are taken in an order in which bases come first.
-use Rattle.std.proofs.Common.{◌≡◌, ◌⊎◌, inl, inr, ℕ, zero, suc, ◌+◌, ◌<◌, ◌≤◌, Bool, true, false, nat_eq, List, [], ◌∷◌, length, drop, map, Option, Some, None, refl, sym, ap, ◌∙◌, subst, arith}
+use Rattle.std.proofs.Common.{◌≡◌, inl, inr, ℕ, zero, suc, ◌<◌, ◌≤◌, Bool, true, false, nat_eq, List, [], ◌∷◌, length, drop, map, Option, Some, None, refl, sym, ap, ◌∙◌, subst, arith}
 use Rattle.std.specs.Prelude.{◌||◌, ◌&&◌, option_map, slice_get, slice_set, slice_index, if◌then◌else◌}
 use Rattle.std.specs.List.{list_any, list_all, slice_index_or}
 use Rattle.std.specs.Option.{option_map_or, option_and_then, option_to_list}
 use Rattle.std.proofs.lemmas.Bool.{cases_eq, cases_lt, eq-eqb}
-use Rattle.number_graphs.specs.class_containment.Containment.{parts_of, has_part, IsContainmentOrder}
+use Rattle.number_graphs.specs.class_containment.Containment.{has_part, IsContainmentOrder}
 use Rattle.room_ast.specs.Trees.{ClassTree, ASystem, ASubsystem, AnActor, AProtocol, AData, ActorTree}
-use Rattle.room_ast.specs.model_parts.Classes.{as_actor, class_name, number_in}
+use Rattle.room_ast.specs.model_parts.Classes.{as_actor, class_name}
 use Rattle.room_inherit.specs.Filling.{flat_there, base_there, known_there, with_actor, with_class, filled, none_taken, replaced_by, replaced}
-use Rattle.room_inherit.specs.Flat.{base_number, number_above, actor_at, base_in, over_base, flat_with, flat_actor, flat_class}
+use Rattle.room_inherit.specs.Flat.{base_number, actor_at, base_in, over_base, flat_with, flat_actor, flat_class}
 use Rattle.room_inherit.specs.Rules.{extended, of_actor, refines_known, names_known}
 
 -- ---- classes by number
@@ -102,7 +102,7 @@ module _ (cs : List ClassTree) (order : List ℕ) (is : IsContainmentOrder (map 
 
   -- ---- what was taken
 
-  target : ℕ → Option ActorTree
+  abbrev target : ℕ → Option ActorTree
   target i = option_map (flat_actor cs) (actor_at cs i)
 
   -- the flat classes once those at the first k places of the order are taken
@@ -156,7 +156,7 @@ module _ (cs : List ClassTree) (order : List ℕ) (is : IsContainmentOrder (map 
   set_length (x ∷ xs) zero v = refl
   set_length (x ∷ xs) (suc i) v = ap suc (set_length xs i v)
 
-  Outcome : ℕ → Option (List (Option ActorTree)) → Type 0
+  abbrev Outcome : ℕ → Option (List (Option ActorTree)) → Type 0
   Outcome k (Some flats) = Taken k flats
   Outcome k None = (j : ℕ) × ((a : ActorTree) × ((actor_at cs j ≡ Some a) × (names_known cs a ≡ false)))
 
@@ -303,7 +303,7 @@ dropped_none [] = refl
 dropped_none (x ∷ xs) = refl
 
 -- What the flat classes say of the rule on what refinements name, and of the model.
-pub FillsRightly : List ClassTree → Option (List (Option ActorTree)) → Type 0
+abbrev pub FillsRightly : List ClassTree → Option (List (Option ActorTree)) → Type 0
 FillsRightly cs None = list_all (of_actor (names_known cs)) cs ≡ false
 FillsRightly cs (Some fs) = (list_all (of_actor (names_known cs)) cs ≡ true) × (replaced cs fs ≡ map (flat_class cs) cs)
 

@@ -1,5 +1,5 @@
 -- What flattening answers.
-use Rattle.std.specs.Prelude.{◌≡◌, ℕ, true, false, List, length, map, Option, Some, None, Result, Ok, Err, if◌then◌else◌}
+use Rattle.std.specs.Prelude.{◌≡◌, ℕ, true, false, map, Option, Some, None, Result, Ok, Err, if◌then◌else◌}
 use Rattle.std.specs.Global.{Vec}
 use Rattle.number_graphs.specs.class_containment.Containment.{IsContainmentOrder}
 use Rattle.room_ast.specs.Trees.{ModelTree, model_view}

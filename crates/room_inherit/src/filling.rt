@@ -79,12 +79,12 @@ fn with_class(
     }
 }
 
-#[tactic(auto, using(crate::proofs::Bases::none_replicated))]
+/// No flat class yet, for as many classes.
 fn none_taken(alloc: Global, classes: &[Class]) -> Result<Vec<Option<ActorClass>>, AllocError>
     ensures { IfOk result (λ v. flat_views v.items ≡ none_taken (map class_view classes.now)) }
 {
     let mut flats = Vec::new(alloc);
-    for _number in 0..classes.len() {
+    for _class in classes {
         flats.push(None)?;
     }
     Ok(flats)

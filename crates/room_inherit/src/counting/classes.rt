@@ -1,6 +1,6 @@
 //! The tokens of classes and of a model.
 ghost use Rattle.std.specs.Prelude.{◌≡◌, ◌-◌, length, map};
-ghost use Rattle.room_ast.specs.Tokens.{maybe, each, extends, all_if, actor_class, behavior, class_tokens, data_class, import_tokens, interface, protocol_class, structure, subsystem, system};
+ghost use Rattle.room_ast.specs.Tokens.{maybe, each, extends, all_if, actor_class, behavior, class_tokens, data_class, import_tokens, interface, protocol_class, structure, subsystem, subsystem_ref, system};
 ghost use Rattle.room_ast.specs.Trees.{actor_view, behavior_view, class_view, model_view, subsystem_view};
 ghost use Rattle.room_inherit.specs.Rules.{tokens_are_few};
 
@@ -12,6 +12,7 @@ use crate::counting::systems::{
 };
 use room_ast::{
     ActorClass, Behavior, Class, Import, InterfaceItem, Model, Name, ProtocolClass, StructureItem,
+    SubsystemRef,
 };
 use room_kinds::Sequence;
 
@@ -77,11 +78,17 @@ fn less_protocol(left: usize, p: &ProtocolClass) -> usize
 }
 
 #[tactic(auto, using(crate::proofs::Counts::count_references))]
+fn less_references(left: usize, references: &Sequence<SubsystemRef>) -> usize
+    ensures { result ≡ left - length (each subsystem_ref references.now) }
+{
+    less_times(left, 4, references.len())
+}
+
 fn less_class(left: usize, class: &Class) -> usize
     ensures { result ≡ left - length (class_tokens (class_view class.now)) }
 {
     match class {
-        Class::System(s) => less_times(left.saturating_sub(4), 4, s.references.len()),
+        Class::System(s) => less_references(left.saturating_sub(4), &s.references),
         Class::Subsystem(s) => less_subsystem_items(left.saturating_sub(4), s.items.as_slice()),
         Class::Actor(a) => less_actor(left, a),
         Class::Protocol(p) => less_protocol(left, p),
