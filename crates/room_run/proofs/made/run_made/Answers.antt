@@ -1,5 +1,4 @@
-use Rattle.std.proofs.Common.{◌∙◌, sym, subst}
-use Rattle.inject_reader.specs.Fitting.{FitLines}
+use Rattle.std.proofs.Common.{◌∙◌}
 use Rattle.room_run.proofs.MadeLemmas.{made_refused, made_lines_refused, summarized}
 use Rattle.room_run.proofs.made.run_made.Goals as goal
 
@@ -10,9 +9,6 @@ pub returns-in-Err-made_lines-clause-err : goal.returns-in-Err-made_lines-clause
 returns-in-Err-made_lines-clause-err g c =
     made_lines_refused c.args.actors c.as_slice.result.now c.as_slice-2.result.now c.in-Ok-made_plant.plant c.in-Err-made_lines.why (c.as_slice.ensures.value ∙ c.in-Ok.ensures.model) (c.as_slice-2.ensures.value ∙ c.in-Ok.ensures.injections)
     c.in-Ok-made_plant.ensures.ok c.in-Err-made_lines.ensures.err
-
-pub run_model-requires : goal.run_model-requires
-run_model-requires g c = subst (λ ls. FitLines c.in-Ok-made_plant.plant.wiring ls) (sym c.as_slice-3.ensures.value) c.in-Ok-made_lines.ensures.ok.fit
 
 pub returns-in-Ok-run_model-clause-ok : goal.returns-in-Ok-run_model-clause-ok
 returns-in-Ok-run_model-clause-ok g c =

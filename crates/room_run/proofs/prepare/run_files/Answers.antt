@@ -1,12 +1,8 @@
-use Rattle.std.proofs.Common.{sym, subst}
-use Rattle.inject_reader.specs.Fitting.{FitLines}
+use Rattle.std.proofs.Common.{subst}
 use Rattle.room_run.specs.Words.{files_view}
 use Rattle.room_run.specs.Finished.{Finishes}
 use Rattle.room_run.proofs.CauseLemmas.{both_read, refused_lines}
 use Rattle.room_run.proofs.prepare.run_files.Goals as goal
-
-pub run-requires : goal.run-requires
-run-requires g c = subst (λ ls. FitLines c.in-Ok.plant.wiring ls) (sym c.as_slice.ensures.value) c.in-Ok-read_injections.ensures.fit
 
 pub returns-in-Ok-run-clause-ok : goal.returns-in-Ok-run-clause-ok
 returns-in-Ok-run-clause-ok g c =
