@@ -97,7 +97,10 @@ fn each_form_is_read_and_written(rt: HostRuntime) -> Result<(), Fail> {
     let first = first_text(alloc)?;
     assert_eq!(rt; is_of_small_run(alloc, &wiring, first.as_slice()), Ok(true));
     let second = second_text(alloc)?;
-    assert_eq!(rt; is_of_small_run(alloc, &wiring, second.as_slice()), Ok(true));
+    assert_eq!(rt;
+        is_of_small_run(alloc, &wiring, second.as_slice()),
+        Ok(true)
+    );
     Ok(())
 }
 
@@ -124,7 +127,11 @@ fn the_first_untied_fetch_is_told(rt: HostRuntime) -> Result<(), Fail> {
     let cases = [(other_post, 2), (other_message, 3), (other_time, 4)];
     for (fetches, stamp) in cases {
         let untied = untied_of(rt.alloc(), &wiring, fetches);
-        assert_eq!(rt; untied, Ok(Some((ControllerId(0), Stamp(stamp)))), "{fetches}");
+        assert_eq!(rt;
+            untied,
+            Ok(Some((ControllerId(0), Stamp(stamp)))),
+            "{fetches}"
+        );
     }
     Ok(())
 }

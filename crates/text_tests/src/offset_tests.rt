@@ -180,8 +180,13 @@ fn are_cuts(alloc: Global, wiring: &Wiring, text: &[u8]) -> Result<bool, AllocEr
 }
 
 /// Whether it is so of a text that journals have.
-fn journals_are_cut(alloc: Global, wiring: &Wiring) -> Result<bool, AllocError> {
-    let text = unfolded(alloc, title(), "start top#1 A|environment|done|")?;
+fn journals_are_cut(
+    alloc: Global,
+    wiring: &Wiring,
+    front: &str,
+    text: &str,
+) -> Result<bool, AllocError> {
+    let text = unfolded(alloc, front, text)?;
     let fault = fault_of(alloc, wiring, text.as_slice())?;
     Ok(fault.is_none() && are_cuts(alloc, wiring, text.as_slice())?)
 }
@@ -189,7 +194,16 @@ fn journals_are_cut(alloc: Global, wiring: &Wiring) -> Result<bool, AllocError> 
 #[test]
 fn each_cut_is_malformed(rt: HostRuntime) -> Result<(), Fail> {
     let wiring = wiring(rt.alloc())?;
-    assert_eq!(rt; journals_are_cut(rt.alloc(), &wiring), Ok(true));
+    let start = "start top#1 A|environment|done|";
+    assert_eq!(rt;
+        journals_are_cut(rt.alloc(), &wiring, title(), start),
+        Ok(true)
+    );
+    let fetch = "2 fetch env@1|environment|1 post 0 3 - top#0.go[0] a|done|";
+    assert_eq!(rt;
+        journals_are_cut(rt.alloc(), &wiring, second_title(), fetch),
+        Ok(true)
+    );
     Ok(())
 }
 

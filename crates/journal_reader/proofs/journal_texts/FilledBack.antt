@@ -1,15 +1,13 @@
 -- Outlines of tied journals, filled, are the journals.
-use Rattle.std.proofs.Common.{◌≡◌, ℕ, zero, suc, ◌+◌, ◌<◌, ◌≤◌, ◌==◌, nat_lt, cond, Bool, true, false, List, [], ◌∷◌, ◌++◌, length, get_or, map, refl, sym, ap, ◌∙◌, subst, arith, Option, Some, None}
+use Rattle.std.proofs.Common.{◌≡◌, ℕ, zero, suc, ◌<◌, nat_lt, cond, Bool, true, false, List, [], ◌∷◌, ◌++◌, length, get_or, map, refl, sym, ap, ◌∙◌, subst, arith, Option, None}
 use Rattle.std.specs.Prelude.{unwrap_or}
-use Rattle.std.specs.List.{flat_map}
 use Rattle.std.proofs.lemmas.List.{length-map}
-use Rattle.std.proofs.lemmas.Option.{get_or_from_slice_get}
 use Rattle.room_kinds.specs.declared.message.Msg.{Msg}
 use Rattle.journal.specs.declared.entry.Entry.{Entry}
 use Rattle.journal.specs.declared.entry.Entry.TheVariants as entries
 use Rattle.journal.specs.declared.entry.Journals.{Journals}
 use Rattle.tied_journals.specs.Tied.{journal_of, posted_by, posted_at, fetched_at, IsTiedEntry, AreTied, Tied}
-use Rattle.tied_journals.specs.PostTables.{kept_of, only_of, only_post}
+use Rattle.tied_journals.specs.PostTables.{kept_of, only_of}
 use Rattle.tied_journals.proofs.UntiedSteps.{of_controller}
 use Rattle.journal_reader.specs.journal_lines.Fetches.{outline}
 use Rattle.journal_reader.specs.journal_texts.Outlines.{outlined, outlined_entries, outlined_journals}

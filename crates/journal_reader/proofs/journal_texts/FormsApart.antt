@@ -1,5 +1,5 @@
 -- The forms of text are told apart by their titles.
-use Rattle.std.proofs.Common.{◌≡◌, ℕ, Bool, true, false, List, refl, sym, ap, ◌∙◌}
+use Rattle.std.proofs.Common.{◌≡◌, true, false, refl, sym, ap, ◌∙◌}
 use Rattle.room_wiring.specs.declared.tables.Tables.{Tables}
 use Rattle.room_wiring.specs.Consistent.{IsConsistent}
 use Rattle.room_wiring.specs.WellNamed.{IsWellNamed}
@@ -9,7 +9,6 @@ use Rattle.journal.specs.Text.{text_of}
 use Rattle.tied_journals.specs.Tied.{Tied}
 use Rattle.tied_journals.specs.Text.{tied_text_of}
 use Rattle.journal_reader.specs.Answer.{is_second_form}
-use Rattle.journal_reader.specs.journal_lines.Reading.{journals_in}
 use Rattle.journal_reader.specs.journal_texts.InRange.{IsInRange}
 use Rattle.journal_reader.specs.journal_texts.Filled.{filled, tied_journals_in}
 use Rattle.journal_reader.proofs.journal_texts.FieldsBack.{Sized}

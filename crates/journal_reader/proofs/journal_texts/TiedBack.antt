@@ -1,5 +1,5 @@
 -- Texts in form 2, read back: of the fetches the outlines.
-use Rattle.std.proofs.Common.{◌≡◌, ℕ, zero, suc, ◌+◌, ◌<◌, ◌≤◌, Bool, true, false, cond, List, [], ◌∷◌, ◌++◌, length, map, refl, sym, ap, ◌∙◌, arith, append-nil, append_assoc, subst, Option, Some, None, length-append}
+use Rattle.std.proofs.Common.{◌≡◌, ℕ, suc, ◌<◌, ◌≤◌, Bool, true, false, cond, List, [], ◌∷◌, ◌++◌, length, map, refl, sym, ap, ◌∙◌, arith, append-nil, append_assoc, subst, Some, None, length-append}
 use Rattle.std.specs.Prelude.{All, codes, decimal, slice_get}
 use Rattle.std.specs.List.{concat}
 use Rattle.std.proofs.Math.Nat.{min-eq_left}

@@ -1,7 +1,7 @@
-use Rattle.std.proofs.Common.{◌≡◌, ◌<◌, length, ap, arith}
+use Rattle.std.proofs.Common.{◌<◌, length, ap, arith}
 use Rattle.std.proofs.lemmas.Bool.Decides.{nat_tests}
 use Rattle.journal_reader.proofs.journal_lines.NumberSteps.{past_shorter}
-use Rattle.journal_reader.proofs.journal_lines.FetchSteps.{further_goes_on, further_ends}
+use Rattle.journal_reader.proofs.journal_lines.FetchSteps.{further_goes_on}
 use Rattle.journal_reader.proofs.journal_lines.fetches.further.Goals as goal
 
 pub loop-rest-smaller : goal.loop-rest-smaller
