@@ -9,7 +9,7 @@ use Rattle.room_wiring.specs.Places.{place_count}
 use Rattle.actor_duties.specs.Words.{is_spp, protocol_of}
 use Rattle.actor_duties.specs.State.{User, Provider, Service, NameTable, Done}
 use Rattle.actor_duties.specs.Names.{name_reply_to, linked_users, meet_with, meet, provide, use_service, unmet, in_service, register_spp, register_sap, waiting, unprovide, unuse, is_user, leave, is_provider, stands_in, withdraw, register, is_name_request, same_table, table_duty_of, table_duty_from, table_duty}
-use Rattle.bounded_growth.specs.Growth.{is_waiting, waiting_count, HasCome, IsGrown, AreGrown}
+use Rattle.run_promises.specs.bounded_growth.Growth.{is_waiting, waiting_count, HasCome, IsGrown, AreGrown}
 
 -- the table that a step gives
 abbrev now_of : Done NameTable → NameTable

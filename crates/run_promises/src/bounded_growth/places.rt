@@ -7,7 +7,7 @@ ghost use Rattle.room_wiring.specs.declared.tables.Tables.{Tables as AnyTables};
 ghost use Rattle.room_wiring.specs.Places.{place_count};
 ghost use Rattle.actor_duties.specs.State.{NameTable};
 ghost use Rattle.actor_duties.specs.Names.{register_spp, register_sap, withdraw, table_duty};
-ghost use Rattle.bounded_growth.specs.Growth.{AreGrown};
+ghost use Rattle.run_promises.specs.bounded_growth.Growth.{AreGrown};
 
 /// A name table after `n` registrations is one after `n + 1` when one more point registers, and stays
 /// one after `n` when a point withdraws.

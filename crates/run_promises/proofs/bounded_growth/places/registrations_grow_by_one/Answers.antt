@@ -1,5 +1,5 @@
-use Rattle.bounded_growth.proofs.Grown.{provider_grown, user_grown, withdrawal_grown}
-use Rattle.bounded_growth.proofs.places.registrations_grow_by_one.Goals as goal
+use Rattle.run_promises.proofs.bounded_growth.Grown.{provider_grown, user_grown, withdrawal_grown}
+use Rattle.run_promises.proofs.bounded_growth.places.registrations_grow_by_one.Goals as goal
 
 pub returns-clause-provider : goal.returns-clause-provider
 returns-clause-provider c = λ t b n name protocol base e table small g. provider_grown t b n name protocol base e table small g

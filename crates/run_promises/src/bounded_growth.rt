@@ -2,7 +2,6 @@
 //! messages that a controller has treated says whether it may treat one more.
 //!
 //! No code: laws of the definitions.
-#![tactic(auto)]
 
 mod generations;
 mod places;
