@@ -1,2 +1,5 @@
 pub mod Law
-pub mod Counts
+pub mod Tables
+pub mod Names
+pub mod Begin
+pub mod Found

@@ -8,9 +8,10 @@ ghost use Rattle.chart_reading.specs.Reading.{reading};
 ghost use Rattle.chart_reader.specs.Faults.{names_fault};
 ghost use Rattle.chart_reader.specs.Reads.{IsLowestFault, Reads};
 
-use crate::chart_nodes::has_circle;
+use crate::chart_nodes::{has_circle, steps_of};
 use crate::chart_rules::{
-    has_defaults, has_initials, has_one_initial_at_most, has_right_names, is_shallow,
+    ChartIndex, border_keys, has_defaults, has_initials, has_one_initial_at_most, has_right_names,
+    is_shallow,
 };
 use crate::depth::{MOST_DEEP, graph_nests};
 use crate::fault::ChartFault;
@@ -27,16 +28,19 @@ fn names_fault(alloc: Global, chart: &Chart) -> Result<Option<ChartFault>, Alloc
     if !is_shallow(chart) {
         return Ok(Some(ChartFault::DepthAbove16));
     }
-    if !has_right_names(alloc, chart)? {
+    let keys = border_keys(alloc, chart)?;
+    let steps = steps_of(alloc, chart)?;
+    let index = ChartIndex::of(alloc, chart, keys.as_slice(), steps.as_slice())?;
+    if !has_right_names(alloc, &index)? {
         return Ok(Some(ChartFault::BadPoint));
     }
-    if !has_one_initial_at_most(chart) {
+    if !has_one_initial_at_most(alloc, &index)? {
         return Ok(Some(ChartFault::TwoInitials));
     }
-    if !has_initials(alloc, chart)? {
+    if !has_initials(alloc, &index)? {
         return Ok(Some(ChartFault::NoInitial));
     }
-    if !has_defaults(chart) {
+    if !has_defaults(alloc, &index)? {
         return Ok(Some(ChartFault::NoDefault));
     }
     Ok(None)
