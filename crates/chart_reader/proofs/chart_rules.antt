@@ -1,5 +1,5 @@
 pub mod Law
 pub mod Tables
-pub mod Names
+pub mod NamesFound
 pub mod Begin
 pub mod Found

@@ -10,5 +10,7 @@ mod rules;
 mod sources;
 mod terminals;
 
-pub use index::{ChartIndex, border_keys};
-pub use rules::{has_defaults, has_initials, has_one_initial_at_most, has_right_names, is_shallow};
+pub(crate) use index::{ChartIndex, border_keys};
+pub(crate) use rules::{
+    has_defaults, has_initials, has_one_initial_at_most, has_right_names, is_shallow,
+};

@@ -6,11 +6,11 @@ use Rattle.std.specs.Option.{unwrap_or}
 use Rattle.indexmap.specs.IndexMap.{IndexMap}
 use Rattle.name_tables.specs.name_numbers.Names.{same}
 use Rattle.name_tables.specs.name_index.Places.{place_in}
-use Rattle.chart_model.specs.Chart.{Name, PointKind, a_transition_point, an_entry_point, an_exit_point, State, Point, Graph, Chart}
+use Rattle.chart_model.specs.Chart.{Name, PointKind, State, Point, Graph}
 use Rattle.chart_model.specs.Named.{has_none}
 use Rattle.chart_model.specs.Valid.{is_kind}
 use Rattle.chart_reader.specs.chart_nodes.Keys.{codes}
-use Rattle.chart_reader.specs.chart_nodes.Steps.{StepTree, steps_of}
+use Rattle.chart_reader.specs.chart_nodes.Steps.{StepTree}
 
 -- ---- counts of keys
 
@@ -46,15 +46,7 @@ name_of_kind kind p = if is_kind kind p.kind then Some p.name else None
 abbrev pub point_names : PointKind → Graph → List Name
 point_names kind g = filter_map (name_of_kind kind) g.points
 
--- these are the names of a graph: its states, its choice points, and its points by their kinds
-pub record AreNames (g : Graph) (states choices transition_points entries exits : List Name) : Type 0 where
-  pub states_are : states ≡ map name_of_state g.states
-  pub choices_are : choices ≡ g.choices
-  pub transition_points_are : transition_points ≡ point_names a_transition_point g
-  pub entries_are : entries ≡ point_names an_entry_point g
-  pub exits_are : exits ≡ point_names an_exit_point g
-
--- ---- a chart
+-- ---- the graphs of a chart
 
 -- the place where the initial transitions of a graph begin, by which a graph is found
 abbrev pub border_key : Graph → List ℕ
@@ -62,10 +54,3 @@ border_key g = 0 ∷ codes g.owner
 
 abbrev pub border_keys : List Graph → List (List ℕ)
 border_keys graphs = map border_key graphs
-
--- these are the graphs of a chart, with their keys, and how many transitions begin at each place
-pub record IsIndex (chart : Chart) (graphs : List Graph) (keys : List (List ℕ)) (origins plain_origins : List ℕ → ℕ) : Type 0 where
-  pub graphs_are : graphs ≡ chart.graphs
-  pub keys_are : keys ≡ border_keys chart.graphs
-  pub origins_are : (key : List ℕ) → origins key ≡ beginning (steps_of chart) key
-  pub plain_origins_are : (key : List ℕ) → plain_origins key ≡ beginning_plainly (steps_of chart) key

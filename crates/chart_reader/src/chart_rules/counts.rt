@@ -6,24 +6,9 @@ ghost use Rattle.chart_reader.specs.chart_rules.Index.{count_in, CountsOneMore, 
 use crate::chart_nodes::Step;
 use indexmap::IndexMap;
 use std::alloc::{AllocError, Global};
-use std::marker::Model;
 
-/// How often each key was counted. Contracts see it as a function of keys.
-#[derive(Drop)]
-pub(crate) struct KeyCounts<'a> {
-    counts: IndexMap<&'a [u8], usize>,
-}
-
-impl<'a> Model for KeyCounts<'a> {
-    ghost use Rattle.std.specs.Prelude.{List, ℕ};
-    ghost use Rattle.chart_reader.specs.chart_rules.Index.{count_in};
-
-    ghost Value = { List ℕ → ℕ };
-
-    ghost view = { λ k. count_in k.counts };
-}
-
-fn count_of<'a>(counts: &IndexMap<&'a [u8], usize>, key: &[u8]) -> usize
+/// How often a key was counted.
+pub(crate) fn count_of<'a>(counts: &IndexMap<&'a [u8], usize>, key: &[u8]) -> usize
     ensures { result ≡ count_in counts.now key.now }
 {
     counts.get(key).copied().unwrap_or(0)
@@ -39,56 +24,32 @@ fn count_one<'a>(counts: &mut IndexMap<&'a [u8], usize>, key: &'a [u8]) -> Resul
     Ok(())
 }
 
-impl<'a> KeyCounts<'a> {
-    /// No key was counted. It takes no memory.
-    pub(crate) fn new(alloc: Global) -> KeyCounts<'a>
-        ensures { (key : List ℕ) → result key ≡ 0 }
-    {
-        KeyCounts {
-            counts: IndexMap::new(alloc),
-        }
-    }
-
-    /// Counts a key once more.
-    pub(crate) fn add(&mut self, key: &'a [u8]) -> Result<(), AllocError>
-        requires { self.old key.now + 1 < 2 ^ 64 }
-        ensures { OnOk result (CountsOneMore self.old self.new key.now) }
-    {
-        count_one(&mut self.counts, key)?;
-        Ok(())
-    }
-
-    /// How often a key was counted.
-    pub(crate) fn count(&self, key: &[u8]) -> usize
-        ensures { result ≡ self.now key.now }
-    {
-        count_of(&self.counts, key)
-    }
-}
-
 /// How many steps begin at each place.
 pub(crate) fn count_origins<'a, 'b>(
     alloc: Global,
     steps: &'a [Step<'b>],
-) -> Result<KeyCounts<'a>, AllocError>
-    ensures { IfOk result (λ counts. (key : List ℕ) → counts key ≡ beginning (map step_view steps.now) key) }
+) -> Result<IndexMap<&'a [u8], usize>, AllocError>
+    ensures { IfOk result (λ counts. (key : List ℕ) → count_in counts key ≡ beginning (map step_view steps.now) key) }
 {
-    let mut counts = KeyCounts::new(alloc);
+    let mut counts = IndexMap::new(alloc);
     for step in steps {
-        counts.add(step.origin.as_slice())?;
+        count_one(&mut counts, step.origin.as_slice())?;
     }
     Ok(counts)
 }
 
 /// Counts a step where it begins, if it has no condition.
-fn count_plain<'a, 'b>(counts: &mut KeyCounts<'a>, step: &'a Step<'b>) -> Result<(), AllocError>
-    requires { counts.old (step_view step.now).origin + 1 < 2 ^ 64 }
-    ensures { OnOk result (CountsPlainly counts.old counts.new (step_view step.now)) }
+fn count_plain<'a, 'b>(
+    counts: &mut IndexMap<&'a [u8], usize>,
+    step: &'a Step<'b>,
+) -> Result<(), AllocError>
+    requires { count_in counts.old (step_view step.now).origin + 1 < 2 ^ 64 }
+    ensures { OnOk result (CountsPlainly (count_in counts.old) (count_in counts.new) (step_view step.now)) }
 {
     if step.transition.condition.is_some() {
         return Ok(());
     }
-    counts.add(step.origin.as_slice())?;
+    count_one(counts, step.origin.as_slice())?;
     Ok(())
 }
 
@@ -96,10 +57,10 @@ fn count_plain<'a, 'b>(counts: &mut KeyCounts<'a>, step: &'a Step<'b>) -> Result
 pub(crate) fn count_plain_origins<'a, 'b>(
     alloc: Global,
     steps: &'a [Step<'b>],
-) -> Result<KeyCounts<'a>, AllocError>
-    ensures { IfOk result (λ counts. (key : List ℕ) → counts key ≡ beginning_plainly (map step_view steps.now) key) }
+) -> Result<IndexMap<&'a [u8], usize>, AllocError>
+    ensures { IfOk result (λ counts. (key : List ℕ) → count_in counts key ≡ beginning_plainly (map step_view steps.now) key) }
 {
-    let mut counts = KeyCounts::new(alloc);
+    let mut counts = IndexMap::new(alloc);
     for step in steps {
         count_plain(&mut counts, step)?;
     }

@@ -1,40 +1,32 @@
 //! What a graph has, found without a search.
 ghost use Rattle.std.specs.Prelude.{◌≡◌, map, option_map, IfOk};
 ghost use Rattle.std.specs.List.{filter_map};
-ghost use Rattle.chart_reading.specs.chart_graphs.Views.{graph_view, kind_view, point_view, transition_view};
+ghost use Rattle.chart_reading.specs.chart_graphs.Views.{graph_view, kind_view, point_view};
+ghost use Rattle.chart_model.specs.Chart.{a_transition_point, an_entry_point, an_exit_point};
 ghost use Rattle.chart_model.specs.Valid.{has_state, has_choice, has_point, is_kind, names_in};
 ghost use Rattle.chart_reader.specs.chart_rules.Index.{name_of_kind, name_of_state, point_names};
 ghost use Rattle.name_tables.specs.distinct_names.Distinct.{is_distinct};
-ghost use Rattle.name_tables.specs.name_numbers.Names.{names_of};
 
-use chart_reading::{Graph, Point, Transition};
+use chart_reading::{Graph, Point};
 use check_tables::add_name;
 use name_tables::{NameIndex, are_distinct};
 use room_ast::{Name, PointKind};
 use std::alloc::{AllocError, Global};
-use std::marker::Model;
 
-/// A graph with tables of its names. Contracts see it as the graph.
+/// A graph with tables of its names.
 #[derive(Drop)]
 pub(crate) struct NamedGraph<'a> {
-    graph: &'a Graph,
+    pub(crate) graph: &'a Graph,
     states: NameIndex<'a>,
     choices: NameIndex<'a>,
     transition_points: NameIndex<'a>,
     entries: NameIndex<'a>,
     exits: NameIndex<'a>,
-}
-
-impl<'a> Model for NamedGraph<'a> {
-    ghost use Rattle.chart_model.specs.Chart as chart;
-    ghost use Rattle.chart_reading.specs.chart_graphs.Views.{graph_view};
-    ghost use Rattle.chart_reader.specs.chart_rules.Index.{AreNames};
-
-    ghost Value = { chart.Graph };
-
-    ghost view = { λ n. graph_view n.graph.now };
-
-    ghost invariant = { λ n. AreNames (graph_view n.graph.now) n.states n.choices n.transition_points n.entries n.exits };
+    ghost states_are: { states ≡ map name_of_state (graph_view graph.now).states },
+    ghost choices_are: { choices ≡ (graph_view graph.now).choices },
+    ghost transition_points_are: { transition_points ≡ point_names a_transition_point (graph_view graph.now) },
+    ghost entries_are: { entries ≡ point_names an_entry_point (graph_view graph.now) },
+    ghost exits_are: { exits ≡ point_names an_exit_point (graph_view graph.now) },
 }
 
 fn is_kind(kind: PointKind, other: PointKind) -> bool
@@ -97,7 +89,7 @@ fn points_of<'a>(
 impl<'a> NamedGraph<'a> {
     /// The tables of a graph. It takes time in proportion to its names.
     pub(crate) fn of(alloc: Global, graph: &'a Graph) -> Result<NamedGraph<'a>, AllocError>
-        ensures { IfOk result (λ n. n ≡ graph_view graph.now) }
+        ensures { IfOk result (λ n. graph_view n.graph.now ≡ graph_view graph.now) }
     {
         let states = states_of(alloc, graph)?;
         let choices = choices_of(alloc, graph.choices.as_slice())?;
@@ -115,53 +107,28 @@ impl<'a> NamedGraph<'a> {
         })
     }
 
-    /// The graph itself.
-    pub(crate) fn graph(&self) -> &'a Graph
-        ensures { graph_view result.now ≡ self.now }
-    {
-        self.graph
-    }
-
     /// The path of the state that has the graph.
     pub(crate) fn owner(&self) -> &'a [Name]
-        ensures { result.now ≡ self.now.owner }
+        ensures { result.now ≡ self.now.graph.now.owner }
     {
         self.graph.owner.as_slice()
     }
 
-    pub(crate) fn transitions(&self) -> &'a [Transition]
-        ensures { map transition_view result.now ≡ self.now.transitions }
-    {
-        self.graph.transitions.as_slice()
-    }
-
-    pub(crate) fn points(&self) -> &'a [Point]
-        ensures { map point_view result.now ≡ self.now.points }
-    {
-        self.graph.points.as_slice()
-    }
-
-    pub(crate) fn choices(&self) -> &'a [Name]
-        ensures { result.now ≡ self.now.choices }
-    {
-        self.graph.choices.as_slice()
-    }
-
     pub(crate) fn has_state(&self, name: &Name) -> bool
-        ensures { result ≡ has_state self.now name.now }
+        ensures { result ≡ has_state (graph_view self.now.graph.now) name.now }
     {
         self.states.has(name.as_bytes())
     }
 
     pub(crate) fn has_choice(&self, name: &Name) -> bool
-        ensures { result ≡ has_choice self.now name.now }
+        ensures { result ≡ has_choice (graph_view self.now.graph.now) name.now }
     {
         self.choices.has(name.as_bytes())
     }
 
     /// The points of a kind.
     fn points_with(&self, kind: PointKind) -> &NameIndex<'a>
-        ensures { result.now ≡ point_names (kind_view kind) self.now }
+        ensures { result.now ≡ point_names (kind_view kind) (graph_view self.now.graph.now) }
     {
         match kind {
             PointKind::Transition => &self.transition_points,
@@ -171,7 +138,7 @@ impl<'a> NamedGraph<'a> {
     }
 
     pub(crate) fn has_point(&self, kind: PointKind, name: &Name) -> bool
-        ensures { result ≡ has_point (kind_view kind) self.now name.now }
+        ensures { result ≡ has_point (kind_view kind) (graph_view self.now.graph.now) name.now }
     {
         let points = self.points_with(kind);
         points.has(name.as_bytes())

@@ -1,14 +1,16 @@
 //! The rules, in the order of their numbers.
 ghost use Rattle.std.specs.Prelude.{◌≡◌, IfOk};
 ghost use Rattle.std.specs.List.{list_all};
-ghost use Rattle.chart_reading.specs.chart_graphs.Views.{chart_view, graph_view, point_view};
+ghost use Rattle.chart_reading.specs.chart_graphs.Views.{graph_view, point_view};
 ghost use Rattle.chart_model.specs.Valid.{is_shallow, is_right_transition, goes_on_once};
 ghost use Rattle.chart_reader.specs.chart_rules.Rules.{nests_within, graph_has_right_names, has_right_names, has_one_initial_at_most, graph_begins_inside, has_initials, graph_has_defaults, has_defaults};
+ghost use Rattle.chart_reader.specs.chart_rules.Views.{named_view};
+ghost use Rattle.chart_reader.specs.chart_rules.IndexView.{index_view};
 
 use crate::chart_rules::index::ChartIndex;
 use crate::chart_rules::names::{NamedGraph, has_distinct_names};
 use crate::chart_rules::terminals::{begins_inside, is_right_transition};
-use chart_reading::{Chart, Graph, Point};
+use chart_reading::{Graph, Point};
 use room_ast::{Name, PointKind};
 use std::alloc::{AllocError, Global};
 
@@ -23,11 +25,11 @@ fn graph_is_shallow(graph: &Graph) -> bool
 
 /// Whether states nest at most 16 deep.
 #[tactic(auto, unfolding(crate::specs::chart_rules::Rules::nests_within))]
-pub fn is_shallow(chart: &Chart) -> bool
-    ensures { result ≡ nests_within (chart_view chart.now) }
+pub(crate) fn is_shallow(chart: &ChartIndex) -> bool
+    ensures { result ≡ nests_within (index_view chart.now) }
 {
     for graph in &chart.graphs {
-        if !graph_is_shallow(graph) {
+        if !graph_is_shallow(graph.graph) {
             return false;
         }
     }
@@ -41,7 +43,7 @@ fn goes_on_once(
     owner: &[Name],
     point: &Point,
 ) -> Result<bool, AllocError>
-    ensures { IfOk result (λ b. b ≡ goes_on_once chart.now owner.now (point_view point.now)) }
+    ensures { IfOk result (λ b. b ≡ goes_on_once (index_view chart.now) owner.now (point_view point.now)) }
 {
     let [state, outer @ ..] = owner else {
         return match point.kind {
@@ -67,10 +69,9 @@ fn transitions_are_right(
     chart: &ChartIndex,
     graph: &NamedGraph,
 ) -> Result<bool, AllocError>
-    ensures { IfOk result (λ b. b ≡ list_all (is_right_transition chart.now graph.now) graph.now.transitions) }
+    ensures { IfOk result (λ b. b ≡ list_all (is_right_transition (index_view chart.now) (named_view graph.now)) (named_view graph.now).transitions) }
 {
-    let transitions = graph.transitions();
-    for transition in transitions {
+    for transition in &graph.graph.transitions {
         if !is_right_transition(alloc, chart, graph, transition)? {
             return Ok(false);
         }
@@ -79,10 +80,9 @@ fn transitions_are_right(
 }
 
 fn points_go_on(alloc: Global, chart: &ChartIndex, graph: &NamedGraph) -> Result<bool, AllocError>
-    ensures { IfOk result (λ b. b ≡ list_all (goes_on_once chart.now graph.now.owner) graph.now.points) }
+    ensures { IfOk result (λ b. b ≡ list_all (goes_on_once (index_view chart.now) (named_view graph.now).owner) (named_view graph.now).points) }
 {
-    let points = graph.points();
-    for point in points {
+    for point in &graph.graph.points {
         if !goes_on_once(alloc, chart, graph.owner(), point)? {
             return Ok(false);
         }
@@ -95,9 +95,9 @@ fn graph_has_right_names(
     chart: &ChartIndex,
     graph: &NamedGraph,
 ) -> Result<bool, AllocError>
-    ensures { IfOk result (λ b. b ≡ graph_has_right_names chart.now graph.now) }
+    ensures { IfOk result (λ b. b ≡ graph_has_right_names (index_view chart.now) (named_view graph.now)) }
 {
-    if !has_distinct_names(alloc, graph.graph())? {
+    if !has_distinct_names(alloc, graph.graph)? {
         return Ok(false);
     }
     if !transitions_are_right(alloc, chart, graph)? {
@@ -109,11 +109,10 @@ fn graph_has_right_names(
 /// Whether names are distinct, terminals name what there is, triggers and conditions stand where
 /// they belong, and each entry and exit point has one continuation.
 #[tactic(auto, unfolding(crate::specs::chart_rules::Rules::has_right_names))]
-pub fn has_right_names(alloc: Global, chart: &ChartIndex) -> Result<bool, AllocError>
-    ensures { IfOk result (λ b. b ≡ has_right_names chart.now) }
+pub(crate) fn has_right_names(alloc: Global, chart: &ChartIndex) -> Result<bool, AllocError>
+    ensures { IfOk result (λ b. b ≡ has_right_names (index_view chart.now)) }
 {
-    let graphs = chart.graphs();
-    for graph in graphs {
+    for graph in &chart.graphs {
         if !graph_has_right_names(alloc, chart, graph)? {
             return Ok(false);
         }
@@ -123,11 +122,10 @@ pub fn has_right_names(alloc: Global, chart: &ChartIndex) -> Result<bool, AllocE
 
 /// Whether no graph has two initial transitions.
 #[tactic(auto, unfolding(crate::specs::chart_rules::Rules::has_one_initial_at_most))]
-pub fn has_one_initial_at_most(alloc: Global, chart: &ChartIndex) -> Result<bool, AllocError>
-    ensures { IfOk result (λ b. b ≡ has_one_initial_at_most chart.now) }
+pub(crate) fn has_one_initial_at_most(alloc: Global, chart: &ChartIndex) -> Result<bool, AllocError>
+    ensures { IfOk result (λ b. b ≡ has_one_initial_at_most (index_view chart.now)) }
 {
-    let graphs = chart.graphs();
-    for graph in graphs {
+    for graph in &chart.graphs {
         let count = chart.initials_at(alloc, graph.owner())?;
         if count > 1 {
             return Ok(false);
@@ -141,10 +139,9 @@ fn graph_begins_inside(
     chart: &ChartIndex,
     graph: &NamedGraph,
 ) -> Result<bool, AllocError>
-    ensures { IfOk result (λ b. b ≡ graph_begins_inside chart.now graph.now) }
+    ensures { IfOk result (λ b. b ≡ graph_begins_inside (index_view chart.now) (named_view graph.now)) }
 {
-    let transitions = graph.transitions();
-    for transition in transitions {
+    for transition in &graph.graph.transitions {
         if !begins_inside(alloc, chart, graph, &transition.target)? {
             return Ok(false);
         }
@@ -153,10 +150,9 @@ fn graph_begins_inside(
 }
 
 fn graphs_begin_inside(alloc: Global, chart: &ChartIndex) -> Result<bool, AllocError>
-    ensures { IfOk result (λ b. b ≡ list_all (graph_begins_inside chart.now) chart.now.graphs) }
+    ensures { IfOk result (λ b. b ≡ list_all (graph_begins_inside (index_view chart.now)) (index_view chart.now).graphs) }
 {
-    let graphs = chart.graphs();
-    for graph in graphs {
+    for graph in &chart.graphs {
         if !graph_begins_inside(alloc, chart, graph)? {
             return Ok(false);
         }
@@ -167,8 +163,8 @@ fn graphs_begin_inside(alloc: Global, chart: &ChartIndex) -> Result<bool, AllocE
 /// Whether the top graph has one initial transition, and the graph of each state that is entered by
 /// its name or by a transition point has one at least.
 #[tactic(auto, unfolding(crate::specs::chart_rules::Rules::has_initials))]
-pub fn has_initials(alloc: Global, chart: &ChartIndex) -> Result<bool, AllocError>
-    ensures { IfOk result (λ b. b ≡ has_initials chart.now) }
+pub(crate) fn has_initials(alloc: Global, chart: &ChartIndex) -> Result<bool, AllocError>
+    ensures { IfOk result (λ b. b ≡ has_initials (index_view chart.now)) }
 {
     let top: [Name; 0] = [];
     let count = chart.initials_at(alloc, &top)?;
@@ -183,9 +179,9 @@ fn graph_has_defaults(
     chart: &ChartIndex,
     graph: &NamedGraph,
 ) -> Result<bool, AllocError>
-    ensures { IfOk result (λ b. b ≡ graph_has_defaults chart.now graph.now) }
+    ensures { IfOk result (λ b. b ≡ graph_has_defaults (index_view chart.now) (named_view graph.now)) }
 {
-    let choices = graph.choices();
+    let choices = graph.graph.choices.as_slice();
     for choice in choices {
         let count = chart.defaults_at(alloc, choice, graph.owner())?;
         if count != 1 {
@@ -197,11 +193,10 @@ fn graph_has_defaults(
 
 /// Whether each choice point has one branch without a condition.
 #[tactic(auto, unfolding(crate::specs::chart_rules::Rules::has_defaults))]
-pub fn has_defaults(alloc: Global, chart: &ChartIndex) -> Result<bool, AllocError>
-    ensures { IfOk result (λ b. b ≡ has_defaults chart.now) }
+pub(crate) fn has_defaults(alloc: Global, chart: &ChartIndex) -> Result<bool, AllocError>
+    ensures { IfOk result (λ b. b ≡ has_defaults (index_view chart.now)) }
 {
-    let graphs = chart.graphs();
-    for graph in graphs {
+    for graph in &chart.graphs {
         if !graph_has_defaults(alloc, chart, graph)? {
             return Ok(false);
         }

@@ -2,6 +2,8 @@
 ghost use Rattle.std.specs.Prelude.{◌≡◌, IfOk};
 ghost use Rattle.chart_reading.specs.chart_graphs.Views.{kind_view, source_view, target_view, transition_view};
 ghost use Rattle.chart_model.specs.Valid.{has_point_of, source_is_there, target_is_there, has_right_parts, is_right_transition, begins_inside};
+ghost use Rattle.chart_reader.specs.chart_rules.Views.{named_view};
+ghost use Rattle.chart_reader.specs.chart_rules.IndexView.{index_view};
 
 use crate::chart_rules::index::ChartIndex;
 use crate::chart_rules::names::NamedGraph;
@@ -19,7 +21,7 @@ fn has_point_of(
     point: &Name,
     state: &Name,
 ) -> Result<bool, AllocError>
-    ensures { IfOk result (λ b. b ≡ has_point_of chart.now (kind_view kind) graph.now point.now state.now) }
+    ensures { IfOk result (λ b. b ≡ has_point_of (index_view chart.now) (kind_view kind) (named_view graph.now) point.now state.now) }
 {
     if !graph.has_state(state) {
         return Ok(false);
@@ -37,7 +39,7 @@ fn source_is_there(
     graph: &NamedGraph,
     source: &Source,
 ) -> Result<bool, AllocError>
-    ensures { IfOk result (λ b. b ≡ source_is_there chart.now graph.now (source_view source.now)) }
+    ensures { IfOk result (λ b. b ≡ source_is_there (index_view chart.now) (named_view graph.now) (source_view source.now)) }
 {
     match source {
         Source::Initial => Ok(true),
@@ -57,7 +59,7 @@ fn target_is_there(
     graph: &NamedGraph,
     target: &Target,
 ) -> Result<bool, AllocError>
-    ensures { IfOk result (λ b. b ≡ target_is_there chart.now graph.now (target_view target.now)) }
+    ensures { IfOk result (λ b. b ≡ target_is_there (index_view chart.now) (named_view graph.now) (target_view target.now)) }
 {
     match target {
         Target::State(name) => Ok(graph.has_state(name)),
@@ -90,7 +92,7 @@ pub(crate) fn is_right_transition(
     graph: &NamedGraph,
     transition: &Transition,
 ) -> Result<bool, AllocError>
-    ensures { IfOk result (λ b. b ≡ is_right_transition chart.now graph.now (transition_view transition.now)) }
+    ensures { IfOk result (λ b. b ≡ is_right_transition (index_view chart.now) (named_view graph.now) (transition_view transition.now)) }
 {
     if !source_is_there(alloc, chart, graph, &transition.source)? {
         return Ok(false);
@@ -108,7 +110,7 @@ pub(crate) fn begins_inside(
     graph: &NamedGraph,
     target: &Target,
 ) -> Result<bool, AllocError>
-    ensures { IfOk result (λ b. b ≡ begins_inside chart.now graph.now (target_view target.now)) }
+    ensures { IfOk result (λ b. b ≡ begins_inside (index_view chart.now) (named_view graph.now) (target_view target.now)) }
 {
     let owner = graph.owner();
     match target {

@@ -1,12 +1,13 @@
-use Rattle.std.proofs.Common.{◌≡◌, ◌∷◌, ◌∙◌, Bor, option_map, subst}
-use Rattle.chart_model.specs.Chart.{Chart, Graph, Path}
-use Rattle.chart_model.specs.Named.{graph_at}
-use Rattle.chart_reading.specs.chart_graphs.Views.{chart_view}
-use Rattle.chart_reader.specs.chart_nodes.Keys.{codes}
+use Rattle.std.proofs.Common.{◌≡◌, ◌∷◌, ◌∙◌, Bor, option_map, ap, map}
+use Rattle.std.specs.Prelude.{position, option_and_then, slice_get}
+use Rattle.name_tables.specs.name_numbers.Names.{same}
+use Rattle.chart_reader.specs.declared.chart_rules.names.NamedGraph.{NamedGraph}
+use Rattle.chart_reader.specs.chart_rules.Views.{named_view}
+use Rattle.chart_reader.specs.chart_rules.IndexView.{index_view}
 use Rattle.chart_reader.proofs.chart_rules.Found.{graph_found}
 use Rattle.chart_reader.proofs.chart_rules.index.ChartIndex.graph_with.Goals as goal
 
 pub returns : goal.returns
 returns c =
-    subst (λ (chart : Chart). (path : Path) → c.args.key.now ≡ 0 ∷ codes path → option_map (λ (g : Bor Graph). g.now) c.find_graph.result ≡ graph_at chart path) c.self.view_is
-    (graph_found (chart_view c.self.inside.chart.now) c.as_slice.result.now c.self.inside.keys c.args.key.now (option_map (λ (g : Bor Graph). g.now) c.find_graph.result) (c.as_slice.ensures.value ∙ c.self.invariant.graphs_are) c.self.invariant.keys_are c.find_graph.ensures)
+    graph_found (index_view c.args.self.now) (map named_view c.as_slice.result.now) c.args.self.now.keys c.args.key.now (option_map (λ (g : Bor NamedGraph). named_view g.now) c.find_graph.result)
+    (ap (map named_view) c.as_slice.ensures.value) c.args.self.now.keys_are c.find_graph.ensures
