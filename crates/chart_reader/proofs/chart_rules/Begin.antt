@@ -1,12 +1,12 @@
 -- The transitions that begin at a place are as many as the steps with its key.
-use Rattle.std.proofs.Common.{◌≡◌, ℕ, ◌+◌, Bool, true, false, cond, not, List, [], ◌∷◌, length, map, Option, Some, None, refl, sym, ap, ◌∙◌, arith}
+use Rattle.std.proofs.Common.{◌≡◌, ℕ, ◌+◌, Bool, true, false, cond, List, [], ◌∷◌, length, map, refl, sym, ap, ◌∙◌, arith}
 use Rattle.std.specs.Prelude.{◌&&◌}
-use Rattle.std.specs.List.{filter, count_by}
+use Rattle.std.specs.List.{filter}
 use Rattle.std.proofs.lemmas.List.{length-map}
 use Rattle.std.proofs.lemmas.List.Sums.{length-filter, sum_by-cons}
 use Rattle.name_tables.specs.name_numbers.Names.{same}
-use Rattle.chart_model.specs.Chart.{Name, Path, Source, Chart}
-use Rattle.chart_model.specs.Named.{Placed, Node, a_state, an_entry, an_exit, from, has_none, is_from_choice}
+use Rattle.chart_model.specs.Chart.{Name, Path, Chart}
+use Rattle.chart_model.specs.Named.{Placed, Node, a_state, from, has_none, is_from_choice}
 use Rattle.chart_model.specs.Valid.{initials_at, onward}
 use Rattle.chart_reader.specs.chart_nodes.Keys.{codes, node_key}
 use Rattle.chart_reader.specs.chart_nodes.Steps.{StepTree, steps_of}

@@ -1,5 +1,5 @@
 -- The graphs of a chart are found by the keys of their borders.
-use Rattle.std.proofs.Common.{◌≡◌, ℕ, List, ◌∷◌, map, Option, refl, sym, ap, ◌∙◌}
+use Rattle.std.proofs.Common.{◌≡◌, ℕ, List, ◌∷◌, Option, ap, ◌∙◌}
 use Rattle.std.specs.Prelude.{position, option_and_then, slice_get}
 use Rattle.name_tables.specs.name_numbers.Names.{same}
 use Rattle.chart_model.specs.Chart.{Path, Graph, Chart}

@@ -1,5 +1,5 @@
 -- What a chart has and where its transitions begin, in tables.
-use Rattle.std.specs.Prelude.{◌≡◌, ◌+◌, ◌&&◌, ℕ, Bool, List, ◌∷◌, Option, Some, None, if◌then◌else◌, map}
+use Rattle.std.specs.Prelude.{◌≡◌, ◌+◌, ◌&&◌, ℕ, List, ◌∷◌, Option, Some, None, if◌then◌else◌, map}
 use Rattle.std.specs.List.{count_by, filter_map}
 use Rattle.std.specs.Borrow.{Bor}
 use Rattle.std.specs.Option.{unwrap_or}

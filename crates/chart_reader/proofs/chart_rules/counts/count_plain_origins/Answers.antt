@@ -1,4 +1,4 @@
-use Rattle.std.proofs.Common.{ℕ, List, arith}
+use Rattle.std.proofs.Common.{arith}
 use Rattle.std.specs.Prelude.{◌&&◌}
 use Rattle.name_tables.specs.name_numbers.Names.{same}
 use Rattle.chart_model.specs.Named.{has_none}

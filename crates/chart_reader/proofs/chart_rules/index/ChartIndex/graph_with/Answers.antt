@@ -1,6 +1,4 @@
-use Rattle.std.proofs.Common.{◌≡◌, ◌∷◌, ◌∙◌, Bor, option_map, ap, map}
-use Rattle.std.specs.Prelude.{position, option_and_then, slice_get}
-use Rattle.name_tables.specs.name_numbers.Names.{same}
+use Rattle.std.proofs.Common.{Bor, option_map, ap, map}
 use Rattle.chart_reader.specs.declared.chart_rules.names.NamedGraph.{NamedGraph}
 use Rattle.chart_reader.specs.chart_rules.Views.{named_view}
 use Rattle.chart_reader.specs.chart_rules.IndexView.{index_view}
