@@ -1,16 +1,15 @@
 -- The numbers of bases.
-use Rattle.std.proofs.Common.{◌≡◌, ℕ, zero, suc, ◌≤◌, Bool, true, false, List, [], ◌∷◌, ◌++◌, length, map, Option, Some, None, refl, sym, ap, ◌∙◌, arith}
+use Rattle.std.proofs.Common.{◌≡◌, ℕ, zero, suc, ◌≤◌, Bool, true, List, [], ◌∷◌, ◌++◌, length, map, Option, Some, None, refl, sym, ap, ◌∙◌, arith}
 use Rattle.std.specs.Prelude.{is_some, option_map, slice_get, slice_set, if◌then◌else◌}
-use Rattle.std.specs.Option.{option_map_or, option_and_then, option_to_list}
+use Rattle.std.specs.Option.{option_and_then, option_to_list}
 use Rattle.room_ast.specs.Trees.{ClassTree, ASystem, ASubsystem, AnActor, AProtocol, AData, ActorTree, actor_view, class_view}
 use Rattle.room_ast.specs.declared.actor.ActorClass.{ActorClass}
 use Rattle.room_ast.specs.declared.model.Class.{Class}
-use Rattle.room_ast.specs.declared.model.Class.TheVariants as classes
 use Rattle.room_ast.specs.model_parts.Classes.{as_actor, class_name, number_in}
-use Rattle.room_inherit.specs.Filling.{flat_there, base_there, with_actor, with_class, taken_over, put_at, replaced_by, replaced}
-use Rattle.room_inherit.specs.Flat.{number_above, actor_at, derived, over_base}
+use Rattle.room_inherit.specs.Filling.{there_at, base_there, put_new, taken_over, with_actor, with_class, put_at, replaced_by, replaced}
+use Rattle.room_inherit.specs.Flat.{number_above, actor_at}
 use Rattle.room_inherit.specs.Views.{flat_views}
-use Rattle.room_inherit.specs.Rules.{extended, of_actor, has_known_base, refines_known}
+use Rattle.room_inherit.specs.Rules.{extended, of_actor, has_known_base}
 
 -- the number of the class that a class extends, by the names of all classes
 abbrev pub above_in : List (List ℕ) → ClassTree → Option ℕ
@@ -116,28 +115,14 @@ replaced_done cs fs e = ap (λ gs. replaced cs (flat_views gs)) e ∙ replaced_n
 
 -- ---- one more flat class
 
-with_base : (a : ActorTree) (flats : List (Option ActorTree)) (k : ℕ) (base : Option ActorTree) →
-    (if option_map_or (λ (f : ActorTree). refines_known f a) base true then Some (slice_set flats k (Some (over_base a base))) else None) ≡ option_map (λ (f : ActorTree). slice_set flats k (Some f)) (taken_over a base)
-with_base a flats k None = refl
-with_base a flats k (Some base) = tested (refines_known base a)
+pub taken_there : (names : List (List ℕ)) (cs : List ClassTree) (flats seen : List (Option ActorClass)) (k : ℕ) (own : ActorTree) (at : Option ℕ) (base : Option ActorTree) (taken : Option ActorClass) (flat : ActorClass) (next : List (Option ActorTree)) → Some own ≡ actor_at cs k
+    → at ≡ option_and_then (number_in names) own.base → base ≡ option_and_then (there_at (flat_views seen)) at → seen ≡ flats → option_map actor_view taken ≡ taken_over own base → taken ≡ Some flat → next ≡ put_new (flat_views flats) k (actor_view flat)
+    → with_class names cs (flat_views flats) k ≡ Some next
+taken_there names cs flats seen k own at base taken flat next here above below same over is put =
+    ap (with_actor names (flat_views flats) k) (sym here)
+    ∙ ap (λ (b : Option ActorTree). option_map (put_new (flat_views flats) k) (taken_over own b)) (sym based)
+    ∙ ap (option_map (put_new (flat_views flats) k)) (sym over ∙ ap (option_map actor_view) is)
+    ∙ ap Some (sym put)
   where
-    tested : (b : Bool) → (if b then Some (slice_set flats k (Some (derived base a))) else None) ≡ option_map (λ (f : ActorTree). slice_set flats k (Some f)) (if b then Some (derived base a) else None)
-    tested true = refl
-    tested false = refl
-
--- what is taken of the class that stands at a place
-pub taken_there : (names : List (List ℕ)) (cs : List Class) (flats seen : List (Option ActorClass)) (k : ℕ) (class : Class) (own : ActorClass) (at : Option ℕ) (base : Option ActorTree) (taken : Option ActorClass) → slice_get cs k ≡ Some class → class ≡ classes.Actor own
-    → at ≡ above_in names (class_view class) → base ≡ option_and_then (flat_there (flat_views seen)) at → seen ≡ flats → option_map actor_view taken ≡ taken_over (actor_view own) base
-    → with_class names (map class_view cs) (flat_views flats) k ≡ option_map (λ (f : ActorClass). slice_set (flat_views flats) k (Some (actor_view f))) taken
-taken_there names cs flats seen k class own at base taken here actor above below same over =
-    ap (λ (o : Option ClassTree). with_actor names (flat_views flats) k (option_and_then as_actor o)) (class_got cs k ∙ ap (option_map class_view) (here ∙ ap Some actor))
-    ∙ with_base (actor_view own) (flat_views flats) k (base_there names (flat_views flats) (actor_view own))
-    ∙ ap (option_map (λ (f : ActorTree). slice_set (flat_views flats) k (Some f))) (ap (taken_over (actor_view own)) (sym based) ∙ sym over)
-    ∙ twice taken
-  where
-    based : base ≡ base_there names (flat_views flats) (actor_view own)
-    based = below ∙ ap (λ fs. option_and_then (flat_there (flat_views fs)) at) same ∙ ap (option_and_then (flat_there (flat_views flats))) (above ∙ ap (λ (c : Class). above_in names (class_view c)) actor)
-
-    twice : (f : Option ActorClass) → option_map (λ (g : ActorTree). slice_set (flat_views flats) k (Some g)) (option_map actor_view f) ≡ option_map (λ (g : ActorClass). slice_set (flat_views flats) k (Some (actor_view g))) f
-    twice None = refl
-    twice (Some g) = refl
+    based : base ≡ base_there names (flat_views flats) own
+    based = below ∙ ap (λ fs. option_and_then (there_at (flat_views fs)) at) same ∙ ap (option_and_then (there_at (flat_views flats))) above

@@ -91,9 +91,13 @@ refinements_of a = option_map_or refinements (chart_of a) []
 abbrev pub graph_of : ActorTree → GraphItems
 graph_of a = option_map_or (λ g. g) (chart_of a) no_items
 
+-- Whether each refinement of a class names what this chart has.
+abbrev pub chart_is_known : GraphItems → ActorTree → Bool
+chart_is_known chart a = list_all (λ (r : Refining). is_named chart r.path r.change) (refinements_of a)
+
 -- Whether each refinement of a class names what the chart of this flat base has.
 abbrev pub refines_known : ActorTree → ActorTree → Bool
-refines_known base a = list_all (λ (r : Refining). is_named (graph_of base) r.path r.change) (refinements_of a)
+refines_known base a = chart_is_known (graph_of base) a
 
 -- Whether each refinement of a class names what the flat chart of its base has.
 abbrev pub names_known : List ClassTree → ActorTree → Bool

@@ -17,7 +17,7 @@ use room_ast::{
 use room_kinds::Sequence;
 
 /// One more than a flat model has at most.
-const TOO_MANY: usize = 2_000_001;
+pub(crate) const TOO_MANY: usize = 2_000_001;
 
 fn less_interface_if(left: usize, items: &Option<Sequence<InterfaceItem>>) -> usize
     ensures { result ≡ left - length (maybe interface items.now) }
@@ -55,7 +55,8 @@ fn less_base_if(left: usize, base: &Option<Name>) -> usize
     }
 }
 
-fn less_actor(left: usize, a: &ActorClass) -> usize
+/// The tokens of an actor class.
+pub(crate) fn less_actor(left: usize, a: &ActorClass) -> usize
     ensures { result ≡ left - length (actor_class (actor_view a.now)) }
 {
     let left = less_flag(left.saturating_sub(4), a.event_driven);
