@@ -1,12 +1,13 @@
 //! Why a line of injections is refused, and what would be right there.
-use crate::page::{Named, Page};
-use crate::ports::{incoming, is_end, place_count, type_name};
+use crate::ports::{incoming, is_end, type_name};
 use crate::why::tell_meaning;
 use fault_places::line_meaning;
 use inject_reader::InjectFault;
+use journal_views::place_count;
 use room_kinds::{ReferenceKind, SlotId};
 use room_wiring::{ClassNames, SignalNames, Wiring};
 use std::alloc::AllocError;
+use view_pages::{Named, Page};
 
 /// The most names that are listed.
 const MOST_LISTED: usize = 30;
