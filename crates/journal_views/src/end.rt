@@ -1,12 +1,11 @@
 //! What was still open where a run ended.
 use crate::fetched::{Fetched, Name};
-use crate::messages::put_received;
-use crate::names::{put_actor, put_controller, put_name, put_state};
+use crate::lines::{end_word, is_untaken, put_head, put_left};
+use crate::names::{put_actor, put_state};
 use crate::standing::Actors;
-use crate::story::{end_word, is_untaken, put_left, word_of};
-use crate::turns::{Turn, before_turn, turns_of};
+use crate::turns::{Turn, turns_of};
 use indexmap::{IndexMap, IndexSet};
-use journal::{Did, Entry, Journals};
+use journal::{Did, Journals};
 use room_kinds::{Generation, Incarnation, SlotId};
 use room_wiring::Wiring;
 use std::alloc::{AllocError, Global};
@@ -61,14 +60,7 @@ fn actors_of(
     journals: &Journals,
     turns: &[Turn<'_>],
 ) -> Result<Actors, AllocError> {
-    let mut actors = Actors::nobody(alloc, wiring)?;
-    for journal in journals.controllers.as_slice() {
-        for entry in before_turn(journal.as_slice()) {
-            if let Entry::Start { who, state, .. } = entry {
-                actors.stand(*who, *state);
-            }
-        }
-    }
+    let mut actors = Actors::started(alloc, wiring, journals)?;
     for turn in turns {
         actors.turn(turn.did, turn.notes);
     }
@@ -76,7 +68,11 @@ fn actors_of(
 }
 
 impl<'a> Ended<'a> {
-    fn of(alloc: Global, wiring: &'a Wiring, journals: &'a Journals) -> Result<Ended<'a>, AllocError> {
+    fn of(
+        alloc: Global,
+        wiring: &'a Wiring,
+        journals: &'a Journals,
+    ) -> Result<Ended<'a>, AllocError> {
         let turns = turns_of(alloc, journals)?;
         let last = last_turns(alloc, turns.as_slice())?;
         let actors = actors_of(alloc, wiring, journals, turns.as_slice())?;
@@ -116,23 +112,7 @@ impl<'a> Ended<'a> {
     /// The line of a turn: when it was, at which actor in which state, and what it did with which message.
     fn tell_turn(&self, page: &mut Page, turn: &Turn<'_>) -> Result<(), AllocError> {
         page.put(b"    ")?;
-        page.put_number(turn.stamp.0)?;
-        page.put(b" ")?;
-        put_controller(page, self.wiring, turn.controller)?;
-        page.put(b" ")?;
-        match turn.did {
-            Did::Handled { who, .. } | Did::Deferred { who, .. } | Did::Unhandled { who, .. } => {
-                put_actor(page, self.wiring, who)?
-            }
-            Did::Stale { target } | Did::Empty { target } => put_actor(page, self.wiring, target)?,
-            Did::Duty => (),
-        }
-        page.put(b": ")?;
-        page.put(word_of(turn.did))?;
-        match self.fetched.get(turn.name()) {
-            Some(msg) => put_received(page, self.wiring, msg)?,
-            None => put_name(page, self.wiring, turn.from, turn.sent)?,
-        }
+        put_head(page, self.wiring, &self.fetched, turn)?;
         if let Did::Deferred { who, state } | Did::Unhandled { who, state } = turn.did {
             page.put(b", ")?;
             put_state(page, self.wiring, who.slot, state)?;

@@ -6,13 +6,13 @@ use std::alloc::{AllocError, Global};
 
 /// What journals call a message: its sender and the stamp of its post.
 #[derive(Clone, Copy, Drop, PartialEq, Eq, Hash)]
-pub(crate) struct Name {
+pub struct Name {
     pub from: u8,
     pub sent: u64,
 }
 
 impl Name {
-    pub(crate) fn new(from: ControllerId, sent: Stamp) -> Name {
+    pub fn new(from: ControllerId, sent: Stamp) -> Name {
         Name {
             from: from.0,
             sent: sent.0,
@@ -22,13 +22,13 @@ impl Name {
 
 /// The messages that were fetched.
 #[derive(Drop)]
-pub(crate) struct Fetched<'a> {
+pub struct Fetched<'a> {
     messages: IndexMap<Name, &'a Msg>,
 }
 
 impl<'a> Fetched<'a> {
     /// The messages that were fetched in these journals.
-    pub(crate) fn of(alloc: Global, journals: &'a Journals) -> Result<Fetched<'a>, AllocError> {
+    pub fn of(alloc: Global, journals: &'a Journals) -> Result<Fetched<'a>, AllocError> {
         let mut messages = IndexMap::new(alloc);
         for journal in journals.controllers.as_slice() {
             for entry in journal.as_slice() {
@@ -41,7 +41,7 @@ impl<'a> Fetched<'a> {
     }
 
     /// The message of a name.
-    pub(crate) fn get(&self, name: Name) -> Option<&'a Msg> {
+    pub fn get(&self, name: Name) -> Option<&'a Msg> {
         self.messages.get(&name).copied()
     }
 }

@@ -31,22 +31,22 @@ impl<'a> Wanted<'a> {
     }
 
     /// Whether turns of a stamp are wanted.
-    pub(crate) fn wants_stamp(&self, stamp: u64) -> bool {
+    pub fn wants_stamp(&self, stamp: u64) -> bool {
         self.from <= stamp && stamp <= self.to
     }
 
     /// Whether what was before all turns is wanted.
-    pub(crate) fn wants_starts(&self) -> bool {
+    pub fn wants_starts(&self) -> bool {
         self.from == 0
     }
 
     /// Whether what was behind all turns is wanted.
-    pub(crate) fn wants_end(&self) -> bool {
+    pub fn wants_end(&self) -> bool {
         self.to == u64::MAX
     }
 
     /// Whether lines of a slot are wanted.
-    pub(crate) fn wants_slot(&self, slot: Option<SlotId>) -> bool {
+    pub fn wants_slot(&self, slot: Option<SlotId>) -> bool {
         match self.actor {
             Some(_) => self.actor == slot,
             None => true,
@@ -54,12 +54,12 @@ impl<'a> Wanted<'a> {
     }
 
     /// Whether lines with trouble, or without, are wanted.
-    pub(crate) fn wants_trouble(&self, is_trouble: bool) -> bool {
+    pub fn wants_trouble(&self, is_trouble: bool) -> bool {
         is_trouble || !self.only_trouble
     }
 
     /// Whether lines with this message are wanted.
-    pub(crate) fn wants_message(&self, wiring: &Wiring, msg: &Msg) -> bool {
+    pub fn wants_message(&self, wiring: &Wiring, msg: &Msg) -> bool {
         match self.signal {
             Some(name) => naming::signal_name(wiring, msg) == name,
             None => true,
@@ -67,7 +67,7 @@ impl<'a> Wanted<'a> {
     }
 
     /// Whether lines are wanted that tell of no message.
-    pub(crate) fn wants_no_message(&self) -> bool {
+    pub fn wants_no_message(&self) -> bool {
         self.signal.is_none()
     }
 }

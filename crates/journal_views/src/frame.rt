@@ -121,7 +121,7 @@ fn put_port_number(
 }
 
 /// The numbers of a message at the `frame` of a slot by name, where this signal has so many; says whether it has.
-pub(crate) fn put_frame_numbers(
+pub fn put_frame_numbers(
     page: &mut Page,
     wiring: &Wiring,
     slot: SlotId,

@@ -9,7 +9,7 @@ use std::alloc::AllocError;
 use view_pages::Page;
 
 /// The actor of an end.
-pub(crate) fn actor_at(end: Endpoint) -> Incarnation {
+pub fn actor_at(end: Endpoint) -> Incarnation {
     Incarnation {
         slot: end.slot,
         generation: end.generation,
@@ -17,16 +17,12 @@ pub(crate) fn actor_at(end: Endpoint) -> Incarnation {
 }
 
 /// The port of an end, with its place.
-pub(crate) fn put_port_of(
-    page: &mut Page,
-    wiring: &Wiring,
-    end: Endpoint,
-) -> Result<(), AllocError> {
+pub fn put_port_of(page: &mut Page, wiring: &Wiring, end: Endpoint) -> Result<(), AllocError> {
     put_port(page, wiring, end.slot, end.port, i64::from(end.place))
 }
 
 /// An end: an actor and its port.
-pub(crate) fn put_end(page: &mut Page, wiring: &Wiring, end: Endpoint) -> Result<(), AllocError> {
+pub fn put_end(page: &mut Page, wiring: &Wiring, end: Endpoint) -> Result<(), AllocError> {
     put_actor(page, wiring, actor_at(end))?;
     page.put(b".")?;
     put_port_of(page, wiring, end)
@@ -69,7 +65,7 @@ fn put_signal(page: &mut Page, wiring: &Wiring, msg: &Msg) -> Result<(), AllocEr
 }
 
 /// A message as its receiver sees it, and who sent it.
-pub(crate) fn put_received(page: &mut Page, wiring: &Wiring, msg: &Msg) -> Result<(), AllocError> {
+pub fn put_received(page: &mut Page, wiring: &Wiring, msg: &Msg) -> Result<(), AllocError> {
     put_name(page, wiring, msg.from, msg.stamp)?;
     page.put(b" ")?;
     put_port_of(page, wiring, msg.target)?;
@@ -83,7 +79,7 @@ pub(crate) fn put_received(page: &mut Page, wiring: &Wiring, msg: &Msg) -> Resul
 
 /// A message as the actors of a slot see it that send it, and whom it is for. Where another slot sends it, that is
 /// told.
-pub(crate) fn put_sent(
+pub fn put_sent(
     page: &mut Page,
     wiring: &Wiring,
     sender: Option<SlotId>,

@@ -30,7 +30,7 @@ fn priority_name(prio: Priority) -> Option<&'static [u8]> {
 }
 
 /// A priority by its name.
-pub(crate) fn put_priority(page: &mut Page, prio: Priority) -> Result<(), AllocError> {
+pub fn put_priority(page: &mut Page, prio: Priority) -> Result<(), AllocError> {
     match priority_name(prio) {
         Some(name) => page.put(name),
         None => page.put_number(u64::from(prio.0)),
@@ -38,11 +38,7 @@ pub(crate) fn put_priority(page: &mut Page, prio: Priority) -> Result<(), AllocE
 }
 
 /// The path of an actor; from the second one of its slot on with its generation.
-pub(crate) fn put_actor(
-    page: &mut Page,
-    wiring: &Wiring,
-    who: Incarnation,
-) -> Result<(), AllocError> {
+pub fn put_actor(page: &mut Page, wiring: &Wiring, who: Incarnation) -> Result<(), AllocError> {
     page.put(naming::path(wiring, who.slot))?;
     if who.generation.0 > 1 {
         page.put(b"#")?;
@@ -52,7 +48,7 @@ pub(crate) fn put_actor(
 }
 
 /// The name of a port of a slot, with the place where it has several.
-pub(crate) fn put_port(
+pub fn put_port(
     page: &mut Page,
     wiring: &Wiring,
     slot: SlotId,
@@ -69,7 +65,7 @@ pub(crate) fn put_port(
 }
 
 /// The name of a controller.
-pub(crate) fn put_controller(
+pub fn put_controller(
     page: &mut Page,
     wiring: &Wiring,
     controller: usize,
@@ -78,7 +74,7 @@ pub(crate) fn put_controller(
 }
 
 /// What journals call a message: by its sender and the stamp of its post.
-pub(crate) fn put_name(
+pub fn put_name(
     page: &mut Page,
     wiring: &Wiring,
     from: ControllerId,
@@ -102,7 +98,7 @@ fn has_chart(wiring: &Wiring, slot: SlotId) -> bool {
 }
 
 /// In which state an actor of a slot is.
-pub(crate) fn put_state(
+pub fn put_state(
     page: &mut Page,
     wiring: &Wiring,
     slot: SlotId,
@@ -116,7 +112,7 @@ pub(crate) fn put_state(
 }
 
 /// From which state to which an actor of a slot went, where its state before is known.
-pub(crate) fn put_states(
+pub fn put_states(
     page: &mut Page,
     wiring: &Wiring,
     slot: SlotId,

@@ -16,7 +16,7 @@ fn is_trouble(note: &Note) -> bool {
 }
 
 /// Whether one of the notes tells of something that its author hardly meant.
-pub(crate) fn have_trouble(notes: &[Note]) -> bool {
+pub fn have_trouble(notes: &[Note]) -> bool {
     notes.iter().any(|note| is_trouble(note))
 }
 
@@ -73,7 +73,7 @@ fn put_note(
 }
 
 /// The notes of a start or a turn, each behind a semicolon.
-pub(crate) fn put_notes(
+pub fn put_notes(
     page: &mut Page,
     wiring: &Wiring,
     is_duty: bool,

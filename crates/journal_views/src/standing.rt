@@ -1,25 +1,26 @@
 //! Who stands where, and in which state, as far as the journals have told.
-use journal::Did;
+use crate::turns::before_turn;
+use journal::{Did, Entry, Journals};
 use room_kinds::{Generation, Incarnation, Note, SlotId};
 use room_wiring::Wiring;
 use std::alloc::{AllocError, Global};
 
 /// An actor that stands in a slot: its generation and its state.
 #[derive(Clone, Copy, Drop)]
-pub(crate) struct Standing {
+pub struct Standing {
     pub generation: Generation,
     pub state: u16,
 }
 
 /// The actors that stand in the slots, by the slots' numbers.
 #[derive(Drop)]
-pub(crate) struct Actors {
+pub struct Actors {
     slots: Vec<Option<Standing>>,
 }
 
 impl Actors {
     /// Nobody in any slot of a wiring.
-    pub(crate) fn nobody(alloc: Global, wiring: &Wiring) -> Result<Actors, AllocError> {
+    pub fn nobody(alloc: Global, wiring: &Wiring) -> Result<Actors, AllocError> {
         let mut slots = Vec::new(alloc);
         for _slot in 0..wiring.slot_count() {
             slots.push(None)?;
@@ -27,8 +28,25 @@ impl Actors {
         Ok(Actors { slots })
     }
 
+    /// Who stands where after the starts.
+    pub fn started(
+        alloc: Global,
+        wiring: &Wiring,
+        journals: &Journals,
+    ) -> Result<Actors, AllocError> {
+        let mut actors = Actors::nobody(alloc, wiring)?;
+        for journal in journals.controllers.as_slice() {
+            for entry in before_turn(journal.as_slice()) {
+                if let Entry::Start { who, state, .. } = entry {
+                    actors.stand(*who, *state);
+                }
+            }
+        }
+        Ok(actors)
+    }
+
     /// Who stands in a slot.
-    pub(crate) fn at(&self, slot: SlotId) -> Option<Standing> {
+    pub fn at(&self, slot: SlotId) -> Option<Standing> {
         match self.slots.get(usize::from(slot.0)) {
             Some(standing) => *standing,
             None => None,
@@ -36,7 +54,7 @@ impl Actors {
     }
 
     /// The state of an actor, where it stands in its slot.
-    pub(crate) fn state_of(&self, who: Incarnation) -> Option<u16> {
+    pub fn state_of(&self, who: Incarnation) -> Option<u16> {
         match self.at(who.slot) {
             Some(standing) if standing.generation == who.generation => Some(standing.state),
             _ => None,
@@ -50,7 +68,7 @@ impl Actors {
     }
 
     /// An actor stands in a state.
-    pub(crate) fn stand(&mut self, who: Incarnation, state: u16) {
+    pub fn stand(&mut self, who: Incarnation, state: u16) {
         let standing = Standing {
             generation: who.generation,
             state,
@@ -68,11 +86,11 @@ impl Actors {
     }
 
     /// What a turn and its notes tell.
-    pub(crate) fn turn(&mut self, did: Did, notes: &[Note]) {
+    pub fn turn(&mut self, did: Did, notes: &[Note]) {
         match did {
-            Did::Handled { who, state } | Did::Deferred { who, state } | Did::Unhandled { who, state } => {
-                self.stand(who, state)
-            }
+            Did::Handled { who, state }
+            | Did::Deferred { who, state }
+            | Did::Unhandled { who, state } => { self.stand(who, state) }
             Did::Duty | Did::Stale { .. } | Did::Empty { .. } => (),
         }
         for note in notes {

@@ -14,7 +14,7 @@ struct Place {
 
 /// A turn, with the entries that follow it in its journal.
 #[derive(Clone, Copy, Drop)]
-pub(crate) struct Turn<'a> {
+pub struct Turn<'a> {
     pub stamp: Stamp,
     pub controller: usize,
     pub from: ControllerId,
@@ -26,12 +26,12 @@ pub(crate) struct Turn<'a> {
 
 impl<'a> Turn<'a> {
     /// What journals call the message of the turn.
-    pub(crate) fn name(&self) -> Name {
+    pub fn name(&self) -> Name {
         Name::new(self.from, self.sent)
     }
 
     /// The slot at which the turn was: that of its actor, or of who is meant by its message.
-    pub(crate) fn slot(&self, fetched: &Fetched<'_>) -> Option<SlotId> {
+    pub fn slot(&self, fetched: &Fetched<'_>) -> Option<SlotId> {
         match self.did.speaker() {
             Some(slot) => Some(slot),
             None => match fetched.get(self.name()) {
@@ -47,7 +47,7 @@ fn is_turn(entry: &Entry) -> bool {
 }
 
 /// The entries of a journal up to its next turn.
-pub(crate) fn before_turn(entries: &[Entry]) -> &[Entry] {
+pub fn before_turn(entries: &[Entry]) -> &[Entry] {
     let end = entries
         .iter()
         .position(|entry| is_turn(entry))
@@ -76,8 +76,16 @@ fn add_places(
 /// The turn at a place.
 fn turn_at<'a>(journals: &'a Journals, place: Place) -> Option<Turn<'a>> {
     let journal = journals.controllers.as_slice().get(place.controller)?;
-    let (Entry::Turn { stamp, from, sent, did, notes }, behind) =
-        journal.as_slice().get(place.entry..)?.split_first()?
+    let (
+        Entry::Turn {
+            stamp,
+            from,
+            sent,
+            did,
+            notes,
+        },
+        behind,
+    ) = journal.as_slice().get(place.entry..)?.split_first()?
     else {
         return None;
     };
@@ -93,10 +101,7 @@ fn turn_at<'a>(journals: &'a Journals, place: Place) -> Option<Turn<'a>> {
 }
 
 /// The turns of all controllers, in order.
-pub(crate) fn turns_of<'a>(
-    alloc: Global,
-    journals: &'a Journals,
-) -> Result<Vec<Turn<'a>>, AllocError> {
+pub fn turns_of<'a>(alloc: Global, journals: &'a Journals) -> Result<Vec<Turn<'a>>, AllocError> {
     let mut places = Vec::new(alloc);
     for (controller, journal) in journals.controllers.as_slice().iter().enumerate() {
         add_places(&mut places, controller, journal.as_slice())?;

@@ -1,16 +1,17 @@
 //! The program `room_view`: tells people why a text is refused, and where; where messages can come in; and what the
 //! journals of a run tell.
 //!
-//! `why MODEL [INJECT]`, `doors MODEL`, `story MODEL JOURNALS ..` and `end MODEL JOURNALS` write a page to standard
-//! output; of a model that is refused all tell why. The status is that of `room` for these files: 0 where
-//! nothing is refused, 1 where the words have another form, or name what the model doesn't have, 2 where the model is
-//! refused, 3 where the injections or the journals are, 5 for want of memory, 6 where a file wasn't read, 7 where the
-//! page wasn't written.
+//! `why MODEL [INJECT]`, `doors MODEL`, `story MODEL JOURNALS ..`, `end MODEL JOURNALS` and `explain MODEL INJECT
+//! JOURNALS MESSAGE` write a page to standard output; of a model that is refused all tell why. The status is that of
+//! `room` for these files: 0 where nothing is refused, 1 where the words have another form, or name what the model or
+//! the journals don't have, 2 where the model is refused, 3 where the injections or the journals are, 5 for want of
+//! memory, 6 where a file wasn't read, 7 where the page wasn't written.
 #![tactic(auto)]
 
 mod doors;
 mod judge;
 mod lines;
+mod messages;
 mod ports;
 mod runs;
 mod texts;
@@ -18,12 +19,12 @@ mod why;
 mod words;
 
 use crate::doors::tell_doors;
-use crate::lines::tell_lines;
+use crate::lines::injections_of;
+use crate::messages::tell_message_of;
 use crate::runs::{tell_end_of, tell_story_of};
 use crate::texts::{Kind, read};
 use crate::why::tell_model;
 use crate::words::{Asked, FORMS, Question, question_of};
-use inject_reader::read_injections;
 use room_outside::{FileShelf, OutSink, read_whole, write_whole};
 use room_run::{LEAST_STACK, Status, stack_for};
 use room_wiring::Wiring;
@@ -52,24 +53,11 @@ fn tell_injections(
     wiring: &Wiring,
     name: &str,
 ) -> Result<Status, AllocError> {
-    let lines = match read(rt, page, name, Kind::Injections)? {
-        Ok(lines) => lines,
+    match injections_of(rt, page, wiring, name)? {
+        Ok(_) => page.put_line(b"ok")?,
         Err(status) => return Ok(status),
-    };
-    let named = Named {
-        name,
-        text: lines.as_slice(),
-    };
-    match read_injections(rt.alloc(), named.text, wiring) {
-        Ok(_) => {
-            page.put_line(b"ok")?;
-            Ok(Status::Done)
-        }
-        Err(fault) => {
-            tell_lines(page, named, wiring, fault)?;
-            Ok(Status::InjectionsRefused)
-        }
     }
+    Ok(Status::Done)
 }
 
 /// The page for a question, and the status.
@@ -90,6 +78,9 @@ fn tell(rt: HostRuntime, page: &mut Page, question: Question<'_>) -> Result<Stat
         Asked::Doors => tell_doors(page, &wiring)?,
         Asked::Injections(name) => return tell_injections(rt, page, &wiring, name),
         Asked::Story(name, options) => return tell_story_of(rt, page, &wiring, name, options),
+        Asked::Explain(message) => {
+            return tell_message_of(rt, page, model, &wiring, message);
+        }
         Asked::End(name) => return tell_end_of(rt, page, &wiring, name),
     }
     Ok(Status::Done)

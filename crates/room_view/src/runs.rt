@@ -24,7 +24,7 @@ fn tell_malformed(page: &mut Page, named: Named<'_>, offset: usize) -> Result<()
 }
 
 /// The journals of a file that fit a wiring, or what is told of it and the status.
-fn journals_of(
+pub(crate) fn journals_of(
     rt: HostRuntime,
     page: &mut Page,
     wiring: &Wiring,
@@ -48,9 +48,9 @@ fn journals_of(
     }
 }
 
-/// Tells that the words name what the model doesn't have.
-fn tell_unknown(page: &mut Page, what: &[u8], name: &str) -> Result<(), AllocError> {
-    page.put(b"room_view: words refused; the model has no ")?;
+/// Tells that the words name what a model or journals don't have.
+pub(crate) fn tell_unknown(page: &mut Page, what: &[u8], name: &str) -> Result<(), AllocError> {
+    page.put(b"room_view: words refused; the ")?;
     page.put(what)?;
     page.put(b" ")?;
     page.put_line(name.as_bytes())
@@ -66,13 +66,13 @@ fn wanted_of<'a>(
     if let Some(path) = options.actor {
         wanted.actor = wiring.find(path);
         if wanted.actor.is_none() {
-            tell_unknown(page, b"actor", path)?;
+            tell_unknown(page, b"model has no actor", path)?;
             return Ok(None);
         }
     }
     if let Some(name) = options.signal {
         if !find_signal(wiring, name.as_bytes()) {
-            tell_unknown(page, b"message", name)?;
+            tell_unknown(page, b"model has no message", name)?;
             return Ok(None);
         }
         wanted.signal = Some(name.as_bytes());

@@ -2,7 +2,7 @@
 use text_reading::{are_digits, value};
 
 /// What is told where words have another form.
-pub(crate) const FORMS: &[u8] = b"room_view: words refused; why MODEL [INJECT], doors MODEL, story MODEL JOURNALS [--actor PATH] [--signal NAME] [--from STAMP] [--to STAMP] [--only-trouble] or end MODEL JOURNALS\n";
+pub(crate) const FORMS: &[u8] = b"room_view: words refused; why MODEL [INJECT], doors MODEL, story MODEL JOURNALS [--actor PATH] [--signal NAME] [--from STAMP] [--to STAMP] [--only-trouble], end MODEL JOURNALS or explain MODEL INJECT JOURNALS MESSAGE\n";
 
 /// Which lines of a story the words ask for.
 #[derive(Clone, Copy)]
@@ -12,6 +12,22 @@ pub(crate) struct Options<'a> {
     pub(crate) from: Option<u64>,
     pub(crate) to: Option<u64>,
     pub(crate) only_trouble: bool,
+}
+
+/// What journals call a message: its sender, the environment where none is named, and the stamp of its post.
+#[derive(Clone, Copy)]
+pub(crate) struct MessageName<'a> {
+    pub(crate) word: &'a str,
+    pub(crate) party: Option<u8>,
+    pub(crate) sent: u64,
+}
+
+/// What a message is explained by: the injections and the journals of these files.
+#[derive(Clone, Copy)]
+pub(crate) struct Message<'a> {
+    pub(crate) injections: &'a str,
+    pub(crate) journals: &'a str,
+    pub(crate) name: MessageName<'a>,
 }
 
 /// What is asked of a model that isn't refused.
@@ -27,6 +43,8 @@ pub(crate) enum Asked<'a> {
     Story(&'a str, Options<'a>),
     /// What was still open where the run of the journals of this file ended.
     End(&'a str),
+    /// The way of one message of a run.
+    Explain(Message<'a>),
 }
 
 /// What the words ask: the file of a model, and what is asked of it.
@@ -55,13 +73,32 @@ fn flag_of(word: &str) -> Option<Flag> {
     }
 }
 
-/// The stamp that a word names: up to 19 digits.
+/// The stamp that a word names.
 fn stamp_of(word: &str) -> Option<u64> {
-    let digits = word.as_bytes();
+    number_of(word.as_bytes())
+}
+
+/// The number of up to 19 digits.
+fn number_of(digits: &[u8]) -> Option<u64> {
     if digits.is_empty() || digits.len() > 19 || !are_digits(digits) {
         return None;
     }
     Some(value(digits))
+}
+
+/// The message that a word names, as `env@16` or `0@15`.
+fn message_of(word: &str) -> Option<MessageName<'_>> {
+    let bytes = word.as_bytes();
+    let at = bytes.iter().position(|byte| *byte == b'@')?;
+    let sender = bytes.get(..at).unwrap_or(&[]);
+    let sent = number_of(bytes.get(at.saturating_add(1)..).unwrap_or(&[]))?;
+    let environment: &[u8] = b"env";
+    let party = if sender == environment {
+        None
+    } else {
+        Some(u8::try_from(number_of(sender)?).ok()?)
+    };
+    Some(MessageName { word, party, sent })
 }
 
 impl<'a> Options<'a> {
@@ -120,7 +157,7 @@ fn options_of(words: &[String]) -> Option<Options<'_>> {
     }
 }
 
-fn asked<'a>(model: &'a String, asked: Asked<'a>) -> Option<Question<'a>> {
+fn ask<'a>(model: &'a String, asked: Asked<'a>) -> Option<Question<'a>> {
     Some(Question {
         model: model.as_str(),
         asked,
@@ -131,13 +168,22 @@ fn asked<'a>(model: &'a String, asked: Asked<'a>) -> Option<Question<'a>> {
 pub(crate) fn question_of(words: &[String]) -> Option<Question<'_>> {
     let (command, rest) = words.split_first()?;
     match (command.as_str(), rest) {
-        ("why", [model]) => asked(model, Asked::Nothing),
-        ("why", [model, injections]) => asked(model, Asked::Injections(injections.as_str())),
-        ("doors", [model]) => asked(model, Asked::Doors),
-        ("end", [model, journals]) => asked(model, Asked::End(journals.as_str())),
+        ("why", [model]) => ask(model, Asked::Nothing),
+        ("why", [model, injections]) => ask(model, Asked::Injections(injections.as_str())),
+        ("doors", [model]) => ask(model, Asked::Doors),
+        ("end", [model, journals]) => ask(model, Asked::End(journals.as_str())),
+        ("explain", [model, injections, journals, message]) => {
+            let name = message_of(message.as_str())?;
+            let message = Message {
+                injections: injections.as_str(),
+                journals: journals.as_str(),
+                name,
+            };
+            ask(model, Asked::Explain(message))
+        }
         ("story", [model, journals, options @ ..]) => {
             let options = options_of(options)?;
-            asked(model, Asked::Story(journals.as_str(), options))
+            ask(model, Asked::Story(journals.as_str(), options))
         }
         _ => None,
     }
