@@ -83,7 +83,15 @@ impl<'a> Explained<'a> {
         let Some(turn) = turn_before(entries, place) else {
             return page.put(b", at its start");
         };
-        if let Some(Entry::Turn { stamp, from, sent, .. }) = entries.get(turn) {
+        if let Some(
+            Entry::Turn {
+                stamp,
+                from,
+                sent,
+                ..
+            },
+        ) = entries.get(turn)
+        {
             page.put(b", in the turn at ")?;
             page.put_number(stamp.0)?;
             page.put(b" with ")?;

@@ -11,13 +11,23 @@ fn is_blank(byte: u8) -> bool {
     byte == b' ' || byte == b'\t'
 }
 
+/// A line without the blanks at its ends.
+fn trimmed(line: &[u8]) -> &[u8] {
+    let start = line
+        .iter()
+        .position(|byte| !is_blank(*byte))
+        .unwrap_or(line.len());
+    let end = match line.iter().rposition(|byte| !is_blank(*byte)) {
+        Some(last) => last.saturating_add(1),
+        None => start,
+    };
+    line.get(start..end).unwrap_or(&[])
+}
+
 /// Whether a line divides parts.
 fn is_settle(line: &[u8]) -> bool {
     let settle: &[u8] = b"settle";
-    let mut words = line
-        .split(|byte| is_blank(*byte))
-        .filter(|word| !word.is_empty());
-    words.next() == Some(settle) && words.next().is_none()
+    trimmed(line) == settle
 }
 
 /// Whether a line is posted: it isn't empty, no comment, and divides no parts.

@@ -11,11 +11,7 @@ fn is_post_at(entry: &Entry, stamp: u64) -> bool {
 }
 
 /// The entries of a party.
-pub fn entries_of<'a>(
-    wiring: &Wiring,
-    journals: &'a Journals,
-    party: ControllerId,
-) -> &'a [Entry] {
+pub fn entries_of<'a>(wiring: &Wiring, journals: &'a Journals, party: ControllerId) -> &'a [Entry] {
     if party.0 >= wiring.controller_count() {
         return journals.environment.as_slice();
     }

@@ -24,9 +24,10 @@ fn tell_taker(
 ) -> Result<(), AllocError> {
     page.put(b"        ")?;
     if is_from_point(transition) {
+        let whole: &[u8] = b"the chart";
         page.put(b"in every state of ")?;
         page.put(if owner.is_empty() {
-            b"the chart"
+            whole
         } else {
             owner.strip_suffix(b".").unwrap_or(owner)
         })?;

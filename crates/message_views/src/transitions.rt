@@ -1,5 +1,7 @@
 //! Transitions: which events trigger them, and how a page names them.
-use room_ast::{Code, CodeText, Event, EventMessage, Name, Source, Target, Transition, Trigger, Triggers};
+use room_ast::{
+    Code, CodeText, Event, EventMessage, Name, Source, Target, Transition, Trigger, Triggers,
+};
 use std::alloc::AllocError;
 use view_pages::Page;
 

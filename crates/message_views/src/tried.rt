@@ -1,5 +1,7 @@
 //! The transitions that are tried for a message in a state, in their order.
-use crate::transitions::{Fit, Incoming, fit_of, is_from_point, is_from_state, put_incoming, put_transition};
+use crate::transitions::{
+    Fit, Incoming, fit_of, is_from_point, is_from_state, put_incoming, put_transition,
+};
 use room_ast::{GraphItem, StateMachine, Transition};
 use std::alloc::{AllocError, Global};
 use view_pages::Page;

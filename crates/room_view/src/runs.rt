@@ -14,7 +14,9 @@ use view_pages::{Named, Page};
 fn tell_malformed(page: &mut Page, named: Named<'_>, offset: usize) -> Result<(), AllocError> {
     tell_refused(page, named, b"it isn't the journals of a run of this model")?;
     if offset >= named.text.len() {
-        page.put_line(b"its lines are as they should be, but lines are missing at its end, or it speaks of what the model doesn't have")?;
+        page.put_line(
+            b"its lines are as they should be, but lines are missing at its end, or it speaks of what the model doesn't have",
+        )?;
     } else {
         page.put_line(b"the first byte that is not as `room run` writes it")?;
     }

@@ -2,7 +2,8 @@
 use text_reading::{are_digits, value};
 
 /// What is told where words have another form.
-pub(crate) const FORMS: &[u8] = b"room_view: words refused; why MODEL [INJECT], doors MODEL, story MODEL JOURNALS [--actor PATH] [--signal NAME] [--from STAMP] [--to STAMP] [--only-trouble], end MODEL JOURNALS or explain MODEL INJECT JOURNALS MESSAGE\n";
+pub(crate) const FORMS: &[u8] =
+    b"room_view: words refused; why MODEL [INJECT], doors MODEL, story MODEL JOURNALS [--actor PATH] [--signal NAME] [--from STAMP] [--to STAMP] [--only-trouble], end MODEL JOURNALS or explain MODEL INJECT JOURNALS MESSAGE\n";
 
 /// Which lines of a story the words ask for.
 #[derive(Clone, Copy)]
