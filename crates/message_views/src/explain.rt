@@ -1,9 +1,10 @@
 //! The way of one message through a run.
 use crate::injected::posted_line;
 use crate::posted::{entries_of, place_of_post, posted_at, posts_before, turn_before};
+use crate::replayed::{Replayed, tell_attributes};
 use crate::takers::tell_takers;
 use crate::transitions::Incoming;
-use crate::tried::{tell_taken, tell_tried};
+use crate::tried::{Moment, tell_taken, tell_tried};
 use journal::{Did, Entry, Journals, naming};
 use journal_views::{
     Actors, Fetched, Name, Turn, actor_at, put_actor, put_controller, put_end, put_left, put_name,
@@ -23,6 +24,8 @@ pub struct Explained<'a> {
     pub model: &'a Model,
     pub injections: Named<'a>,
     pub journals: &'a Journals,
+    /// The turns of the message at its actor, replayed; none where they are not known.
+    pub replays: &'a [Replayed],
 }
 
 /// The chart of an actor class.
@@ -142,41 +145,48 @@ impl<'a> Explained<'a> {
         page: &mut Page,
         msg: &Msg,
         state: u16,
-        is_taken: bool,
+        did: Did,
+        holds: &[bool],
     ) -> Result<(), AllocError> {
         let slot = msg.target.slot;
         let Some(machine) = machine_of(self.model, self.class_name(slot)) else {
             return page.put_line(b"    its class has no chart, and takes nothing");
         };
-        let label = naming::state_label(self.wiring, slot, state);
         let incoming = Incoming {
             signal: naming::signal_name(self.wiring, msg),
             port: naming::port_name(self.wiring, slot, msg.target.port),
         };
-        if is_taken {
-            return tell_taken(alloc, page, machine, label, incoming);
+        let at = Moment {
+            label: naming::state_label(self.wiring, slot, state),
+            incoming,
+            holds,
+        };
+        if let Did::Unhandled { .. } = did {
+            tell_tried(alloc, page, machine, at)?;
+            return tell_takers(alloc, page, machine, incoming);
         }
-        tell_tried(alloc, page, machine, label, incoming)?;
-        tell_takers(alloc, page, machine, incoming)
+        tell_taken(alloc, page, machine, at)
     }
 
-    /// A turn of a message, and what its actor's chart made of it.
-    fn tell_turn(
+    /// What the chart of the actor of a turn made of its message, and what became of the actor's attributes.
+    fn tell_actor(
         &self,
         alloc: Global,
         page: &mut Page,
         msg: &Msg,
         turn: &Turn<'_>,
-        before: Option<u16>,
+        before: u16,
+        place: usize,
     ) -> Result<(), AllocError> {
-        match turn.did {
-            Did::Handled { .. } | Did::Deferred { .. } => match before {
-                Some(state) => self.tell_chart(alloc, page, msg, state, true),
-                None => Ok(()),
-            },
-            Did::Unhandled { state, .. } => self.tell_chart(alloc, page, msg, state, false),
-            Did::Duty | Did::Stale { .. } | Did::Empty { .. } => Ok(()),
+        let replayed = self.replays.get(place);
+        if let (Some(replayed), Some(class)) = (replayed, self.wiring.class_of(msg.target.slot)) {
+            tell_attributes(page, class, replayed)?;
         }
+        let holds = match replayed {
+            Some(replayed) => replayed.holds.as_slice(),
+            None => &[],
+        };
+        self.tell_chart(alloc, page, msg, before, turn.did, holds)
     }
 
     /// The turns of a message.
@@ -190,11 +200,14 @@ impl<'a> Explained<'a> {
         let fetched = Fetched::of(alloc, self.journals)?;
         let turns = turns_of(alloc, self.journals)?;
         let mut actors = Actors::started(alloc, self.wiring, self.journals)?;
+        let mut place = 0usize;
         for turn in turns.as_slice() {
             if turn.name() == name {
                 tell_turn(page, self.wiring, &fetched, &actors, turn)?;
-                let before = state_before(&actors, turn.did);
-                self.tell_turn(alloc, page, msg, turn, before)?;
+                if let Some(before) = state_before(&actors, turn.did) {
+                    self.tell_actor(alloc, page, msg, turn, before, place)?;
+                    place = place.saturating_add(1);
+                }
             }
             actors.turn(turn.did, turn.notes);
         }

@@ -95,6 +95,15 @@ fn tried_in<'a>(
     Ok(tried)
 }
 
+/// A message that comes in while the active path has a label, and whether each of the transitions that are tried for
+/// it would be taken, where that is known.
+#[derive(Clone, Copy)]
+pub struct Moment<'a> {
+    pub label: &'a [u8],
+    pub incoming: Incoming<'a>,
+    pub holds: &'a [bool],
+}
+
 /// The transitions up to the first that is always taken.
 fn tell_all(
     page: &mut Page,
@@ -112,27 +121,52 @@ fn tell_all(
     Ok(())
 }
 
-/// Tells which transition took a message in a state, as far as that is known without the values of guards.
+/// Which of the transitions is taken, where that is known.
+fn place_of_taken(tried: &[Tried<'_>], holds: &[bool]) -> Option<usize> {
+    if holds.len() == tried.len() {
+        return holds.iter().position(|held| *held);
+    }
+    match tried {
+        [first, ..] if first.fit == Fit::Always || tried.len() == 1 => Some(0),
+        _ => None,
+    }
+}
+
+/// The transition at a place, which was taken, and those that were tried before it.
+fn tell_one(
+    page: &mut Page,
+    tried: &[Tried<'_>],
+    place: usize,
+    incoming: Incoming<'_>,
+) -> Result<(), AllocError> {
+    if let Some(one) = tried.get(place) {
+        page.put(b"    taken by ")?;
+        put_transition(page, one.transition, incoming)?;
+        page.end_line()?;
+    }
+    for one in tried.get(..place).unwrap_or(&[]) {
+        page.put(b"        after ")?;
+        put_transition(page, one.transition, incoming)?;
+        page.put_line(b", which did not hold")?;
+    }
+    Ok(())
+}
+
+/// Tells which transition took a message, as far as that is known.
 pub fn tell_taken(
     alloc: Global,
     page: &mut Page,
     machine: &StateMachine,
-    label: &[u8],
-    incoming: Incoming<'_>,
+    at: Moment<'_>,
 ) -> Result<(), AllocError> {
-    let levels = levels_of(alloc, machine, label)?;
-    let tried = tried_in(alloc, levels.as_slice(), incoming)?;
+    let levels = levels_of(alloc, machine, at.label)?;
+    let tried = tried_in(alloc, levels.as_slice(), at.incoming)?;
     let all = tried.as_slice();
-    match all {
-        [] => Ok(()),
-        [first, ..] if first.fit == Fit::Always || all.len() == 1 => {
-            page.put(b"    taken by ")?;
-            put_transition(page, first.transition, incoming)?;
-            page.end_line()
-        }
-        _ => {
+    match place_of_taken(all, at.holds) {
+        Some(place) => tell_one(page, all, place, at.incoming),
+        None => {
             page.put_line(b"    taken by the first of these whose guard held:")?;
-            tell_all(page, all, incoming)
+            tell_all(page, all, at.incoming)
         }
     }
 }
@@ -142,18 +176,17 @@ pub fn tell_tried(
     alloc: Global,
     page: &mut Page,
     machine: &StateMachine,
-    label: &[u8],
-    incoming: Incoming<'_>,
+    at: Moment<'_>,
 ) -> Result<(), AllocError> {
-    let levels = levels_of(alloc, machine, label)?;
-    let tried = tried_in(alloc, levels.as_slice(), incoming)?;
+    let levels = levels_of(alloc, machine, at.label)?;
+    let tried = tried_in(alloc, levels.as_slice(), at.incoming)?;
     if tried.is_empty() {
         page.put(b"    no transition from ")?;
-        page.put(label)?;
+        page.put(at.label)?;
         page.put(b" takes ")?;
-        put_incoming(page, incoming)?;
+        put_incoming(page, at.incoming)?;
         return page.end_line();
     }
     page.put_line(b"    tried, and no guard held:")?;
-    tell_all(page, tried.as_slice(), incoming)
+    tell_all(page, tried.as_slice(), at.incoming)
 }

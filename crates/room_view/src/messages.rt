@@ -1,14 +1,17 @@
 //! The way of one message of a run.
 use crate::lines::injections_of;
+use chart_replays::replays_of;
 use crate::runs::{journals_of, tell_unknown};
 use crate::words::{Message, MessageName};
-use message_views::{Explained, tell_message};
+use journal::Journals;
+use message_views::{Explained, Replayed, tell_message};
 use room_ast::Model;
 use room_inherit::flatten;
 use room_kinds::{ControllerId, Stamp};
 use room_lexer::lex;
+use room_outside::MAX_TEXT;
 use room_parser::parse;
-use room_run::Status;
+use room_run::{Status, read_plant};
 use room_wiring::Wiring;
 use std::alloc::{AllocError, Global};
 use view_pages::{Named, Page};
@@ -38,15 +41,41 @@ fn sender_of(wiring: &Wiring, name: MessageName<'_>) -> Option<ControllerId> {
     }
 }
 
+/// The turns of a message at its actor, done again. The text of the model isn't refused; where it is, memory ran out.
+fn replays(
+    alloc: Global,
+    text: &[u8],
+    journals: &Journals,
+    sender: ControllerId,
+    sent: Stamp,
+) -> Result<Vec<Replayed>, AllocError> {
+    if text.len() as u64 > MAX_TEXT {
+        return Err(AllocError);
+    }
+    match read_plant(alloc, text) {
+        Ok(plant) => replays_of(alloc, &plant, journals, sender, sent),
+        Err(_) => Err(AllocError),
+    }
+}
+
 /// Explains a message by the texts of a model and of injections and by journals.
 fn tell(
     alloc: Global,
     page: &mut Page,
     told: Explained<'_>,
+    text: &[u8],
     name: MessageName<'_>,
 ) -> Result<Status, AllocError> {
+    let sent = Stamp(name.sent);
     let is_told = match sender_of(told.wiring, name) {
-        Some(sender) => tell_message(alloc, page, told, sender, Stamp(name.sent))?,
+        Some(sender) => {
+            let replays = replays(alloc, text, told.journals, sender, sent)?;
+            let told = Explained {
+                replays: replays.as_slice(),
+                ..told
+            };
+            tell_message(alloc, page, told, sender, sent)?
+        }
         None => false,
     };
     if !is_told {
@@ -81,6 +110,7 @@ pub(crate) fn tell_message_of(
             text: lines.as_slice(),
         },
         journals: &journals,
+        replays: &[],
     };
-    tell(rt.alloc(), page, told, message.name)
+    tell(rt.alloc(), page, told, model.text, message.name)
 }
