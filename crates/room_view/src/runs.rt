@@ -10,19 +10,47 @@ use room_wiring::Wiring;
 use std::alloc::AllocError;
 use view_pages::{Named, Page};
 
+/// Whether a text has the last line of journals.
+fn ends_whole(text: &[u8]) -> bool {
+    text.ends_with(b"done\n") || text.ends_with(b"spent\n")
+}
+
+/// What is wrong with a text that has no journals of runs of a model, and the byte that shows it, if one does.
+fn cause_of(text: &[u8], offset: usize) -> (&'static [u8], Option<usize>) {
+    if !ends_whole(text) {
+        let end = text.len().saturating_sub(1);
+        return (
+            b"it doesn't end with a line `done` or `spent`: lines are missing at its end",
+            Some(end),
+        );
+    }
+    if offset >= text.len() {
+        return (
+            b"its lines are as they should be, but speak of what the model doesn't have",
+            None,
+        );
+    }
+    (
+        b"the first byte that is not as `room run` writes it",
+        Some(offset),
+    )
+}
+
 /// Tells where a text differs from all journals of runs of a model.
 fn tell_malformed(page: &mut Page, named: Named<'_>, offset: usize) -> Result<(), AllocError> {
-    tell_refused(page, named, b"it isn't the journals of a run of this model")?;
-    if offset >= named.text.len() {
-        page.put_line(
-            b"its lines are as they should be, but lines are missing at its end, or it speaks of what the model doesn't have",
-        )?;
-    } else {
-        page.put_line(b"the first byte that is not as `room run` writes it")?;
-    }
+    tell_refused(
+        page,
+        named,
+        b"it isn't the journals of a run of this model",
+    )?;
+    let (cause, place) = cause_of(named.text, offset);
+    page.put_line(cause)?;
     page.put_line(b"cure: take what `room run` wrote of this very model, whole and unchanged")?;
-    page.end_line()?;
-    page.put_part(named, offset, offset.saturating_add(1))
+    if let Some(place) = place {
+        page.end_line()?;
+        page.put_part(named, place, place.saturating_add(1))?;
+    }
+    Ok(())
 }
 
 /// The journals of a file that fit a wiring, or what is told of it and the status.
