@@ -56,7 +56,7 @@ pub fn put_port(
     place: i64,
 ) -> Result<(), AllocError> {
     page.put(naming::port_name(wiring, slot, port))?;
-    if place != 0 || place_count(wiring, slot, usize::from(port)) != 1 {
+    if place != 0 || place_count(wiring, slot, usize::from(port)) > 1 {
         page.put(b"[")?;
         page.put_signed(place)?;
         page.put(b"]")?;
