@@ -106,8 +106,9 @@ impl Replay {
 
     /// Whether the guard of a trigger holds.
     fn holds(&self, alloc: Global, trigger: &Trigger, at: &Moment) -> Result<bool, AllocError> {
+        let mut told = Effects::new(alloc);
         match &trigger.guard {
-            Some(guard) => test(guard, &self.mind.vars, at, &mut Effects::new(alloc)),
+            Some(guard) => test(guard, &self.mind.vars, at, &mut told),
             None => Ok(true),
         }
     }
