@@ -99,7 +99,9 @@ impl Replay {
         if self.mind.past.len() != tables.states.len() {
             return Err(AllocError);
         }
-        self.leaf = self.mind.chain(alloc, tables, Some(leaf), taken.arrow, &at)?;
+        self.leaf = self
+            .mind
+            .chain(alloc, tables, Some(leaf), taken.arrow, &at)?;
         self.mind.effects = Effects::new(alloc);
         Ok(())
     }

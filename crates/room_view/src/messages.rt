@@ -1,8 +1,8 @@
 //! The way of one message of a run.
 use crate::lines::injections_of;
-use chart_replays::replays_of;
 use crate::runs::{journals_of, tell_unknown};
 use crate::words::{Message, MessageName};
+use chart_replays::replays_of;
 use journal::Journals;
 use message_views::{Explained, Replayed, tell_message};
 use room_ast::Model;

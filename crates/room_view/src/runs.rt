@@ -38,11 +38,7 @@ fn cause_of(text: &[u8], offset: usize) -> (&'static [u8], Option<usize>) {
 
 /// Tells where a text differs from all journals of runs of a model.
 fn tell_malformed(page: &mut Page, named: Named<'_>, offset: usize) -> Result<(), AllocError> {
-    tell_refused(
-        page,
-        named,
-        b"it isn't the journals of a run of this model",
-    )?;
+    tell_refused(page, named, b"it isn't the journals of a run of this model")?;
     let (cause, place) = cause_of(named.text, offset);
     page.put_line(cause)?;
     page.put_line(b"cure: take what `room run` wrote of this very model, whole and unchanged")?;
