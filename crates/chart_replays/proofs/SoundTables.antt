@@ -1,5 +1,5 @@
 -- The tables of a plant are sound.
-use Rattle.std.proofs.Common.{◌≡◌, ℕ, Option, Some, slice_get}
+use Rattle.std.proofs.Common.{◌≡◌, ℕ, Some, slice_get}
 use Rattle.chart_run.specs.chart_tables.Tables.{IsSound}
 use Rattle.chart_run.specs.declared.chart_tables.tables.Tables.{Tables}
 use Rattle.controller_actors.specs.declared.plant.Plant.{Plant}
