@@ -10,13 +10,13 @@ const SHOWN_BEFORE: usize = 40;
 
 /// A page of text that is being written.
 #[derive(Drop)]
-pub(crate) struct Page {
+pub struct Page {
     bytes: Vec<u8>,
 }
 
 /// A text under its name.
 #[derive(Clone, Copy)]
-pub(crate) struct Named<'a> {
+pub struct Named<'a> {
     pub name: &'a str,
     pub text: &'a [u8],
 }
@@ -60,30 +60,42 @@ fn place_of(text: &[u8], at: usize) -> Place {
 }
 
 impl Page {
-    pub(crate) fn new(alloc: Global) -> Page {
+    /// An empty page. It takes no memory.
+    pub fn new(alloc: Global) -> Page {
         Page {
             bytes: Vec::new(alloc),
         }
     }
 
-    pub(crate) fn bytes(&self) -> &[u8] {
+    /// What is on the page.
+    pub fn bytes(&self) -> &[u8] {
         self.bytes.as_slice()
     }
 
-    pub(crate) fn put(&mut self, bytes: &[u8]) -> Result<(), AllocError> {
+    /// Adds bytes to the page.
+    pub fn put(&mut self, bytes: &[u8]) -> Result<(), AllocError> {
         Ok(self.bytes.extend_from_slice(bytes)?)
     }
 
-    pub(crate) fn put_number(&mut self, number: u64) -> Result<(), AllocError> {
+    /// Adds a number in decimal digits.
+    pub fn put_number(&mut self, number: u64) -> Result<(), AllocError> {
         let mut buffer = Buffer::new();
         self.put(buffer.format(number).as_bytes())
     }
 
-    pub(crate) fn end_line(&mut self) -> Result<(), AllocError> {
+    /// Adds a number that may be below 0.
+    pub fn put_signed(&mut self, number: i64) -> Result<(), AllocError> {
+        let mut buffer = Buffer::new();
+        self.put(buffer.format(number).as_bytes())
+    }
+
+    /// Ends the line.
+    pub fn end_line(&mut self) -> Result<(), AllocError> {
         self.put(b"\n")
     }
 
-    pub(crate) fn put_line(&mut self, bytes: &[u8]) -> Result<(), AllocError> {
+    /// Adds bytes, and ends the line.
+    pub fn put_line(&mut self, bytes: &[u8]) -> Result<(), AllocError> {
         self.put(bytes)?;
         self.end_line()
     }
@@ -105,7 +117,7 @@ impl Page {
     }
 
     /// A place in a text: its name, line and column, the line, and marks under a part of it.
-    pub(crate) fn put_part(
+    pub fn put_part(
         &mut self,
         named: Named<'_>,
         start: usize,
