@@ -26,8 +26,9 @@ pub fn texts_differ()
 /// Tied journals that fit a wiring whose names tell things apart, and that have one text in form 2,
 /// are the same.
 pub fn tied_texts_differ()
-    ensures { (t : Tables) (i j : Journals) → IsConsistent t → IsWellNamed t → Fits t i → IsInRange i
-        → Tied i → Fits t j → IsInRange j → Tied j → tied_text_of t i ≡ tied_text_of t j → i ≡ j }
+    ensures { (t : Tables) (i j : Journals) → IsConsistent t → IsWellNamed t
+        → Fits t i → IsInRange i → Tied i
+        → Fits t j → IsInRange j → Tied j → tied_text_of t i ≡ tied_text_of t j → i ≡ j }
 {}
 
 /// A text in form 1 is none in form 2.

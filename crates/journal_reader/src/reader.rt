@@ -58,15 +58,16 @@ fn difference(
     }
 }
 
-/// The first byte at which the text of the journals in form 2 differs from this one, if it does. It takes as
-/// much memory as the text has bytes.
+/// The first byte at which the text of the journals in form 2 differs from this one, if it does. It
+/// takes as much memory as the text has bytes.
 fn tied_difference(
     alloc: Global,
     wiring: &Wiring,
     journals: &Journals,
     bytes: &[u8],
 ) -> Result<Option<usize>, AllocError>
-    ensures { IfOk result (λ offset. Differs offset (tied_text_of wiring.now journals.now) bytes.now) }
+    ensures { IfOk result (λ offset. Differs offset
+        (tied_text_of wiring.now journals.now) bytes.now) }
 {
     let mut sink = MemSink::new(alloc, bytes.len(), Vec::new(alloc))?;
     let written = lines_to(journals, wiring, &mut sink);
