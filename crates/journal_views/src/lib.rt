@@ -16,6 +16,7 @@ mod notes;
 mod standing;
 mod story;
 mod turns;
+pub mod view_pages;
 
 pub use end::tell_end;
 pub use fetched::{Fetched, Name};

@@ -1,9 +1,9 @@
 //! How a page names actors, ports, states, controllers and priorities.
+use crate::view_pages::Page;
 use journal::naming;
 use room_kinds::{ControllerId, Incarnation, Priority, SlotId, Stamp};
 use room_wiring::{SignalNames, Wiring};
 use std::alloc::AllocError;
-use view_pages::Page;
 
 /// How many places a port of a slot has; none where there is no such port.
 pub fn place_count(wiring: &Wiring, slot: SlotId, port: usize) -> u32 {

@@ -1,10 +1,10 @@
 //! The notes of starts and turns in words.
 use crate::names::{put_actor, put_port, put_state};
+use crate::view_pages::Page;
 use journal::speaker_after;
 use room_kinds::{Note, SlotId};
 use room_wiring::Wiring;
 use std::alloc::AllocError;
-use view_pages::Page;
 
 /// Whether a note tells of something that its author hardly meant.
 fn is_trouble(note: &Note) -> bool {

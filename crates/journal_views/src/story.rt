@@ -6,11 +6,11 @@ use crate::names::{put_actor, put_controller, put_state};
 use crate::notes::{have_trouble, put_notes};
 use crate::standing::Actors;
 use crate::turns::{Turn, before_turn, turns_of};
+use crate::view_pages::Page;
 use journal::{Entry, Journals, Left};
 use room_kinds::{Incarnation, Note, SlotId};
 use room_wiring::Wiring;
 use std::alloc::{AllocError, Global};
-use view_pages::Page;
 
 /// What a story is told of, and which of its lines are wanted.
 #[derive(Drop)]

@@ -6,6 +6,7 @@ use crate::takers::tell_takers;
 use crate::transitions::Incoming;
 use crate::tried::{Moment, tell_taken, tell_tried};
 use journal::{Did, Entry, Journals, naming};
+use journal_views::view_pages::{Named, Page};
 use journal_views::{
     Actors, Fetched, Name, Turn, actor_at, put_actor, put_controller, put_end, put_left, put_name,
     put_received, tell_turn, turns_of,
@@ -14,7 +15,6 @@ use room_ast::{Class, Model, StateMachine};
 use room_kinds::{ControllerId, Incarnation, Msg, SlotId, Stamp};
 use room_wiring::Wiring;
 use std::alloc::{AllocError, Global};
-use view_pages::{Named, Page};
 
 /// What a message is explained by.
 #[derive(Clone, Copy)]

@@ -6,6 +6,7 @@
 //! chart (`Replayed`), where one is given.
 #![tactic(auto)]
 
+pub mod chart_replays;
 mod explain;
 mod injected;
 mod posted;

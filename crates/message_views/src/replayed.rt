@@ -1,7 +1,7 @@
 //! What a chart's replay tells of a turn: the attributes of its actor.
+use journal_views::view_pages::Page;
 use room_wiring::ClassNames;
 use std::alloc::AllocError;
-use view_pages::Page;
 
 /// A turn of an actor, as its chart does it again: the numbers of its attributes before and after, in order of
 /// declaration, and whether each of the transitions that are tried would be taken, in the order in which they are.

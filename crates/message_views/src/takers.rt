@@ -1,9 +1,9 @@
 //! Where in a chart a message is taken.
 use crate::transitions::{Fit, Incoming, fit_of, is_from_point, put_transition};
 use crate::tried::graph_of;
+use journal_views::view_pages::Page;
 use room_ast::{GraphItem, Source, State, StateMachine, Target, Transition};
 use std::alloc::{AllocError, Global};
-use view_pages::Page;
 
 /// How deep states nest at most.
 const MOST_DEEP: usize = 17;

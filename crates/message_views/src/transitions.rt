@@ -1,9 +1,9 @@
 //! Transitions: which events trigger them, and how a page names them.
+use journal_views::view_pages::Page;
 use room_ast::{
     Code, CodeText, Event, EventMessage, Name, Source, Target, Transition, Trigger, Triggers,
 };
 use std::alloc::AllocError;
-use view_pages::Page;
 
 /// The most bytes of a guard that are shown.
 const MOST_SHOWN: usize = 60;

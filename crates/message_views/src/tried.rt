@@ -2,9 +2,9 @@
 use crate::transitions::{
     Fit, Incoming, fit_of, is_from_point, is_from_state, put_incoming, put_transition,
 };
+use journal_views::view_pages::Page;
 use room_ast::{GraphItem, StateMachine, Transition};
 use std::alloc::{AllocError, Global};
-use view_pages::Page;
 
 /// A state of the active path, and the graph that holds it.
 #[derive(Clone, Copy, Drop)]

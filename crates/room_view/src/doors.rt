@@ -1,10 +1,10 @@
 //! Where messages from outside can come in.
 use crate::ports::{incoming, is_end, type_name};
 use journal_views::place_count;
+use journal_views::view_pages::Page;
 use room_kinds::{ReferenceKind, SlotId};
 use room_wiring::{PortNames, SignalNames, Slot, Wiring};
 use std::alloc::AllocError;
-use view_pages::Page;
 
 /// The places of a port that has several: from which to which.
 fn tell_places(page: &mut Page, count: u32) -> Result<(), AllocError> {

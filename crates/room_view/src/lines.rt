@@ -5,11 +5,11 @@ use crate::why::tell_meaning;
 use fault_places::line_meaning;
 use inject_reader::{InjectFault, read_injections};
 use journal_views::place_count;
+use journal_views::view_pages::{Named, Page};
 use room_kinds::{ReferenceKind, SlotId};
 use room_run::Status;
 use room_wiring::{ClassNames, SignalNames, Wiring};
 use std::alloc::AllocError;
-use view_pages::{Named, Page};
 
 /// The most names that are listed.
 const MOST_LISTED: usize = 30;

@@ -25,6 +25,7 @@ use crate::runs::{tell_end_of, tell_story_of};
 use crate::texts::{Kind, read};
 use crate::why::tell_model;
 use crate::words::{Asked, FORMS, Question, question_of};
+use journal_views::view_pages::{Named, Page};
 use room_outside::{FileShelf, OutSink, read_whole, write_whole};
 use room_run::{LEAST_STACK, Status, stack_for};
 use room_wiring::Wiring;
@@ -33,7 +34,6 @@ use std::process::ExitCode;
 use std::rt::Env;
 use std::thread::Builder;
 use std::{env, io};
-use view_pages::{Named, Page};
 
 /// The words behind the program's name; none at all where one of them is no text.
 fn words_of<R: Env + AllocGlobal>(rt: &R) -> io::Result<Vec<String>> {

@@ -2,8 +2,9 @@
 use crate::lines::injections_of;
 use crate::runs::{journals_of, tell_unknown};
 use crate::words::{Message, MessageName};
-use chart_replays::replays_of;
 use journal::Journals;
+use journal_views::view_pages::{Named, Page};
+use message_views::chart_replays::replays_of;
 use message_views::{Explained, Replayed, tell_message};
 use room_ast::Model;
 use room_inherit::flatten;
@@ -14,7 +15,6 @@ use room_parser::parse;
 use room_run::{Status, read_plant};
 use room_wiring::Wiring;
 use std::alloc::{AllocError, Global};
-use view_pages::{Named, Page};
 
 /// The tree of the text of a model that isn't refused, in which each actor class has all that it has from its bases.
 /// Where there is none memory ran out.

@@ -1,9 +1,9 @@
 //! The texts that words name.
 use crate::why::tell_refused;
+use journal_views::view_pages::{Named, Page};
 use room_outside::{FileShelf, MAX_TEXT, ReadRefused, read_limit};
 use room_run::Status;
 use std::alloc::AllocError;
-use view_pages::{Named, Page};
 
 /// The most bytes of the text of journals.
 const MAX_JOURNALS: u64 = 268_435_456;

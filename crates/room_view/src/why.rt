@@ -4,12 +4,12 @@ use fault_places::{
     Item, Meaning, Unread, chart_meaning, could_stand, find_causes, named_by, rule_meaning,
     wiring_meaning,
 };
+use journal_views::view_pages::{Named, Page};
 use room_lexer::{LexFault, Mark, Token, TokenKind, lex};
 use room_outside::MAX_TEXT;
 use room_run::{ModelFault, read_wiring};
 use room_wiring::Wiring;
 use std::alloc::{AllocError, Global};
-use view_pages::{Named, Page};
 
 /// What a fault is and how it is mended.
 pub(crate) fn tell_meaning(page: &mut Page, meaning: Meaning) -> Result<(), AllocError> {

@@ -1,13 +1,13 @@
 //! The turns of one message at its actor.
 ghost use Rattle.chart_run.specs.chart_tables.Tables.{IsSound};
 
-use crate::machine::Replay;
-use crate::sound::tables_of;
+use crate::Replayed;
+use crate::chart_replays::machine::Replay;
+use crate::chart_replays::sound::tables_of;
 use chart_run::Tables;
 use controller_actors::Plant;
 use journal::{Did, Journals};
 use journal_views::{Fetched, Name, Turn, turns_of};
-use message_views::Replayed;
 use room_kinds::{ControllerId, Incarnation, Msg, Stamp};
 use std::alloc::{AllocError, Global};
 

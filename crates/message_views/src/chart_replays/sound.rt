@@ -6,7 +6,7 @@ use chart_run::Tables;
 use controller_actors::Plant;
 
 /// The tables of the chart of the class of a number, if it has a chart.
-#[tactic(auto, using(crate::proofs::SoundTables::tables_are_sound))]
+#[tactic(auto, using(crate::proofs::chart_replays::SoundTables::tables_are_sound))]
 pub(crate) fn tables_of(plant: &Plant, class: usize) -> Option<&Tables>
     ensures { IfSome result (λ t. IsSound t.now) }
 {

@@ -1,6 +1,5 @@
 //! The turns of one message at its actor, done again by the actor's chart: what the journals don't tell, the values
 //! of guards and attributes (`replays_of`).
-#![tactic(auto)]
 
 mod machine;
 mod replay;

@@ -1,5 +1,4 @@
 //! Pages of text that a view writes: put together in memory, and written whole.
-#![tactic(auto)]
 
 mod page;
 
