@@ -1,5 +1,5 @@
 -- Graphs that are refined up to a place.
-use Rattle.std.proofs.Common.{◌≡◌, ℕ, zero, suc, ◌+◌, ◌<◌, ◌≤◌, ◌∙◌, List, [], ◌∷◌, length, get_or, refl, sym, ap, subst, add-one, arith}
+use Rattle.std.proofs.Common.{◌≡◌, ℕ, zero, suc, ◌+◌, ◌<◌, ◌≤◌, ◌∙◌, List, [], ◌∷◌, length, get_or, refl, ap, subst, add-one, arith}
 use Rattle.std.specs.Prelude.{slice_set}
 use Rattle.room_ast.specs.ChartTree.{GraphItems, no_items, item, item_view, graph_view}
 use Rattle.room_ast.specs.declared.chart.GraphItem.{GraphItem}

@@ -165,10 +165,6 @@ abbrev mutual
   refined_subgraph no_subgraph rs = no_subgraph
   refined_subgraph (subgraph is) rs = subgraph (refined_items is [] rs)
 
--- A state with these refinements, which are those that it gets.
-abbrev pub state_with : List Refining → StateTree → StateTree
-state_with rs (StateOf name b) = StateOf name (refined_body b rs)
-
 -- A graph with these refinements.
 abbrev pub refined : List Refining → GraphItems → GraphItems
 refined rs g = refined_items g [] rs

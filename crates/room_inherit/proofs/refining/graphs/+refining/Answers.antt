@@ -1,4 +1,4 @@
-use Rattle.std.proofs.Common.{rules, ◌≡◌, ℕ, ◌<◌, ◌∙◌, List, length, sym, ap, subst, arith}
+use Rattle.std.proofs.Common.{rules, ◌≡◌, ◌<◌, ◌∙◌, List, length, sym, ap, subst, arith}
 use Rattle.room_ast.specs.ChartTree.{state_view}
 use Rattle.room_inherit.specs.Refining.{meant_for}
 use Rattle.room_inherit.specs.Views.{refining_views}
