@@ -110,16 +110,22 @@ fn first_if<'a>(name: &[u8], one: &Pending<'a>) -> Option<&'a Name>
     if first.is(name) { Some(first) } else { None }
 }
 
-/// A name as the first of the refinements has it that lead to the state of this name or into it; none
-/// where none does.
-fn name_among<'a>(name: &[u8], pending: &[Pending<'a>]) -> Option<&'a Name>
-    ensures same { IfSome result (λ n. n.now ≡ name.now) }
-    ensures other { IfNone result (below name.now (refining_views pending.now) ≡ []) }
+/// The refinements from the first one on that leads to the state of this name or into it, and the name
+/// as that one has it; none where none does.
+fn from_first<'p, 'a>(
+    name: &[u8],
+    pending: &'p [Pending<'a>],
+) -> Option<(&'a Name, &'p [Pending<'a>])>
+    ensures same { IfSome result (λ found. found.0.now ≡ name.now) }
+    ensures rest { IfSome result (λ found. below name.now (refining_views found.1.now) ≡ below name.now (refining_views pending.entry.now)) }
+    ensures other { IfNone result (below name.now (refining_views pending.entry.now) ≡ []) }
 {
-    for one in pending {
+    let mut rest = pending;
+    while let [one, others @ ..] = rest {
         if let Some(first) = first_if(name, one) {
-            return Some(first);
+            return Some((first, rest));
         }
+        rest = others;
     }
     None
 }
@@ -135,11 +141,11 @@ pub(super) fn meant_for<'a>(
     ensures meant { IfOk result (λ v. refining_views v.items ≡ meant_for seen.old name.now (refining_views pending.now)) }
     ensures names { OnOk result (GivesTheSame (refining_views pending.now) seen.new (with_name name.now seen.old)) }
 {
-    let Some(name) = name_among(name, pending) else {
+    let Some((name, rest)) = from_first(name, pending) else {
         return Ok(Vec::new(alloc));
     };
     if seen.add(name.as_bytes())? {
-        below(alloc, name.as_bytes(), pending)
+        below(alloc, name.as_bytes(), rest)
     } else {
         Ok(Vec::new(alloc))
     }
