@@ -6,6 +6,8 @@ pub mod Taken
 pub mod Sizes
 pub mod Judged
 pub mod Nothing
+pub mod Seen
+pub mod Mixed
 pub mod Orders
 pub mod Plain
 pub mod Strings

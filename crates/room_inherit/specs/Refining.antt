@@ -1,5 +1,5 @@
 -- Graphs, and what refinements add to their states and transitions.
-use Rattle.std.specs.Prelude.{ℕ, ◌+◌, Bool, true, false, nat_eq, List, [], ◌∷◌, ◌++◌, Option, Some, None, if◌then◌else◌}
+use Rattle.std.specs.Prelude.{◌≡◌, ℕ, ◌+◌, Bool, true, false, nat_eq, List, [], ◌∷◌, ◌++◌, Option, Some, None, if◌then◌else◌}
 use Rattle.std.specs.List.{filter_map, cons_option}
 use Rattle.std.specs.Option.{option_map_or}
 use Rattle.name_tables.specs.name_numbers.Names.{same, is_among}
@@ -66,6 +66,10 @@ below name rs = filter_map (λ (r : Refining). step_into name r.path r.change) r
 -- The refinements that a state gets: of the states of one name in a graph the first is meant. `earlier` are the names of the states before it.
 abbrev pub meant_for : List (List ℕ) → List ℕ → List Refining → List Refining
 meant_for earlier name rs = if is_among earlier name then [] else below name rs
+
+-- Whether each state gets the same refinements where these or those names are the names of the states before it.
+abbrev pub GivesTheSame : List Refining → List (List ℕ) → List (List ℕ) → Type 0
+GivesTheSame rs these those = (name : List ℕ) → meant_for these name rs ≡ meant_for those name rs
 
 -- The names with one more, unless it is one of them.
 abbrev pub with_name : List ℕ → List (List ℕ) → List (List ℕ)
@@ -160,10 +164,6 @@ abbrev mutual
   pub refined_subgraph : SubgraphTree → List Refining → SubgraphTree
   refined_subgraph no_subgraph rs = no_subgraph
   refined_subgraph (subgraph is) rs = subgraph (refined_items is [] rs)
-
--- A state with these refinements, which are those that it gets.
-abbrev pub state_with : List Refining → StateTree → StateTree
-state_with rs (StateOf name b) = StateOf name (refined_body b rs)
 
 -- A graph with these refinements.
 abbrev pub refined : List Refining → GraphItems → GraphItems

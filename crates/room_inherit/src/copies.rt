@@ -5,6 +5,6 @@ mod charts;
 mod codes;
 mod parts;
 
-pub(crate) use charts::{copy_body, copy_item, copy_items, copy_transition};
-pub(crate) use codes::{copy_code, copy_code_if, copy_text};
+pub(crate) use charts::{copy_body, copy_item, copy_items};
+pub(crate) use codes::{copy_code, copy_text};
 pub(crate) use parts::{copy_interface_item, copy_name_if, copy_structure_item};

@@ -9,7 +9,7 @@ ghost use Rattle.room_inherit.specs.Views.{machine_view};
 use crate::copies::{
     copy_interface_item, copy_item, copy_items, copy_name_if, copy_structure_item,
 };
-use crate::refining::{refined_items, refinements};
+use crate::refining::{refine_items, refinements};
 use room_ast::{ActorClass, Behavior, GraphItem, InterfaceItem, StateMachine, StructureItem};
 use room_kinds::Sequence;
 use std::alloc::{AllocError, Global};
@@ -143,7 +143,8 @@ fn both_machines(
     ensures { IfOk result (λ m. Some (machine_view m) ≡ derived_machine (Some (machine_view base.now)) (Some (machine_view own.now))) }
 {
     let changes = refinements(alloc, &own.items)?;
-    let mut chart = refined_items(alloc, &base.items, changes.as_slice())?;
+    let mut chart = copy_items(alloc, &base.items)?;
+    refine_items(alloc, &mut chart, changes.as_slice())?;
     add_others(alloc, &mut chart, &own.items)?;
     Ok(StateMachine { items: chart })
 }

@@ -7,14 +7,14 @@ ghost use Rattle.room_ast.specs.ChartTree.{graph_view};
 ghost use Rattle.room_ast.specs.Trees.{actor_view, class_view};
 ghost use Rattle.room_inherit.specs.Filling.{there_at, none_taken};
 ghost use Rattle.room_inherit.specs.Judging.{HasLastUses, above_at, chart_over, is_needed_later, judged, keep, known_there, let_go, noted, with_chart};
-ghost use Rattle.room_inherit.specs.Refining.{followed_by, other_items, refined};
+ghost use Rattle.room_inherit.specs.Refining.{followed_by, other_items};
 ghost use Rattle.room_inherit.specs.Rules.{graph_of};
-ghost use Rattle.room_inherit.specs.Views.{charts_view, refining_views};
+ghost use Rattle.room_inherit.specs.Views.{charts_view};
 
 use crate::copies::copy_items;
 use crate::derived_class::add_others;
 use crate::machine_of;
-use crate::refining::{Pending, refined_items};
+use crate::refining::refine_items;
 use crate::rules::{actor_at, base_of, chart_is_known, refinements_of};
 use name_tables::NameIndex;
 use room_ast::{ActorClass, Class, GraphItem};
@@ -155,21 +155,6 @@ fn base_chart(
 
 // ---- the chart of a class
 
-/// A chart with refinements. It is not copied where there are none.
-#[tactic(auto, using(crate::proofs::Nothing::nothing_refined))]
-fn refined_chart<'a>(
-    alloc: Global,
-    chart: Vec<GraphItem>,
-    changes: &[Pending<'a>],
-) -> Result<Vec<GraphItem>, AllocError>
-    ensures { IfOk result (λ v. graph_view v.items ≡ refined (refining_views changes.now) (graph_view chart.items)) }
-{
-    if changes.is_empty() {
-        return Ok(chart);
-    }
-    refined_items(alloc, &chart, changes)
-}
-
 /// A copy of the graph of a class; it is empty where the class has no state machine.
 fn own_chart(alloc: Global, own: &ActorClass) -> Result<Vec<GraphItem>, AllocError>
     ensures { IfOk result (λ v. graph_view v.items ≡ graph_of (actor_view own.now)) }
@@ -191,7 +176,7 @@ fn add_own(alloc: Global, chart: &mut Vec<GraphItem>, own: &ActorClass) -> Resul
     }
 }
 
-/// The chart of a class over that of its base.
+/// The chart of a class over that of its base, which it takes for its own.
 fn chart_over(
     alloc: Global,
     own: &ActorClass,
@@ -199,11 +184,11 @@ fn chart_over(
 ) -> Result<Vec<GraphItem>, AllocError>
     ensures { IfOk result (λ v. graph_view v.items ≡ chart_over (actor_view own.now) (option_map (λ b. graph_view b.items) base)) }
 {
-    let Some(base) = base else {
+    let Some(mut chart) = base else {
         return own_chart(alloc, own);
     };
     let changes = refinements_of(alloc, own)?;
-    let mut chart = refined_chart(alloc, base, changes.as_slice())?;
+    refine_items(alloc, &mut chart, changes.as_slice())?;
     add_own(alloc, &mut chart, own)?;
     Ok(chart)
 }

@@ -53,10 +53,7 @@ fn copy_transition_body_if(
     }
 }
 
-pub(crate) fn copy_transition(
-    alloc: Global,
-    transition: &Transition,
-) -> Result<Transition, AllocError>
+fn copy_transition(alloc: Global, transition: &Transition) -> Result<Transition, AllocError>
     ensures { IfOk result (λ copy. copy ≡ transition.now) }
 {
     let name = copy_name_if(alloc, &transition.name)?;

@@ -1,12 +1,11 @@
-//! A graph with its refinements.
+//! Graphs that get refinements, in their place: what no refinement leads to is neither copied nor moved.
 ghost use Rattle.std.specs.Prelude.{◌≡◌, IfOk, OnOk, option_map};
-ghost use Rattle.room_ast.specs.ChartTree.{body_of, body_view, item_view, state_view, graph_view};
-ghost use Rattle.room_inherit.specs.Refining.{refined, refined_item, state_with, refined_subgraph, widened, with_state, own_change};
+ghost use Rattle.room_ast.specs.ChartTree.{AState, body_of, body_view, item_view, state_view, graph_view};
+ghost use Rattle.room_inherit.specs.Refining.{GivesTheSame, refined, refined_item, refined_state, refined_body, refined_subgraph, widened, with_state, own_change};
 ghost use Rattle.room_inherit.specs.Views.{refining_views};
 
-use crate::copies::{copy_code_if, copy_item, copy_items};
 use crate::refining::paths::{Pending, meant_for, own_change};
-use crate::refining::widening::{refined_transition, widened};
+use crate::refining::widening::{refine_transition, widened};
 use name_tables::Numbers;
 use room_ast::{GraphItem, State, StateBody};
 use std::alloc::{AllocError, Global};
@@ -25,70 +24,81 @@ fn with_own_change<'a>(
     }
 }
 
-/// A copy of an item of a graph with its refinements. `seen` has the names of the states before it.
+/// Refines an item of a graph. `seen` has the names of the states before it that refinements lead to.
 #[cycle(refining)]
-fn refined_item<'a, 'n>(
+fn refine_item<'a>(
     alloc: Global,
-    item: &'n GraphItem,
+    item: &mut GraphItem,
     pending: &[Pending<'a>],
-    seen: &mut Numbers<'n>,
-) -> Result<GraphItem, AllocError>
-    ensures item { IfOk result (λ i. item_view i ≡ refined_item (item_view item.entry.now) seen.old (refining_views pending.now)) }
-    ensures names { OnOk result (seen.new ≡ with_state (item_view item.entry.now) seen.old) }
+    seen: &mut Numbers<'a>,
+) -> Result<(), AllocError>
+    ensures item { OnOk result (item_view item.new ≡ refined_item (item_view item.old) seen.old (refining_views pending.now)) }
+    ensures names { OnOk result (GivesTheSame (refining_views pending.now) seen.new (with_state (item_view item.old) seen.old)) }
 {
     match item {
-        GraphItem::State(state) => {
-            let below = meant_for(alloc, seen, &state.name, pending)?;
-            let state = refined_state(alloc, state, below.as_slice())?;
-            Ok(GraphItem::State(state))
-        }
-        GraphItem::Transition(transition) => {
-            let transition = refined_transition(alloc, transition, pending)?;
-            Ok(GraphItem::Transition(transition))
-        }
-        GraphItem::Choice(_) => copy_item(alloc, item),
-        GraphItem::Point(_) => copy_item(alloc, item),
-        GraphItem::Refinement(_) => copy_item(alloc, item),
+        GraphItem::State(state) => refine_state(alloc, state, pending, seen),
+        GraphItem::Transition(transition) => refine_transition(alloc, transition, pending),
+        GraphItem::Choice(_) => Ok(()),
+        GraphItem::Point(_) => Ok(()),
+        GraphItem::Refinement(_) => Ok(()),
     }
 }
 
-/// A copy of a state with its refinements.
+/// Refines a state, if it is the first of its name and a refinement leads to it or into it.
 #[cycle(refining)]
-fn refined_state<'a>(
+fn refine_state<'a>(
     alloc: Global,
-    state: &State,
+    state: &mut State,
     pending: &[Pending<'a>],
-) -> Result<State, AllocError>
-    ensures { IfOk result (λ s. state_view s ≡ state_with (refining_views pending.now) (state_view state.now)) }
+    seen: &mut Numbers<'a>,
+) -> Result<(), AllocError>
+    ensures state { OnOk result (state_view state.new ≡ refined_state (state_view state.old) seen.old (refining_views pending.now)) }
+    ensures names { OnOk result (GivesTheSame (refining_views pending.now) seen.new (with_state (AState (state_view state.old)) seen.old)) }
 {
-    let name = state.name.copy(alloc)?;
-    match &state.body {
+    let changes = meant_for(alloc, seen, state.name.as_bytes(), pending)?;
+    if changes.is_empty() {
+        return Ok(());
+    }
+    let body = state.body.take();
+    state.body = refined_body(alloc, body, changes.as_slice())?;
+    Ok(())
+}
+
+/// A state's body, which may be missing, with the refinements that the state gets.
+#[cycle(refining)]
+fn refined_body<'a>(
+    alloc: Global,
+    body: Option<StateBody>,
+    pending: &[Pending<'a>],
+) -> Result<Option<StateBody>, AllocError>
+    ensures { IfOk result (λ b. body_of (option_map body_view b) ≡ refined_body (body_of (option_map body_view body)) (refining_views pending.now)) }
+{
+    match body {
         Some(body) => {
             let inside = refined_inside(alloc, body, pending)?;
-            let body = with_own_change(alloc, Some(inside), pending)?;
-            Ok(State { name, body })
+            with_own_change(alloc, Some(inside), pending)
         }
-        None => {
-            let body = with_own_change(alloc, None, pending)?;
-            Ok(State { name, body })
-        }
+        None => with_own_change(alloc, None, pending),
     }
 }
 
-/// A copy of a state's body with the refinements of its graph.
+/// A state's body with the refinements of its graph.
 #[cycle(refining)]
 fn refined_inside<'a>(
     alloc: Global,
-    body: &StateBody,
+    body: StateBody,
     pending: &[Pending<'a>],
 ) -> Result<StateBody, AllocError>
-    ensures { IfOk result (λ b. body_view b ≡ record (body_view body.now) { subgraph = refined_subgraph (body_view body.now).subgraph (refining_views pending.now) }) }
+    ensures { IfOk result (λ b. body_view b ≡ record (body_view body) { subgraph = refined_subgraph (body_view body).subgraph (refining_views pending.now) }) }
 {
-    let entry = copy_code_if(alloc, &body.entry)?;
-    let exit = copy_code_if(alloc, &body.exit)?;
-    match &body.subgraph {
-        Some(items) => {
-            let items = refined_items(alloc, items, pending)?;
+    let StateBody {
+        entry,
+        exit,
+        subgraph,
+    } = body;
+    match subgraph {
+        Some(mut items) => {
+            refine_items(alloc, &mut items, pending)?;
             Ok(StateBody {
                 entry,
                 exit,
@@ -103,24 +113,22 @@ fn refined_inside<'a>(
     }
 }
 
-/// A copy of a graph with its refinements. The calls nest as deep as graphs do.
+/// Refines a graph. The calls nest as deep as graphs do.
 #[cycle(refining)]
-#[tactic(auto, using(crate::proofs::Graphs::refined_done, crate::proofs::Nothing::nothing_refined))]
-pub(crate) fn refined_items<'a>(
+#[tactic(auto, using(crate::proofs::Nothing::nothing_refined, crate::proofs::Mixed::all_refined))]
+pub(crate) fn refine_items<'a>(
     alloc: Global,
-    items: &Vec<GraphItem>,
+    items: &mut Vec<GraphItem>,
     pending: &[Pending<'a>],
-) -> Result<Vec<GraphItem>, AllocError>
-    ensures { IfOk result (λ v. graph_view v.items ≡ refined (refining_views pending.now) (graph_view items.now.items)) }
+) -> Result<(), AllocError>
+    ensures { OnOk result (graph_view items.new.items ≡ refined (refining_views pending.now) (graph_view items.old.items)) }
 {
     if pending.is_empty() {
-        return copy_items(alloc, items);
+        return Ok(());
     }
     let mut seen = Numbers::new(alloc);
-    let mut copies = Vec::new(alloc);
-    for item in items {
-        let copy = refined_item(alloc, item, pending, &mut seen)?;
-        copies.push(copy)?;
+    for place in 0..items.len() {
+        refine_item(alloc, &mut items[place], pending, &mut seen)?;
     }
-    Ok(copies)
+    Ok(())
 }

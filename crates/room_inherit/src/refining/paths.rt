@@ -1,9 +1,9 @@
 //! Refinements on their way to what they refine.
-ghost use Rattle.std.specs.Prelude.{◌≡◌, ◌++◌, IfOk, OnOk, Option, map, option_map};
+ghost use Rattle.std.specs.Prelude.{◌≡◌, [], ◌++◌, IfOk, IfSome, IfNone, OnOk, Option, None, map, option_map};
 ghost use Rattle.std.specs.Option.{option_to_list};
 ghost use Rattle.room_ast.specs.ChartTree.{ChangeTree, body_view, item_view, graph_view};
 ghost use Rattle.room_ast.specs.declared.chart.Code.{Code};
-ghost use Rattle.room_inherit.specs.Refining.{found_or, step_into, below, own_or, own_change, action_or, added_action, meant_for, with_name, as_refining, refinements};
+ghost use Rattle.room_inherit.specs.Refining.{GivesTheSame, found_or, step_into, below, own_or, own_change, action_or, added_action, meant_for, with_name, as_refining, refinements};
 ghost use Rattle.room_inherit.specs.Views.{of_state, refining_view, refining_views};
 
 use name_tables::Numbers;
@@ -99,18 +99,53 @@ fn below<'a>(
     Ok(found)
 }
 
-/// The refinements that a state gets. Of the states of one name the first is meant, which `seen` tells.
-pub(super) fn meant_for<'a, 'n>(
+/// The first of the names of a refinement, if it is this name.
+fn first_if<'a>(name: &[u8], one: &Pending<'a>) -> Option<&'a Name>
+    ensures same { IfSome result (λ n. n.now ≡ name.now) }
+    ensures other { IfNone result (step_into name.now (refining_view one.now).path (refining_view one.now).change ≡ None) }
+{
+    let Some(first) = one.next else {
+        return None;
+    };
+    if first.is(name) { Some(first) } else { None }
+}
+
+/// The refinements from the first one on that leads to the state of this name or into it, and the name
+/// as that one has it; none where none does.
+fn from_first<'p, 'a>(
+    name: &[u8],
+    pending: &'p [Pending<'a>],
+) -> Option<(&'a Name, &'p [Pending<'a>])>
+    ensures same { IfSome result (λ found. found.0.now ≡ name.now) }
+    ensures rest { IfSome result (λ found. below name.now (refining_views found.1.now) ≡ below name.now (refining_views pending.entry.now)) }
+    ensures other { IfNone result (below name.now (refining_views pending.entry.now) ≡ []) }
+{
+    let mut rest = pending;
+    while let [one, others @ ..] = rest {
+        if let Some(first) = first_if(name, one) {
+            return Some((first, rest));
+        }
+        rest = others;
+    }
+    None
+}
+
+/// The refinements that a state gets. Of the states of one name the first is meant, which `seen` tells:
+/// it has those of the names before it that refinements lead to.
+pub(super) fn meant_for<'a>(
     alloc: Global,
-    seen: &mut Numbers<'n>,
-    name: &'n Name,
+    seen: &mut Numbers<'a>,
+    name: &[u8],
     pending: &[Pending<'a>],
 ) -> Result<Vec<Pending<'a>>, AllocError>
     ensures meant { IfOk result (λ v. refining_views v.items ≡ meant_for seen.old name.now (refining_views pending.now)) }
-    ensures names { OnOk result (seen.new ≡ with_name name.now seen.old) }
+    ensures names { OnOk result (GivesTheSame (refining_views pending.now) seen.new (with_name name.now seen.old)) }
 {
+    let Some((name, rest)) = from_first(name, pending) else {
+        return Ok(Vec::new(alloc));
+    };
     if seen.add(name.as_bytes())? {
-        below(alloc, name.as_bytes(), pending)
+        below(alloc, name.as_bytes(), rest)
     } else {
         Ok(Vec::new(alloc))
     }

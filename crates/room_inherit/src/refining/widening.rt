@@ -5,7 +5,7 @@ ghost use Rattle.room_inherit.specs.Codes.{texts_of, joined, joined_if};
 ghost use Rattle.room_inherit.specs.Refining.{acting_also, action_for, joined_subgraph, new_body, refined_transition, widened};
 ghost use Rattle.room_inherit.specs.Views.{of_state, refining_views, subgraph_tree};
 
-use crate::copies::{copy_body, copy_code, copy_item, copy_text, copy_transition};
+use crate::copies::{copy_body, copy_code, copy_item, copy_text};
 use crate::refining::paths::{Pending, added_action};
 use room_ast::{Code, CodeText, GraphItem, Name, StateBody, Transition, TransitionBody};
 use room_kinds::Sequence;
@@ -35,27 +35,68 @@ fn add_copies(alloc: Global, texts: &mut Vec<CodeText>, more: &[CodeText]) -> Re
     Ok(())
 }
 
-/// The texts of a code and then those of another.
-fn joined(alloc: Global, first: &Code, second: &Code) -> Result<Code, AllocError>
-    ensures { IfOk result (λ c. c ≡ joined first.now second.now) }
+/// The texts of a code. Those that stand in braces are not moved.
+fn into_texts(alloc: Global, code: Code) -> Result<Vec<CodeText>, AllocError>
+    ensures { IfOk result (λ texts. texts.items ≡ texts_of code) }
 {
-    let mut texts = Vec::new(alloc);
-    add_texts(alloc, &mut texts, first)?;
+    match code {
+        Code::Single(text) => {
+            let mut texts = Vec::new(alloc);
+            texts.push(text)?;
+            Ok(texts)
+        }
+        Code::Texts(texts) => Ok(texts.into_vec()),
+    }
+}
+
+/// The texts of a code and then copies of those of another.
+fn joined(alloc: Global, first: Code, second: &Code) -> Result<Code, AllocError>
+    ensures { IfOk result (λ c. c ≡ joined first second.now) }
+{
+    let mut texts = into_texts(alloc, first)?;
     add_texts(alloc, &mut texts, second)?;
     Ok(Code::Texts(Sequence::from(texts)))
 }
 
+/// Copies of the texts of a code and then the texts of another.
+fn joined_before(alloc: Global, first: &Code, second: Code) -> Result<Code, AllocError>
+    ensures { IfOk result (λ c. c ≡ joined first.now second) }
+{
+    let mut texts = Vec::new(alloc);
+    add_texts(alloc, &mut texts, first)?;
+    let mut behind = into_texts(alloc, second)?;
+    texts.append(&mut behind)?;
+    Ok(Code::Texts(Sequence::from(texts)))
+}
+
+/// A code, and behind it a copy of another one, where either may be missing.
 fn joined_if(
     alloc: Global,
-    first: &Option<Code>,
+    first: Option<Code>,
     second: &Option<Code>,
 ) -> Result<Option<Code>, AllocError>
-    ensures { IfOk result (λ c. c ≡ joined_if first.now second.now) }
+    ensures { IfOk result (λ c. c ≡ joined_if first second.now) }
 {
     match (first, second) {
         (Some(first), Some(second)) => Ok(Some(joined(alloc, first, second)?)),
-        (Some(first), None) => Ok(Some(copy_code(alloc, first)?)),
+        (Some(first), None) => Ok(Some(first)),
         (None, Some(second)) => Ok(Some(copy_code(alloc, second)?)),
+        (None, None) => Ok(None),
+    }
+}
+
+/// A code, and before it a copy of another one, where either may be missing.
+fn joined_before_if(
+    alloc: Global,
+    first: &Option<Code>,
+    second: Option<Code>,
+) -> Result<Option<Code>, AllocError>
+    ensures { IfOk result (λ c. c ≡ joined_if first.now second) }
+{
+    match (first, second) {
+        (Some(first), Some(second)) => Ok(Some(joined_before(alloc, first, second)?)),
+        (Some(first), None) => Ok(Some(copy_code(alloc, first)?)),
+        (None, Some(second)) => Ok(Some(second)),
         (None, None) => Ok(None),
     }
 }
@@ -99,8 +140,8 @@ fn joined_subgraph(
 fn widened_body(alloc: Global, body: StateBody, change: &StateBody) -> Result<StateBody, AllocError>
     ensures { IfOk result (λ b. body_of (Some (body_view b)) ≡ widened (Some (of_state (body_view change.now))) (body_of (Some (body_view body)))) }
 {
-    let entry = joined_if(alloc, &body.entry, &change.entry)?;
-    let exit = joined_if(alloc, &change.exit, &body.exit)?;
+    let entry = joined_if(alloc, body.entry, &change.entry)?;
+    let exit = joined_before_if(alloc, &change.exit, body.exit)?;
     let subgraph = joined_subgraph(alloc, body.subgraph, &change.subgraph)?;
     Ok(StateBody {
         entry,
@@ -153,13 +194,18 @@ fn acting_also(
             action: Some(action),
         });
     };
-    let action = match &body.action {
+    let TransitionBody {
+        triggers,
+        condition,
+        action,
+    } = body;
+    let action = match action {
         Some(action) => joined(alloc, action, code)?,
         None => copy_code(alloc, code)?,
     };
     Ok(TransitionBody {
-        triggers: body.triggers,
-        condition: body.condition,
+        triggers,
+        condition,
         action: Some(action),
     })
 }
@@ -173,23 +219,18 @@ fn action_for<'a>(name: &Option<Name>, pending: &[Pending<'a>]) -> Option<&'a Co
     }
 }
 
-/// A copy of a transition, with what refinements add to its action.
-pub(super) fn refined_transition<'a>(
+/// Adds to the action of a transition what refinements add.
+pub(super) fn refine_transition<'a>(
     alloc: Global,
-    transition: &Transition,
+    transition: &mut Transition,
     pending: &[Pending<'a>],
-) -> Result<Transition, AllocError>
-    ensures { IfOk result (λ t. t ≡ refined_transition (refining_views pending.now) transition.now) }
+) -> Result<(), AllocError>
+    ensures { OnOk result (transition.new ≡ refined_transition (refining_views pending.now) transition.old) }
 {
-    let copy = copy_transition(alloc, transition)?;
     let Some(code) = action_for(&transition.name, pending) else {
-        return Ok(copy);
+        return Ok(());
     };
-    let body = acting_also(alloc, copy.body, code)?;
-    Ok(Transition {
-        name: copy.name,
-        source: copy.source,
-        target: copy.target,
-        body: Some(body),
-    })
+    let body = transition.body.take();
+    transition.body = Some(acting_also(alloc, body, code)?);
+    Ok(())
 }
