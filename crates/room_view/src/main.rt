@@ -1,7 +1,8 @@
-//! The program `room_view`: tells people why a text is refused, and where; and where messages can come in.
+//! The program `room_view`: tells people why a text is refused, and where; where messages can come in; and draws
+//! pictures of models.
 //!
-//! `why MODEL [INJECT]` and `doors MODEL` write a page to standard output; of a model that is refused both tell why. The
-//! status is that of `room` for these files: 0 where
+//! `why MODEL [INJECT]`, `doors MODEL`, `wiring MODEL [FORM]` and `chart MODEL CLASS [FORM]` write a page to standard
+//! output; of a model that is refused all tell why. The status is that of `room` for these files: 0 where
 //! nothing is refused, 1 where the words have another form, 2 where the model is refused, 3 where the injections
 //! are, 5 for want of memory, 6 where a file wasn't read, 7 where the page wasn't written.
 #![tactic(auto)]
@@ -10,12 +11,14 @@ mod doors;
 mod judge;
 mod lines;
 mod page;
+mod pictures;
 mod ports;
 mod why;
 
 use crate::doors::tell_doors;
 use crate::lines::tell_lines;
 use crate::page::{Named, Page};
+use crate::pictures::{Picture, picture_of, tell_picture};
 use crate::why::{tell_model, tell_refused};
 use inject_reader::read_injections;
 use room_outside::{FileShelf, OutSink, ReadRefused, read_whole, write_whole};
@@ -36,6 +39,8 @@ enum Asked<'a> {
     Injections(&'a str),
     /// Where messages can come in.
     Doors,
+    /// A picture.
+    Picture(Picture<'a>),
 }
 
 /// What the words ask: the file of a model, and what is asked of it.
@@ -57,6 +62,12 @@ fn words_of<R: Env + AllocGlobal>(rt: &R) -> io::Result<Vec<String>> {
 }
 
 fn question_of(words: &[String]) -> Option<Question<'_>> {
+    if let Some(picture) = picture_of(words) {
+        return Some(Question {
+            model: picture.model,
+            asked: Asked::Picture(picture),
+        });
+    }
     let (command, model, asked) = match words {
         [command, model] if command.as_str() == "doors" => (command, model, Asked::Doors),
         [command, model] => (command, model, Asked::Nothing),
@@ -139,6 +150,9 @@ fn tell(rt: HostRuntime, page: &mut Page, question: Question<'_>) -> Result<Stat
         Asked::Nothing => page.put_line(b"ok")?,
         Asked::Doors => tell_doors(page, &wiring)?,
         Asked::Injections(name) => return tell_injections(rt, page, &wiring, name),
+        Asked::Picture(picture) => {
+            return tell_picture(rt.alloc(), page, model, &wiring, picture);
+        }
     }
     Ok(Status::Done)
 }
@@ -149,7 +163,7 @@ fn work(rt: HostRuntime, words: &[String]) -> Status {
     let Some(question) = question_of(words) else {
         let _ = write_whole(
             &mut notes,
-            b"room_view: words refused; why MODEL [INJECT] or doors MODEL\n",
+            b"room_view: words refused; why MODEL [INJECT], doors MODEL, wiring MODEL [FORM] or chart MODEL CLASS [FORM]; FORM is --svg, --dot or --mermaid\n",
         );
         return Status::WordsRefused;
     };
