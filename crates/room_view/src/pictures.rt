@@ -120,20 +120,21 @@ fn add_keys(diagram: &mut Diagram) -> Result<(), AllocError> {
     if points.iter().any(|point| point.unjoined > 0) {
         diagram.add_key(Sign::Unjoined, b"has places that are joined to nothing")?;
     }
-    if diagram.links.as_slice().iter().any(|link| link.is_dashed) {
-        diagram.add_key(Sign::Dashes, b"layer connection")?;
-    }
     Ok(())
 }
 
 /// The picture of a wiring.
-fn wiring_picture(alloc: Global, model: &Model, wiring: &Wiring) -> Result<Diagram, AllocError> {
+fn wiring_picture<'a>(
+    alloc: Global,
+    model: &'a Model,
+    wiring: &'a Wiring,
+) -> Result<Diagram, AllocError> {
     let mut diagram = Diagram::new(alloc, false);
     let containers = containers_of(alloc, model)?;
     let title = containers.title(alloc)?;
     let actors = add_actors(&mut diagram, wiring, title, containers.top_count())?;
-    add_bindings(&mut diagram, &actors, wiring, &containers)?;
     add_keys(&mut diagram)?;
+    add_bindings(&mut diagram, &actors, wiring, &containers)?;
     Ok(diagram)
 }
 

@@ -1,6 +1,6 @@
 //! The blocks and points of a picture of actors: one block for all the slots that differ in indexes alone.
 use crate::pictures::diagram::{Block, Diagram, Mark, Point, Shape, Sign};
-use crate::pictures::plain::Label;
+use crate::pictures::plain::{Label, add_name, name_of};
 use room_kinds::{ControllerId, PortKind, ReferenceKind, SlotId};
 use room_wiring::{Partner, PortNames, Slot, Wiring};
 use std::alloc::{AllocError, Global};
@@ -42,7 +42,7 @@ fn bit_of(owner: ControllerId) -> u64 {
 }
 
 /// The name of a slot in its container: the last name of its path, without the index.
-fn name_of(path: &[u8]) -> &[u8] {
+fn name_in(path: &[u8]) -> &[u8] {
     let name = match path.iter().rposition(|byte| *byte == b'/') {
         Some(slash) => path.get(slash.saturating_add(1)..).unwrap_or(&[]),
         None => path,
@@ -176,10 +176,10 @@ fn title_of(
     id: SlotId,
     slot: &Slot,
 ) -> Result<Vec<u8>, AllocError> {
-    let mut title = Vec::from_slice(alloc, name_of(slot.path.as_bytes()))?;
+    let mut title = name_of(alloc, name_in(slot.path.as_bytes()))?;
     title.extend_from_slice(b" : ")?;
     if let Some(class) = wiring.class_of(id) {
-        title.extend_from_slice(class.name.as_bytes())?;
+        add_name(&mut title, class.name.as_bytes())?;
     }
     Ok(title)
 }
@@ -204,7 +204,7 @@ fn add_points(
         let is_away = slot.kind == ReferenceKind::Imported && places == 0;
         let point = Point {
             mark: if is_away { Mark::Hidden } else { mark_of(port) },
-            name: Vec::from_slice(diagram.alloc, port.name.as_bytes())?,
+            name: name_of(diagram.alloc, port.name.as_bytes())?,
             places,
             unjoined: 0,
         };
@@ -336,7 +336,7 @@ fn others_of(
             } else {
                 b", "
             })?;
-            others.extend_from_slice(controller_name(wiring, number))?;
+            add_name(&mut others, controller_name(wiring, number))?;
         }
     }
     Ok(others)
@@ -376,7 +376,7 @@ fn add_notes(
 fn add_controllers(diagram: &mut Diagram, wiring: &Wiring) -> Result<(), AllocError> {
     for number in 0..wiring.controller_count() {
         let mut text = Vec::from_slice(diagram.alloc, b"controller ")?;
-        text.extend_from_slice(controller_name(wiring, number))?;
+        add_name(&mut text, controller_name(wiring, number))?;
         diagram.add_key(Sign::Colour(number), text.as_slice())?;
     }
     Ok(())

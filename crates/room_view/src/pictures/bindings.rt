@@ -1,7 +1,7 @@
 //! The links of a picture of actors: the bindings and the layer connections, in each container anew.
 use crate::pictures::actors::Actors;
-use crate::pictures::diagram::{Diagram, End, Link};
-use crate::pictures::plain::Label;
+use crate::pictures::diagram::{Diagram, End, Link, Sign};
+use crate::pictures::plain::{Label, add_name, name_of};
 use indexmap::IndexMap;
 use room_ast::{
     ActorClass, Binding, Class, LayerConnection, Model, Name, Side, StructureItem, Subsystem,
@@ -9,6 +9,9 @@ use room_ast::{
 };
 use room_wiring::{ClassNames, Wiring};
 use std::alloc::{AllocError, Global};
+
+/// The most layer connections that are drawn: a container may have any number of them.
+const MOST_LAYERS: usize = 65_536;
 
 /// The numbers of the ports and of the references of a class by their names.
 #[derive(Drop)]
@@ -78,10 +81,10 @@ pub(crate) fn containers_of(alloc: Global, model: &Model) -> Result<Containers<'
 impl<'a> Containers<'a> {
     /// The title of the subsystem.
     pub(crate) fn title(&self, alloc: Global) -> Result<Vec<u8>, AllocError> {
-        let mut title = Vec::from_slice(alloc, self.subsystem_name)?;
+        let mut title = name_of(alloc, self.subsystem_name)?;
         if let Some(subsystem) = self.subsystem {
             title.extend_from_slice(b" : ")?;
-            title.extend_from_slice(subsystem.name.as_bytes())?;
+            add_name(&mut title, subsystem.name.as_bytes())?;
         }
         Ok(title)
     }
@@ -116,41 +119,44 @@ impl<'a> Containers<'a> {
         })
     }
 
-    /// The bindings and layer connections of a class; of the subsystem where none is given.
-    fn joints_of(&self, alloc: Global, class: Option<u16>) -> Result<Vec<Joint<'a>>, AllocError> {
+    /// The bindings and layer connections of the subsystem.
+    fn top_joints(&self, alloc: Global) -> Result<Vec<Joint<'a>>, AllocError> {
         let mut joints = Vec::new(alloc);
-        match class {
-            Some(class) => {
-                if let Some(actor) = self.actors.as_slice().get(usize::from(class))
-                    && let Some(items) = &actor.structure
-                {
-                    for item in items.as_slice() {
-                        match item {
-                            StructureItem::Binding(binding) => {
-                                joints.push(Joint::Binding(binding))?
-                            }
-                            StructureItem::Layer(layer) => joints.push(Joint::Layer(layer))?,
-                            _ => {}
-                        }
-                    }
-                }
-            }
-            None => {
-                if let Some(subsystem) = self.subsystem {
-                    for item in subsystem.items.as_slice() {
-                        match item {
-                            SubsystemItem::Binding(binding) => {
-                                joints.push(Joint::Binding(binding))?
-                            }
-                            SubsystemItem::Layer(layer) => joints.push(Joint::Layer(layer))?,
-                            _ => {}
-                        }
-                    }
+        if let Some(subsystem) = self.subsystem {
+            for item in subsystem.items.as_slice() {
+                match item {
+                    SubsystemItem::Binding(binding) => joints.push(Joint::Binding(binding))?,
+                    SubsystemItem::Layer(layer) => joints.push(Joint::Layer(layer))?,
+                    _ => {}
                 }
             }
         }
         Ok(joints)
     }
+
+    /// The bindings and layer connections of each actor class.
+    fn all_joints(&self, alloc: Global) -> Result<Vec<Vec<Joint<'a>>>, AllocError> {
+        let mut all = Vec::new(alloc);
+        for actor in self.actors.as_slice() {
+            all.push(joints_of(alloc, actor)?)?;
+        }
+        Ok(all)
+    }
+}
+
+/// The bindings and layer connections of an actor class.
+fn joints_of<'a>(alloc: Global, actor: &'a ActorClass) -> Result<Vec<Joint<'a>>, AllocError> {
+    let mut joints = Vec::new(alloc);
+    if let Some(items) = &actor.structure {
+        for item in items.as_slice() {
+            match item {
+                StructureItem::Binding(binding) => joints.push(Joint::Binding(binding))?,
+                StructureItem::Layer(layer) => joints.push(Joint::Layer(layer))?,
+                _ => {}
+            }
+        }
+    }
+    Ok(joints)
 }
 
 /// The numbers of the ports and references of a class.
@@ -244,11 +250,11 @@ impl<'a, 'b> Finder<'a, 'b> {
 /// Puts a side of a binding as it is written.
 fn add_side(text: &mut Vec<u8>, side: &Side) -> Result<(), AllocError> {
     match side {
-        Side::Own(port) => text.extend_from_slice(port.as_bytes())?,
+        Side::Own(port) => add_name(text, port.as_bytes())?,
         Side::Inner { reference, port } => {
-            text.extend_from_slice(reference.as_bytes())?;
+            add_name(text, reference.as_bytes())?;
             text.push(b'.')?;
-            text.extend_from_slice(port.as_bytes())?;
+            add_name(text, port.as_bytes())?;
         }
     }
     Ok(())
@@ -265,11 +271,11 @@ fn written(alloc: Global, joint: Joint<'_>) -> Result<Vec<u8>, AllocError> {
         }
         Joint::Layer(layer) => {
             text.extend_from_slice(b"ref ")?;
-            text.extend_from_slice(layer.reference.as_bytes())?;
+            add_name(&mut text, layer.reference.as_bytes())?;
             text.extend_from_slice(b" satisfied_by ")?;
-            text.extend_from_slice(layer.provider.as_bytes())?;
+            add_name(&mut text, layer.provider.as_bytes())?;
             text.push(b'.')?;
-            text.extend_from_slice(layer.service.as_bytes())?;
+            add_name(&mut text, layer.service.as_bytes())?;
         }
     }
     Ok(text)
@@ -303,7 +309,8 @@ fn add_link(
     let protocol = protocol_of(diagram, finder.actors, wiring, to).unwrap_or(b"");
     let alloc = diagram.alloc;
     let text = written(alloc, joint)?;
-    let label = Label::named(alloc, text.as_slice(), protocol)?;
+    let shown = name_of(alloc, protocol)?;
+    let label = Label::named(alloc, text.as_slice(), shown.as_slice())?;
     diagram.links.push(Link {
         inside,
         from,
@@ -314,12 +321,34 @@ fn add_link(
     Ok(())
 }
 
+/// Adds the links of a container; of layer connections at most so many. Gives how many more there may be.
+fn add_joints(
+    diagram: &mut Diagram,
+    finder: Finder<'_, '_>,
+    wiring: &Wiring,
+    inside: usize,
+    joints: &[Joint<'_>],
+    layers: usize,
+) -> Result<usize, AllocError> {
+    let mut layers = layers;
+    for joint in joints {
+        if matches!(joint, Joint::Layer(_)) {
+            if layers == 0 {
+                continue;
+            }
+            layers -= 1;
+        }
+        add_link(diagram, finder, wiring, inside, *joint)?;
+    }
+    Ok(layers)
+}
+
 /// Adds the bindings and layer connections of each container to a picture that has the blocks of a wiring.
-pub(crate) fn add_bindings(
+pub(crate) fn add_bindings<'a>(
     diagram: &mut Diagram,
     actors: &Actors,
-    wiring: &Wiring,
-    containers: &Containers<'_>,
+    wiring: &'a Wiring,
+    containers: &Containers<'a>,
 ) -> Result<(), AllocError> {
     let alloc = diagram.alloc;
     let classes = all_numbers(alloc, wiring)?;
@@ -329,11 +358,26 @@ pub(crate) fn add_bindings(
         classes: classes.as_slice(),
         top: &top,
     };
+    let of_top = containers.top_joints(alloc)?;
+    let of_classes = containers.all_joints(alloc)?;
+    let mut layers = MOST_LAYERS;
     for block in 0..diagram.blocks.len() {
-        let joints = containers.joints_of(alloc, actors.class_of(block))?;
-        for joint in joints.as_slice() {
-            add_link(diagram, finder, wiring, block, *joint)?;
-        }
+        let joints = match actors.class_of(block) {
+            Some(class) => match of_classes.as_slice().get(usize::from(class)) {
+                Some(joints) => joints.as_slice(),
+                None => &[],
+            },
+            None => of_top.as_slice(),
+        };
+        layers = add_joints(diagram, finder, wiring, block, joints, layers)?;
+    }
+    if layers < MOST_LAYERS {
+        let text: &[u8] = if layers == 0 {
+            b"layer connection, of which no more than 65536 are drawn"
+        } else {
+            b"layer connection"
+        };
+        diagram.add_key(Sign::Dashes, text)?;
     }
     Ok(())
 }

@@ -1,7 +1,7 @@
 //! The blocks, points and links of the chart of a class.
 use crate::pictures::diagram::{Block, Diagram, End, Link, Mark, Point, Shape, Sign};
 use crate::pictures::orders::{Orders, orders_of};
-use crate::pictures::plain::{Label, add_plain};
+use crate::pictures::plain::{Label, name_of};
 use crate::pictures::transitions::{add_code, label_of};
 use indexmap::IndexMap;
 use room_ast::{
@@ -108,7 +108,7 @@ impl<'a> Sketch<'a> {
                 let name = point.name.as_bytes();
                 let drawn = Point {
                     mark: mark_of(point.kind),
-                    name: Vec::from_slice(self.alloc(), name)?,
+                    name: name_of(self.alloc(), name)?,
                     places: 1,
                     unjoined: 0,
                 };
@@ -134,7 +134,7 @@ impl<'a> Sketch<'a> {
     fn add_choice(&mut self, inside: usize, choice: &'a ChoicePoint) -> Result<(), AllocError> {
         let name = choice.name.as_bytes();
         let mut block = Block::new(self.alloc(), Shape::Choice, Some(inside));
-        block.title = Vec::from_slice(self.alloc(), name)?;
+        block.title = name_of(self.alloc(), name)?;
         let number = self.add_block(block, false)?;
         self.choices.insert(
             Key {
@@ -151,7 +151,7 @@ impl<'a> Sketch<'a> {
         let name = state.name.as_bytes();
         let alloc = self.alloc();
         let mut block = Block::new(alloc, Shape::State, Some(inside));
-        block.title = Vec::from_slice(alloc, name)?;
+        block.title = name_of(alloc, name)?;
         if let Some(body) = &state.body {
             add_actions(alloc, &mut block, body)?;
         }
@@ -336,7 +336,7 @@ pub(crate) fn chart_of(
 ) -> Result<Diagram, AllocError> {
     let mut sketch = Sketch::new(alloc);
     let mut frame = Block::new(alloc, Shape::Frame, None);
-    add_plain(&mut frame.title, class)?;
+    frame.title = name_of(alloc, class)?;
     let number = sketch.add_block(frame, true)?;
     sketch.add_graph(number, machine.items.as_slice(), MOST_DEEP)?;
     let Sketch { mut diagram, .. } = sketch;

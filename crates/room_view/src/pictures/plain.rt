@@ -45,26 +45,31 @@ pub(crate) fn add_plain(to: &mut Vec<u8>, text: &[u8]) -> Result<(), AllocError>
     Ok(())
 }
 
-/// A text cut after so many letters that fit into a picture.
-fn cut(alloc: Global, whole: &[u8]) -> Result<Vec<u8>, AllocError> {
-    if whole.len() <= MOST_LETTERS {
-        return Vec::from_slice(alloc, whole);
+/// Adds a name, cut after so many letters that fit into a picture.
+pub(crate) fn add_name(to: &mut Vec<u8>, name: &[u8]) -> Result<(), AllocError> {
+    if name.len() <= MOST_LETTERS {
+        return to.extend_from_slice(name);
     }
-    let kept = whole.get(..MOST_LETTERS.saturating_sub(2)).unwrap_or(&[]);
-    let mut shown = Vec::from_slice(alloc, kept)?;
-    shown.extend_from_slice(b"..")?;
+    to.extend_from_slice(name.get(..MOST_LETTERS.saturating_sub(2)).unwrap_or(&[]))?;
+    to.extend_from_slice(b"..")
+}
+
+/// A name or a text, cut after so many letters that fit into a picture.
+pub(crate) fn name_of(alloc: Global, name: &[u8]) -> Result<Vec<u8>, AllocError> {
+    let mut shown = Vec::new(alloc);
+    add_name(&mut shown, name)?;
     Ok(shown)
 }
 
 impl Label {
     pub(crate) fn of(alloc: Global, whole: Vec<u8>) -> Result<Label, AllocError> {
-        let shown = cut(alloc, whole.as_slice())?;
+        let shown = name_of(alloc, whole.as_slice())?;
         Ok(Label { shown, whole })
     }
 
     /// A label whose whole text begins with a name that isn't shown.
     pub(crate) fn named(alloc: Global, name: &[u8], rest: &[u8]) -> Result<Label, AllocError> {
-        let shown = cut(alloc, rest)?;
+        let shown = name_of(alloc, rest)?;
         let mut whole = Vec::from_slice(alloc, name)?;
         if !name.is_empty() && !rest.is_empty() {
             whole.extend_from_slice(b": ")?;
