@@ -38,8 +38,8 @@ enum Joint<'a> {
 
 /// What the ends of links are found by.
 #[derive(Clone, Copy)]
-struct Finder<'a, 'b> {
-    actors: &'b Actors,
+struct Finder<'a, 'b, 'c> {
+    actors: &'c Actors,
     classes: &'b [Numbers<'a>],
     top: &'b Numbers<'a>,
 }
@@ -188,7 +188,7 @@ fn all_numbers(alloc: Global, wiring: &Wiring) -> Result<Vec<Numbers<'_>>, Alloc
     Ok(all)
 }
 
-impl<'a, 'b> Finder<'a, 'b> {
+impl<'a, 'b, 'c> Finder<'a, 'b, 'c> {
     fn numbers(&self, block: usize) -> &'b Numbers<'a> {
         match self.actors.class_of(block) {
             Some(class) => self.classes.get(usize::from(class)).unwrap_or(self.top),
@@ -298,7 +298,7 @@ fn protocol_of<'a>(
 /// Adds the link of a binding or a layer connection in a container.
 fn add_link(
     diagram: &mut Diagram,
-    finder: Finder<'_, '_>,
+    finder: Finder<'_, '_, '_>,
     wiring: &Wiring,
     inside: usize,
     joint: Joint<'_>,
@@ -324,7 +324,7 @@ fn add_link(
 /// Adds the links of a container; of layer connections at most so many. Gives how many more there may be.
 fn add_joints(
     diagram: &mut Diagram,
-    finder: Finder<'_, '_>,
+    finder: Finder<'_, '_, '_>,
     wiring: &Wiring,
     inside: usize,
     joints: &[Joint<'_>],
