@@ -36,6 +36,24 @@ enum Joint<'a> {
     Layer(&'a LayerConnection),
 }
 
+/// The bindings and layer connections of the subsystem and of each class.
+#[derive(Drop)]
+struct Joints<'a> {
+    of_top: Vec<Joint<'a>>,
+    of_classes: Vec<Vec<Joint<'a>>>,
+}
+
+impl<'a> Joints<'a> {
+    /// Those of a class, if there is one of this number; of the subsystem where none is given.
+    fn of(&self, class: Option<u16>) -> Option<&[Joint<'a>]> {
+        let Some(class) = class else {
+            return Some(self.of_top.as_slice());
+        };
+        let joints = self.of_classes.as_slice().get(usize::from(class))?;
+        Some(joints.as_slice())
+    }
+}
+
 /// What the ends of links are found by.
 #[derive(Clone, Copy)]
 struct Finder<'a, 'b, 'c> {
@@ -358,18 +376,15 @@ pub(crate) fn add_bindings<'a>(
         classes: classes.as_slice(),
         top: &top,
     };
-    let of_top = containers.top_joints(alloc)?;
-    let of_classes = containers.all_joints(alloc)?;
+    let joints = Joints {
+        of_top: containers.top_joints(alloc)?,
+        of_classes: containers.all_joints(alloc)?,
+    };
     let mut layers = MOST_LAYERS;
     for block in 0..diagram.blocks.len() {
-        let joints = match actors.class_of(block) {
-            Some(class) => match of_classes.as_slice().get(usize::from(class)) {
-                Some(joints) => joints.as_slice(),
-                None => &[],
-            },
-            None => of_top.as_slice(),
-        };
-        layers = add_joints(diagram, finder, wiring, block, joints, layers)?;
+        if let Some(here) = joints.of(actors.class_of(block)) {
+            layers = add_joints(diagram, finder, wiring, block, here, layers)?;
+        }
     }
     if layers < MOST_LAYERS {
         let text: &[u8] = if layers == 0 {
