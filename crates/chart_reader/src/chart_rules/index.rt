@@ -26,6 +26,8 @@ use std::alloc::{AllocError, Global};
 #[derive(Drop)]
 pub(crate) struct ChartIndex<'a> {
     pub(crate) graphs: Vec<NamedGraph<'a>>,
+    /// The initial values of the class's attributes. No rule reads them; with them contracts see the
+    /// tables as the whole chart.
     values: &'a [i64],
     keys: NameIndex<'a>,
     origins: IndexMap<&'a [u8], usize>,
@@ -111,6 +113,7 @@ impl<'a> ChartIndex<'a> {
         })
     }
 
+    /// The first graph with a key, which is that of the path whose key it is.
     fn graph_with(&self, key: &[u8]) -> Option<&NamedGraph<'a>>
         ensures { (path : Path) → key.now ≡ 0 ∷ codes path → option_map (λ g. named_view g.now) result ≡ graph_at (index_view self.now) path }
     {
