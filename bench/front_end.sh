@@ -19,7 +19,8 @@ set -eu
 
 size="${SIZE:-65536}"
 kinds="${KINDS:-references mappings nested_mappings bindings layers ports classes messages states
-transitions choices points composites attributes data_classes services injections journals}"
+transitions choices branches points subgraphs composites attributes data_classes services injections
+journals}"
 
 head='RoomModel M {\nLogicalSystem L { SubSystemRef s: S }\nProtocolClass P { incoming { Message go() } outgoing { Message ok() } }\n'
 top_class='SubSystemClass S { ActorRef a: A }\n'
@@ -60,7 +61,9 @@ text_of() {
     states) fill "$most" "$chart" 'State S#\n' "$chart_end" 59999 ;;
     transitions) fill "$most" "$chart" 'State S# Transition t#: S# -> S# { triggers { <go: p> } }\n' "$chart_end" ;;
     choices) fill "$most" "$chart" 'ChoicePoint c# Transition t#: S -> cp c# { triggers { <go: p> } } Transition d#: cp c# -> S\n' "$chart_end" ;;
+    branches) fill "$most" "${chart}ChoicePoint c Transition e: S -> cp c { triggers { <go: p> } } Transition d: cp c -> S\n" 'Transition d#: cp c -> S { cond { "1" } }\n' "$chart_end" ;;
     points) fill "$most" "$chart" 'TransitionPoint q# Transition t#: my q# -> S { triggers { <go: p> } }\n' "$chart_end" ;;
+    subgraphs) fill "$most" "$chart" 'State S# { subgraph { Transition b: initial -> S State S } }\n' "$chart_end" ;;
     composites) fill "$most" "$chart" 'State S# { subgraph { Transition b: initial -> S State S EntryPoint in ExitPoint out Transition f: my in -> S Transition l: S -> my out { triggers { <go: p> } } } } Transition t#: S -> in of S# { triggers { <go: p> } } Transition o#: out of S# -> S\n' "$chart_end" ;;
     attributes) fill "$most" "${head}${top_class}ActorClass A { Structure {\n" 'Attribute an_attribute_with_a_longer_name_#: int8 = 1\n' '} }\n}' 4096 ;;
     data_classes) fill "$most" "${head}${top_class}ActorClass A { }\n" 'DataClass D# { Attribute x: int8 = 1 Attribute y: int16 }\n' '}' 59000 ;;

@@ -1,11 +1,10 @@
 -- The lowest fault of a chart, and of the text that writes it.
-use Rattle.std.proofs.Common.{◌≡◌, ℕ, Bool, true, false, cond, List, Option, Some, None, Result, Ok, Err, refl, sym, ap, ◌∙◌, subst}
+use Rattle.std.proofs.Common.{◌≡◌, ℕ, Bool, true, false, cond, List, Option, Some, None, Ok, Err, refl, sym, ap, ◌∙◌, subst}
 use Rattle.std.specs.Prelude.{is_some}
 use Rattle.room_ast.specs.declared.scope.Scope.{Scope}
 use Rattle.room_ast.specs.ChartTree.{GraphItems}
 use Rattle.chart_model.specs.Chart.{Chart}
-use Rattle.chart_model.specs.Named.{Node}
-use Rattle.chart_model.specs.Valid.{LeadsTo, IsValid}
+use Rattle.chart_model.specs.Valid.{IsValid}
 use Rattle.chart_reader.specs.chart_nodes.Circles.{HasCircle}
 use Rattle.chart_reader.specs.chart_rules.Rules.{nests_within, has_right_names, has_one_initial_at_most, has_initials, has_defaults}
 use Rattle.chart_reader.proofs.chart_rules.Law.{is_valid}

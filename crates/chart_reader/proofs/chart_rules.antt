@@ -1,2 +1,5 @@
 pub mod Law
-pub mod Counts
+pub mod Tables
+pub mod NamesFound
+pub mod Begin
+pub mod Found

@@ -1,1 +1,4 @@
 pub mod Rules
+pub mod Index
+pub mod Views
+pub mod IndexView

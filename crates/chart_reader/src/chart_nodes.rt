@@ -8,5 +8,5 @@ mod keys;
 mod steps;
 
 pub use circles::{has_circle, node_order, parts_of, target_index};
-pub use keys::{graph_key, named_key, origin_key, plain_key, target_key};
+pub use keys::{graph_key, named_key, origin_key, plain_key, point_key, target_key};
 pub use steps::{Step, steps_of};

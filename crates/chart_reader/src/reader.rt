@@ -7,10 +7,12 @@ ghost use Rattle.chart_reading.specs.chart_graphs.Views.{chart_view};
 ghost use Rattle.chart_reading.specs.Reading.{reading};
 ghost use Rattle.chart_reader.specs.Faults.{names_fault};
 ghost use Rattle.chart_reader.specs.Reads.{IsLowestFault, Reads};
+ghost use Rattle.chart_reader.specs.chart_rules.IndexView.{index_view};
 
-use crate::chart_nodes::has_circle;
+use crate::chart_nodes::{has_circle, steps_of};
 use crate::chart_rules::{
-    has_defaults, has_initials, has_one_initial_at_most, has_right_names, is_shallow,
+    ChartIndex, border_keys, has_defaults, has_initials, has_one_initial_at_most, has_right_names,
+    is_shallow,
 };
 use crate::depth::{MOST_DEEP, graph_nests};
 use crate::fault::ChartFault;
@@ -19,10 +21,10 @@ use chart_reading::{Chart, Marks, write_chart};
 use room_ast::{Scope, StateMachine};
 use std::alloc::{AllocError, Global};
 
-/// The first of the rules on names and transitions that a chart breaks.
+/// The first of the rules on names and transitions that a chart breaks, told from its tables.
 #[tactic(auto, unfolding(crate::specs::Faults::names_fault))]
-fn names_fault(alloc: Global, chart: &Chart) -> Result<Option<ChartFault>, AllocError>
-    ensures { IfOk result (λ fault. fault ≡ names_fault (chart_view chart.now)) }
+fn indexed_fault(alloc: Global, chart: &ChartIndex) -> Result<Option<ChartFault>, AllocError>
+    ensures { IfOk result (λ fault. fault ≡ names_fault (index_view chart.now)) }
 {
     if !is_shallow(chart) {
         return Ok(Some(ChartFault::DepthAbove16));
@@ -30,16 +32,27 @@ fn names_fault(alloc: Global, chart: &Chart) -> Result<Option<ChartFault>, Alloc
     if !has_right_names(alloc, chart)? {
         return Ok(Some(ChartFault::BadPoint));
     }
-    if !has_one_initial_at_most(chart) {
+    if !has_one_initial_at_most(alloc, chart)? {
         return Ok(Some(ChartFault::TwoInitials));
     }
     if !has_initials(alloc, chart)? {
         return Ok(Some(ChartFault::NoInitial));
     }
-    if !has_defaults(chart) {
+    if !has_defaults(alloc, chart)? {
         return Ok(Some(ChartFault::NoDefault));
     }
     Ok(None)
+}
+
+/// The first of the rules on names and transitions that a chart breaks. It takes time in proportion
+/// to the chart and the names of its paths.
+fn names_fault(alloc: Global, chart: &Chart) -> Result<Option<ChartFault>, AllocError>
+    ensures { IfOk result (λ fault. fault ≡ names_fault (chart_view chart.now)) }
+{
+    let keys = border_keys(alloc, chart)?;
+    let steps = steps_of(alloc, chart)?;
+    let index = ChartIndex::of(alloc, chart, keys.as_slice(), steps.as_slice())?;
+    indexed_fault(alloc, &index)
 }
 
 /// The lowest fault of a chart that keeps the rules on names and transitions.

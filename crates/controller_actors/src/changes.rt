@@ -1,5 +1,5 @@
 //! Actors that come up and go down in a turn.
-ghost use Rattle.std.specs.Prelude.{◌<◌, ◌∷◌, List, [], length, All, IfOk, OnOk};
+ghost use Rattle.std.specs.Prelude.{◌<◌, ◌∷◌, List, [], length, All, OnOk};
 ghost use Rattle.room_kinds.specs.declared.numbers.Incarnation.{Incarnation as Actor};
 ghost use Rattle.actor_world.specs.Turns.{begun, all_begun, gone, all_gone};
 ghost use Rattle.controller_actors.specs.Plants.{model_of};
@@ -27,11 +27,11 @@ impl Actors {
         plant: &Plant,
         me: ControllerId,
         who: Incarnation,
-        so_far: SoFar,
-    ) -> Result<SoFar, AllocError>
+        so_far: &mut SoFar,
+    ) -> Result<(), AllocError>
         requires has_slots { HasSlots plant.now me.0 self.old }
         requires last { IsLast plant.now.wiring (lives_of self.old) who }
-        ensures moves { IfOk result (λ s. Moves (begun (model_of plant.now) plant.now.wiring me.0 who) plant.now me.0 self.old so_far self.new s) }
+        ensures moves { OnOk result (Moves (begun (model_of plant.now) plant.now.wiring me.0 who) plant.now me.0 self.old so_far.old self.new so_far.new) }
         ensures empty { OnOk result ((gone : List Actor) → AreEmpty gone self.old → AreEmpty gone self.new) }
     {
         let alloc = self.alloc;
@@ -41,17 +41,16 @@ impl Actors {
             who,
         };
         let tables = plant.tables_of(who.slot);
-        let SoFar { output, back } = so_far;
         let actor_slot = &mut self.slots[usize::from(who.slot.0)];
-        let (output, back) = actor_slot.come_up(
+        actor_slot.come_up(
             alloc,
             &speaker,
             &mut self.services,
             tables,
-            output,
-            back,
+            &mut so_far.output,
+            &mut so_far.back,
         )?;
-        Ok(SoFar { output, back })
+        Ok(())
     }
 
     /// Actors that were made come up, one after another.
@@ -60,18 +59,17 @@ impl Actors {
         plant: &Plant,
         me: ControllerId,
         made: &[Incarnation],
-        so_far: SoFar,
-    ) -> Result<SoFar, AllocError>
+        so_far: &mut SoFar,
+    ) -> Result<(), AllocError>
         requires has_slots { HasSlots plant.now me.0 self.old }
         requires last { All (IsLast plant.now.wiring (lives_of self.old)) made.now }
-        ensures moves { IfOk result (λ s. Moves (all_begun (model_of plant.now) plant.now.wiring me.0 made.now) plant.now me.0 self.old so_far self.new s) }
+        ensures moves { OnOk result (Moves (all_begun (model_of plant.now) plant.now.wiring me.0 made.now) plant.now me.0 self.old so_far.old self.new so_far.new) }
         ensures empty { OnOk result ((gone : List Actor) → AreEmpty gone self.old → AreEmpty gone self.new) }
     {
-        let mut so_far = so_far;
         for who in made {
-            so_far = self.come_up(plant, me, *who, so_far)?;
+            self.come_up(plant, me, *who, so_far)?;
         }
-        Ok(so_far)
+        Ok(())
     }
 
     /// An actor that has ended is gone: its note tells how many messages it had kept, nobody stands in its

@@ -86,6 +86,20 @@ fn done(so_far: SoFar) -> TurnResult
     }
 }
 
+/// A duty that has sent these messages so far, with room for so many notes.
+fn only_sent(alloc: Global, sent: Outbox, count: usize) -> Result<SoFar, AllocError>
+    ensures { IfOk result (λ s. s ≡ record { output = record { messages = sent; notes = [] }; back = [] }) }
+{
+    let notes = Vec::with_capacity(alloc, count)?;
+    Ok(SoFar {
+        output: Output {
+            messages: sent,
+            notes: Sequence::from(notes),
+        },
+        back: Recalled::new(alloc),
+    })
+}
+
 /// The message that closes a request, if there is one.
 fn close(so_far: &mut SoFar, last: Option<Msg>) -> Result<(), AllocError>
     ensures { OnOk result (Closes so_far.old so_far.new last) }
@@ -115,14 +129,10 @@ impl Actors {
     {
         let alloc = self.alloc;
         let DutyDone { made, ended, last } = left;
-        let first = SoFar {
-            output: Output {
-                messages: sent,
-                notes: Notes::new(alloc),
-            },
-            back: Recalled::new(alloc),
-        };
-        let mut so_far = self.all_come_up(plant, me, made.as_slice(), first)?;
+        // Each that comes up or goes down has a note. No duty both makes and ends actors.
+        let count = made.len().max(ended.len());
+        let mut so_far = only_sent(alloc, sent, count)?;
+        self.all_come_up(plant, me, made.as_slice(), &mut so_far)?;
         self.all_go_down(plant, me, ended.as_slice(), &mut so_far)?;
         close(&mut so_far, last)?;
         Ok(done(so_far))

@@ -7,7 +7,7 @@ use Rattle.std.specs.Prelude.{ℕ, List, All}
 use Rattle.room_wiring.specs.declared.tables.Tables.{Tables}
 use Rattle.journal.specs.Fits.{FitsEnvironment}
 use Rattle.journal.specs.declared.entry.Journals.{Journals}
-use Rattle.run_promises.specs.run_journals.Tied.{Tied}
+use Rattle.tied_journals.specs.Tied.{Tied}
 use Rattle.inject_reader.specs.declared.inject_lines.accepted.Line.{Line}
 use Rattle.controller_actors.specs.declared.plant.Plant.{Plant}
 use Rattle.model_run.specs.run_ends.Runs.{IsRun}

@@ -6,3 +6,6 @@ pub mod MessagesBack
 pub mod NotesBack
 pub mod EntriesBack
 pub mod JournalsBack
+pub mod TiedBack
+pub mod FilledBack
+pub mod FormsApart

@@ -2,4 +2,5 @@ pub mod Numerals
 pub mod Fields
 pub mod Messages
 pub mod Drafts
+pub mod Fetches
 pub mod Reading

@@ -6,7 +6,7 @@ use std::alloc::AllocError;
 pub enum ReadFaultOf {
     /// No journals that fit the wiring have this text. The offset is that of the first byte at
     /// which it differs from the text of the journals as which it can be read, the text's end among
-    /// them; it is the length of the text where these journals don't fit.
+    /// them; it is the length of the text where these journals don't fit, or aren't tied in form 2.
     Malformed { offset: usize },
     /// There was no memory.
     Memory,

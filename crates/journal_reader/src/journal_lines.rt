@@ -6,6 +6,7 @@
 //! are written again.
 
 mod draft;
+mod fetches;
 mod fields;
 mod lines;
 mod messages;

@@ -7,6 +7,8 @@ ghost use Rattle.journal.specs.declared.entry.Journals.{Journals};
 ghost use Rattle.journal.specs.Fits.{Fits};
 ghost use Rattle.journal.specs.Text.{text_of};
 ghost use Rattle.journal_reader.specs.journal_lines.Reading.{journals_in};
+ghost use Rattle.tied_journals.specs.Tied.{Tied};
+ghost use Rattle.tied_journals.specs.Text.{tied_text_of};
 ghost use Rattle.journal_reader.specs.journal_texts.InRange.{IsInRange};
 
 /// The text of journals that fit a wiring whose names tell things apart is read as these journals.
@@ -19,4 +21,17 @@ pub fn reads_back()
 pub fn texts_differ()
     ensures { (t : Tables) (i j : Journals) → IsConsistent t → IsWellNamed t → Fits t i → IsInRange i
         → Fits t j → IsInRange j → text_of t i ≡ text_of t j → i ≡ j }
+{}
+
+/// Tied journals that fit a wiring whose names tell things apart, and that have one text in form 2,
+/// are the same.
+pub fn tied_texts_differ()
+    ensures { (t : Tables) (i j : Journals) → IsConsistent t → IsWellNamed t
+        → Fits t i → IsInRange i → Tied i
+        → Fits t j → IsInRange j → Tied j → tied_text_of t i ≡ tied_text_of t j → i ≡ j }
+{}
+
+/// A text in form 1 is none in form 2.
+pub fn forms_differ()
+    ensures { (t : Tables) (i j : Journals) → text_of t i ≡ tied_text_of t j → ⊥ }
 {}

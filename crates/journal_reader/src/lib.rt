@@ -2,11 +2,12 @@
 #![tactic(auto)]
 
 mod fault;
+mod fill;
 pub mod journal_fits;
 pub mod journal_lines;
 pub mod journal_texts;
 mod reader;
 
 pub use fault::ReadFaultOf;
-pub use journal_texts::{reads_back, texts_differ};
+pub use journal_texts::{forms_differ, reads_back, texts_differ, tied_texts_differ};
 pub use reader::read_journals;

@@ -1,1 +1,2 @@
 pub mod PostLaw
+pub mod FitLaw

@@ -45,6 +45,8 @@ pub struct FixedLines<'l> {
 
 impl<'l> FixedLines<'l> {
     ghost use Rattle.std.specs.Prelude.{take};
+    ghost use Rattle.room_wiring.specs.declared.tables.Tables.{Tables};
+    ghost use Rattle.inject_reader.specs.Fitting.{FitLines};
     ghost use Rattle.model_run.specs.part_source.Parts.{IsPart};
 
     /// These lines, at their first part.
@@ -52,6 +54,7 @@ impl<'l> FixedLines<'l> {
         ensures lines { result.lines.now ≡ lines.now }
         ensures part { result.part.now ≡ take result.to lines.now }
         ensures of { IsPart result.part.now }
+        ensures fits { (wiring : Tables) → FitLines wiring lines.now → FitLines wiring result.part.now }
     {
         let to = leading_messages(lines);
         let (part, _) = lines.split_at(to);
@@ -61,13 +64,19 @@ impl<'l> FixedLines<'l> {
 
 impl<'l> PartSource for FixedLines<'l> {
     ghost use Rattle.std.specs.Prelude.{take, map};
+    ghost use Rattle.room_wiring.specs.declared.tables.Tables.{Tables};
     ghost use Rattle.inject_reader.specs.declared.inject_lines.accepted.Line.{Line as Accepted};
+    ghost use Rattle.inject_reader.specs.Fitting.{FitLines};
 
     ghost given = { λ s. take s.to s.lines.now };
 
     ghost stands_at = { λ s. s.part.now };
 
     ghost left = { λ s. map (λ (l : Accepted). l.number) (drop s.to s.lines.now) };
+
+    ghost fits = { λ wiring s. FitLines wiring s.lines.now × FitLines wiring s.part.now };
+
+    ghost part_fits = { λ wiring s fit. fit.1 };
 
     ghost goes_on = { λ old journals new. new.lines.now ≡ old.lines.now };
 

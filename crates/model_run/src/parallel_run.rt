@@ -4,6 +4,7 @@
 //! controller takes a turn, and so on until all is quiet or spent; then the environment posts the lines of
 //! the next part. The rounds are this project's own.
 ghost use Rattle.std.specs.Prelude.{◌≡◌, IfOk};
+ghost use Rattle.inject_reader.specs.Fitting.{FitLines};
 ghost use Rattle.model_run.specs.part_source.Calls.{seen_in, Asked};
 ghost use Rattle.model_run.specs.part_source.Parts.{IsPart};
 ghost use Rattle.model_run.specs.run_ends.Runs.{IsRun, RanThrough};
@@ -32,6 +33,7 @@ pub fn run_model<M: Mail<Office = ()> + Send + Drop, G: Gate + Sync, R: Threads 
     fuel: u64,
     gate: &G,
 ) -> Result<Journals, AllocError>
+    requires { FitLines plant.now.wiring lines.now }
     ensures { IfOk result (λ j. IsRun plant.now lines.now fuel j) }
 {
     let mut source = FixedLines::new(lines);
@@ -55,6 +57,7 @@ pub fn run_parts<
 ) -> Result<Journals, AllocError>
     requires first { S.given source.old ≡ S.stands_at source.old }
     requires part { IsPart (S.stands_at source.old) }
+    requires fits { S.fits plant.now.wiring source.old }
     ensures ran { IfOk result (λ j. RanThrough plant.now (S.given source.new) (S.left source.new) fuel j) }
     ensures asked { IfOk result (λ j. Asked S.goes_on source.old source.new (seen_in j)) }
 {

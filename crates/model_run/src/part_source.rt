@@ -1,5 +1,7 @@
 //! Where the lines of a run come from, part by part.
-ghost use Rattle.std.specs.Prelude.{◌≡◌, ℕ, [], List, false, IfOk};
+ghost use Rattle.std.specs.Prelude.{◌≡◌, ℕ, [], List, false, IfOk, OnOk};
+ghost use Rattle.room_wiring.specs.declared.tables.Tables.{Tables};
+ghost use Rattle.inject_reader.specs.Fitting.{FitLines};
 ghost use Rattle.inject_reader.specs.declared.inject_lines.accepted.Line.{Line as Accepted};
 ghost use Rattle.model_run.specs.part_source.Parts.{NextPart};
 ghost use Rattle.model_run.specs.part_source.Calls.{Seen, seen};
@@ -23,6 +25,9 @@ pub trait PartSource: Sized {
     /// The numbers of the lines behind that part, as the source tells them.
     ghost left: { Self → List ℕ };
 
+    /// All lines that it gives name what this wiring has.
+    ghost fits: { Tables → Self → Type 0 };
+
     /// What it may become when it is asked and sees these journals.
     ghost goes_on: { Self → Seen → Self → Type 0 };
 
@@ -40,9 +45,13 @@ pub trait PartSource: Sized {
     ) -> Result<bool, AllocError>
         ensures next { IfOk result (λ more. NextPart (given self.old) (given self.new) (stands_at self.new) more) }
         ensures over { IfOk result (λ more. more ≡ false → left self.new ≡ []) }
-        ensures goes_on { IfOk result (λ more. goes_on self.old (seen controllers.now environment.now) self.new) };
+        ensures goes_on { IfOk result (λ more. goes_on self.old (seen controllers.now environment.now) self.new) }
+        ensures fits { OnOk result ((wiring : Tables) → fits wiring self.old → fits wiring self.new) };
 
     /// The numbers of the lines behind the part at which it stands.
     fn numbers_left(&self, alloc: Global) -> Result<Vec<u32>, AllocError>
         ensures { IfOk result (λ numbers. numbers.items ≡ left self.now) };
+
+    /// So do those of the part at which it stands.
+    ghost part_fits: { (wiring : Tables) (source : Self) → fits wiring source → FitLines wiring (stands_at source) };
 }

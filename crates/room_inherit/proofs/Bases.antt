@@ -1,12 +1,12 @@
 -- The numbers of bases.
-use Rattle.std.proofs.Common.{◌≡◌, ℕ, zero, suc, ◌≤◌, Bool, true, false, List, [], ◌∷◌, ◌++◌, length, map, replicate, Option, Some, None, refl, sym, ap, ◌∙◌, arith}
+use Rattle.std.proofs.Common.{◌≡◌, ℕ, zero, suc, ◌≤◌, Bool, true, List, [], ◌∷◌, ◌++◌, length, map, Option, Some, None, refl, sym, ap, ◌∙◌, arith}
 use Rattle.std.specs.Prelude.{is_some, option_map, slice_get, slice_set, if◌then◌else◌}
 use Rattle.std.specs.Option.{option_and_then, option_to_list}
 use Rattle.room_ast.specs.Trees.{ClassTree, ASystem, ASubsystem, AnActor, AProtocol, AData, ActorTree, actor_view, class_view}
 use Rattle.room_ast.specs.declared.actor.ActorClass.{ActorClass}
 use Rattle.room_ast.specs.declared.model.Class.{Class}
 use Rattle.room_ast.specs.model_parts.Classes.{as_actor, class_name, number_in}
-use Rattle.room_inherit.specs.Filling.{none_taken, put_at, replaced_by, replaced}
+use Rattle.room_inherit.specs.Filling.{there_at, base_there, put_new, taken_over, with_actor, with_class, put_at, replaced_by, replaced}
 use Rattle.room_inherit.specs.Flat.{number_above, actor_at}
 use Rattle.room_inherit.specs.Views.{flat_views}
 use Rattle.room_inherit.specs.Rules.{extended, of_actor, has_known_base}
@@ -43,11 +43,6 @@ pub known_base : (classes : List ClassTree) (names : List (List ℕ)) (c : Class
     → b ≡ (if is_some (option_and_then (λ (a : ActorTree). a.base) (as_actor c)) then is_some (option_and_then (actor_at classes) (above_in names c)) else true) → b ≡ of_actor (has_known_base classes) c
 known_base classes names c b e f =
     f ∙ ap (λ ns. if is_some (option_and_then (λ (a : ActorTree). a.base) (as_actor c)) then is_some (option_and_then (actor_at classes) (above_in ns c)) else true) e ∙ known_in classes c
-
--- no flat class yet, as many times as there are classes
-pub none_replicated : (cs : List Class) → replicate (length cs) None ≡ none_taken (map class_view cs)
-none_replicated [] = refl
-none_replicated (c ∷ cs) = ap (λ (ns : List (Option ActorTree)). None ∷ ns) (none_replicated cs)
 
 -- ---- items of lists that are seen through a view
 
@@ -117,3 +112,17 @@ replaced_last cs fs gs f e =
 -- where none is left
 pub replaced_done : (cs : List ClassTree) (fs : List (Option ActorClass)) → fs ≡ [] → replaced cs (flat_views fs) ≡ cs
 replaced_done cs fs e = ap (λ gs. replaced cs (flat_views gs)) e ∙ replaced_none cs
+
+-- ---- one more flat class
+
+pub taken_there : (names : List (List ℕ)) (cs : List ClassTree) (flats seen : List (Option ActorClass)) (k : ℕ) (own : ActorTree) (at : Option ℕ) (base : Option ActorTree) (taken : Option ActorClass) (flat : ActorClass) (next : List (Option ActorTree)) → Some own ≡ actor_at cs k
+    → at ≡ option_and_then (number_in names) own.base → base ≡ option_and_then (there_at (flat_views seen)) at → seen ≡ flats → option_map actor_view taken ≡ taken_over own base → taken ≡ Some flat → next ≡ put_new (flat_views flats) k (actor_view flat)
+    → with_class names cs (flat_views flats) k ≡ Some next
+taken_there names cs flats seen k own at base taken flat next here above below same over is put =
+    ap (with_actor names (flat_views flats) k) (sym here)
+    ∙ ap (λ (b : Option ActorTree). option_map (put_new (flat_views flats) k) (taken_over own b)) (sym based)
+    ∙ ap (option_map (put_new (flat_views flats) k)) (sym over ∙ ap (option_map actor_view) is)
+    ∙ ap Some (sym put)
+  where
+    based : base ≡ base_there names (flat_views flats) own
+    based = below ∙ ap (λ fs. option_and_then (there_at (flat_views fs)) at) same ∙ ap (option_and_then (there_at (flat_views flats))) above

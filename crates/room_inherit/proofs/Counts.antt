@@ -1,5 +1,5 @@
 -- Lists whose items have the same number of tokens each.
-use Rattle.std.proofs.Common.{◌≡◌, ℕ, ◌+◌, ◌*◌, List, [], ◌∷◌, length, refl, ap, arith}
+use Rattle.std.proofs.Common.{◌≡◌, ℕ, suc, ◌*◌, List, [], ◌∷◌, length, refl, arith}
 use Rattle.room_ast.specs.Tokens.{each, dot_name, empty_string, code_text, event, bar_event, subsystem_ref}
 use Rattle.room_ast.specs.declared.chart.CodeText.{CodeText}
 use Rattle.room_ast.specs.declared.chart.CodeText.TheVariants as texts
@@ -33,10 +33,10 @@ count_message messages.Imported port = refl
 pub count_event : (e : Event) → length (event e) ≡ 3
 count_event e = count_message e.message e.port
 
+one_more_event : (m : EventMessage) (port : List ℕ) (es : List Event) → length (each bar_event es) ≡ 4 * length es → length (each bar_event (record { message = m; port = port } ∷ es)) ≡ 4 * suc (length es)
+one_more_event (messages.Named n) port es rest = omega (arith, rest)
+one_more_event messages.Imported port es rest = omega (arith, rest)
+
 pub count_events : (es : List Event) → length (each bar_event es) ≡ 4 * length es
 count_events [] = refl
-count_events (e ∷ es) = go e.message
-  where
-    go : (m : EventMessage) → length (each bar_event (record { message = m; port = e.port } ∷ es)) ≡ 4 * length (e ∷ es)
-    go (messages.Named n) = let rest : length (each bar_event es) ≡ 4 * length es = count_events es in omega (arith, rest)
-    go messages.Imported = let rest : length (each bar_event es) ≡ 4 * length es = count_events es in omega (arith, rest)
+count_events (e ∷ es) = one_more_event e.message e.port es (count_events es)

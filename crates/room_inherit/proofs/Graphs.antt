@@ -1,16 +1,18 @@
 -- Graphs that grow at their end.
-use Rattle.std.proofs.Common.{◌≡◌, ℕ, ◌∙◌, List, [], ◌∷◌, ◌++◌, Option, Some, None, refl, ap}
+use Rattle.std.proofs.Common.{◌≡◌, ℕ, zero, suc, ◌+◌, ◌<◌, ◌≤◌, ◌∙◌, List, [], ◌∷◌, ◌++◌, length, drop, get_or, Option, Some, None, refl, sym, ap, subst, arith}
+use Rattle.std.proofs.lemmas.List.{drop_more}
 use Rattle.room_ast.specs.ChartTree.{GraphItemTree, GraphItems, no_items, item, items_of, item_view, graph_view}
 use Rattle.room_ast.specs.declared.chart.GraphItem.{GraphItem}
 use Rattle.room_ast.specs.Trees.{BehaviorTree}
 use Rattle.room_inherit.specs.Flat.{derived_machine, derived_behavior, joined_items}
-use Rattle.room_inherit.specs.Refining.{Refining, followed_by, other_items, refined_items}
+use Rattle.room_inherit.specs.Refining.{Refining, followed_by, other_items, refined_item, refined_items, with_state}
 
 -- one more item at the end of the first of two graphs
 pub followed_push : (xs : List GraphItem) (x : GraphItem) (rest : GraphItems) → followed_by (graph_view (xs ++ x ∷ [])) rest ≡ followed_by (graph_view xs) (item (item_view x) rest)
 followed_push [] x rest = refl
 followed_push (y ∷ ys) x rest = ap (item (item_view y)) (followed_push ys x rest)
 
+-- nothing behind a graph
 pub followed_none : (g : GraphItems) → followed_by g no_items ≡ g
 followed_none no_items = refl
 followed_none (item i is) = ap (item i) (followed_none is)
@@ -34,8 +36,30 @@ behavior_alone None = refl
 behavior_alone (Some b) = refl
 
 -- where no item is left
-pub others_done : (g : GraphItems) (ys : List GraphItem) → ys ≡ [] → followed_by g (other_items (graph_view ys)) ≡ g
-others_done g ys e = ap (λ zs. followed_by g (other_items (graph_view zs))) e ∙ followed_none g
+none_left : (n : ℕ) (xs : List GraphItem) → length xs ≤ n → drop n xs ≡ []
+none_left zero [] le = refl
+none_left (suc n) [] le = refl
+none_left zero (x ∷ xs) le = absurd (omega arith)
+none_left (suc n) (x ∷ xs) le = none_left n xs (omega arith)
 
-pub refined_done : (g : GraphItems) (ys : List GraphItem) (earlier : List (List ℕ)) (rs : List Refining) → ys ≡ [] → followed_by g (refined_items (graph_view ys) earlier rs) ≡ g
-refined_done g ys earlier rs e = ap (λ zs. followed_by g (refined_items (graph_view zs) earlier rs)) e ∙ followed_none g
+pub others_done : (g : GraphItems) (n : ℕ) (xs : List GraphItem) → length xs ≤ n → followed_by g (other_items (graph_view (drop n xs))) ≡ g
+others_done g n xs le = ap (λ ys. followed_by g (other_items (graph_view ys))) (none_left n xs le) ∙ followed_none g
+
+pub refined_done : (g : GraphItems) (n : ℕ) (xs : List GraphItem) (earlier : List (List ℕ)) (rs : List Refining) → length xs ≤ n → followed_by g (refined_items (graph_view (drop n xs)) earlier rs) ≡ g
+refined_done g n xs earlier rs le = ap (λ ys. followed_by g (refined_items (graph_view ys) earlier rs)) (none_left n xs le) ∙ followed_none g
+
+-- where one is left, it is the first of what is left
+pub first_left : (n : ℕ) (ys seen : List GraphItem) (x : GraphItem) → seen ≡ ys → n < length seen → x ≡ get_or seen n x → drop n ys ≡ x ∷ drop (n + 1) ys
+first_left n ys seen x same lt here =
+    let P : List GraphItem → Type 0 = λ zs. drop n zs ≡ x ∷ drop (n + 1) zs in subst P same (drop_more seen n x lt ∙ ap (λ y. y ∷ drop (n + 1) seen) (sym here))
+
+-- one more item of a graph with its refinements
+pub refined_step : (rs : List Refining) (whole : GraphItems) (copies more : List GraphItem) (x copy : GraphItem) (rest xs : List GraphItem) (earlier next : List (List ℕ)) → followed_by (graph_view copies) (refined_items (graph_view xs) earlier rs) ≡ whole
+    → xs ≡ x ∷ rest → item_view copy ≡ refined_item (item_view x) earlier rs → next ≡ with_state (item_view x) earlier → more ≡ copies ++ copy ∷ [] → followed_by (graph_view more) (refined_items (graph_view rest) next rs) ≡ whole
+refined_step rs whole copies more x copy rest xs earlier next before first copied seen pushed =
+    ap (λ ys. followed_by (graph_view ys) (refined_items (graph_view rest) next rs)) pushed
+    ∙ followed_push copies copy (refined_items (graph_view rest) next rs)
+    ∙ ap (λ i. followed_by (graph_view copies) (item i (refined_items (graph_view rest) next rs))) copied
+    ∙ ap (λ ns. followed_by (graph_view copies) (item (refined_item (item_view x) earlier rs) (refined_items (graph_view rest) ns rs))) seen
+    ∙ ap (λ ys. followed_by (graph_view copies) (refined_items (graph_view ys) earlier rs)) (sym first)
+    ∙ before

@@ -1,7 +1,10 @@
 pub mod Graphs
 pub mod Bases
 pub mod Counts
+pub mod Places
 pub mod Taken
+pub mod Sizes
+pub mod Judged
 pub mod Nothing
 pub mod Orders
 pub mod Plain

@@ -27,7 +27,7 @@ same_transition t = ap (λ b. record t { body = b }) (go t.name t.body)
     go (Some n) b = refl
 
 mutual
-  unrefined : (g : GraphItems) (earlier : List (List ℕ)) → refined_items g earlier [] ≡ g
+  pub unrefined : (g : GraphItems) (earlier : List (List ℕ)) → refined_items g earlier [] ≡ g
   unrefined no_items earlier = refl
   unrefined (item i is) earlier = ap (λ j. item j (refined_items is (with_state i earlier) [])) (unrefined_item i earlier) ∙ ap (item i) (unrefined is (with_state i earlier))
 

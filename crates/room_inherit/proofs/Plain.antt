@@ -7,7 +7,7 @@ use Rattle.number_graphs.specs.class_containment.Containment.{contains_itself, h
 use Rattle.room_ast.specs.ChartTree.{AState, AChoice, APoint, ATransition, ARefinement, GraphItems, no_items, item}
 use Rattle.room_ast.specs.Trees.{ModelTree, ClassTree, ASystem, ASubsystem, AnActor, AProtocol, AData, ActorTree}
 use Rattle.room_ast.specs.model_parts.Charts.{chart_of}
-use Rattle.room_ast.specs.model_parts.Classes.{as_actor, class_name, number_in}
+use Rattle.room_ast.specs.model_parts.Classes.{class_name, number_in}
 use Rattle.room_inherit.specs.Flat.{actor_at, base_in, over_base, flat_with, flat_actor, flat_class, flat}
 use Rattle.room_inherit.specs.Flattening.{size_rule}
 use Rattle.room_inherit.specs.Refining.{refinements}
@@ -67,6 +67,7 @@ known_names : (classes : List ClassTree) (a : ActorTree) → rules.class_is_plai
 known_names classes a e = ap (λ o. option_map_or (λ b. rules.refines_known (flat_actor classes b) a) o true) (no_base_in classes a e)
 
 once : (a : ActorTree) → rules.class_is_plain a ≡ true → rules.refines_once a ≡ true
+unfolding rules.once_of
 once a e = ap rules.once_of (none_in_chart (chart_of a) (plain_chart a e))
 
 -- ---- no circles

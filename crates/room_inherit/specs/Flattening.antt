@@ -1,5 +1,5 @@
 -- What flattening answers.
-use Rattle.std.specs.Prelude.{◌≡◌, ℕ, true, false, List, length, map, Option, Some, None, Result, Ok, Err, if◌then◌else◌}
+use Rattle.std.specs.Prelude.{◌≡◌, ℕ, true, false, map, Option, Some, None, Result, Ok, Err, if◌then◌else◌}
 use Rattle.std.specs.Global.{Vec}
 use Rattle.number_graphs.specs.class_containment.Containment.{IsContainmentOrder}
 use Rattle.room_ast.specs.Trees.{ModelTree, model_view}
@@ -7,8 +7,10 @@ use Rattle.room_ast.specs.declared.actor.ActorClass.{ActorClass}
 use Rattle.room_ast.specs.declared.model.Model.{Model}
 use Rattle.room_inherit.specs.Filling.{replaced}
 use Rattle.room_inherit.specs.Flat.{flat, flat_class}
-use Rattle.room_inherit.specs.Rules.{extended, none_extends_itself, refinements_are_known, flat_is_small, lowest_broken}
+use Rattle.room_inherit.specs.Rules.{extended, none_extends_itself, refinements_are_known, refinements_differ, flat_is_small, lowest_broken}
 use Rattle.room_inherit.specs.Views.{flat_views}
+use Rattle.room_inherit.specs.declared.filling.Filling.{Filling}
+use Rattle.room_inherit.specs.declared.filling.Filling.TheVariants as fillings
 use Rattle.room_inherit.specs.declared.fault.InheritFault.{InheritFault}
 use Rattle.room_inherit.specs.declared.fault.InheritFault.TheVariants as faults
 
@@ -39,7 +41,12 @@ abbrev pub OrdersBases : ModelTree → Option (Vec ℕ) → Type 0
 OrdersBases m None = none_extends_itself m ≡ false
 OrdersBases m (Some order) = (none_extends_itself m ≡ true) × IsContainmentOrder (map (extended m.classes) m.classes) order.items
 
--- The flat classes, or that some refinement names what isn't there.
-abbrev pub FillsModel : ModelTree → Option (Vec (Option ActorClass)) → Type 0
-FillsModel m None = refinements_are_known m ≡ false
-FillsModel m (Some flats) = (refinements_are_known m ≡ true) × (replaced m.classes (flat_views flats.items) ≡ map (flat_class m.classes) m.classes)
+-- The flat classes, or that some refinement names what isn't there, or that the flat model is too large.
+abbrev pub FillsModel : ModelTree → Filling → Type 0
+FillsModel m (fillings.Flats flats) = (refinements_are_known m ≡ true) × (replaced m.classes (flat_views flats.items) ≡ map (flat_class m.classes) m.classes)
+FillsModel m fillings.Unknown = refinements_are_known m ≡ false
+FillsModel m fillings.TooMany = flat_is_small m ≡ false
+
+-- The lowest broken rule where those below 29 are kept and the flat model is too large.
+abbrev pub rule_of_large : ModelTree → ℕ
+rule_of_large m = if refinements_are_known m then if refinements_differ m then 31 else 30 else 29

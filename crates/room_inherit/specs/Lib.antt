@@ -4,5 +4,6 @@ pub mod Views
 pub mod Flat
 pub mod Rules
 pub mod Filling
+pub mod Judging
 pub mod Flattening
 pub mod Names

@@ -1,12 +1,12 @@
 -- The rules on classes that extend others.
-use Rattle.std.specs.Prelude.{◌≡◌, ◌⊎◌, ℕ, ◌&&◌, Bool, true, false, not, nat_le, List, [], ◌∷◌, length, map, Option, Some, None, is_some, Result, Ok, Err, slice_get, if◌then◌else◌}
+use Rattle.std.specs.Prelude.{ℕ, ◌&&◌, Bool, true, false, not, nat_le, List, [], ◌∷◌, length, map, Option, Some, None, is_some, if◌then◌else◌}
 use Rattle.std.specs.List.{list_all, list_any, filter_map}
-use Rattle.std.specs.Option.{option_map_or, option_and_then, option_to_list}
+use Rattle.std.specs.Option.{option_map_or, option_to_list}
 use Rattle.number_graphs.specs.class_containment.Containment.{contains_itself}
 use Rattle.room_ast.specs.ChartTree.{GraphItemTree, AState, AChoice, APoint, ATransition, ARefinement, ChangeTree, OfState, OfTransition, StateTree, StateOf, BodyTree, no_body, body, SubgraphTree, no_subgraph, subgraph, GraphItems, no_items, item}
 use Rattle.room_ast.specs.Found.{same_path}
 use Rattle.room_ast.specs.Tokens.{model_tokens}
-use Rattle.room_ast.specs.Trees.{ModelTree, ClassTree, ASystem, ASubsystem, AnActor, AProtocol, AData, ActorTree}
+use Rattle.room_ast.specs.Trees.{ModelTree, ClassTree, ActorTree}
 use Rattle.room_ast.specs.model_parts.Charts.{chart_of}
 use Rattle.room_ast.specs.model_parts.Classes.{as_actor}
 use Rattle.room_inherit.specs.Flat.{number_above, base_in, flat_actor, flat}
@@ -91,9 +91,13 @@ refinements_of a = option_map_or refinements (chart_of a) []
 abbrev pub graph_of : ActorTree → GraphItems
 graph_of a = option_map_or (λ g. g) (chart_of a) no_items
 
+-- Whether each refinement of a class names what this chart has.
+abbrev pub chart_is_known : GraphItems → ActorTree → Bool
+chart_is_known chart a = list_all (λ (r : Refining). is_named chart r.path r.change) (refinements_of a)
+
 -- Whether each refinement of a class names what the chart of this flat base has.
 abbrev pub refines_known : ActorTree → ActorTree → Bool
-refines_known base a = list_all (λ (r : Refining). is_named (graph_of base) r.path r.change) (refinements_of a)
+refines_known base a = chart_is_known (graph_of base) a
 
 -- Whether each refinement of a class names what the flat chart of its base has.
 abbrev pub names_known : List ClassTree → ActorTree → Bool
@@ -117,7 +121,7 @@ paths_differ [] = true
 paths_differ (path ∷ paths) = not (list_any (same_path path) paths) && paths_differ paths
 
 -- Whether no two of these refinements are of one state or of one transition.
-abbrev pub once_of : List Refining → Bool
+unfoldable pub once_of : List Refining → Bool
 once_of rs = paths_differ (filter_map (λ (r : Refining). state_path r.path r.change) rs) && paths_differ (filter_map (λ (r : Refining). transition_path r.path r.change) rs)
 
 abbrev pub refines_once : ActorTree → Bool

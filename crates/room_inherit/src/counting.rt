@@ -7,4 +7,4 @@ mod codes;
 mod parts;
 mod systems;
 
-pub(crate) use classes::is_small;
+pub(crate) use classes::{TOO_MANY, is_small, less_actor};

@@ -121,7 +121,7 @@ fn add_other(alloc: Global, items: &mut Vec<GraphItem>, one: &GraphItem) -> Resu
 
 /// Adds copies of the items of a graph that are no refinements.
 #[tactic(auto, using(crate::proofs::Graphs::others_done))]
-fn add_others(
+pub(crate) fn add_others(
     alloc: Global,
     items: &mut Vec<GraphItem>,
     more: &Vec<GraphItem>,

@@ -1,20 +1,33 @@
 //! The flat classes of a model, each once.
-ghost use Rattle.std.specs.Prelude.{◌≡◌, IfOk, Some, None, map, option_map, slice_set, if◌then◌else◌};
-ghost use Rattle.std.specs.Option.{option_and_then};
+ghost use Rattle.std.specs.Prelude.{◌≡◌, IfOk, Some, None, map, option_map, slice_get, slice_set};
+ghost use Rattle.std.specs.Option.{IfSome, option_and_then};
 ghost use Rattle.room_ast.specs.Trees.{AnActor, actor_view, class_view};
-ghost use Rattle.room_inherit.specs.Filling.{flat_there, with_actor, with_class, filled, none_taken, put_at, replaced, taken_over};
-ghost use Rattle.room_inherit.specs.Views.{flat_views};
+ghost use Rattle.room_inherit.specs.Filling.{there_at, is_vacant, put_new, with_class, left_beside, filled, none_taken, put_at, replaced, taken_over};
+ghost use Rattle.room_inherit.specs.Views.{flat_views, filling_view};
 
+use crate::counting::{TOO_MANY, less_actor};
 use crate::derived_class::{copy_actor, derived};
-use crate::rules::{number_above, refines_known};
+use crate::rules::{actor_at, base_of, refines_known};
 use name_tables::NameIndex;
 use room_ast::{ActorClass, Class};
 use std::alloc::{AllocError, Global};
 
+/// What the flat classes of a model come to.
+#[derive(Drop)]
+pub(crate) enum Filling {
+    /// The flat classes, by number; none where the class is no actor class.
+    Flats(Vec<Option<ActorClass>>),
+    /// Some class refines what its base hasn't.
+    Unknown,
+    /// They have more tokens than a flat model may have. Not all of them were taken, so that some class may
+    /// refine what its base hasn't.
+    TooMany,
+}
+
 /// The flat class of a number, if it was taken.
 #[tactic(auto, using(crate::proofs::Bases::flat_got))]
 fn flat_there<'a>(flats: &'a [Option<ActorClass>], number: Option<usize>) -> Option<&'a ActorClass>
-    ensures { option_map (λ a. actor_view a.now) result ≡ option_and_then (flat_there (flat_views flats.entry.now)) number }
+    ensures { option_map (λ a. actor_view a.now) result ≡ option_and_then (there_at (flat_views flats.entry.now)) number }
 {
     let Some(number) = number else {
         return None;
@@ -51,62 +64,97 @@ fn set_flat(flats: &mut Vec<Option<ActorClass>>, number: usize, flat: ActorClass
     }
 }
 
-/// Takes the flat class of the class of a number, once those of its bases are taken. Whether its
-/// refinements name what its base has.
-#[tactic(auto, using(crate::proofs::Bases::class_got))]
+/// Whether a number has no flat class yet.
+#[tactic(auto, using(crate::proofs::Bases::flat_got))]
+fn is_vacant(flats: &[Option<ActorClass>], number: usize) -> bool
+    ensures { result ≡ is_vacant (slice_get (flat_views flats.now) number) }
+{
+    match flats.get(number) {
+        Some(None) => true,
+        _ => false,
+    }
+}
+
+/// Puts a flat class in its place, unless one stands there. `left` is how many tokens more are too many,
+/// and so is what it gives back.
+#[tactic(auto, using(crate::proofs::Sizes::left_put), unfolding(crate::specs::Filling::put_new))]
+fn put_new(
+    left: usize,
+    flats: &mut Vec<Option<ActorClass>>,
+    number: usize,
+    flat: ActorClass,
+) -> usize
+    ensures flats { flat_views flats.new.items ≡ put_new (flat_views flats.old.items) number (actor_view flat) }
+    ensures left { left ≡ left_beside (flat_views flats.old.items) → result ≡ left_beside (flat_views flats.new.items) }
+{
+    if !is_vacant(flats.as_slice(), number) {
+        return left;
+    }
+    let after = less_actor(left, &flat);
+    set_flat(flats, number, flat);
+    after
+}
+
+/// Takes the flat class of the class of a number, once those of its bases are taken. It gives how many
+/// tokens more are too many then, or nothing where the class refines what its base hasn't.
 fn with_class(
     alloc: Global,
     names: &NameIndex,
     classes: &[Class],
     flats: &mut Vec<Option<ActorClass>>,
+    left: usize,
     number: usize,
-) -> Result<bool, AllocError>
-    ensures { IfOk result (λ known. with_class names.now (map class_view classes.now) (flat_views flats.old.items) number ≡ (if known then Some (flat_views flats.new.items) else None)) }
+) -> Result<Option<usize>, AllocError>
+    ensures flats { IfOk result (λ after. with_class names.now (map class_view classes.now) (flat_views flats.old.items) number ≡ option_map (λ n. flat_views flats.new.items) after) }
+    ensures left { left ≡ left_beside (flat_views flats.old.items) → IfOk result (λ after. IfSome after (λ n. n ≡ left_beside (flat_views flats.new.items))) }
 {
-    let Some(class) = classes.get(number) else {
-        return Ok(true);
+    let Some(own) = actor_at(classes, number) else {
+        return Ok(Some(left));
     };
-    let Class::Actor(own) = class else {
-        return Ok(true);
-    };
-    let base = flat_there(flats.as_slice(), number_above(class, names));
+    let base = flat_there(flats.as_slice(), base_of(own, names));
     match taken_over(alloc, own, base)? {
         Some(flat) => {
-            set_flat(flats, number, flat);
-            Ok(true)
+            let after = put_new(left, flats, number, flat);
+            Ok(Some(after))
         }
-        None => Ok(false),
+        None => Ok(None),
     }
 }
 
-#[tactic(auto, using(crate::proofs::Bases::none_replicated))]
+/// No flat class yet, for as many classes.
 fn none_taken(alloc: Global, classes: &[Class]) -> Result<Vec<Option<ActorClass>>, AllocError>
     ensures { IfOk result (λ v. flat_views v.items ≡ none_taken (map class_view classes.now)) }
 {
     let mut flats = Vec::new(alloc);
-    for _number in 0..classes.len() {
+    for _class in classes {
         flats.push(None)?;
     }
     Ok(flats)
 }
 
-/// The flat classes, taken in this order, in which bases come first. There are none where some class
-/// refines what its base hasn't.
+/// The flat classes, taken in this order, in which bases come first. It takes no more of them once they
+/// have too many tokens.
+#[tactic(auto, using(crate::proofs::Sizes::all_left))]
 pub(crate) fn filled(
     alloc: Global,
     names: &NameIndex,
     classes: &[Class],
     order: &[usize],
-) -> Result<Option<Vec<Option<ActorClass>>>, AllocError>
-    ensures { IfOk result (λ found. option_map (λ v. flat_views v.items) found ≡ filled names.now (map class_view classes.now) order.now (none_taken (map class_view classes.now))) }
+) -> Result<Filling, AllocError>
+    ensures { IfOk result (λ found. filling_view found ≡ filled names.now (map class_view classes.now) order.now (none_taken (map class_view classes.now))) }
 {
     let mut flats = none_taken(alloc, classes)?;
+    let mut left = TOO_MANY;
     for number in order {
-        if !with_class(alloc, names, classes, &mut flats, *number)? {
-            return Ok(None);
+        let Some(after) = with_class(alloc, names, classes, &mut flats, left, *number)? else {
+            return Ok(Filling::Unknown);
+        };
+        if after == 0 {
+            return Ok(Filling::TooMany);
         }
+        left = after;
     }
-    Ok(Some(flats))
+    Ok(Filling::Flats(flats))
 }
 
 /// Puts a flat class in the place of the class of a number.

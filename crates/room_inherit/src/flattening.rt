@@ -4,13 +4,14 @@ ghost use Rattle.number_graphs.specs.class_containment.Containment.{IsContainmen
 ghost use Rattle.room_ast.specs.Trees.{class_view, model_view};
 ghost use Rattle.room_ast.specs.model_parts.Classes.{class_name};
 ghost use Rattle.room_inherit.specs.Filling.{replaced};
-ghost use Rattle.room_inherit.specs.Flattening.{IsFlattened, IsFlat, AreFlat, OrdersBases, FillsModel};
-ghost use Rattle.room_inherit.specs.Rules.{extended, extends_nothing, bases_are_known};
+ghost use Rattle.room_inherit.specs.Flattening.{IsFlattened, IsFlat, AreFlat, OrdersBases, FillsModel, rule_of_large};
+ghost use Rattle.room_inherit.specs.Rules.{extended, extends_nothing, bases_are_known, refinements_are_known};
 ghost use Rattle.room_inherit.specs.Views.{flat_views};
 
 use crate::counting::is_small;
 use crate::fault::InheritFault;
-use crate::filling::{filled, put_flats};
+use crate::filling::{Filling, filled, put_flats};
+use crate::judging::{judged, last_uses};
 use crate::rules::{
     bases_are_known, extended_classes, extends_nothing, names_of_classes, refinements_differ,
     refinements_stand_right,
@@ -45,14 +46,14 @@ fn order_of_bases(
     Ok(order)
 }
 
-/// The flat classes; none where a refinement names what the base hasn't.
+/// The flat classes, unless a refinement names what the base hasn't, or they are too large.
 #[tactic(auto, using(crate::proofs::Orders::fills_model))]
 fn fill(
     alloc: Global,
     model: &Model,
     names: &NameIndex,
     order: &[usize],
-) -> Result<Option<Vec<Option<ActorClass>>>, AllocError>
+) -> Result<Filling, AllocError>
     requires names { names.now ≡ map class_name (model_view model.now).classes }
     requires order { IsContainmentOrder (map (extended (model_view model.now).classes) (model_view model.now).classes) order.now }
     ensures { IfOk result (λ found. FillsModel (model_view model.now) found) }
@@ -61,7 +62,45 @@ fn fill(
     Ok(found)
 }
 
-/// The flat classes of a model, by number, or the lowest rule below 31 that it breaks.
+/// Whether each refinement names what the flat chart of its class's base has. It needs no flat class.
+fn refinements_are_known(
+    alloc: Global,
+    model: &Model,
+    names: &NameIndex,
+    order: &[usize],
+) -> Result<bool, AllocError>
+    requires names { names.now ≡ map class_name (model_view model.now).classes }
+    requires order { IsContainmentOrder (map (extended (model_view model.now).classes) (model_view model.now).classes) order.now }
+    ensures { IfOk result (λ known. known ≡ refinements_are_known (model_view model.now)) }
+{
+    let classes = model.classes.as_slice();
+    let last = last_uses(alloc, names, classes, order)?;
+    let known = judged(alloc, names, classes, order, last.as_slice())?;
+    Ok(known)
+}
+
+/// The lowest broken rule of a model that keeps those below 29, and whose flat classes are too large.
+fn rule_of_large(
+    alloc: Global,
+    model: &Model,
+    names: &NameIndex,
+    order: &[usize],
+) -> Result<u8, AllocError>
+    requires names { names.now ≡ map class_name (model_view model.now).classes }
+    requires order { IsContainmentOrder (map (extended (model_view model.now).classes) (model_view model.now).classes) order.now }
+    ensures { IfOk result (λ rule. rule ≡ rule_of_large (model_view model.now)) }
+{
+    if !refinements_are_known(alloc, model, names, order)? {
+        return Ok(29);
+    }
+    if !refinements_differ(alloc, model)? {
+        return Ok(30);
+    }
+    Ok(31)
+}
+
+/// The flat classes of a model, by number, or the lowest rule that it breaks. Where all rules below 31
+/// are kept, classes with too many tokens are refused before all of them are taken.
 fn flat_classes(alloc: Global, model: &Model) -> Result<Vec<Option<ActorClass>>, InheritFault>
     ensures { AreFlat (model_view model.now) result }
 {
@@ -75,16 +114,24 @@ fn flat_classes(alloc: Global, model: &Model) -> Result<Vec<Option<ActorClass>>,
     if !refinements_stand_right(model) {
         return Err(InheritFault::Rule(28));
     }
-    let Some(flats) = fill(alloc, model, &names, order.as_slice())? else {
-        return Err(InheritFault::Rule(29));
-    };
-    if !refinements_differ(alloc, model)? {
-        return Err(InheritFault::Rule(30));
+    match fill(alloc, model, &names, order.as_slice())? {
+        Filling::Flats(flats) => {
+            if refinements_differ(alloc, model)? {
+                Ok(flats)
+            } else {
+                Err(InheritFault::Rule(30))
+            }
+        }
+        Filling::Unknown => Err(InheritFault::Rule(29)),
+        Filling::TooMany => {
+            let rule = rule_of_large(alloc, model, &names, order.as_slice())?;
+            Err(InheritFault::Rule(rule))
+        }
     }
-    Ok(flats)
 }
 
-/// The model with its flat classes, or the lowest rule below 31 that it breaks.
+/// The model with its flat classes, or the lowest rule that it breaks; that of the size is asked once more
+/// of the whole model.
 #[tactic(auto, using(crate::proofs::Plain::plain_keeps, crate::proofs::Plain::plain_is_flat))]
 fn flat_model(alloc: Global, model: Model) -> Result<Model, InheritFault>
     ensures { IsFlat (model_view model) result }

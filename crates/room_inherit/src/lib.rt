@@ -14,6 +14,7 @@ mod derived_class;
 mod fault;
 mod filling;
 mod flattening;
+mod judging;
 mod machine;
 mod refining;
 mod rules;

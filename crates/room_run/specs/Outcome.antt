@@ -28,7 +28,7 @@ use Rattle.made_model.specs.Summaries.{summary_of, summary_text}
 use Rattle.room_run.specs.Words.{Files, Check, Tree, Run, Made, asked_by, usual_fuel}
 use Rattle.room_run.specs.MadeShelf.{made_files, made_shelf}
 use Rattle.run_promises.specs.run_journals.InPlace.{AreInPlace}
-use Rattle.run_promises.specs.run_journals.Tied.{Tied}
+use Rattle.tied_journals.specs.Tied.{Tied}
 use Rattle.room_run.specs.Models.{IsSound, IsSoundText}
 use Rattle.room_run.specs.Causes.{Causes, AreOf, TextIs, status_of, note_of}
 use Rattle.room_run.specs.Fitting.{SettlesWhenTold}

@@ -3,6 +3,7 @@ ghost use Rattle.std.specs.Prelude.{◌≡◌, ◌≤◌, ℕ, List, map, length
 ghost use Rattle.std.specs.String.{string_bytes};
 ghost use Rattle.room_outside.specs.Shown.{Keeps};
 ghost use Rattle.controller_actors.specs.declared.plant.Plant.{Plant as RunPlant};
+ghost use Rattle.inject_reader.specs.Fitting.{FitLines};
 ghost use Rattle.inject_reader.specs.declared.inject_lines.accepted.Line.{Line as InjectedLine};
 ghost use Rattle.room_run.specs.Words.{files_view};
 ghost use Rattle.room_run.specs.Models.{IsSound, IsModel};
@@ -107,6 +108,7 @@ fn refusal_of_lines(fault: InjectFault) -> Refusal
 pub(crate) fn judge_lines(alloc: Global, text: &[u8], wiring: &Wiring) -> Result<Vec<Line>, Refusal>
     requires short { length text.now ≤ 1048576 }
     ensures ok { IfOk result (λ lines. IsInjections wiring.now text.now lines.items) }
+    ensures fit { IfOk result (λ lines. FitLines wiring.now lines.items) }
     ensures err { IfErr result (λ why. LinesCauses wiring.now text.now why) }
 {
     match inject_reader::read_injections(alloc, text, wiring) {
@@ -123,6 +125,7 @@ fn read_injections<S: Shelf>(
     wiring: &Wiring,
 ) -> Result<Vec<Line>, Refusal>
     ensures ok { IfOk result (λ lines. TextIs (S.shown shelf.old) name.now (λ text. IsInjections wiring.now text lines.items)) }
+    ensures fit { IfOk result (λ lines. FitLines wiring.now lines.items) }
     ensures err { IfErr result (λ why. InjectionsCauses (S.shown shelf.old) (S.shown shelf.new) name.now wiring.now why) }
     ensures keeps { Keeps (S.shown shelf.old) (S.shown shelf.new) }
 {
@@ -144,6 +147,7 @@ fn run<G: Gate + Sync, R: Threads + Sync>(
     fuel: u64,
     gate: &G,
 ) -> Result<Finished, AllocError>
+    requires { FitLines plant.wiring lines.now }
     ensures { IfOk result (λ f. Finishes plant lines.now fuel f) }
 {
     let journals = run_model::<MailLanes, G, R>(rt, alloc, &plant, lines, fuel, gate)?;

@@ -1,10 +1,13 @@
 //! Why a line of injections is refused, and what would be right there.
-use crate::page::{Named, Page};
-use crate::ports::{incoming, is_end, place_count, type_name};
+use crate::ports::{incoming, is_end, type_name};
+use crate::texts::{Kind, read};
 use crate::why::tell_meaning;
 use fault_places::line_meaning;
-use inject_reader::InjectFault;
+use inject_reader::{InjectFault, read_injections};
+use journal_views::place_count;
+use journal_views::view_pages::{Named, Page};
 use room_kinds::{ReferenceKind, SlotId};
+use room_run::Status;
 use room_wiring::{ClassNames, SignalNames, Wiring};
 use std::alloc::AllocError;
 
@@ -188,7 +191,7 @@ fn marked(line: &[u8], code: u8) -> (usize, usize) {
 }
 
 /// Tells why injections are refused.
-pub(crate) fn tell_lines(
+fn tell_lines(
     page: &mut Page,
     named: Named<'_>,
     wiring: &Wiring,
@@ -210,4 +213,28 @@ pub(crate) fn tell_lines(
     let (from, to) = marked(bytes, code);
     page.put_part(named, start.saturating_add(from), start.saturating_add(to))?;
     tell_right(page, wiring, bytes, code)
+}
+
+/// The text of injections that aren't refused over a wiring, or what is told of it and the status.
+pub(crate) fn injections_of(
+    rt: HostRuntime,
+    page: &mut Page,
+    wiring: &Wiring,
+    name: &str,
+) -> Result<Result<Vec<u8>, Status>, AllocError> {
+    let lines = match read(rt, page, name, Kind::Injections)? {
+        Ok(lines) => lines,
+        Err(status) => return Ok(Err(status)),
+    };
+    let named = Named {
+        name,
+        text: lines.as_slice(),
+    };
+    match read_injections(rt.alloc(), named.text, wiring) {
+        Ok(_) => Ok(Ok(lines)),
+        Err(fault) => {
+            tell_lines(page, named, wiring, fault)?;
+            Ok(Err(Status::InjectionsRefused))
+        }
+    }
 }

@@ -15,7 +15,7 @@ mod svg;
 mod transitions;
 mod tree;
 
-use crate::page::{Named, Page};
+use crate::messages::tree_of;
 use crate::pictures::actors::add_actors;
 use crate::pictures::bindings::{add_bindings, containers_of};
 use crate::pictures::charts::chart_of;
@@ -23,7 +23,8 @@ use crate::pictures::diagram::{Diagram, Mark, Sign};
 use crate::pictures::dot::put_dot;
 use crate::pictures::mermaid::put_mermaid;
 use crate::pictures::svg::put_svg;
-use crate::pictures::tree::{machine_of, tell_machines, tree_of};
+use crate::pictures::tree::{machine_of, tell_machines};
+use journal_views::view_pages::{Named, Page};
 use room_ast::Model;
 use room_run::Status;
 use room_wiring::Wiring;
@@ -48,48 +49,30 @@ enum Shown<'a> {
 /// A picture that is asked for.
 #[derive(Clone, Copy)]
 pub(crate) struct Picture<'a> {
-    /// The file of the model.
-    pub model: &'a str,
     shown: Shown<'a>,
     form: Form,
 }
 
 fn form_of(word: &str) -> Option<Form> {
-    match word.as_bytes() {
-        b"--svg" => Some(Form::Svg),
-        b"--dot" => Some(Form::Dot),
-        b"--mermaid" => Some(Form::Mermaid),
+    match word {
+        "--svg" => Some(Form::Svg),
+        "--dot" => Some(Form::Dot),
+        "--mermaid" => Some(Form::Mermaid),
         _ => None,
     }
 }
 
-fn picture<'a>(model: &'a str, shown: Shown<'a>, form: Option<Form>) -> Option<Picture<'a>> {
-    match form {
-        Some(form) => Some(Picture { model, shown, form }),
-        None => None,
-    }
-}
-
-/// The picture that words ask for: `wiring MODEL [FORM]` or `chart MODEL CLASS [FORM]`.
-pub(crate) fn picture_of(words: &[String]) -> Option<Picture<'_>> {
-    let svg = Some(Form::Svg);
-    match words {
-        [command, model] if command.as_str() == "wiring" => {
-            picture(model.as_str(), Shown::Wiring, svg)
-        }
-        [command, model, form] if command.as_str() == "wiring" => {
-            picture(model.as_str(), Shown::Wiring, form_of(form.as_str()))
-        }
-        [command, model, class] if command.as_str() == "chart" => {
-            picture(model.as_str(), Shown::Chart(class.as_str()), svg)
-        }
-        [command, model, class, form] if command.as_str() == "chart" => picture(
-            model.as_str(),
-            Shown::Chart(class.as_str()),
-            form_of(form.as_str()),
-        ),
-        _ => None,
-    }
+/// The picture that a command asks for with the words behind the model: `wiring MODEL [FORM]` or `chart MODEL CLASS
+/// [FORM]`.
+pub(crate) fn picture_of<'a>(command: &str, rest: &'a [String]) -> Option<Picture<'a>> {
+    let (shown, form) = match (command, rest) {
+        ("wiring", []) => (Shown::Wiring, Form::Svg),
+        ("wiring", [form]) => (Shown::Wiring, form_of(form.as_str())?),
+        ("chart", [class]) => (Shown::Chart(class.as_str()), Form::Svg),
+        ("chart", [class, form]) => (Shown::Chart(class.as_str()), form_of(form.as_str())?),
+        _ => return None,
+    };
+    Some(Picture { shown, form })
 }
 
 fn put_picture(page: &mut Page, diagram: &Diagram, form: Form) -> Result<(), AllocError> {
@@ -139,16 +122,9 @@ fn wiring_picture<'a>(
 }
 
 /// Tells that a model has no chart of a class of this name.
-fn tell_no_chart(
-    page: &mut Page,
-    named: Named<'_>,
-    model: &Model,
-    class: &str,
-) -> Result<Status, AllocError> {
-    page.put(named.name.as_bytes())?;
-    page.put(b" has no chart of an actor class ")?;
+fn tell_no_chart(page: &mut Page, model: &Model, class: &str) -> Result<Status, AllocError> {
+    page.put(b"room_view: words refused; the model has no chart of a class ")?;
     page.put(class.as_bytes())?;
-    page.put_line(b"; it has those of:")?;
     tell_machines(page, model)?;
     Ok(Status::WordsRefused)
 }
@@ -161,14 +137,12 @@ pub(crate) fn tell_picture(
     wiring: &Wiring,
     picture: Picture<'_>,
 ) -> Result<Status, AllocError> {
-    let Some(model) = tree_of(alloc, named.text)? else {
-        return Err(AllocError);
-    };
+    let model = tree_of(alloc, named.text)?;
     let diagram = match picture.shown {
         Shown::Wiring => wiring_picture(alloc, &model, wiring)?,
         Shown::Chart(class) => match machine_of(&model, class.as_bytes()) {
             Some(machine) => chart_of(alloc, class.as_bytes(), machine)?,
-            None => return tell_no_chart(page, named, &model, class),
+            None => return tell_no_chart(page, &model, class),
         },
     };
     put_picture(page, &diagram, picture.form)?;

@@ -1,6 +1,6 @@
 //! What the wiring says of the ports of a slot.
-use room_kinds::{NumberType, PortKind, SlotId};
-use room_wiring::{PortNames, SignalNames, Wiring};
+use room_kinds::{NumberType, PortKind};
+use room_wiring::{PortNames, SignalNames};
 
 /// How a type of numbers is written.
 pub(crate) fn type_name(number: NumberType) -> &'static [u8] {
@@ -28,15 +28,4 @@ pub(crate) fn incoming(port: &PortNames) -> &[SignalNames] {
 /// Whether messages from outside can come in at a port.
 pub(crate) fn is_end(port: &PortNames) -> bool {
     matches!(port.kind, PortKind::End | PortKind::Internal)
-}
-
-/// How many places a port of a slot has; none where there is no such port.
-pub(crate) fn place_count(wiring: &Wiring, slot: SlotId, port: usize) -> u32 {
-    if u32::from(slot.0) >= wiring.slot_count() || port >= wiring.port_count(slot) {
-        return 0;
-    }
-    match u16::try_from(port) {
-        Ok(port) => wiring.places(slot, port),
-        Err(_) => 0,
-    }
 }

@@ -1,10 +1,10 @@
 //! Why a text is refused, and where.
 use crate::judge::FaultOf;
-use crate::page::{Named, Page};
 use fault_places::{
     Item, Meaning, Unread, chart_meaning, could_stand, find_causes, named_by, rule_meaning,
     wiring_meaning,
 };
+use journal_views::view_pages::{Named, Page};
 use room_lexer::{LexFault, Mark, Token, TokenKind, lex};
 use room_outside::MAX_TEXT;
 use room_run::{ModelFault, read_wiring};

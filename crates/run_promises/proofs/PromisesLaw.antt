@@ -17,7 +17,7 @@ use Rattle.actor_world.proofs.RunsLaw.{as_meant}
 use Rattle.actor_world.proofs.world_laws.Adding.{adds_up}
 use Rattle.actor_world.proofs.world_laws.Owning.{kept_by_deferrer}
 use Rattle.actor_world.proofs.world_laws.Standing.{run_adds, run_stands}
-use Rattle.bounded_growth.proofs.Raised.{raised_by_one}
+use Rattle.run_promises.proofs.bounded_growth.Raised.{raised_by_one}
 use Rattle.chart_behaviour.specs.ModelCharts.{Actor}
 use Rattle.chart_behaviour.proofs.Charts.{are_modest}
 use Rattle.chart_behaviour.proofs.chart_defers.Defers.{tell_defers}

@@ -6,3 +6,4 @@ pub mod Stamps
 pub mod Turns
 pub mod run_texts
 pub mod run_journals
+pub mod bounded_growth

@@ -1,4 +1,3 @@
-pub mod Tied
 pub mod Tying
 pub mod InPlace
 pub mod Outside

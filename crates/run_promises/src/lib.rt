@@ -1,9 +1,12 @@
 //! What a run promises: the sentences that a reader of its journals may rely on, each stated on the
-//! journals alone, and the law that every run keeps them. In `run_texts`: the text of its journals tells a run.
+//! journals alone, and the law that every run keeps them. `run_texts`: the text of its journals tells a
+//! run. `run_journals`: each entry is in the journal where it belongs, and each fetch is tied to its post.
+//! `bounded_growth`: the numbers of the services rise by at most one at a message.
 //!
 //! No code: the laws.
 #![tactic(auto)]
 
+pub mod bounded_growth;
 pub mod run_journals;
 pub mod run_texts;
 

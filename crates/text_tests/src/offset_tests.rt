@@ -15,7 +15,8 @@ use std::test::Fail;
 fn whole_texts() -> &'static str {
     "0 
 12 room-journal
-13 room-journal 2|controller 0 default|environment|done|
+13 room-journal 3|controller 0 default|environment|done|
+14 room-journal 2x|controller 0 default|environment|done|
 26 room-journal 1|controller 1 default|environment|done|
 28 room-journal 1|controller 0 other|environment|done|
 32 room-journal 1|environment|done|
@@ -76,8 +77,22 @@ fn unfit_journals() -> &'static str {
 89 environment|left 1 lane env@7 3 - top#0.go[0] a|done|"
 }
 
+/// What stands before each text in form 2: 36 bytes.
+fn second_title() -> &'static str {
+    "room-journal 2|controller 0 default|"
+}
+
+/// In form 2: a fetch of a post that isn't there, one with its message, two lines of fetches in a
+/// row, and a number of another form.
+fn second_forms() -> &'static str {
+    "67 2 fetch env@1|environment|done|
+50 2 fetch env@1 3 - top#0.go[0] a|environment|1 post 0 3 - top#0.go[0] a|done|
+49 2 fetch env@1|3 fetch env@1|environment|1 post 0 3 - top#0.go[0] a|done|
+48 2 fetch env@01|environment|1 post 0 3 - top#0.go[0] a|done|"
+}
+
 /// Appends a text whose line feeds are written as `|`.
-fn unfold(bytes: &mut Vec<u8>, text: &str) -> Result<(), AllocError> {
+pub(crate) fn unfold(bytes: &mut Vec<u8>, text: &str) -> Result<(), AllocError> {
     for byte in text.as_bytes() {
         bytes.push(if *byte == b'|' { b'\n' } else { *byte })?;
     }
@@ -85,7 +100,7 @@ fn unfold(bytes: &mut Vec<u8>, text: &str) -> Result<(), AllocError> {
 }
 
 /// Two such texts in a row.
-fn unfolded(alloc: Global, front: &str, text: &str) -> Result<Vec<u8>, AllocError> {
+pub(crate) fn unfolded(alloc: Global, front: &str, text: &str) -> Result<Vec<u8>, AllocError> {
     let mut bytes = Vec::new(alloc);
     unfold(&mut bytes, front)?;
     unfold(&mut bytes, text)?;
@@ -136,7 +151,8 @@ fn all_tables_tell(alloc: Global, wiring: &Wiring) -> Result<bool, AllocError> {
             && all_tell(alloc, wiring, title(), other_forms())?
             && all_tell(alloc, wiring, title(), unknown_names())?
             && all_tell(alloc, wiring, title(), great_numbers())?
-            && all_tell(alloc, wiring, title(), unfit_journals())?,
+            && all_tell(alloc, wiring, title(), unfit_journals())?
+            && all_tell(alloc, wiring, second_title(), second_forms())?,
     )
 }
 
@@ -164,8 +180,13 @@ fn are_cuts(alloc: Global, wiring: &Wiring, text: &[u8]) -> Result<bool, AllocEr
 }
 
 /// Whether it is so of a text that journals have.
-fn journals_are_cut(alloc: Global, wiring: &Wiring) -> Result<bool, AllocError> {
-    let text = unfolded(alloc, title(), "start top#1 A|environment|done|")?;
+fn journals_are_cut(
+    alloc: Global,
+    wiring: &Wiring,
+    front: &str,
+    text: &str,
+) -> Result<bool, AllocError> {
+    let text = unfolded(alloc, front, text)?;
     let fault = fault_of(alloc, wiring, text.as_slice())?;
     Ok(fault.is_none() && are_cuts(alloc, wiring, text.as_slice())?)
 }
@@ -173,7 +194,16 @@ fn journals_are_cut(alloc: Global, wiring: &Wiring) -> Result<bool, AllocError> 
 #[test]
 fn each_cut_is_malformed(rt: HostRuntime) -> Result<(), Fail> {
     let wiring = wiring(rt.alloc())?;
-    assert_eq!(rt; journals_are_cut(rt.alloc(), &wiring), Ok(true));
+    let start = "start top#1 A|environment|done|";
+    assert_eq!(rt;
+        journals_are_cut(rt.alloc(), &wiring, title(), start),
+        Ok(true)
+    );
+    let fetch = "2 fetch env@1|environment|1 post 0 3 - top#0.go[0] a|done|";
+    assert_eq!(rt;
+        journals_are_cut(rt.alloc(), &wiring, second_title(), fetch),
+        Ok(true)
+    );
     Ok(())
 }
 

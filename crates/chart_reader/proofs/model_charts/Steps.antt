@@ -1,5 +1,5 @@
 -- Reading class after class.
-use Rattle.std.proofs.Common.{◌≡◌, ℕ, zero, suc, ◌+◌, ◌<◌, ◌≤◌, List, [], ◌∷◌, ◌++◌, length, drop, get_or, map, Option, Some, None, Result, Ok, Err, refl, sym, ap, ◌∙◌, subst, arith, append_assoc, add-one}
+use Rattle.std.proofs.Common.{◌≡◌, ℕ, zero, suc, ◌+◌, ◌<◌, ◌≤◌, List, [], ◌∷◌, ◌++◌, length, drop, get_or, map, Option, Some, None, Ok, Err, refl, sym, ap, ◌∙◌, subst, arith, append_assoc, add-one}
 use Rattle.std.specs.Prelude.{option_map, option_and_then, slice_get}
 use Rattle.std.proofs.lemmas.List.{map-append, length-map, append-nil, drop_all}
 use Rattle.room_ast.specs.declared.scope.Scope.{Scope}
@@ -9,7 +9,7 @@ use Rattle.room_ast.specs.model_parts.Charts.{chart_of as machine_of}
 use Rattle.chart_reading.specs.declared.chart_graphs.Chart.{Chart as CodeChart}
 use Rattle.chart_reading.specs.chart_graphs.Views.{chart_view}
 use Rattle.chart_model.specs.Chart.{Name, Chart}
-use Rattle.chart_reading.specs.Reading.{chart_of, reading}
+use Rattle.chart_reading.specs.Reading.{reading}
 use Rattle.chart_reader.specs.Reads.{Reads}
 use Rattle.chart_reader.proofs.Lowest.{valid_told}
 use Rattle.chart_reader.specs.declared.fault.ChartFault.{ChartFault}
@@ -18,7 +18,7 @@ use Rattle.check_scopes.specs.class_scopes.Views.{ScopeView, scope_view}
 use Rattle.chart_reader.specs.declared.model_charts.fault.ChartsFault.{ChartsFault}
 use Rattle.chart_reader.specs.declared.model_charts.fault.ChartsFault.TheVariants as faults
 use Rattle.chart_reader.specs.model_charts.Written.{Written, written, names_after, written_from, AreWritten}
-use Rattle.chart_reader.specs.model_charts.Charts.{HasFault, NoneIsFaulty, IsFirstFaulty, chart_in, AreValid, HasCharts, HasFaultyChart}
+use Rattle.chart_reader.specs.model_charts.Charts.{HasFault, NoneIsFaulty, IsFirstFaulty, chart_in, AreValid, HasCharts}
 use Rattle.chart_reader.specs.model_charts.Making.{ReadsClass, TellsClass, IsRead}
 use Rattle.chart_reader.specs.model_charts.Reads.{ReadsCharts}
 

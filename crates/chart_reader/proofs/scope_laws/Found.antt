@@ -1,15 +1,9 @@
 -- What is found in two scopes that are seen alike.
-use Rattle.std.proofs.Common.{◌≡◌, ℕ, ◌+◌, Bool, true, false, cond, List, [], ◌∷◌, length, map, Option, Some, None, refl, sym, ap, ◌∙◌}
-use Rattle.std.specs.Prelude.{option_map, option_and_then}
+use Rattle.std.proofs.Common.{◌≡◌, ℕ, ◌+◌, Bool, true, false, cond, List, [], ◌∷◌, length, map, Option, Some, refl, sym, ap, ◌∙◌}
+use Rattle.std.specs.Prelude.{option_map}
 use Rattle.std.proofs.lemmas.List.{length-map}
-use Rattle.room_kinds.specs.declared.number_type.NumberType.{NumberType}
-use Rattle.room_kinds.specs.declared.number_type.NumberType.TheVariants as types
-use Rattle.room_kinds.specs.declared.structure.PortKind.{PortKind}
-use Rattle.room_kinds.specs.declared.structure.ReferenceKind.{ReferenceKind}
 use Rattle.room_ast.specs.declared.scope.Scope.{Scope}
-use Rattle.room_ast.specs.declared.scope.ScopeAttribute.{ScopeAttribute}
 use Rattle.room_ast.specs.declared.scope.ScopePort.{ScopePort}
-use Rattle.room_ast.specs.declared.scope.ScopeReference.{ScopeReference}
 use Rattle.room_ast.specs.declared.scope.ScopeSignal.{ScopeSignal}
 use Rattle.room_ast.specs.Found.{same_name, same_path, found_at, found_attribute, found_port, found_reference, found_sent, found_received}
 use Rattle.room_ast.specs.model_parts.Attributes.{ClassNumber}

@@ -1,10 +1,8 @@
 -- Programs and conditions in two scopes that are seen alike.
-use Rattle.std.proofs.Common.{◌≡◌, ℕ, Bool, true, false, cond, List, [], ◌∷◌, length, map, Option, Some, None, refl, sym, ap, ◌∙◌}
+use Rattle.std.proofs.Common.{◌≡◌, ℕ, Bool, cond, List, [], ◌∷◌, length, Option, Some, None, refl, ap, ◌∙◌}
 use Rattle.std.specs.Prelude.{◌==◌, option_map, option_and_then}
-use mathlib.Core.Path.{fun_ext}
 use Rattle.room_kinds.specs.declared.number_type.NumberType.{NumberType}
 use Rattle.room_kinds.specs.declared.number_type.NumberType.TheVariants as types
-use Rattle.room_kinds.specs.declared.structure.PortKind.{PortKind}
 use Rattle.room_kinds.specs.declared.structure.ReferenceKind.{ReferenceKind}
 use Rattle.room_ast.specs.declared.scope.Scope.{Scope}
 use Rattle.room_ast.specs.declared.scope.ScopeAttribute.{ScopeAttribute}
@@ -14,14 +12,13 @@ use Rattle.room_ast.specs.declared.scope.ScopeSignal.{ScopeSignal}
 use Rattle.room_ast.specs.Found.{found_attribute, found_port, found_reference, found_sent}
 use Rattle.action_program.specs.declared.fault.ActionFault.{ActionFault}
 use Rattle.action_program.specs.declared.fault.ActionFault.TheVariants as faults
-use Rattle.action_program.specs.declared.operator.FrameVerb.{FrameVerb}
 use Rattle.action_program.specs.Named as named
 use Rattle.action_program.specs.Numbered as numbered
 use Rattle.action_lang.specs.action_check.Faults.{◌then◌, attribute_fault, expr_fault, steps_fault, index_fault, exprs_fault, can_send, takes_names, takes_verb, takes_import, message_fault, port_fault, send_fault, reference_fault, naming_fault, stmt_fault, stmts_fault, branches_fault, else_fault}
-use Rattle.action_lang.specs.action_check.Numbering.{number, type_of, types_of, numbered_expr, numbered_steps, numbered_index, numbered_arguments, priority_of, sent, numbered_send, stmt_names, stmts_names, branches_names, else_names, numbered_stmt, numbered_stmts, numbered_branches, numbered_else}
+use Rattle.action_lang.specs.action_check.Numbering.{number, type_of, types_of, numbered_expr, numbered_steps, numbered_index, numbered_arguments, priority_of, sent, numbered_send, stmt_names, stmts_names, branches_names, numbered_stmt, numbered_stmts, numbered_branches, numbered_else}
 use Rattle.action_lang.specs.action_check.ServiceNames.{number_of}
 use Rattle.room_ast.specs.model_parts.Attributes.{ClassNumber}
-use Rattle.check_scopes.specs.class_scopes.Views.{SignalView, PortView, ReferenceView, ScopeView, attribute_view, signal_view, port_view, reference_view, scope_view}
+use Rattle.check_scopes.specs.class_scopes.Views.{SignalView, PortView, ReferenceView, attribute_view, signal_view, port_view, reference_view, scope_view}
 use Rattle.chart_reader.proofs.scope_laws.Found.{seen, Alike, through, attributes_alike, ports_alike, references_alike, sent_in, sent_seen}
 
 -- ---- what is read off an answer

@@ -1,5 +1,5 @@
 -- Graphs in two scopes that are seen alike.
-use Rattle.std.proofs.Common.{◌≡◌, ℕ, List, [], ◌∷◌, ◌++◌, map, Option, Some, None, refl, sym, ap, ◌∙◌}
+use Rattle.std.proofs.Common.{◌≡◌, List, [], ◌∷◌, ◌++◌, map, Option, None, refl, sym, ap, ◌∙◌}
 use Rattle.room_ast.specs.declared.chart.Code.{Code}
 use Rattle.room_ast.specs.declared.chart.Transition.{Transition as TransitionTree}
 use Rattle.room_ast.specs.declared.chart.TransitionBody.{TransitionBody}
@@ -8,11 +8,11 @@ use Rattle.room_ast.specs.declared.scope.ScopeAttribute.{ScopeAttribute}
 use Rattle.room_ast.specs.ChartTree.{GraphItemTree, AState, AChoice, APoint, ATransition, ARefinement, StateTree, StateOf, BodyTree, no_body, body, SubgraphTree, no_subgraph, subgraph, GraphItems, no_items, item}
 use Rattle.action_program.specs.Numbered as numbered
 use Rattle.chart_model.specs.chart_plan.Plan.{Trigger}
-use Rattle.chart_model.specs.Chart.{Name, Path, Event, Source, Target, Transition, State, Graph, Chart}
-use Rattle.chart_reading.specs.chart_codes.Codes.{guard_of, action_of}
-use Rattle.chart_reading.specs.chart_codes.Events.{triggers_of, trigger_list}
+use Rattle.chart_model.specs.Chart.{Name, Path, Event, Source, Target, Transition, State}
+use Rattle.chart_reading.specs.chart_codes.Codes.{action_of}
+use Rattle.chart_reading.specs.chart_codes.Events.{trigger_list}
 use Rattle.chart_reading.specs.chart_codes.Progress.{Progress, after_action, after_guard, after_triggers}
-use Rattle.chart_reading.specs.Around.{Around, around, list_of, source_of, target_of}
+use Rattle.chart_reading.specs.Around.{Around, around, list_of}
 use Rattle.chart_reading.specs.Reading.{triggers_in, condition_in, action_in, before_action, after_transition, transition_of, Piece, begun, graphs_of, state_of, with_actions, with_transition, with_inner, with_item, with_state, with_body, with_subgraph, with_items, piece_of, at_first, reading, chart_of}
 use Rattle.room_ast.specs.model_parts.Attributes.{ClassNumber}
 use Rattle.check_scopes.specs.class_scopes.Views.{ScopeView, attribute_view, scope_view}

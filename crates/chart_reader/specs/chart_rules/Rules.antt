@@ -1,9 +1,8 @@
 -- The rules of charts as tests, in the order of their numbers.
-use Rattle.std.specs.Prelude.{◌==◌, ◌&&◌, Bool, [], nat_le, is_none}
+use Rattle.std.specs.Prelude.{◌==◌, ◌&&◌, Bool, [], nat_le}
 use Rattle.std.specs.List.{list_all}
 use Rattle.name_tables.specs.distinct_names.Distinct.{is_distinct}
-use Rattle.chart_model.specs.Chart.{Name, Transition, Graph, Chart}
-use Rattle.chart_model.specs.Named.{is_from_choice}
+use Rattle.chart_model.specs.Chart.{Transition, Graph, Chart}
 use Rattle.chart_model.specs.Valid.{is_shallow, names_in, is_right_transition, goes_on_once, initials_at, begins_inside, has_default}
 
 -- 1: states nest at most 16 deep
@@ -34,10 +33,6 @@ has_initials chart = (initials_at chart [] == 1) && list_all (graph_begins_insid
 -- 5: each choice point has one branch without a condition
 abbrev pub graph_has_defaults : Chart → Graph → Bool
 graph_has_defaults chart g = list_all (has_default chart g) g.choices
-
--- a branch of a choice point without a condition
-abbrev pub is_default : Name → Transition → Bool
-is_default c t = is_from_choice c t.source && is_none t.condition
 
 unfoldable pub has_defaults : Chart → Bool
 has_defaults chart = list_all (graph_has_defaults chart) chart.graphs

@@ -1,5 +1,5 @@
 -- What the texts of the charts of actor classes write, class by class in order of declaration.
-use Rattle.std.specs.Prelude.{◌≡◌, ℕ, Bool, List, [], ◌∷◌, map, Option, Some, None, option_map, unwrap_or, is_some}
+use Rattle.std.specs.Prelude.{◌≡◌, Bool, List, [], ◌∷◌, map, Option, Some, None, option_map, unwrap_or, is_some}
 use Rattle.room_ast.specs.declared.scope.Scope.{Scope}
 use Rattle.room_ast.specs.ChartTree.{GraphItems}
 use Rattle.room_ast.specs.Trees.{ModelTree, ActorTree}

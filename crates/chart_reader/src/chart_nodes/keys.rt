@@ -69,7 +69,7 @@ pub fn named_key(
 
 /// The key of a point of a state.
 #[tactic(auto, using(crate::proofs::chart_nodes::KeyLaws::codes_two))]
-fn point_key(
+pub fn point_key(
     alloc: Global,
     kind: u8,
     point: &Name,

@@ -1,67 +1,52 @@
 //! What transitions of a graph begin at and lead to.
-ghost use Rattle.std.specs.Prelude.{◌≡◌, ◌∷◌, IfOk};
-ghost use Rattle.chart_reading.specs.chart_graphs.Views.{chart_view, graph_view, kind_view, source_view, target_view, transition_view};
-ghost use Rattle.chart_model.specs.Valid.{has_point_of, source_is_there, target_is_there, has_right_parts, is_right_transition, is_composite, begins_inside};
+ghost use Rattle.std.specs.Prelude.{◌≡◌, IfOk};
+ghost use Rattle.chart_reading.specs.chart_graphs.Views.{kind_view, source_view, target_view, transition_view};
+ghost use Rattle.chart_model.specs.Valid.{has_point_of, source_is_there, target_is_there, has_right_parts, is_right_transition, begins_inside};
+ghost use Rattle.chart_reader.specs.chart_rules.Views.{named_view};
+ghost use Rattle.chart_reader.specs.chart_rules.IndexView.{index_view};
 
-use crate::chart_rules::graphs::graph_at;
-use crate::chart_rules::names::{has_choice, has_point, has_state};
-use crate::chart_rules::sources::{initials_at, is_branch, is_triggered};
-use chart_reading::{Chart, Graph, Source, Target, Transition};
+use crate::chart_rules::index::ChartIndex;
+use crate::chart_rules::names::NamedGraph;
+use crate::chart_rules::sources::{is_branch, is_triggered};
+use chart_reading::{Source, Target, Transition};
 use room_ast::{Name, PointKind};
-use room_kinds::Sequence;
 use std::alloc::{AllocError, Global};
-
-/// The path of a state of the graph at `owner`.
-pub(crate) fn path_of(
-    alloc: Global,
-    state: &Name,
-    owner: &[Name],
-) -> Result<Sequence<Name>, AllocError>
-    ensures { IfOk result (λ path. path ≡ state.now ∷ owner.now) }
-{
-    let mut path = Sequence::new(alloc);
-    path.push(state.copy(alloc)?)?;
-    for outer in owner {
-        path.push(outer.copy(alloc)?)?;
-    }
-    Ok(path)
-}
 
 /// Whether the graph of a state of this graph has such a point.
 fn has_point_of(
     alloc: Global,
-    chart: &Chart,
+    chart: &ChartIndex,
     kind: PointKind,
-    graph: &Graph,
+    graph: &NamedGraph,
     point: &Name,
     state: &Name,
 ) -> Result<bool, AllocError>
-    ensures { IfOk result (λ b. b ≡ has_point_of (chart_view chart.now) (kind_view kind) (graph_view graph.now) point.now state.now) }
+    ensures { IfOk result (λ b. b ≡ has_point_of (index_view chart.now) (kind_view kind) (named_view graph.now) point.now state.now) }
 {
-    if !has_state(graph, state) {
+    if !graph.has_state(state) {
         return Ok(false);
     }
-    let path = path_of(alloc, state, graph.owner.as_slice())?;
-    match graph_at(chart, path.as_slice()) {
-        Some(inner) => Ok(has_point(kind, inner, point)),
+    let found = chart.graph_of(alloc, state, graph.owner())?;
+    match found {
+        Some(inner) => Ok(inner.has_point(kind, point)),
         None => Ok(false),
     }
 }
 
 fn source_is_there(
     alloc: Global,
-    chart: &Chart,
-    graph: &Graph,
+    chart: &ChartIndex,
+    graph: &NamedGraph,
     source: &Source,
 ) -> Result<bool, AllocError>
-    ensures { IfOk result (λ b. b ≡ source_is_there (chart_view chart.now) (graph_view graph.now) (source_view source.now)) }
+    ensures { IfOk result (λ b. b ≡ source_is_there (index_view chart.now) (named_view graph.now) (source_view source.now)) }
 {
     match source {
         Source::Initial => Ok(true),
-        Source::State(name) => Ok(has_state(graph, name)),
-        Source::Point(name) => Ok(has_point(PointKind::Transition, graph, name)),
-        Source::Choice(name) => Ok(has_choice(graph, name)),
-        Source::Entry(name) => Ok(has_point(PointKind::Entry, graph, name)),
+        Source::State(name) => Ok(graph.has_state(name)),
+        Source::Point(name) => Ok(graph.has_point(PointKind::Transition, name)),
+        Source::Choice(name) => Ok(graph.has_choice(name)),
+        Source::Entry(name) => Ok(graph.has_point(PointKind::Entry, name)),
         Source::Exit { point, state } => {
             has_point_of(alloc, chart, PointKind::Exit, graph, point, state)
         }
@@ -70,22 +55,22 @@ fn source_is_there(
 
 fn target_is_there(
     alloc: Global,
-    chart: &Chart,
-    graph: &Graph,
+    chart: &ChartIndex,
+    graph: &NamedGraph,
     target: &Target,
 ) -> Result<bool, AllocError>
-    ensures { IfOk result (λ b. b ≡ target_is_there (chart_view chart.now) (graph_view graph.now) (target_view target.now)) }
+    ensures { IfOk result (λ b. b ≡ target_is_there (index_view chart.now) (named_view graph.now) (target_view target.now)) }
 {
     match target {
-        Target::State(name) => Ok(has_state(graph, name)),
-        Target::Choice(name) => Ok(has_choice(graph, name)),
+        Target::State(name) => Ok(graph.has_state(name)),
+        Target::Choice(name) => Ok(graph.has_choice(name)),
         Target::Point { point, state } => {
             has_point_of(alloc, chart, PointKind::Transition, graph, point, state)
         }
         Target::Entry { point, state } => {
             has_point_of(alloc, chart, PointKind::Entry, graph, point, state)
         }
-        Target::Exit(name) => Ok(has_point(PointKind::Exit, graph, name)),
+        Target::Exit(name) => Ok(graph.has_point(PointKind::Exit, name)),
     }
 }
 
@@ -103,11 +88,11 @@ fn has_right_parts(transition: &Transition) -> bool
 
 pub(crate) fn is_right_transition(
     alloc: Global,
-    chart: &Chart,
-    graph: &Graph,
+    chart: &ChartIndex,
+    graph: &NamedGraph,
     transition: &Transition,
 ) -> Result<bool, AllocError>
-    ensures { IfOk result (λ b. b ≡ is_right_transition (chart_view chart.now) (graph_view graph.now) (transition_view transition.now)) }
+    ensures { IfOk result (λ b. b ≡ is_right_transition (index_view chart.now) (named_view graph.now) (transition_view transition.now)) }
 {
     if !source_is_there(alloc, chart, graph, &transition.source)? {
         return Ok(false);
@@ -121,21 +106,23 @@ pub(crate) fn is_right_transition(
 /// Whether a composite state that a target enters by its border has an initial transition.
 pub(crate) fn begins_inside(
     alloc: Global,
-    chart: &Chart,
-    graph: &Graph,
+    chart: &ChartIndex,
+    graph: &NamedGraph,
     target: &Target,
 ) -> Result<bool, AllocError>
-    ensures { IfOk result (λ b. b ≡ begins_inside (chart_view chart.now) (graph_view graph.now) (target_view target.now)) }
+    ensures { IfOk result (λ b. b ≡ begins_inside (index_view chart.now) (named_view graph.now) (target_view target.now)) }
 {
+    let owner = graph.owner();
     match target {
         Target::State(state) => {
-            let path = path_of(alloc, state, graph.owner.as_slice())?;
-            let is_composite = graph_at(chart, path.as_slice()).is_some();
-            Ok(!is_composite || initials_at(chart, path.as_slice()) >= 1)
+            let found = chart.graph_of(alloc, state, owner)?;
+            let is_composite = found.is_some();
+            let count = chart.initials_of(alloc, state, owner)?;
+            Ok(!is_composite || count >= 1)
         }
         Target::Point { point: _, state } => {
-            let path = path_of(alloc, state, graph.owner.as_slice())?;
-            Ok(initials_at(chart, path.as_slice()) >= 1)
+            let count = chart.initials_of(alloc, state, owner)?;
+            Ok(count >= 1)
         }
         Target::Choice(_) | Target::Entry { .. } | Target::Exit(_) => Ok(true),
     }

@@ -45,14 +45,25 @@ fn did_of(came_to: Handling, who: Incarnation, state: u16) -> Did
     }
 }
 
-/// Notes, then that an actor came up in a state, then the notes of its initial transition.
-fn with_up(before: Notes, who: Incarnation, state: u16, told: Notes) -> Result<Notes, AllocError>
-    ensures { IfOk result (λ notes. notes ≡ before ++ Up who state ∷ told) }
+/// Nothing is sent, and nothing is told. It takes no memory.
+fn nothing_put_out(alloc: Global) -> Output
+    ensures { result ≡ record { messages = []; notes = [] } }
 {
-    let mut notes = before.into_vec();
+    Output {
+        messages: Outbox::new(alloc),
+        notes: Notes::new(alloc),
+    }
+}
+
+/// Tells that an actor came up in a state, and then what its initial transition told.
+fn tell_up(notes: &mut Notes, who: Incarnation, state: u16, told: &[Note]) -> Result<(), AllocError>
+    ensures { OnOk result (notes.new ≡ notes.old ++ Up who state ∷ told.now) }
+{
     notes.push(Note::Up { who, state })?;
-    notes.append(&mut told.into_vec())?;
-    Ok(Sequence::from(notes))
+    for note in told {
+        notes.push(*note)?;
+    }
+    Ok(())
 }
 
 impl ActorSlot {
@@ -66,7 +77,8 @@ impl ActorSlot {
         }
     }
 
-    /// The commands of the actor are applied in order, with what was put out and what came back before.
+    /// The commands of the actor are applied in order, on top of what was put out and what came back
+    /// before. Most actors have none when they come up, and then nothing is moved.
     fn work<S: Services>(
         &mut self,
         alloc: Global,
@@ -74,19 +86,21 @@ impl ActorSlot {
         services: &mut S,
         message: Option<&Msg>,
         commands: &[Command],
-        output: Output,
-        back: Recalled,
-    ) -> Result<(Output, Recalled), AllocError>
+        output: &mut Output,
+        back: &mut Recalled,
+    ) -> Result<(), AllocError>
         requires serves { S.serves speaker.now.wiring.now speaker.now.me.0 services.old }
         requires there { speaker.now.who.slot.0 < length speaker.now.wiring.now.slots }
         ensures serves { OnOk result (S.serves speaker.now.wiring.now speaker.now.me.0 services.new) }
-        ensures works { IfOk result (λ r. Works speaker.now.wiring.now speaker.now.me.0 (S.frame_of services.old) (S.links_of services.old) (S.frame_of services.new) (S.links_of services.new) speaker.now.who (option_copied message.entry) commands.now self.old self.new output back r.0 r.1) }
+        ensures works { OnOk result (Works speaker.now.wiring.now speaker.now.me.0 (S.frame_of services.old) (S.links_of services.old) (S.frame_of services.new) (S.links_of services.new) speaker.now.who (option_copied message.entry) commands.now self.old self.new output.old back.old output.new back.new) }
     {
-        let kept = mem::replace(&mut self.deferred, DeferredMessages::new(alloc));
+        if commands.is_empty() {
+            return Ok(());
+        }
         let mut doing = Doing {
-            deferred: kept,
-            output,
-            back,
+            deferred: mem::replace(&mut self.deferred, DeferredMessages::new(alloc)),
+            output: mem::replace(output, nothing_put_out(alloc)),
+            back: mem::replace(back, Recalled::new(alloc)),
             kept: false,
         };
         apply_all(alloc, speaker, services, message, commands, &mut doing)?;
@@ -97,7 +111,9 @@ impl ActorSlot {
             kept: _,
         } = doing;
         self.deferred = deferred;
-        Ok((told, all_back))
+        *output = told;
+        *back = all_back;
+        Ok(())
     }
 
     /// The actor handles a message, and its commands are applied; `None` where nobody stands there. After
@@ -127,19 +143,19 @@ impl ActorSlot {
             notes,
             commands,
         } = reaction;
-        let first = Output {
+        let mut output = Output {
             messages: Outbox::new(alloc),
             notes,
         };
-        let none = Recalled::new(alloc);
-        let (output, back) = self.work(
+        let mut back = Recalled::new(alloc);
+        self.work(
             alloc,
             speaker,
             services,
             Some(m),
             commands.as_slice(),
-            first,
-            none,
+            &mut output,
+            &mut back,
         )?;
         Ok(Some(TurnResult {
             sent: output.messages,
@@ -175,43 +191,45 @@ impl ActorSlot {
             commands,
         } = beginning;
         self.occupant = occupant;
-        let first = Output {
+        let mut output = Output {
             messages: sent,
             notes,
         };
-        let (output, all_back) = self.work(
+        let mut back = back;
+        self.work(
             alloc,
             speaker,
             services,
             None,
             commands.as_slice(),
-            first,
-            back,
+            &mut output,
+            &mut back,
         )?;
         Ok(Entrance {
             output,
-            back: all_back,
+            back,
             state,
         })
     }
 
     /// The actor of a slot comes up: it begins with nothing kept for later, its note `up` tells its
-    /// state, and its commands are applied; with what was put out and what came back before. After want of
-    /// memory the slot is unspecified: the controller has failed.
+    /// state, and its commands are applied, on top of what was put out and what came back before. After
+    /// want of memory the slot, and what was put out and came back, is unspecified: the controller has
+    /// failed.
     pub fn come_up<S: Services>(
         &mut self,
         alloc: Global,
         speaker: &Speaker<'_>,
         services: &mut S,
         tables: Option<&Tables>,
-        output: Output,
-        back: Recalled,
-    ) -> Result<(Output, Recalled), AllocError>
+        output: &mut Output,
+        back: &mut Recalled,
+    ) -> Result<(), AllocError>
         requires sound { AreSound (option_copied tables) }
         requires serves { S.serves speaker.now.wiring.now speaker.now.me.0 services.old }
         requires there { speaker.now.who.slot.0 < length speaker.now.wiring.now.slots }
         ensures serves { OnOk result (S.serves speaker.now.wiring.now speaker.now.me.0 services.new) }
-        ensures up { IfOk result (λ r. SlotComesUp speaker.now.wiring.now speaker.now.me.0 (S.frame_of services.old) (S.links_of services.old) (S.frame_of services.new) (S.links_of services.new) speaker.now.who (option_copied tables.entry) self.old self.new output back r.0 r.1) }
+        ensures up { OnOk result (SlotComesUp speaker.now.wiring.now speaker.now.me.0 (S.frame_of services.old) (S.links_of services.old) (S.frame_of services.new) (S.links_of services.new) speaker.now.who (option_copied tables.entry) self.old self.new output.old back.old output.new back.new) }
     {
         let beginning = Occupant::begin(alloc, tables, speaker.who)?;
         let Beginning {
@@ -222,21 +240,16 @@ impl ActorSlot {
         } = beginning;
         self.occupant = occupant;
         self.deferred = DeferredMessages::new(alloc);
-        let Output {
-            messages,
-            notes: before,
-        } = output;
-        let notes = with_up(before, speaker.who, state, notes)?;
-        let first = Output { messages, notes };
-        let (output, all_back) = self.work(
+        tell_up(&mut output.notes, speaker.who, state, notes.as_slice())?;
+        self.work(
             alloc,
             speaker,
             services,
             None,
             commands.as_slice(),
-            first,
+            output,
             back,
         )?;
-        Ok((output, all_back))
+        Ok(())
     }
 }

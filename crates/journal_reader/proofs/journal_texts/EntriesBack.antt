@@ -22,8 +22,9 @@ use Rattle.journal_reader.specs.declared.journal_lines.draft.Head.TheVariants as
 use Rattle.journal_reader.specs.journal_lines.Numerals.{upto, past, number_in, byte_in}
 use Rattle.journal_reader.specs.journal_lines.Fields.{party_in}
 use Rattle.journal_reader.specs.journal_lines.Messages.{message_in, did_in, state_after}
+use Rattle.journal_reader.specs.journal_lines.Fetches.{fetches}
 use Rattle.journal_reader.specs.journal_lines.Drafts.{closed_at, closed, opened, entered, duty_open, annotated}
-use Rattle.journal_reader.specs.journal_lines.Reading.{fetched, turned, posted, timed, started, worded, taking, reading}
+use Rattle.journal_reader.specs.journal_lines.Reading.{fetched, any_fetched, turned, posted, timed, started, worded, taking, reading}
 use Rattle.journal_reader.proofs.journal_lines.Cutting.{lacks, upto_at, past_at, line_read}
 use Rattle.journal_reader.specs.journal_texts.InRange.{InRangeMsg, InRangeStanding, InRangeDid, InRangeNote, InRangeTurn, InRangeEntry}
 use Rattle.journal_reader.proofs.journal_texts.NumbersBack.{lacks-append, number_lacks, number_back, number_begins, byte_back}
@@ -34,8 +35,9 @@ use Rattle.journal_reader.proofs.journal_texts.NotesBack.{standing_text, standin
 
 -- ---- drafts in which no entry stands begun
 
-abbrev pub settled : List (List Entry) → Bool → ControllerId → List Entry → List Left → List ℕ → Bool → Draft
-settled controllers titled party es left unposted done = record {
+abbrev pub settled : Bool → List (List Entry) → Bool → ControllerId → List Entry → List Left → List ℕ → Bool → Draft
+settled fo controllers titled party es left unposted done = record {
+  tied = fo;
   controllers = controllers;
   titled = titled;
   party = party;
@@ -105,16 +107,16 @@ annotates d (n ∷ ns) =
 
 -- ---- entries with notes
 
-closed_start : (d : Draft) (who : Incarnation) (state : ℕ) (s r : Option SlotId) (ns : List Note) (cs : List (List Entry)) (ti : Bool) (p : ControllerId) (es : List Entry) (ls : List Left) (us : List ℕ) (dn : Bool)
-    → d ≡ settled cs ti p es ls us dn → closed (record (record d { head = heads.Start who state; speaker = s }) { notes = d.notes ++ ns; speaker = r }) ≡ settled cs ti p (es ++ entries.Start who state ns ∷ []) ls us dn
+closed_start : (d : Draft) (who : Incarnation) (state : ℕ) (s r : Option SlotId) (ns : List Note) (fo : Bool) (cs : List (List Entry)) (ti : Bool) (p : ControllerId) (es : List Entry) (ls : List Left) (us : List ℕ) (dn : Bool)
+    → d ≡ settled fo cs ti p es ls us dn → closed (record (record d { head = heads.Start who state; speaker = s }) { notes = d.notes ++ ns; speaker = r }) ≡ settled fo cs ti p (es ++ entries.Start who state ns ∷ []) ls us dn
 unfolding closed
-closed_start d who state s r ns cs ti p es ls us dn e =
+closed_start d who state s r ns fo cs ti p es ls us dn e =
     ap (λ (x : Draft). closed (record (record x { head = heads.Start who state; speaker = s }) { notes = x.notes ++ ns; speaker = r })) e
 
-closed_turn : (d : Draft) (stamp : Stamp) (from : ControllerId) (sent : Stamp) (did : Did) (s r : Option SlotId) (ns : List Note) (cs : List (List Entry)) (ti : Bool) (p : ControllerId) (es : List Entry) (ls : List Left) (us : List ℕ) (dn : Bool)
-    → d ≡ settled cs ti p es ls us dn → closed (record (record d { head = heads.Turn stamp from sent did; speaker = s }) { notes = d.notes ++ ns; speaker = r }) ≡ settled cs ti p (es ++ entries.Turn stamp from sent did ns ∷ []) ls us dn
+closed_turn : (d : Draft) (stamp : Stamp) (from : ControllerId) (sent : Stamp) (did : Did) (s r : Option SlotId) (ns : List Note) (fo : Bool) (cs : List (List Entry)) (ti : Bool) (p : ControllerId) (es : List Entry) (ls : List Left) (us : List ℕ) (dn : Bool)
+    → d ≡ settled fo cs ti p es ls us dn → closed (record (record d { head = heads.Turn stamp from sent did; speaker = s }) { notes = d.notes ++ ns; speaker = r }) ≡ settled fo cs ti p (es ++ entries.Turn stamp from sent did ns ∷ []) ls us dn
 unfolding closed
-closed_turn d stamp from sent did s r ns cs ti p es ls us dn e =
+closed_turn d stamp from sent did s r ns fo cs ti p es ls us dn e =
     ap (λ (x : Draft). closed (record (record x { head = heads.Turn stamp from sent did; speaker = s }) { notes = x.notes ++ ns; speaker = r })) e
 
 start_taken : (t : Tables) (d : Draft) (who : Incarnation) (state : ℕ) → Sized t → FitsStanding t who state → InRangeStanding who state → taking t d (codes "start " ++ standing_text t who state) ≡ opened d (heads.Start who state) (Some who.slot)
@@ -126,10 +128,10 @@ start_taken t d who state sized fits range =
 start_shape : (t : Tables) (who : Incarnation) (state : ℕ) → start_line t who state ≡ (codes "start " ++ standing_text t who state) ++ 10 ∷ []
 start_shape t who state = ap (λ (x : List ℕ). (codes "start " ++ x) ++ 10 ∷ []) (standing_shape t who state)
 
-start_leads : (t : Tables) (who : Incarnation) (state : ℕ) (ns : List Note) (cs : List (List Entry)) (ti : Bool) (p : ControllerId) (es : List Entry) (ls : List Left) (us : List ℕ) (dn : Bool)
+start_leads : (t : Tables) (who : Incarnation) (state : ℕ) (ns : List Note) (fo : Bool) (cs : List (List Entry)) (ti : Bool) (p : ControllerId) (es : List Entry) (ls : List Left) (us : List ℕ) (dn : Bool)
     → Sized t → FitsStanding t who state → FitsNotes t false (Some who.slot) ns → InRangeStanding who state → All InRangeNote ns
-    → LeadsOn t (settled cs ti p es ls us dn) (entry_text t (entries.Start who state ns)) (settled cs ti p (es ++ entries.Start who state ns ∷ []) ls us dn)
-start_leads t who state ns cs ti p es ls us dn sized fits fits_notes range range_notes d e =
+    → LeadsOn t (settled fo cs ti p es ls us dn) (entry_text t (entries.Start who state ns)) (settled fo cs ti p (es ++ entries.Start who state ns ∷ []) ls us dn)
+start_leads t who state ns fo cs ti p es ls us dn sized fits fits_notes range range_notes d e =
     let w : List ℕ = codes "start " ++ standing_text t who state in
     let begun : Draft = opened d (heads.Start who state) (Some who.slot) in
     let more : List ℕ = note_lines t false (Some who.slot) ns in
@@ -140,11 +142,11 @@ start_leads t who state ns cs ti p es ls us dn sized fits fits_notes range range
       lines = λ r.
           ap (λ (x : List ℕ). reading t d ((x ++ more) ++ r)) (start_shape t who state) ∙ ap (λ (x : List ℕ). reading t d x) (append_assoc (w ++ 10 ∷ []) more r)
           ∙ one_line t d begun w free (start_taken t d who state sized fits range) (more ++ r) ∙ noted t begun ns sized fits_notes range_notes r;
-      closes = ap closed added.changes ∙ closed_start (closed d) who state (Some who.slot) added.speaks ns cs ti p es ls us dn e;
+      closes = ap closed added.changes ∙ closed_start (closed d) who state (Some who.slot) added.speaks ns fo cs ti p es ls us dn e;
     }
 
 -- a line that begins with a stamp
-timed_line : (t : Tables) (d : Draft) (stamp : ℕ) (s : List ℕ) → stamp < 18446744073709551616 → taking t d (decimal stamp ++ 32 ∷ s) ≡ timed t d stamp s
+pub timed_line : (t : Tables) (d : Draft) (stamp : ℕ) (s : List ℕ) → stamp < 18446744073709551616 → taking t d (decimal stamp ++ 32 ∷ s) ≡ timed t d stamp s
 unfolding taking
 timed_line t d stamp s small =
     let w = decimal stamp in
@@ -195,10 +197,10 @@ turn_taken t d stamp from sent did sized party fits stamp_fits small sent_fits r
 turn_shape : (t : Tables) (stamp from sent : ℕ) (did : Did) → turn_line t stamp from sent did ≡ (decimal stamp ++ 32 ∷ (codes "turn " ++ sent_then t from sent (did_text t did))) ++ 10 ∷ []
 turn_shape t stamp from sent did = ap (λ (x : List ℕ). (decimal stamp ++ 32 ∷ (codes "turn " ++ (party_text t from ++ 64 ∷ (decimal sent ++ x)))) ++ 10 ∷ []) (did_shape t did)
 
-turn_leads : (t : Tables) (stamp : Stamp) (from : ControllerId) (sent : Stamp) (did : Did) (ns : List Note) (cs : List (List Entry)) (ti : Bool) (p : ControllerId) (es : List Entry) (ls : List Left) (us : List ℕ) (dn : Bool)
+turn_leads : (t : Tables) (stamp : Stamp) (from : ControllerId) (sent : Stamp) (did : Did) (ns : List Note) (fo : Bool) (cs : List (List Entry)) (ti : Bool) (p : ControllerId) (es : List Entry) (ls : List Left) (us : List ℕ) (dn : Bool)
     → Sized t → IsParty t from.0 → FitsDid t did → FitsNotes t (is_duty did) (speaker_of did) ns → InRangeTurn stamp.0 from.0 sent.0 did ns
-    → LeadsOn t (settled cs ti p es ls us dn) (entry_text t (entries.Turn stamp from sent did ns)) (settled cs ti p (es ++ entries.Turn stamp from sent did ns ∷ []) ls us dn)
-turn_leads t stamp from sent did ns cs ti p es ls us dn sized party fits fits_notes range d e =
+    → LeadsOn t (settled fo cs ti p es ls us dn) (entry_text t (entries.Turn stamp from sent did ns)) (settled fo cs ti p (es ++ entries.Turn stamp from sent did ns ∷ []) ls us dn)
+turn_leads t stamp from sent did ns fo cs ti p es ls us dn sized party fits fits_notes range d e =
     let w : List ℕ = decimal stamp.0 ++ 32 ∷ (codes "turn " ++ sent_then t from.0 sent.0 (did_text t did)) in
     let begun : Draft = opened d (heads.Turn stamp from sent did) (speaker_of did) in
     let more : List ℕ = note_lines t (is_duty did) (speaker_of did) ns in
@@ -211,18 +213,18 @@ turn_leads t stamp from sent did ns cs ti p es ls us dn sized party fits fits_no
       lines = λ r.
           ap (λ (x : List ℕ). reading t d ((x ++ more) ++ r)) (turn_shape t stamp.0 from.0 sent.0 did) ∙ ap (λ (x : List ℕ). reading t d x) (append_assoc (w ++ 10 ∷ []) more r)
           ∙ one_line t d begun w free (turn_taken t d stamp from sent did sized party fits range.stamped range.sender range.posted range.outcome) (more ++ r) ∙ noted t begun ns sized fits_notes range.notes r;
-      closes = ap closed added.changes ∙ closed_turn (closed d) stamp from sent did (speaker_of did) added.speaks ns cs ti p es ls us dn e;
+      closes = ap closed added.changes ∙ closed_turn (closed d) stamp from sent did (speaker_of did) added.speaks ns fo cs ti p es ls us dn e;
     }
 
 -- ---- entries without notes
 
-pub settled_closed : (cs : List (List Entry)) (ti : Bool) (p : ControllerId) (es : List Entry) (ls : List Left) (us : List ℕ) (dn : Bool) → closed (settled cs ti p es ls us dn) ≡ settled cs ti p es ls us dn
+pub settled_closed : (fo : Bool) (cs : List (List Entry)) (ti : Bool) (p : ControllerId) (es : List Entry) (ls : List Left) (us : List ℕ) (dn : Bool) → closed (settled fo cs ti p es ls us dn) ≡ settled fo cs ti p es ls us dn
 unfolding closed
-settled_closed cs ti p es ls us dn = refl
+settled_closed fo cs ti p es ls us dn = refl
 
-closed_entered : (d : Draft) (x : Entry) (cs : List (List Entry)) (ti : Bool) (p : ControllerId) (es : List Entry) (ls : List Left) (us : List ℕ) (dn : Bool)
-    → closed d ≡ settled cs ti p es ls us dn → closed (entered d x) ≡ settled cs ti p (es ++ x ∷ []) ls us dn
-closed_entered d x cs ti p es ls us dn e = ap (λ (y : Draft). closed (record y { entries = y.entries ++ x ∷ [] })) e ∙ settled_closed cs ti p (es ++ x ∷ []) ls us dn
+pub closed_entered : (d : Draft) (x : Entry) (fo : Bool) (cs : List (List Entry)) (ti : Bool) (p : ControllerId) (es : List Entry) (ls : List Left) (us : List ℕ) (dn : Bool)
+    → closed d ≡ settled fo cs ti p es ls us dn → closed (entered d x) ≡ settled fo cs ti p (es ++ x ∷ []) ls us dn
+closed_entered d x fo cs ti p es ls us dn e = ap (λ (y : Draft). closed (record y { entries = y.entries ++ x ∷ [] })) e ∙ settled_closed fo cs ti p (es ++ x ∷ []) ls us dn
 
 -- whose journal is being read is the same while its entry is begun
 pub party_stays : (d : Draft) → (closed d).party ≡ d.party
@@ -234,32 +236,43 @@ party_stays d = by_head d d.head
     by_head d (heads.Start who state) = refl
     by_head d (heads.Turn stamp from sent did) = refl
 
-fetch_taken : (t : Tables) (d : Draft) (stamp : Stamp) (m : Msg) → Sized t → FitsMessage t m → stamp.0 < 18446744073709551616 → InRangeMsg m → d.party.0 ≡ m.to.0
+-- nor does its form change
+pub form_stays : (d : Draft) → (closed d).tied ≡ d.tied
+unfolding closed
+form_stays d = by_head d d.head
+  where
+    by_head : (d : Draft) (h : Head) → (closed_at d h).tied ≡ d.tied
+    by_head d heads.Nothing = refl
+    by_head d (heads.Start who state) = refl
+    by_head d (heads.Turn stamp from sent did) = refl
+
+fetch_taken : (t : Tables) (d : Draft) (stamp : Stamp) (m : Msg) → Sized t → FitsMessage t m → stamp.0 < 18446744073709551616 → InRangeMsg m → d.party.0 ≡ m.to.0 → d.tied ≡ false
     → taking t d (decimal stamp.0 ++ 32 ∷ (codes "fetch " ++ sent_then t m.from.0 m.stamp.0 (message_text t m))) ≡ entered d (entries.Fetch stamp m)
-unfolding timed fetched
-fetch_taken t d stamp m sized fits stamp_fits range to =
+unfolding timed any_fetched fetched
+fetch_taken t d stamp m sized fits stamp_fits range to plain =
     let s : List ℕ = sent_then t m.from.0 m.stamp.0 (message_text t m) in
     let back = sent_back t m.from.0 m.stamp.0 (message_text t m) fits.from range.from range.stamp in
     let is : message_in t (party_in t (upto 64 s)) d.party.0 (number_in (upto 32 (past 64 s))) (past 32 (past 64 s)) ≡ m =
     rw (back.party, back.stamp, back.rest, to) (message_back t m sized fits range) in
-    timed_line t d stamp.0 (codes "fetch " ++ s) stamp_fits ∙ ap (λ (x : Msg). entered d (entries.Fetch stamp x)) is
+    timed_line t d stamp.0 (codes "fetch " ++ s) stamp_fits ∙ ap (λ (b : Bool). cond b (fetches t d stamp.0 s) (fetched t d stamp.0 s)) plain ∙ ap (λ (x : Msg). entered d (entries.Fetch stamp x)) is
 
 fetch_shape : (t : Tables) (stamp : ℕ) (m : Msg) → fetch_line t stamp m ≡ (decimal stamp ++ 32 ∷ (codes "fetch " ++ sent_then t m.from.0 m.stamp.0 (message_text t m))) ++ 10 ∷ []
 fetch_shape t stamp m = ap (λ (x : List ℕ). (decimal stamp ++ 32 ∷ (codes "fetch " ++ (party_text t m.from.0 ++ 64 ∷ (decimal m.stamp.0 ++ 32 ∷ x)))) ++ 10 ∷ []) (message_shape t m)
 
-fetch_leads : (t : Tables) (stamp : Stamp) (m : Msg) (cs : List (List Entry)) (ti : Bool) (p : ControllerId) (es : List Entry) (ls : List Left) (us : List ℕ) (dn : Bool)
-    → Sized t → FitsMessage t m → stamp.0 < 18446744073709551616 → InRangeMsg m → m.to.0 ≡ p.0
-    → LeadsOn t (settled cs ti p es ls us dn) (entry_text t (entries.Fetch stamp m)) (settled cs ti p (es ++ entries.Fetch stamp m ∷ []) ls us dn)
-fetch_leads t stamp m cs ti p es ls us dn sized fits stamp_fits range to d e =
+fetch_leads : (t : Tables) (stamp : Stamp) (m : Msg) (fo : Bool) (cs : List (List Entry)) (ti : Bool) (p : ControllerId) (es : List Entry) (ls : List Left) (us : List ℕ) (dn : Bool)
+    → Sized t → FitsMessage t m → stamp.0 < 18446744073709551616 → InRangeMsg m → m.to.0 ≡ p.0 → fo ≡ false
+    → LeadsOn t (settled fo cs ti p es ls us dn) (entry_text t (entries.Fetch stamp m)) (settled fo cs ti p (es ++ entries.Fetch stamp m ∷ []) ls us dn)
+fetch_leads t stamp m fo cs ti p es ls us dn sized fits stamp_fits range to plain d e =
     let s : List ℕ = codes "fetch " ++ sent_then t m.from.0 m.stamp.0 (message_text t m) in
     let w : List ℕ = decimal stamp.0 ++ 32 ∷ s in
     let party : d.party.0 ≡ m.to.0 = sym (ap (λ (x : ControllerId). x.0) (party_stays d)) ∙ ap (λ (x : Draft). x.party.0) e ∙ sym to in
+    let unmarked : d.tied ≡ false = sym (form_stays d) ∙ ap (λ (x : Draft). x.tied) e ∙ plain in
     let free : lacks 10 w ≡ true =
     lacks-append 10 (decimal stamp.0) (32 ∷ s) (number_lacks 10 stamp.0 stamp_fits refl) (sent_lacks t m.from.0 m.stamp.0 (message_text t m) range.from range.stamp (message_lacks t m sized fits range)) in
     record {
       next = entered d (entries.Fetch stamp m);
-      lines = λ r. ap (λ (x : List ℕ). reading t d (x ++ r)) (fetch_shape t stamp.0 m) ∙ one_line t d (entered d (entries.Fetch stamp m)) w free (fetch_taken t d stamp m sized fits stamp_fits range party) r;
-      closes = closed_entered d (entries.Fetch stamp m) cs ti p es ls us dn e;
+      lines = λ r. ap (λ (x : List ℕ). reading t d (x ++ r)) (fetch_shape t stamp.0 m) ∙ one_line t d (entered d (entries.Fetch stamp m)) w free (fetch_taken t d stamp m sized fits stamp_fits range party unmarked) r;
+      closes = closed_entered d (entries.Fetch stamp m) fo cs ti p es ls us dn e;
     }
 
 post_taken : (t : Tables) (d : Draft) (stamp : Stamp) (m : Msg) → Sized t → FitsMessage t m → stamp.0 < 18446744073709551616 → InRangeMsg m → d.party.0 ≡ m.from.0 → stamp.0 ≡ m.stamp.0
@@ -276,10 +289,10 @@ post_taken t d stamp m sized fits stamp_fits range from stamped =
 post_shape : (t : Tables) (stamp : ℕ) (m : Msg) → post_line t stamp m ≡ (decimal stamp ++ 32 ∷ (codes "post " ++ (decimal m.to.0 ++ 32 ∷ message_text t m))) ++ 10 ∷ []
 post_shape t stamp m = ap (λ (x : List ℕ). (decimal stamp ++ 32 ∷ (codes "post " ++ (decimal m.to.0 ++ 32 ∷ x))) ++ 10 ∷ []) (message_shape t m)
 
-post_leads : (t : Tables) (stamp : Stamp) (m : Msg) (cs : List (List Entry)) (ti : Bool) (p : ControllerId) (es : List Entry) (ls : List Left) (us : List ℕ) (dn : Bool)
+post_leads : (t : Tables) (stamp : Stamp) (m : Msg) (fo : Bool) (cs : List (List Entry)) (ti : Bool) (p : ControllerId) (es : List Entry) (ls : List Left) (us : List ℕ) (dn : Bool)
     → Sized t → FitsPost t p.0 stamp.0 m → stamp.0 < 18446744073709551616 → InRangeMsg m
-    → LeadsOn t (settled cs ti p es ls us dn) (entry_text t (entries.Post stamp m)) (settled cs ti p (es ++ entries.Post stamp m ∷ []) ls us dn)
-post_leads t stamp m cs ti p es ls us dn sized fits stamp_fits range d e =
+    → LeadsOn t (settled fo cs ti p es ls us dn) (entry_text t (entries.Post stamp m)) (settled fo cs ti p (es ++ entries.Post stamp m ∷ []) ls us dn)
+post_leads t stamp m fo cs ti p es ls us dn sized fits stamp_fits range d e =
     let s : List ℕ = codes "post " ++ (decimal m.to.0 ++ 32 ∷ message_text t m) in
     let w : List ℕ = decimal stamp.0 ++ 32 ∷ s in
     let party : d.party.0 ≡ m.from.0 = sym (ap (λ (x : ControllerId). x.0) (party_stays d)) ∙ ap (λ (x : Draft). x.party.0) e ∙ sym fits.own in
@@ -289,25 +302,39 @@ post_leads t stamp m cs ti p es ls us dn sized fits stamp_fits range d e =
     record {
       next = entered d (entries.Post stamp m);
       lines = λ r. ap (λ (x : List ℕ). reading t d (x ++ r)) (post_shape t stamp.0 m) ∙ one_line t d (entered d (entries.Post stamp m)) w free (post_taken t d stamp m sized fits.message stamp_fits range party (sym fits.stamped)) r;
-      closes = closed_entered d (entries.Post stamp m) cs ti p es ls us dn e;
+      closes = closed_entered d (entries.Post stamp m) fo cs ti p es ls us dn e;
     }
 
 -- ---- journals
 
-pub entry_leads : (t : Tables) (x : Entry) (cs : List (List Entry)) (ti : Bool) (p : ControllerId) (es : List Entry) (ls : List Left) (us : List ℕ) (dn : Bool)
-    → Sized t → FitsEntry t p.0 x → InRangeEntry x → LeadsOn t (settled cs ti p es ls us dn) (entry_text t x) (settled cs ti p (es ++ x ∷ []) ls us dn)
-entry_leads t (entries.Start who state ns) cs ti p es ls us dn sized fits range = start_leads t who state ns cs ti p es ls us dn sized fits.0 fits.1 range.0 range.1
-entry_leads t (entries.Fetch stamp m) cs ti p es ls us dn sized fits range = fetch_leads t stamp m cs ti p es ls us dn sized fits.1 range.0 range.1 fits.0
-entry_leads t (entries.Turn stamp from sent did ns) cs ti p es ls us dn sized fits range = turn_leads t stamp from sent did ns cs ti p es ls us dn sized fits.0 fits.1 fits.2 range
-entry_leads t (entries.Post stamp m) cs ti p es ls us dn sized fits range = post_leads t stamp m cs ti p es ls us dn sized fits range.0 range.1
+-- an entry whose line is the same in this form as in form 1
+abbrev pub Plain : Bool → Entry → Type 0
+Plain fo (entries.Start who state ns) = Unit {0}
+Plain fo (entries.Fetch stamp m) = fo ≡ false
+Plain fo (entries.Turn stamp from sent did ns) = Unit {0}
+Plain fo (entries.Post stamp m) = Unit {0}
 
-pub journal_leads : (t : Tables) (xs : List Entry) (cs : List (List Entry)) (ti : Bool) (p : ControllerId) (es : List Entry) (ls : List Left) (us : List ℕ) (dn : Bool)
-    → Sized t → All (FitsEntry t p.0) xs → All InRangeEntry xs → LeadsOn t (settled cs ti p es ls us dn) (journal_text t xs) (settled cs ti p (es ++ xs) ls us dn)
+-- in form 1 every entry is
+pub plain : (x : Entry) → Plain false x
+plain (entries.Start who state ns) = tt
+plain (entries.Fetch stamp m) = refl
+plain (entries.Turn stamp from sent did ns) = tt
+plain (entries.Post stamp m) = tt
+
+pub entry_leads : (t : Tables) (x : Entry) (fo : Bool) (cs : List (List Entry)) (ti : Bool) (p : ControllerId) (es : List Entry) (ls : List Left) (us : List ℕ) (dn : Bool)
+    → Sized t → Plain fo x → FitsEntry t p.0 x → InRangeEntry x → LeadsOn t (settled fo cs ti p es ls us dn) (entry_text t x) (settled fo cs ti p (es ++ x ∷ []) ls us dn)
+entry_leads t (entries.Start who state ns) fo cs ti p es ls us dn sized same fits range = start_leads t who state ns fo cs ti p es ls us dn sized fits.0 fits.1 range.0 range.1
+entry_leads t (entries.Fetch stamp m) fo cs ti p es ls us dn sized same fits range = fetch_leads t stamp m fo cs ti p es ls us dn sized fits.1 range.0 range.1 fits.0 same
+entry_leads t (entries.Turn stamp from sent did ns) fo cs ti p es ls us dn sized same fits range = turn_leads t stamp from sent did ns fo cs ti p es ls us dn sized fits.0 fits.1 fits.2 range
+entry_leads t (entries.Post stamp m) fo cs ti p es ls us dn sized same fits range = post_leads t stamp m fo cs ti p es ls us dn sized fits range.0 range.1
+
+pub journal_leads : (t : Tables) (xs : List Entry) (fo : Bool) (cs : List (List Entry)) (ti : Bool) (p : ControllerId) (es : List Entry) (ls : List Left) (us : List ℕ) (dn : Bool)
+    → Sized t → All (Plain fo) xs → All (FitsEntry t p.0) xs → All InRangeEntry xs → LeadsOn t (settled fo cs ti p es ls us dn) (journal_text t xs) (settled fo cs ti p (es ++ xs) ls us dn)
 unfolding journal_text
-journal_leads t [] cs ti p es ls us dn sized fits range =
-    subst (λ (x : List Entry). LeadsOn t (settled cs ti p es ls us dn) [] (settled cs ti p x ls us dn)) (sym (append-nil es)) (no_text t (settled cs ti p es ls us dn))
-journal_leads t (x ∷ xs) cs ti p es ls us dn sized fits range =
-    let first = entry_leads t x cs ti p es ls us dn sized (All-head (FitsEntry t p.0) x xs fits) (All-head InRangeEntry x xs range) in
-    let rest = journal_leads t xs cs ti p (es ++ x ∷ []) ls us dn sized (All-tail (FitsEntry t p.0) x xs fits) (All-tail InRangeEntry x xs range) in
-    subst (λ (y : List Entry). LeadsOn t (settled cs ti p es ls us dn) (entry_text t x ++ journal_text t xs) (settled cs ti p y ls us dn)) (append_assoc es (x ∷ []) xs)
-    (then_text t (settled cs ti p es ls us dn) (settled cs ti p (es ++ x ∷ []) ls us dn) (settled cs ti p ((es ++ x ∷ []) ++ xs) ls us dn) (entry_text t x) (journal_text t xs) first rest)
+journal_leads t [] fo cs ti p es ls us dn sized same fits range =
+    subst (λ (x : List Entry). LeadsOn t (settled fo cs ti p es ls us dn) [] (settled fo cs ti p x ls us dn)) (sym (append-nil es)) (no_text t (settled fo cs ti p es ls us dn))
+journal_leads t (x ∷ xs) fo cs ti p es ls us dn sized same fits range =
+    let first = entry_leads t x fo cs ti p es ls us dn sized (All-head (Plain fo) x xs same) (All-head (FitsEntry t p.0) x xs fits) (All-head InRangeEntry x xs range) in
+    let rest = journal_leads t xs fo cs ti p (es ++ x ∷ []) ls us dn sized (All-tail (Plain fo) x xs same) (All-tail (FitsEntry t p.0) x xs fits) (All-tail InRangeEntry x xs range) in
+    subst (λ (y : List Entry). LeadsOn t (settled fo cs ti p es ls us dn) (entry_text t x ++ journal_text t xs) (settled fo cs ti p y ls us dn)) (append_assoc es (x ∷ []) xs)
+    (then_text t (settled fo cs ti p es ls us dn) (settled fo cs ti p (es ++ x ∷ []) ls us dn) (settled fo cs ti p ((es ++ x ∷ []) ++ xs) ls us dn) (entry_text t x) (journal_text t xs) first rest)

@@ -1,5 +1,6 @@
 -- Journals of which some lines have been read.
-use Rattle.std.specs.Prelude.{ℕ, [], ◌∷◌, ◌++◌, Bool, true, false, if◌then◌else◌, Option, None}
+use Rattle.std.specs.Prelude.{ℕ, [], ◌∷◌, ◌++◌, Bool, true, false, if◌then◌else◌, Option, None, List, codes}
+use Rattle.name_tables.specs.name_numbers.Names.{same}
 use Rattle.room_kinds.specs.declared.numbers.ControllerId.{ControllerId}
 use Rattle.room_kinds.specs.declared.numbers.SlotId.{SlotId}
 use Rattle.room_kinds.specs.declared.note.Note.{Note}
@@ -15,6 +16,7 @@ use Rattle.journal_reader.specs.declared.journal_lines.draft.Head.TheVariants as
 -- nothing was read
 abbrev pub nothing_read : Draft
 nothing_read = record {
+  tied = false;
   controllers = [];
   titled = false;
   party = record { 0 = 0 };
@@ -69,6 +71,10 @@ shelved d = if d.titled then record d { controllers = d.controllers ++ d.entries
 -- the journal of a party begins
 abbrev pub titled_by : Draft → ControllerId → Draft
 titled_by d party = record (shelved (closed d)) { titled = true; party = party }
+
+-- the form in which the text is written: fetches are told by their posts in form 2
+abbrev pub in_form : Draft → List ℕ → Draft
+in_form d form = if same form (codes "2") then record d { tied = true } else d
 
 -- a message that was left
 abbrev pub with_left : Draft → Left → Draft

@@ -11,13 +11,18 @@ use Rattle.journal_reader.specs.declared.journal_lines.draft.Head.TheVariants as
 use Rattle.journal_reader.specs.journal_lines.Numerals.{upto, past, begins_digit, number_in, byte_in, word_in}
 use Rattle.journal_reader.specs.journal_lines.Fields.{party_in, incarnation_in}
 use Rattle.journal_reader.specs.journal_lines.Messages.{message_in, did_in, note_in, state_after}
-use Rattle.journal_reader.specs.journal_lines.Drafts.{nothing_read, opened, entered, annotated, titled_by, with_left, with_unposted, with_done, finished}
+use Rattle.journal_reader.specs.journal_lines.Fetches.{fetches}
+use Rattle.journal_reader.specs.journal_lines.Drafts.{nothing_read, opened, entered, annotated, titled_by, in_form, with_left, with_unposted, with_done, finished}
 
 -- `<from>@<sent> <message>`
 unfoldable pub fetched : Tables → Draft → ℕ → List ℕ → Draft
 fetched t d stamp s =
     entered d (entries.Fetch (record { 0 = stamp })
     (message_in t (party_in t (upto 64 s)) d.party.0 (number_in (upto 32 (past 64 s))) (past 32 (past 64 s))))
+
+-- a fetch in the form of the text
+unfoldable pub any_fetched : Tables → Draft → ℕ → List ℕ → Draft
+any_fetched t d stamp s = if d.tied then fetches t d stamp s else fetched t d stamp s
 
 -- `<from>@<sent> <what>`
 unfoldable pub turned : Tables → Draft → ℕ → List ℕ → Draft
@@ -32,7 +37,7 @@ posted t d stamp s = entered d (entries.Post (record { 0 = stamp }) (message_in 
 -- a line that begins with a stamp
 unfoldable pub timed : Tables → Draft → ℕ → List ℕ → Draft
 timed t d stamp s =
-    if same (upto 32 s) (codes "fetch") then fetched t d stamp (past 32 s) else
+    if same (upto 32 s) (codes "fetch") then any_fetched t d stamp (past 32 s) else
     (if same (upto 32 s) (codes "turn") then turned t d stamp (past 32 s) else
     (if same (upto 32 s) (codes "post") then posted t d stamp (past 32 s) else d))
 
@@ -61,7 +66,8 @@ worded t d word s =
     (if same word (codes "unposted") then with_unposted d (word_in s) else
     (if same word (codes "controller") then titled_by d (record { 0 = byte_in (upto 32 s) }) else
     (if same word (codes "environment") then titled_by d (record { 0 = length t.controllers }) else
-    (if same word (codes "done") then with_done d else d))))))
+    (if same word (codes "done") then with_done d else
+    (if same word (codes "room-journal") then in_form d s else d)))))))
 
 -- a line
 unfoldable pub taking : Tables → Draft → List ℕ → Draft

@@ -1,7 +1,8 @@
 //! Journals of which some lines have been read.
 ghost use Rattle.std.specs.Prelude.{◌≡◌, OnOk, IfOk};
-ghost use Rattle.journal_reader.specs.journal_lines.Drafts.{nothing_read, ended, closed, opened, duty_open, entered, annotated, shelved, titled_by, journals_of, finished};
+ghost use Rattle.journal_reader.specs.journal_lines.Drafts.{nothing_read, ended, closed, opened, duty_open, entered, annotated, shelved, titled_by, in_form, journals_of, finished};
 
+use crate::journal_lines::rest::is;
 use journal::{Did, Entry, Journal, Journals, Left, speaker_after};
 use room_kinds::{ControllerId, Incarnation, Note, Notes, Sequence, SlotId, Stamp};
 use std::alloc::{AllocError, Global};
@@ -27,6 +28,8 @@ pub enum Head {
 /// stands open with its notes.
 #[derive(Drop)]
 pub struct Draft {
+    /// Whether fetches are told by their posts, as in form 2.
+    pub tied: bool,
     pub controllers: Sequence<Journal>,
     /// Whether the line above a journal was read.
     pub titled: bool,
@@ -58,6 +61,7 @@ impl Draft {
         ensures { result ≡ nothing_read }
     {
         Draft {
+            tied: false,
             controllers: Sequence::new(alloc),
             titled: false,
             party: ControllerId(0),
@@ -68,6 +72,15 @@ impl Draft {
             left: Sequence::new(alloc),
             unposted: Sequence::new(alloc),
             done: false,
+        }
+    }
+
+    /// The form in which the text is written.
+    pub fn set_form(&mut self, form: &[u8])
+        ensures { self.new ≡ in_form self.old form.now }
+    {
+        if is(form, "2") {
+            self.tied = true;
         }
     }
 

@@ -2,9 +2,10 @@
 ghost use Rattle.std.specs.Prelude.{◌≡◌, OnOk, IfOk};
 ghost use Rattle.journal_reader.specs.journal_lines.Drafts.{nothing_read, with_unposted, titled_by};
 ghost use Rattle.journal_reader.specs.journal_lines.Numerals.{upto, byte_in, word_in};
-ghost use Rattle.journal_reader.specs.journal_lines.Reading.{fetched, turned, posted, timed, started, left_message, left_behind, worded, taking, reading, journals_in};
+ghost use Rattle.journal_reader.specs.journal_lines.Reading.{fetched, any_fetched, turned, posted, timed, started, left_message, left_behind, worded, taking, reading, journals_in};
 
 use crate::journal_lines::draft::{Draft, Head};
+use crate::journal_lines::fetches::fetches;
 use crate::journal_lines::fields::party;
 use crate::journal_lines::messages::{Sent, did, message, note, standing};
 use crate::journal_lines::rest::{Rest, begins_digit, byte, is, number, word};
@@ -37,6 +38,24 @@ fn fetch(
             msg,
         },
     )
+}
+
+/// A fetch in the form of the text.
+#[tactic(auto, unfolding(crate::specs::journal_lines::Reading::any_fetched))]
+fn any_fetch(
+    alloc: Global,
+    names: &Names<'_>,
+    draft: &mut Draft,
+    stamp: u64,
+    rest: Rest<'_>,
+) -> Result<(), AllocError>
+    ensures { OnOk result (draft.new ≡ any_fetched names.now draft.old stamp rest.entry) }
+{
+    if draft.tied {
+        fetches(alloc, names, draft, stamp, rest)
+    } else {
+        fetch(alloc, names, draft, stamp, rest)
+    }
 }
 
 #[tactic(auto, unfolding(crate::specs::journal_lines::Reading::turned))]
@@ -99,7 +118,7 @@ fn timed(
 {
     let word = rest.take_until(b' ');
     if is(word, "fetch") {
-        fetch(alloc, names, draft, stamp, rest)
+        any_fetch(alloc, names, draft, stamp, rest)
     } else if is(word, "turn") {
         turn(alloc, names, draft, stamp, rest)
     } else if is(word, "post") {
@@ -196,6 +215,9 @@ fn worded(
         draft.begin(alloc, ControllerId(names.controller_count()))
     } else if is(word, "done") {
         draft.done = true;
+        Ok(())
+    } else if is(word, "room-journal") {
+        draft.set_form(rest.bytes());
         Ok(())
     } else {
         Ok(())

@@ -126,7 +126,7 @@ pub all_gone : (plant : Plant) (lines : List Line) → drop (length lines) (item
 all_gone plant lines = drop_all (length lines) (items_of plant.wiring lines) (rw (length-map lines (λ (l : Line). item_of plant.wiring l.number l.what)) (omega arith))
 
 -- the line that was read
-line_there : (lines : List Line) (at : ℕ) (x : Line) → x ≡ get_or lines at x → at < length lines → slice_get lines at ≡ Some x
+pub line_there : (lines : List Line) (at : ℕ) (x : Line) → x ≡ get_or lines at x → at < length lines → slice_get lines at ≡ Some x
 line_there lines at x e h = slice_get-get_or lines at x h ∙ ap Some (sym e)
 
 -- no line of a part is a `settle`

@@ -16,13 +16,10 @@ pub(crate) fn message_from_outside(
     payload: &Payload,
     prio: Priority,
 ) -> Result<Msg, AllocError>
+    requires { target.slot.0 < length plant.now.wiring.slots }
     ensures ok { IfOk result (λ m. m ≡ injected plant.now.wiring target signal payload.now prio) }
     ensures to { IfOk result (λ m. m.to.0 < length plant.now.wiring.controllers) }
 {
-    // An accepted line names a slot that is there.
-    if plant.wiring.slot_count() <= u32::from(target.slot.0) {
-        return Err(AllocError);
-    }
     let to = plant.wiring.slot(target.slot).owner;
     Ok(Msg {
         from: ControllerId(0),

@@ -1,5 +1,6 @@
 //! The beginning of a round, with a mail of its own.
 ghost use Rattle.std.specs.Prelude.{◌≡◌, ◌+◌, map, length, IfOk, OnOk};
+ghost use Rattle.inject_reader.specs.Fitting.{FitLines};
 ghost use Rattle.mail_core.specs.SetUp.{AreFresh};
 ghost use Rattle.model_run.specs.part_posts.Items.{items_of};
 ghost use Rattle.model_run.specs.part_source.Calls.{seen, Grew};
@@ -40,6 +41,7 @@ fn post_at_last<M: Mail>(
     requires fresh { AreFresh (length plant.now.wiring.controllers + 1) (map M.log ends.old.items) }
     requires tied { M.tied office.old ends.old.items }
     requires part { IsPart part.now }
+    requires fits { FitLines plant.now.wiring part.now }
     ensures posted { OnOk result (PartPosted plant.now part.now environment.old environment.new (map M.log ends.new.items)) }
     ensures tied { M.tied office.new ends.new.items }
 {
@@ -58,6 +60,7 @@ pub(crate) fn begin_part<M: Mail + Drop, S: PartSource>(
 where
     M::Office: Drop,
     requires before { BeforePart plant.now (items_of plant.now.wiring (S.given source.now)) (S.stands_at source.now) fuel run.old.controllers.items run.old.environment }
+    requires fits { S.fits plant.now.wiring source.now }
     ensures begun { IfOk result (λ made. IsInRound plant.now (items_of plant.now.wiring (S.given source.now)) fuel run.new (map M.log made.1.items)) }
     ensures count { IfOk result (λ made. length made.1.items ≡ length plant.now.wiring.controllers + 1) }
     ensures tied { IfOk result (λ made. M.tied made.0 made.1.items) }

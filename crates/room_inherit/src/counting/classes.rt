@@ -1,6 +1,6 @@
 //! The tokens of classes and of a model.
 ghost use Rattle.std.specs.Prelude.{◌≡◌, ◌-◌, length, map};
-ghost use Rattle.room_ast.specs.Tokens.{maybe, each, extends, all_if, actor_class, behavior, class_tokens, data_class, import_tokens, interface, protocol_class, structure, subsystem, system};
+ghost use Rattle.room_ast.specs.Tokens.{maybe, each, extends, all_if, actor_class, behavior, class_tokens, data_class, import_tokens, interface, protocol_class, structure, subsystem, subsystem_ref, system};
 ghost use Rattle.room_ast.specs.Trees.{actor_view, behavior_view, class_view, model_view, subsystem_view};
 ghost use Rattle.room_inherit.specs.Rules.{tokens_are_few};
 
@@ -12,11 +12,12 @@ use crate::counting::systems::{
 };
 use room_ast::{
     ActorClass, Behavior, Class, Import, InterfaceItem, Model, Name, ProtocolClass, StructureItem,
+    SubsystemRef,
 };
 use room_kinds::Sequence;
 
 /// One more than a flat model has at most.
-const TOO_MANY: usize = 2_000_001;
+pub(crate) const TOO_MANY: usize = 2_000_001;
 
 fn less_interface_if(left: usize, items: &Option<Sequence<InterfaceItem>>) -> usize
     ensures { result ≡ left - length (maybe interface items.now) }
@@ -54,7 +55,8 @@ fn less_base_if(left: usize, base: &Option<Name>) -> usize
     }
 }
 
-fn less_actor(left: usize, a: &ActorClass) -> usize
+/// The tokens of an actor class.
+pub(crate) fn less_actor(left: usize, a: &ActorClass) -> usize
     ensures { result ≡ left - length (actor_class (actor_view a.now)) }
 {
     let left = less_flag(left.saturating_sub(4), a.event_driven);
@@ -77,11 +79,17 @@ fn less_protocol(left: usize, p: &ProtocolClass) -> usize
 }
 
 #[tactic(auto, using(crate::proofs::Counts::count_references))]
+fn less_references(left: usize, references: &Sequence<SubsystemRef>) -> usize
+    ensures { result ≡ left - length (each subsystem_ref references.now) }
+{
+    less_times(left, 4, references.len())
+}
+
 fn less_class(left: usize, class: &Class) -> usize
     ensures { result ≡ left - length (class_tokens (class_view class.now)) }
 {
     match class {
-        Class::System(s) => less_times(left.saturating_sub(4), 4, s.references.len()),
+        Class::System(s) => less_references(left.saturating_sub(4), &s.references),
         Class::Subsystem(s) => less_subsystem_items(left.saturating_sub(4), s.items.as_slice()),
         Class::Actor(a) => less_actor(left, a),
         Class::Protocol(p) => less_protocol(left, p),

@@ -105,7 +105,7 @@ fn refined_inside<'a>(
 
 /// A copy of a graph with its refinements. The calls nest as deep as graphs do.
 #[cycle(refining)]
-#[tactic(auto, using(crate::proofs::Graphs::followed_push, crate::proofs::Graphs::refined_done, crate::proofs::Nothing::nothing_refined))]
+#[tactic(auto, using(crate::proofs::Graphs::refined_done, crate::proofs::Nothing::nothing_refined))]
 pub(crate) fn refined_items<'a>(
     alloc: Global,
     items: &Vec<GraphItem>,

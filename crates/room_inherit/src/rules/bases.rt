@@ -3,13 +3,13 @@ ghost use Rattle.std.specs.Prelude.{◌≡◌, IfOk, is_some, map, option_map};
 ghost use Rattle.std.specs.List.{list_all};
 ghost use Rattle.std.specs.Option.{option_and_then, option_to_list};
 ghost use Rattle.name_tables.specs.name_numbers.Names.{names_of};
-ghost use Rattle.room_ast.specs.Trees.{class_view};
+ghost use Rattle.room_ast.specs.Trees.{actor_view, class_view};
 ghost use Rattle.room_ast.specs.model_parts.Classes.{as_actor, class_name, number_in};
 ghost use Rattle.room_inherit.specs.Flat.{actor_at};
 ghost use Rattle.room_inherit.specs.Rules.{of_actor, extended, has_known_base};
 
 use name_tables::NameIndex;
-use room_ast::{Class, Name};
+use room_ast::{ActorClass, Class, Name};
 use room_kinds::Sequence;
 use std::alloc::{AllocError, Global};
 
@@ -51,7 +51,7 @@ fn base_name<'a>(class: &'a Class) -> Option<&'a Name>
 
 /// The number of the class that a class extends, where these are the names of all classes: the first
 /// of the name. There is none where it extends none, or where no class has the name.
-pub(crate) fn number_above(class: &Class, names: &NameIndex) -> Option<usize>
+fn number_above(class: &Class, names: &NameIndex) -> Option<usize>
     ensures { result ≡ option_and_then (number_in names.now) (option_and_then (λ a. a.base) (as_actor (class_view class.now))) }
 {
     match base_name(class) {
@@ -117,6 +117,27 @@ pub(crate) fn bases_are_known(classes: &[Class], names: &NameIndex) -> bool
         }
     }
     true
+}
+
+/// The actor class of a number, if the class of this number is one.
+#[tactic(auto, using(crate::proofs::Bases::class_got))]
+pub(crate) fn actor_at<'a>(classes: &'a [Class], number: usize) -> Option<&'a ActorClass>
+    ensures { option_map (λ a. actor_view a.now) result ≡ actor_at (map class_view classes.entry.now) number }
+{
+    match classes.get(number) {
+        Some(Class::Actor(actor)) => Some(actor),
+        _ => None,
+    }
+}
+
+/// The number of the class that an actor class extends, where these are the names of all classes.
+pub(crate) fn base_of(class: &ActorClass, names: &NameIndex) -> Option<usize>
+    ensures { result ≡ option_and_then (number_in names.now) (actor_view class.now).base }
+{
+    match &class.base {
+        Some(name) => names.place_of(name.as_bytes()),
+        None => None,
+    }
 }
 
 fn as_sequence(alloc: Global, base: Option<usize>) -> Result<Sequence<usize>, AllocError>

@@ -4,7 +4,7 @@ ghost use Rattle.std.specs.List.{list_all};
 ghost use Rattle.room_ast.specs.ChartTree.{item_view, state_view, graph_view};
 ghost use Rattle.room_ast.specs.Trees.{actor_view};
 ghost use Rattle.room_inherit.specs.Refining.{Refining, as_state, first_state, graph_in, is_called, transitions_named, names_states, names_transition, is_named};
-ghost use Rattle.room_inherit.specs.Rules.{refines_known, graph_of, refinements_of};
+ghost use Rattle.room_inherit.specs.Rules.{chart_is_known, refines_known, graph_of, refinements_of};
 ghost use Rattle.room_inherit.specs.Views.{refining_view, refining_views};
 
 use crate::machine_of;
@@ -156,7 +156,7 @@ fn all_are_named<'a>(items: &'a [GraphItem], pending: &[Pending]) -> bool
 }
 
 /// The refinements of a class's top graph.
-pub(super) fn refinements_of<'a>(
+pub(crate) fn refinements_of<'a>(
     alloc: Global,
     class: &'a ActorClass,
 ) -> Result<Vec<Pending<'a>>, AllocError>
@@ -168,6 +168,18 @@ pub(super) fn refinements_of<'a>(
     }
 }
 
+/// Whether each refinement of a class names what this chart has.
+pub(crate) fn chart_is_known<'a>(
+    alloc: Global,
+    chart: &'a [GraphItem],
+    own: &ActorClass,
+) -> Result<bool, AllocError>
+    ensures { IfOk result (λ b. b ≡ chart_is_known (graph_view chart.entry.now) (actor_view own.now)) }
+{
+    let pending = refinements_of(alloc, own)?;
+    Ok(all_are_named(chart, pending.as_slice()))
+}
+
 /// Whether each refinement of a class names what the chart of its flat base has.
 pub(crate) fn refines_known(
     alloc: Global,
@@ -176,6 +188,5 @@ pub(crate) fn refines_known(
 ) -> Result<bool, AllocError>
     ensures { IfOk result (λ b. b ≡ refines_known (actor_view base.now) (actor_view own.now)) }
 {
-    let pending = refinements_of(alloc, own)?;
-    Ok(all_are_named(graph_of(base), pending.as_slice()))
+    chart_is_known(alloc, graph_of(base), own)
 }

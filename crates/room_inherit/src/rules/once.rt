@@ -4,7 +4,7 @@ ghost use Rattle.std.specs.List.{filter_map, list_all, list_any};
 ghost use Rattle.std.specs.Option.{option_to_list};
 ghost use Rattle.room_ast.specs.Found.{same_path};
 ghost use Rattle.room_ast.specs.Trees.{actor_view, class_view, model_view};
-ghost use Rattle.room_inherit.specs.Rules.{of_actor, paths_differ, refines_once, refinements_differ, state_path, transition_path};
+ghost use Rattle.room_inherit.specs.Rules.{of_actor, once_of, paths_differ, refines_once, refinements_differ, state_path, transition_path};
 ghost use Rattle.room_inherit.specs.Views.{path_view, path_views, refining_view, refining_views};
 
 use crate::refining::Pending;
@@ -126,16 +126,24 @@ fn transition_paths<'a>(alloc: Global, pending: &[Pending<'a>]) -> Result<Vec<Pa
     Ok(paths)
 }
 
-fn refines_once(alloc: Global, class: &ActorClass) -> Result<bool, AllocError>
-    ensures { IfOk result (λ b. b ≡ refines_once (actor_view class.now)) }
+/// Whether no two of the refinements are of one state or of one transition.
+#[tactic(auto, unfolding(crate::specs::Rules::once_of))]
+fn once_of<'a>(alloc: Global, pending: &[Pending<'a>]) -> Result<bool, AllocError>
+    ensures { IfOk result (λ b. b ≡ once_of (refining_views pending.now)) }
 {
-    let pending = refinements_of(alloc, class)?;
-    let states = state_paths(alloc, pending.as_slice())?;
-    let transitions = transition_paths(alloc, pending.as_slice())?;
+    let states = state_paths(alloc, pending)?;
+    let transitions = transition_paths(alloc, pending)?;
     if !paths_differ(states.as_slice()) {
         return Ok(false);
     }
     Ok(paths_differ(transitions.as_slice()))
+}
+
+fn refines_once(alloc: Global, class: &ActorClass) -> Result<bool, AllocError>
+    ensures { IfOk result (λ b. b ≡ refines_once (actor_view class.now)) }
+{
+    let pending = refinements_of(alloc, class)?;
+    once_of(alloc, pending.as_slice())
 }
 
 fn class_refines_once(alloc: Global, class: &Class) -> Result<bool, AllocError>

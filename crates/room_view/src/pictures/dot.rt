@@ -1,8 +1,8 @@
 //! A picture as a graph for Graphviz.
-use crate::page::Page;
 use crate::pictures::colours::light;
 use crate::pictures::diagram::{Block, Diagram, End, Link, Mark, Point, Shape, Sign};
 use crate::pictures::nesting::{Blocks, Step, blocks_of, is_set, steps_of};
+use journal_views::view_pages::Page;
 use std::alloc::AllocError;
 
 /// Puts a text between quotation marks.

@@ -1,8 +1,8 @@
 //! A picture as a flowchart for Mermaid.
-use crate::page::Page;
 use crate::pictures::colours::light;
 use crate::pictures::diagram::{Block, Diagram, End, Link, Mark, Point, Shape, Sign};
 use crate::pictures::nesting::{Step, blocks_of, steps_of};
+use journal_views::view_pages::Page;
 use std::alloc::AllocError;
 
 /// Puts a text between quotation marks: letters, digits and a few marks as they are, all others by their numbers.

@@ -1,5 +1,5 @@
 //! The shapes of which an SVG is made.
-use crate::page::Page;
+use journal_views::view_pages::Page;
 use std::alloc::AllocError;
 
 /// A rectangle.

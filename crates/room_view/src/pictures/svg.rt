@@ -1,5 +1,4 @@
 //! A picture as SVG.
-use crate::page::Page;
 use crate::pictures::colours::{dark, light};
 use crate::pictures::diagram::{Block, Diagram, End, Key, Link, Mark, Point, Shape, Sign};
 use crate::pictures::layout::{
@@ -9,6 +8,7 @@ use crate::pictures::shapes::{
     Anchor, Area, Ink, begin_text, put_area, put_circle, put_corners, put_path, put_text,
     put_tooltip, put_value, put_words,
 };
+use journal_views::view_pages::Page;
 use std::alloc::AllocError;
 
 const BLACK: &[u8] = b"#222222";

@@ -9,7 +9,7 @@ use Rattle.journal.specs.declared.entry.Journals.{Journals}
 use Rattle.actor_merge.specs.Mail.{stamp_of}
 use Rattle.actor_merge.specs.Parties.{State, Plant, fetch, Does, Replays}
 use Rattle.run_promises.proofs.Starts.{AllStarts}
-use Rattle.run_promises.specs.run_journals.Tied.{fetched_at, Follows, IsPosted, IsTiedEntry, AreTied}
+use Rattle.tied_journals.specs.Tied.{fetched_at, Follows, IsPosted, IsTiedEntry, AreTied}
 use Rattle.run_promises.specs.run_journals.InPlace.{IsPost}
 use Rattle.run_promises.proofs.run_journals.OnePost.{as_first, as_later}
 

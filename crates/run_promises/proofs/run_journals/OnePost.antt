@@ -12,7 +12,7 @@ use Rattle.actor_merge.specs.Merge.{Rising, IsStamped, AllStamped}
 use Rattle.actor_world.specs.world_laws.Whereabouts.{fetched}
 use Rattle.run_promises.specs.Mail.{posted}
 use Rattle.run_promises.specs.Stamps.{events, Rise}
-use Rattle.run_promises.specs.run_journals.Tied.{posted_by, posted_at}
+use Rattle.tied_journals.specs.Tied.{posted_by, posted_at}
 
 -- ---- entries in lists
 

@@ -19,7 +19,7 @@ use Rattle.run_promises.specs.Promises.{RunPromises}
 use Rattle.run_promises.proofs.PromisesLaw.{promises}
 use Rattle.run_promises.proofs.Starts.{start_entries_start}
 use Rattle.run_promises.proofs.run_texts.Party.{did, nobody, outside}
-use Rattle.run_promises.specs.run_journals.Tied.{IsPosted, AreTied, Tied}
+use Rattle.tied_journals.specs.Tied.{IsPosted, AreTied, Tied}
 use Rattle.run_promises.proofs.run_journals.OnePost.{entry_fetched, only_post}
 use Rattle.run_promises.proofs.run_journals.InARow.{EachPosted, replay_tied, starts_tied, posts_tied}
 use Rattle.run_promises.proofs.run_journals.OneRun.{own, replay, environment_posts}

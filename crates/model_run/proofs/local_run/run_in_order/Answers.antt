@@ -1,10 +1,16 @@
-use Rattle.std.proofs.Common.{◌≡◌, List, ◌∙◌, subst}
+use Rattle.std.proofs.Common.{◌≡◌, List, sym, ◌∙◌, subst}
 use Rattle.inject_reader.specs.declared.inject_lines.accepted.Line.{Line}
 use Rattle.model_run.specs.declared.fixed_lines.FixedLines.{FixedLines}
+use Rattle.inject_reader.specs.Fitting.{FitLines}
 use Rattle.model_run.specs.run_ends.Runs.{IsRun}
 use Rattle.model_run.proofs.fixed_lines.FixedLaw.{ran_fixed, if_ok_both}
 use Rattle.model_run.proofs.part_source.CallsLaw.{asked_keeps}
 use Rattle.model_run.proofs.local_run.run_in_order.Goals as goal
+
+pub run_parts_in_order-requires-clause-fits : goal.run_parts_in_order-requires-clause-fits
+run_parts_in_order-requires-clause-fits g c =
+    let wiring = c.args.plant.now.wiring in
+    (subst (λ (z : List Line). FitLines wiring z) (sym c.new-source.ensures.lines) c.requires, c.new-source.ensures.fits wiring c.requires)
 
 pub returns : goal.returns
 returns g c =

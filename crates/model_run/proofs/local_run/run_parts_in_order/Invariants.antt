@@ -5,5 +5,6 @@ use Rattle.model_run.proofs.local_run.run_parts_in_order.Given as goal
 abbrev pub invariant-loop-round : goal.invariant-loop-round
 invariant-loop-round g l = record {
   stands : StandsBetween l.plant (g.S.PartSource.given l.source) (g.S.PartSource.stands_at l.source) l.fuel l.run;
+  fits : g.S.PartSource.fits l.plant.wiring l.source;
   asked : Asked g.S.PartSource.goes_on l.fn.source l.source (seen l.run.controllers.items l.run.environment);
 }

@@ -11,6 +11,7 @@ loop-round-init g c =
     let part = g.S.PartSource.stands_at c.args.source.now in
     record {
       stands = subst (λ z. StandsBetween plant z part c.args.fuel c.in_ok-run.run') (sym c.requires.first) (c.in_ok-run.ensures part c.requires.part);
+      fits = c.requires.fits;
       asked = never (seen c.in_ok-run.run'.controllers.items c.in_ok-run.run'.environment);
     }
 
@@ -29,6 +30,7 @@ loop-round-preserved g c =
         before = λ e. let both : true ≡ false = sym begun.in_part ∙ e in absurd cc;
         within = λ e. begun.goes_on news done.0 done.1 done.2;
       };
+      fits = c.in_ok-_office.ensures.fits;
       asked = asked_grew goes_on c.args.source.now source _ _ then
           (grew_round plant run.controllers.items news run.environment (map g.M.Mail.log c.in-Some.ends.items) done.0 done.1 begun.stand done.2);
     }

@@ -1,6 +1,8 @@
-use Rattle.std.proofs.Common.{◌≡◌, None, replicate}
+use Rattle.std.proofs.Common.{◌≡◌, map, take}
+use Rattle.room_ast.specs.Trees.{class_view}
+use Rattle.room_inherit.specs.Filling.{none_taken}
 use Rattle.room_inherit.specs.Views.{flat_views}
 use Rattle.room_inherit.proofs.filling.none_taken.Given as goal
 
-abbrev pub invariant-loop-number : goal.invariant-loop-number
-invariant-loop-number l = flat_views l.flats.items ≡ replicate l._number None
+abbrev pub invariant-loop-class : goal.invariant-loop-class
+invariant-loop-class l = flat_views l.flats.items ≡ none_taken (map class_view (take l._class-index l.classes))

@@ -5,7 +5,7 @@ use Rattle.room_ast.specs.Trees.{model_view}
 use Rattle.room_ast.specs.model_parts.Classes.{actors}
 use Rattle.check_scopes.specs.class_scopes.Scopes.{scope_of}
 use Rattle.chart_reading.specs.chart_graphs.Views.{chart_view}
-use Rattle.chart_reader.specs.model_charts.Written.{written_from, AreWritten}
+use Rattle.chart_reader.specs.model_charts.Written.{written_from}
 use Rattle.chart_reader.specs.model_charts.Charts.{IsFirstFaulty}
 use Rattle.chart_reader.specs.model_charts.Making.{IsRead}
 use Rattle.chart_reader.proofs.model_charts.Few.{few_actors}

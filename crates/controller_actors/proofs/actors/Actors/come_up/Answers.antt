@@ -26,14 +26,14 @@ returns-clause-moves c =
     let k = links_in c.come_up.new.services in
     let before = c.index_mut-actor_slot.result.now in
     let after = c.come_up.new.self in
-    let first = c.args.so_far in
-    let last : SoFar = record { output = c.in_ok-output.output; back = c.in_ok-output.back } in
+    let first = c.args.so_far.now in
+    let last : SoFar = record { output = c.come_up.new.output; back = c.come_up.new.back } in
     let there : x.slot.0 < length old.slots.items = omega (arith, c.requires.last.there, c.requires.has_slots.count) in
     let within : c.from.result < length old.slots.items = omega (arith, c.from.ensures, there) in
     comes_up p c.args.me.0 old _ x before after first last there
     (slot_read old.slots.items x.slot.0 c.from.result before c.from.ensures within c.index_mut-actor_slot.ensures.value) refl
-    (ap (λ i. set old.slots.items i after) c.from.ensures) c.in_ok-output.ensures.serves
-    (subst (λ (o : Option Tables). SlotComesUp p.wiring c.args.me.0 f l g k x o before after first.output first.back last.output last.back) c.tables_of-tables.ensures c.in_ok-output.ensures.up)
+    (ap (λ i. set old.slots.items i after) c.from.ensures) c.in_ok-come_up.ensures.serves
+    (subst (λ (o : Option Tables). SlotComesUp p.wiring c.args.me.0 f l g k x o before after first.output first.back last.output last.back) c.tables_of-tables.ensures c.in_ok-come_up.ensures.up)
     c.requires.has_slots c.requires.last
 
 pub returns-clause-empty : goal.returns-clause-empty
@@ -41,4 +41,4 @@ returns-clause-empty c =
     let old = c.args.self.now in
     let after = c.come_up.new.self in
     let new : Actors = record { alloc = old.alloc; services = c.come_up.new.services; table = old.table; slots = with_item old.slots c.from.result after } in
-    empty_set old new c.args.who.slot.0 after c.in_ok-output.ensures.up.lives (ap (λ i. set old.slots.items i after) c.from.ensures) c.requires.last.live
+    empty_set old new c.args.who.slot.0 after c.in_ok-come_up.ensures.up.lives (ap (λ i. set old.slots.items i after) c.from.ensures) c.requires.last.live

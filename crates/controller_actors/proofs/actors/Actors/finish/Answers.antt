@@ -1,4 +1,4 @@
-use Rattle.std.proofs.Common.{List, sym, subst, refl}
+use Rattle.std.proofs.Common.{List, ap, sym, subst}
 use Rattle.room_kinds.specs.declared.numbers.Incarnation.{Incarnation}
 use Rattle.actor_world.specs.Turns.{all_begun, all_gone}
 use Rattle.controller_actors.specs.declared.changes.SoFar.{SoFar}
@@ -16,13 +16,14 @@ returns c =
     let old = c.args.self.now in
     let mid = c.all_come_up.new.self in
     let new = c.all_go_down.new.self in
-    let first : SoFar = record { output = record { messages = c.args.sent; notes = c.new.result }; back = c.new-2.result } in
-    let one = c.in_ok-so_far.so_far in
+    let first = c.in_ok-so_far.so_far in
+    let one = c.all_come_up.new.so_far in
     let two = c.all_go_down.new.so_far in
     let h : Moves (all_begun (model_of p) p.wiring me left.made) p me old first mid one =
-    subst (λ (xs : List Incarnation). Moves (all_begun (model_of p) p.wiring me xs) p me old first mid one) c.as_slice.ensures c.in_ok-so_far.ensures.moves in
+    subst (λ (xs : List Incarnation). Moves (all_begun (model_of p) p.wiring me xs) p me old first mid one) c.as_slice.ensures c.in_ok-all_come_up.ensures.moves in
     let k : Moves (all_gone p.wiring me left.ended) p me mid one new two =
     subst (λ (xs : List Incarnation). Moves (all_gone p.wiring me xs) p me mid one new two) c.as_slice-2.ensures c.in_ok-all_go_down.ensures.moves in
-    let empty : AreEmpty left.ended mid = c.in_ok-so_far.ensures.empty left.ended c.requires.empty in
-    finishes p me left c.args.sent old mid new first one two c.close.new.so_far c.done.result refl c.new.ensures c.new-2.ensures h k c.in_ok-close.ensures c.done.ensures
+    let empty : AreEmpty left.ended mid = c.in_ok-all_come_up.ensures.empty left.ended c.requires.empty in
+    finishes p me left c.args.sent old mid new first one two c.close.new.so_far c.done.result
+    (ap (λ (s : SoFar). s.output.messages) c.in_ok-so_far.ensures) (ap (λ (s : SoFar). s.output.notes) c.in_ok-so_far.ensures) (ap (λ (s : SoFar). s.back) c.in_ok-so_far.ensures) h k c.in_ok-close.ensures c.done.ensures
     (c.in_ok-all_go_down.ensures.empty (subst (λ (xs : List Incarnation). AreEmpty xs mid) (sym c.as_slice-2.ensures) empty))

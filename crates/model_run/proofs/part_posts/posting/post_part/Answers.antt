@@ -1,6 +1,8 @@
-use Rattle.std.proofs.Common.{◌≡◌, ℕ, length, sym, subst, arith}
+use Rattle.std.proofs.Common.{◌≡◌, ℕ, length, sym, ap, subst, arith}
+use Rattle.room_kinds.specs.declared.message.Msg.{Msg}
 use Rattle.mail_core.proofs.Tied.{IsTied-step, StaysTied-step, StaysTied-refl}
 use Rattle.model_run.specs.part_posts.Posting.{PostsUpTo}
+use Rattle.model_run.proofs.part_posts.FitLaw.{message_fits, slot_there}
 use Rattle.model_run.proofs.part_posts.PostLaw.{none_posted, one_posted, message_read}
 use Rattle.model_run.proofs.part_posts.posting.post_part.Goals as goal
 
@@ -12,6 +14,19 @@ returns-clause-ok g c =
     let all : c.loop-at.at ≡ length c.args.part.now = omega arith in
     subst (λ (z : ℕ). PostsUpTo c.args.plant.now c.args.part.now z c.args.environment.now c.loop-at.environment (g.M.Mail.log c.args.end.now) (g.M.Mail.log c.loop-at.end)) all c.loop-at.invariant.posts
 
+pub message_from_outside-requires : goal.message_from_outside-requires
+message_from_outside-requires g c =
+    slot_there c.args.plant.now.wiring c.in-Message.target c.in-Message.signal c.in-Message.payload c.in-Message.prio.0
+    (message_fits c.args.plant.now.wiring c.args.part.now c.loop-at.at c.index-part-at.result c.in-Message.target c.in-Message.signal c.in-Message.payload c.in-Message.prio
+    c.index-part-at.is c.loop-at-test.true c.in-Message.is c.requires.fits)
+
+pub post-requires-clause-prio : goal.post-requires-clause-prio
+post-requires-clause-prio g c =
+    let most = (message_fits c.args.plant.now.wiring c.args.part.now c.loop-at.at c.index-part-at.result c.in-Message.target c.in-Message.signal c.in-Message.payload c.in-Message.prio
+    c.index-part-at.is c.loop-at-test.true c.in-Message.is c.requires.fits).most in
+    let same : c.in_ok-m.m.prio.0 ≡ c.in-Message.prio.0 = ap (λ (z : Msg). z.prio.0) c.in_ok-m.ensures.ok in
+    omega (arith, most, same)
+
 pub post-requires-clause-tied : goal.post-requires-clause-tied
 post-requires-clause-tied g c = IsTied-step c.requires.tied c.loop-at.invariant.tied (sym c.loop-at.invariant.posts.end.party)
 
@@ -22,9 +37,12 @@ pub loop-at-preserved : goal.loop-at-preserved
 loop-at-preserved g c =
     let here = message_read c.args.plant.now c.args.part.now c.loop-at.at c.index-part-at.result c.in-Message.target c.in-Message.signal c.in-Message.payload c.in-Message.prio c.in_ok-m.m
     c.index-part-at.is c.loop-at-test.true c.in-Message.is c.in_ok-m.ensures.ok in
+    let most = (message_fits c.args.plant.now.wiring c.args.part.now c.loop-at.at c.index-part-at.result c.in-Message.target c.in-Message.signal c.in-Message.payload c.in-Message.prio
+    c.index-part-at.is c.loop-at-test.true c.in-Message.is c.requires.fits).most in
+    let same : c.in_ok-m.m.prio.0 ≡ c.in-Message.prio.0 = ap (λ (z : Msg). z.prio.0) c.in_ok-m.ensures.ok in
     record {
       posts = one_posted c.args.plant.now c.args.part.now c.loop-at.at c.index-part-at.result.number c.args.environment.now c.loop-at.environment
-          (g.M.Mail.log c.args.end.now) (g.M.Mail.log c.loop-at.end) c.in_ok-m.m c.loop-at.invariant.posts here c.in_ok-m.ensures.to (omega arith) c.post.new.self (g.M.Mail.log c.post.new.end)
+          (g.M.Mail.log c.args.end.now) (g.M.Mail.log c.loop-at.end) c.in_ok-m.m c.loop-at.invariant.posts here c.in_ok-m.ensures.to (omega (arith, most, same)) c.post.new.self (g.M.Mail.log c.post.new.end)
           c.in_ok-post.ensures.ok;
       tied = StaysTied-step c.loop-at.invariant.tied c.post.ensures.tied (sym c.loop-at.invariant.posts.end.party);
     }

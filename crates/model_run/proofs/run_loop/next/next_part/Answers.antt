@@ -58,6 +58,12 @@ returns-then-not-more-clause-asks g c =
     (subst (λ (z : List Controller). g.S.PartSource.goes_on c.args.source.now (seen z run.environment) c.next_part.new.self) c.as_slice.ensures.value c.in_ok-more.ensures.goes_on) in
     record { may = saw; grew = grew_none (seen ks run.environment) }
 
+pub returns-then-not-more-clause-fits : goal.returns-then-not-more-clause-fits
+returns-then-not-more-clause-fits g c = c.in_ok-more.ensures.fits c.args.plant.now.wiring
+
+pub returns-clause-fits : goal.returns-clause-fits
+returns-clause-fits g c = c.in_ok-more.ensures.fits c.args.plant.now.wiring
+
 pub returns-clause-stands : goal.returns-clause-stands
 returns-clause-stands g c =
     let plant = c.args.plant.now in

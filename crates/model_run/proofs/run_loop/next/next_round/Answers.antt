@@ -21,6 +21,22 @@ returns-then-not-have_stopped-clause-begun g c =
 pub returns-then-not-have_stopped-clause-asks : goal.returns-then-not-have_stopped-clause-asks
 returns-then-not-have_stopped-clause-asks g c = asks_none g.S.PartSource.goes_on c.args.source.now (seen c.args.run.now.controllers.items c.args.run.now.environment)
 
+pub begin_part-requires-clause-fits : goal.begin_part-requires-clause-fits
+begin_part-requires-clause-fits g c =
+    let here : g.S.PartSource.fits c.args.plant.now.wiring c.if-run.source = elim c.if-run.branch [
+      | then-run+else-not-have_stopped+in_ok-more+else-not-more w ↦ rw w.source-is (w.in_ok-more.ensures.fits c.requires.fits)
+      | else-run w ↦ rw w.source-is c.requires.fits
+    ] in
+    here
+
+pub returns-clause-fits : goal.returns-clause-fits
+returns-clause-fits g c =
+    let here : g.S.PartSource.fits c.args.plant.now.wiring c.if-run.source = elim c.if-run.branch [
+      | then-run+else-not-have_stopped+in_ok-more+else-not-more w ↦ rw w.source-is (w.in_ok-more.ensures.fits c.requires.fits)
+      | else-run w ↦ rw w.source-is c.requires.fits
+    ] in
+    here
+
 pub returns-clause-asks : goal.returns-clause-asks
 returns-clause-asks g c =
     let goes_on = g.S.PartSource.goes_on in

@@ -17,7 +17,7 @@ returns-clause-begins g c =
     let l2 = g.S.Services.links_of c.work.new.services in
     let r = c.in_ok-beginning.beginning in
     let mid : ActorSlot = record { occupant = r.occupant; deferred = c.args.self.now.deferred } in
-    let e : Entrance = record { output = c.in_ok-output.output; back = c.in_ok-output.all_back; state = r.state } in
+    let e : Entrance = record { output = c.work.new.output; back = c.work.new.back; state = r.state } in
     starts t s.me.0 f l f2 l2 s.who (option_copied c.args.tables) c.args.self.now mid c.work.new.self r c.args.sent c.args.back e c.in_ok-beginning.ensures refl refl
-    (subst (λ (cs : List Command). Works t s.me.0 f l f2 l2 s.who None cs mid c.work.new.self (record { messages = c.args.sent; notes = r.notes }) c.args.back e.output e.back) c.as_slice.ensures c.in_ok-output.ensures.works)
+    (subst (λ (cs : List Command). Works t s.me.0 f l f2 l2 s.who None cs mid c.work.new.self (record { messages = c.args.sent; notes = r.notes }) c.args.back e.output e.back) c.as_slice.ensures c.in_ok-work.ensures.works)
     refl c.requires.kept

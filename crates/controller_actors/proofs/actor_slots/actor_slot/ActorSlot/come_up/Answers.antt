@@ -1,5 +1,7 @@
-use Rattle.std.proofs.Common.{List, None, refl, subst}
+use Rattle.std.proofs.Common.{◌∷◌, ◌++◌, List, None, refl, ap, ◌∙◌, subst}
 use Rattle.std.specs.Option.{option_copied}
+use Rattle.room_kinds.specs.declared.note.Note.{Note}
+use Rattle.room_kinds.specs.declared.note.Note.TheVariants as notes
 use Rattle.room_kinds.specs.declared.command.Command.{Command}
 use Rattle.controller_actors.specs.declared.actor_slots.actor_slot.ActorSlot.{ActorSlot}
 use Rattle.controller_actors.specs.actor_slots.Slots.{Works}
@@ -16,8 +18,11 @@ returns-clause-up g c =
     let l2 = g.S.Services.links_of c.work.new.services in
     let r = c.in_ok-beginning.beginning in
     let mid : ActorSlot = record { occupant = r.occupant; deferred = c.new.result } in
-    let last = c.in_ok-output.output in
-    let after = c.in_ok-output.all_back in
-    comes_up t s.me.0 f l f2 l2 s.who (option_copied c.args.tables) c.args.self.now mid c.work.new.self r c.args.output c.args.back last after c.in_ok-beginning.ensures refl c.new.ensures c.in_ok-notes.notes
-    (subst (λ (cs : List Command). Works t s.me.0 f l f2 l2 s.who None cs mid c.work.new.self (record { messages = c.args.output.messages; notes = c.in_ok-notes.notes }) c.args.back last after) c.as_slice.ensures c.in_ok-output.ensures.works)
-    c.in_ok-notes.ensures
+    let first = c.args.output.now in
+    let before = c.args.back.now in
+    let told = c.tell_up.new.notes in
+    let last = c.work.new.output in
+    let after = c.work.new.back in
+    comes_up t s.me.0 f l f2 l2 s.who (option_copied c.args.tables) c.args.self.now mid c.work.new.self r first before last after c.in_ok-beginning.ensures refl c.new.ensures told
+    (subst (λ (cs : List Command). Works t s.me.0 f l f2 l2 s.who None cs mid c.work.new.self (record { messages = first.messages; notes = told }) before last after) c.as_slice-2.ensures c.in_ok-work.ensures.works)
+    (c.in_ok-tell_up.ensures ∙ ap (λ (ns : List Note). first.notes ++ notes.Up s.who r.state ∷ ns) c.as_slice.ensures)

@@ -35,10 +35,10 @@ returns-clause-turns g c =
     let o = option_copied c.args.tables in
     let r = c.in-Some.reaction in
     let mid : ActorSlot = record { occupant = c.react.new.self; deferred = c.args.self.now.deferred } in
-    let last = c.in_ok-output.output in
+    let last = c.work.new.output in
     let done : TurnResult = record { sent = last.messages; back = c.into_sequence.result; did = c.did_of.result; notes = last.notes } in
     let h : Reacts c.args.m.now o c.args.self.now.occupant c.react.new.self r = rw c.in-Some.is at c.in_ok-reaction.ensures in
     turns t s.me.0 f l f2 l2 s.who c.args.m.now o c.args.self.now mid c.work.new.self r done h refl
-    (same_work t s.me.0 f l f2 l2 s.who (Some c.args.m.now) c.as_slice.result.now r.commands mid c.work.new.self c.new.result c.new-none.result c.in_ok-output.back c.into_sequence.result r.notes last
-    c.as_slice.ensures c.new.ensures c.new-none.ensures c.into_sequence.ensures c.in_ok-output.ensures.works)
+    (same_work t s.me.0 f l f2 l2 s.who (Some c.args.m.now) c.as_slice.result.now r.commands mid c.work.new.self c.new.result c.new-back.result c.work.new.back c.into_sequence.result r.notes last
+    c.as_slice.ensures c.new.ensures c.new-back.ensures c.into_sequence.ensures c.in_ok-work.ensures.works)
     c.did_of.ensures c.requires.fits c.requires.prio

@@ -1,8 +1,15 @@
-use Rattle.std.proofs.Common.{false, List, refl, subst}
+use Rattle.std.proofs.Common.{◌≡◌, Bool, false, List, refl, subst}
 use Rattle.std.specs.Option.{option_copied}
 use Rattle.room_kinds.specs.declared.message.Msg.{Msg}
+use Rattle.actor_commands.specs.declared.command_sends.output.Output.{Output}
+use Rattle.actor_commands.specs.declared.doing.Doing.{Doing}
 use Rattle.actor_commands.specs.Doings.{AppliesAll}
 use Rattle.controller_actors.proofs.actor_slots.actor_slot.ActorSlot.work.Goals as goal
+
+-- equal parts make equal doings
+same_doing : {ds ds' : List Msg} {o o' : Output} {back back' : List Msg} → ds ≡ ds' → o ≡ o' → back ≡ back' → (kept : Bool)
+    → ◌≡◌ {A = Doing} (record { deferred = ds; output = o; back = back; kept = kept }) (record { deferred = ds'; output = o'; back = back'; kept = kept })
+same_doing p q r kept = cc
 
 pub returns-clause-works : goal.returns-clause-works
 returns-clause-works g c =
@@ -10,7 +17,7 @@ returns-clause-works g c =
     record {
       kept = c.apply_all.new.doing.kept;
       occupant = refl;
-      applied = subst (λ (ds : List Msg). AppliesAll s.wiring.now s.me.0 (g.S.Services.frame_of c.args.services.now) (g.S.Services.links_of c.args.services.now) (g.S.Services.frame_of c.apply_all.new.services) (g.S.Services.links_of c.apply_all.new.services) s.who (option_copied c.args.message) c.args.commands.now
-          (record { deferred = ds; output = c.args.output; back = c.args.back; kept = false }) c.apply_all.new.doing)
-          c.replace-kept.ensures.value c.in_ok-apply_all.ensures.applied;
+      applied = subst (λ (d : Doing). AppliesAll s.wiring.now s.me.0 (g.S.Services.frame_of c.args.services.now) (g.S.Services.links_of c.args.services.now) (g.S.Services.frame_of c.apply_all.new.services) (g.S.Services.links_of c.apply_all.new.services) s.who (option_copied c.args.message) c.args.commands.now
+          d c.apply_all.new.doing)
+          (same_doing c.replace.ensures.value c.replace-2.ensures.value c.replace-3.ensures.value false) c.in_ok-apply_all.ensures.applied;
     }

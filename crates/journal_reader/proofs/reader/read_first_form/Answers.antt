@@ -1,0 +1,35 @@
+use Rattle.std.proofs.Common.{◌≡◌, ap, ◌∙◌, subst, Option, ℕ}
+use Rattle.std.proofs.lemmas.Bool.{both_ways}
+use Rattle.room_wiring.specs.declared.tables.Tables.{Tables}
+use Rattle.journal.specs.Fits.{Fits}
+use Rattle.journal.specs.Text.{text_of}
+use Rattle.journal_reader.specs.journal_lines.Reading.{journals_in}
+use Rattle.journal_reader.specs.Answer.{Differs}
+use Rattle.journal_reader.proofs.Judging.{read_is, other_text, none_fit}
+use Rattle.journal_reader.proofs.reader.read_first_form.Goals as goal
+
+pub returns-in-Some-clause-only : goal.returns-in-Some-clause-only
+returns-in-Some-clause-only c = λ named j fits range text.
+    let t = c.args.wiring.now in
+    let bytes = c.args.bytes.now in
+    let found = c.in_ok-journals.journals in
+    let found_is : found ≡ journals_in t bytes = c.in_ok-journals.ensures ∙ ap (λ (x : Tables). journals_in x bytes) c.requires in
+    let differs : text_of t found ≡ bytes → ⊥ = subst (λ (o : Option ℕ). Differs o (text_of t found) bytes) c.in-Some.is c.in_ok-offset.ensures in
+    absurd (other_text t bytes found j found_is c.fits-fitting.ensures.consistent named fits range text differs)
+
+pub returns-then-fitting-clause-only : goal.returns-then-fitting-clause-only
+returns-then-fitting-clause-only c = λ named j fits range text.
+    let t = c.args.wiring.now in
+    let bytes = c.args.bytes.now in
+    let found = c.in_ok-journals.journals in
+    let found_is : found ≡ journals_in t bytes = c.in_ok-journals.ensures ∙ ap (λ (x : Tables). journals_in x bytes) c.requires in
+    read_is t bytes found j found_is c.fits-fitting.ensures.consistent named fits range text
+
+pub returns-else-fitting-clause-only : goal.returns-else-fitting-clause-only
+returns-else-fitting-clause-only c = λ named j fits range text.
+    let t = c.args.wiring.now in
+    let bytes = c.args.bytes.now in
+    let found = c.in_ok-journals.journals in
+    let found_is : found ≡ journals_in t bytes = c.in_ok-journals.ensures ∙ ap (λ (x : Tables). journals_in x bytes) c.requires in
+    let unfit : Fits t found → ⊥ = λ h. both_ways c.fits-fitting.result c.if-fitting.false (c.fits-fitting.ensures.fits.1 h) in
+    absurd (none_fit t bytes found j found_is c.fits-fitting.ensures.consistent named fits range text unfit)

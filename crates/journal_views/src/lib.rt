@@ -1,0 +1,29 @@
+//! What the journals of a run tell people: `tell_story`, a line a turn over all controllers in the order of their
+//! stamps, and `tell_end`, what was still open where the run ended.
+//!
+//! Both speak in the names of the model: of actors by their paths, of messages as charts and actions write them, of
+//! priorities by name. They take time and memory in proportion to the journals, but for the sorting of the turns.
+#![tactic(auto)]
+
+mod end;
+mod fetched;
+mod filter;
+mod frame;
+mod lines;
+mod messages;
+mod names;
+mod notes;
+mod standing;
+mod story;
+mod turns;
+pub mod view_pages;
+
+pub use end::tell_end;
+pub use fetched::{Fetched, Name};
+pub use filter::Wanted;
+pub use lines::{put_left, tell_turn};
+pub use messages::{actor_at, put_end, put_received};
+pub use names::{find_signal, place_count, put_actor, put_controller, put_name};
+pub use standing::{Actors, Standing};
+pub use story::tell_story;
+pub use turns::{Turn, turns_of};

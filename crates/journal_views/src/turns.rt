@@ -1,0 +1,117 @@
+//! The turns of all controllers in one order: by stamp, and those of one stamp by controller.
+use crate::fetched::{Fetched, Name};
+use journal::{Did, Entry, Journals};
+use room_kinds::{ControllerId, Note, SlotId, Stamp};
+use std::alloc::{AllocError, Global};
+
+/// Where a turn stands: its stamp, its controller, and its place in that one's journal.
+#[derive(Clone, Copy, Drop, PartialEq, Eq, PartialOrd, Ord)]
+struct Place {
+    stamp: u64,
+    controller: usize,
+    entry: usize,
+}
+
+/// A turn, with the entries that follow it in its journal.
+#[derive(Clone, Copy, Drop)]
+pub struct Turn<'a> {
+    pub stamp: Stamp,
+    pub controller: usize,
+    pub from: ControllerId,
+    pub sent: Stamp,
+    pub did: Did,
+    pub notes: &'a [Note],
+    pub behind: &'a [Entry],
+}
+
+impl<'a> Turn<'a> {
+    /// What journals call the message of the turn.
+    pub fn name(&self) -> Name {
+        Name::new(self.from, self.sent)
+    }
+
+    /// The slot at which the turn was: that of its actor, or of who is meant by its message.
+    pub fn slot(&self, fetched: &Fetched<'_>) -> Option<SlotId> {
+        match self.did.speaker() {
+            Some(slot) => Some(slot),
+            None => match fetched.get(self.name()) {
+                Some(msg) => Some(msg.target.slot),
+                None => None,
+            },
+        }
+    }
+}
+
+fn is_turn(entry: &Entry) -> bool {
+    matches!(entry, Entry::Turn { .. })
+}
+
+/// The entries of a journal up to its next turn.
+pub fn before_turn(entries: &[Entry]) -> &[Entry] {
+    let end = entries
+        .iter()
+        .position(|entry| is_turn(entry))
+        .unwrap_or(entries.len());
+    entries.get(..end).unwrap_or(&[])
+}
+
+/// Adds the places of the turns of a controller's journal.
+fn add_places(
+    places: &mut Vec<Place>,
+    controller: usize,
+    entries: &[Entry],
+) -> Result<(), AllocError> {
+    for (entry, step) in entries.iter().enumerate() {
+        if let Entry::Turn { stamp, .. } = step {
+            places.push(Place {
+                stamp: stamp.0,
+                controller,
+                entry,
+            })?;
+        }
+    }
+    Ok(())
+}
+
+/// The turn at a place.
+fn turn_at<'a>(journals: &'a Journals, place: Place) -> Option<Turn<'a>> {
+    let journal = journals.controllers.as_slice().get(place.controller)?;
+    let (
+        Entry::Turn {
+            stamp,
+            from,
+            sent,
+            did,
+            notes,
+        },
+        behind,
+    ) = journal.as_slice().get(place.entry..)?.split_first()?
+    else {
+        return None;
+    };
+    Some(Turn {
+        stamp: *stamp,
+        controller: place.controller,
+        from: *from,
+        sent: *sent,
+        did: *did,
+        notes: notes.as_slice(),
+        behind: before_turn(behind),
+    })
+}
+
+/// The turns of all controllers, in order.
+pub fn turns_of<'a>(alloc: Global, journals: &'a Journals) -> Result<Vec<Turn<'a>>, AllocError> {
+    let mut places = Vec::new(alloc);
+    for (controller, journal) in journals.controllers.as_slice().iter().enumerate() {
+        add_places(&mut places, controller, journal.as_slice())?;
+    }
+    places.sort()?;
+    let mut turns = Vec::new(alloc);
+    for place in places.as_slice() {
+        if let Some(turn) = turn_at(journals, *place) {
+            turns.push(turn)?;
+        }
+    }
+    Ok(turns)
+}

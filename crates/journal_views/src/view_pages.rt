@@ -1,0 +1,5 @@
+//! Pages of text that a view writes: put together in memory, and written whole.
+
+mod page;
+
+pub use page::{Named, Page};

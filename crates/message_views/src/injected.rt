@@ -1,0 +1,54 @@
+//! The lines of injections that are posted.
+
+/// A line of a text, and its number from 1.
+#[derive(Clone, Copy, Drop)]
+pub struct Line<'a> {
+    pub number: usize,
+    pub text: &'a [u8],
+}
+
+fn is_blank(byte: u8) -> bool {
+    byte == b' ' || byte == b'\t'
+}
+
+/// A line without the blanks at its ends.
+fn trimmed(line: &[u8]) -> &[u8] {
+    let start = line
+        .iter()
+        .position(|byte| !is_blank(*byte))
+        .unwrap_or(line.len());
+    let end = match line.iter().rposition(|byte| !is_blank(*byte)) {
+        Some(last) => last.saturating_add(1),
+        None => start,
+    };
+    line.get(start..end).unwrap_or(&[])
+}
+
+/// Whether a line divides parts.
+fn is_settle(line: &[u8]) -> bool {
+    let settle: &[u8] = b"settle";
+    trimmed(line) == settle
+}
+
+/// Whether a line is posted: it isn't empty, no comment, and divides no parts.
+fn is_posted(line: &[u8]) -> bool {
+    !line.is_empty() && !line.starts_with(b"#") && !is_settle(line)
+}
+
+/// The line that is posted behind so many others.
+pub fn posted_line(text: &[u8], before: usize) -> Option<Line<'_>> {
+    let mut left = before;
+    for (place, line) in text.split(|byte| *byte == b'\n').enumerate() {
+        let line = line.strip_suffix(b"\r").unwrap_or(line);
+        if is_posted(line) {
+            if left == 0 {
+                return Some(Line {
+                    number: place.saturating_add(1),
+                    text: line,
+                });
+            }
+            left -= 1;
+        }
+    }
+    None
+}

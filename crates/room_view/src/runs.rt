@@ -1,0 +1,142 @@
+//! Views of the journals of a run.
+use crate::texts::{Kind, read};
+use crate::why::tell_refused;
+use crate::words::Options;
+use journal::Journals;
+use journal_reader::{ReadFaultOf, read_journals};
+use journal_views::view_pages::{Named, Page};
+use journal_views::{Wanted, find_signal, tell_end, tell_story};
+use room_run::Status;
+use room_wiring::Wiring;
+use std::alloc::AllocError;
+
+/// Whether a text has the last line of journals.
+fn ends_whole(text: &[u8]) -> bool {
+    text.ends_with(b"done\n") || text.ends_with(b"spent\n")
+}
+
+/// What is wrong with a text that has no journals of runs of a model, and the byte that shows it, if one does.
+fn cause_of(text: &[u8], offset: usize) -> (&'static [u8], Option<usize>) {
+    if !ends_whole(text) {
+        let end = text.len().saturating_sub(1);
+        return (
+            b"it doesn't end with a line `done` or `spent`: lines are missing at its end",
+            Some(end),
+        );
+    }
+    if offset >= text.len() {
+        return (
+            b"its lines are as they should be, but speak of what the model doesn't have",
+            None,
+        );
+    }
+    (
+        b"the first byte that is not as `room run` writes it",
+        Some(offset),
+    )
+}
+
+/// Tells where a text differs from all journals of runs of a model.
+fn tell_malformed(page: &mut Page, named: Named<'_>, offset: usize) -> Result<(), AllocError> {
+    tell_refused(page, named, b"it isn't the journals of a run of this model")?;
+    let (cause, place) = cause_of(named.text, offset);
+    page.put_line(cause)?;
+    page.put_line(b"cure: take what `room run` wrote of this very model, whole and unchanged")?;
+    if let Some(place) = place {
+        page.end_line()?;
+        page.put_part(named, place, place.saturating_add(1))?;
+    }
+    Ok(())
+}
+
+/// The journals of a file that fit a wiring, or what is told of it and the status.
+pub(crate) fn journals_of(
+    rt: HostRuntime,
+    page: &mut Page,
+    wiring: &Wiring,
+    name: &str,
+) -> Result<Result<Journals, Status>, AllocError> {
+    let text = match read(rt, page, name, Kind::Journals)? {
+        Ok(text) => text,
+        Err(status) => return Ok(Err(status)),
+    };
+    match read_journals(rt.alloc(), text.as_slice(), wiring) {
+        Ok(journals) => Ok(Ok(journals)),
+        Err(ReadFaultOf::Memory) => Err(AllocError),
+        Err(ReadFaultOf::Malformed { offset }) => {
+            let named = Named {
+                name,
+                text: text.as_slice(),
+            };
+            tell_malformed(page, named, offset)?;
+            Ok(Err(Kind::Journals.refused()))
+        }
+    }
+}
+
+/// Tells that the words name what a model or journals don't have.
+pub(crate) fn tell_unknown(page: &mut Page, what: &[u8], name: &str) -> Result<(), AllocError> {
+    page.put(b"room_view: words refused; the ")?;
+    page.put(what)?;
+    page.put(b" ")?;
+    page.put_line(name.as_bytes())
+}
+
+/// Which lines of a story are wanted; none where the options name what the model doesn't have, which is told.
+fn wanted_of<'a>(
+    page: &mut Page,
+    wiring: &Wiring,
+    options: Options<'a>,
+) -> Result<Option<Wanted<'a>>, AllocError> {
+    let mut wanted = Wanted::all();
+    if let Some(path) = options.actor {
+        wanted.actor = wiring.find(path);
+        if wanted.actor.is_none() {
+            tell_unknown(page, b"model has no actor", path)?;
+            return Ok(None);
+        }
+    }
+    if let Some(name) = options.signal {
+        if !find_signal(wiring, name.as_bytes()) {
+            tell_unknown(page, b"model has no message", name)?;
+            return Ok(None);
+        }
+        wanted.signal = Some(name.as_bytes());
+    }
+    wanted.from = options.from.unwrap_or(wanted.from);
+    wanted.to = options.to.unwrap_or(wanted.to);
+    wanted.only_trouble = options.only_trouble;
+    Ok(Some(wanted))
+}
+
+/// The story of the journals of a file.
+pub(crate) fn tell_story_of(
+    rt: HostRuntime,
+    page: &mut Page,
+    wiring: &Wiring,
+    name: &str,
+    options: Options<'_>,
+) -> Result<Status, AllocError> {
+    let Some(wanted) = wanted_of(page, wiring, options)? else {
+        return Ok(Status::WordsRefused);
+    };
+    match journals_of(rt, page, wiring, name)? {
+        Ok(journals) => tell_story(rt.alloc(), page, wiring, &journals, wanted)?,
+        Err(status) => return Ok(status),
+    }
+    Ok(Status::Done)
+}
+
+/// What was still open where the run of the journals of a file ended.
+pub(crate) fn tell_end_of(
+    rt: HostRuntime,
+    page: &mut Page,
+    wiring: &Wiring,
+    name: &str,
+) -> Result<Status, AllocError> {
+    match journals_of(rt, page, wiring, name)? {
+        Ok(journals) => tell_end(rt.alloc(), page, wiring, &journals)?,
+        Err(status) => return Ok(status),
+    }
+    Ok(Status::Done)
+}

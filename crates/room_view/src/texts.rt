@@ -1,0 +1,68 @@
+//! The texts that words name.
+use crate::why::tell_refused;
+use journal_views::view_pages::{Named, Page};
+use room_outside::{FileShelf, MAX_TEXT, ReadRefused, read_limit};
+use room_run::Status;
+use std::alloc::AllocError;
+
+/// The most bytes of the text of journals.
+const MAX_JOURNALS: u64 = 268_435_456;
+
+/// What a text is.
+#[derive(Clone, Copy, PartialEq, Eq)]
+pub(crate) enum Kind {
+    Model,
+    Injections,
+    Journals,
+}
+
+impl Kind {
+    fn limit(self) -> u64 {
+        match self {
+            Kind::Model | Kind::Injections => MAX_TEXT,
+            Kind::Journals => MAX_JOURNALS,
+        }
+    }
+
+    fn too_long(self) -> &'static [u8] {
+        match self {
+            Kind::Model | Kind::Injections => b"it has more than 1,048,576 bytes",
+            Kind::Journals => b"it has more than 268,435,456 bytes",
+        }
+    }
+
+    /// How a call ends that is given such a text, and refuses it.
+    pub(crate) fn refused(self) -> Status {
+        match self {
+            Kind::Model => Status::ModelRefused,
+            Kind::Injections | Kind::Journals => Status::InjectionsRefused,
+        }
+    }
+}
+
+/// The text of a file, or what is told of it and the status.
+pub(crate) fn read(
+    rt: HostRuntime,
+    page: &mut Page,
+    name: &str,
+    kind: Kind,
+) -> Result<Result<Vec<u8>, Status>, AllocError> {
+    let limit = kind.limit();
+    if limit > MAX_JOURNALS {
+        return Ok(Err(kind.refused()));
+    }
+    match read_limit(rt.alloc(), &mut FileShelf::new(rt), name, limit) {
+        Ok(text) => Ok(Ok(text)),
+        Err(ReadRefused::Memory) => Err(AllocError),
+        Err(ReadRefused::ReadFault) => {
+            page.put(name.as_bytes())?;
+            page.put_line(b" was not read")?;
+            Ok(Err(Status::ReadFault))
+        }
+        Err(ReadRefused::TooLong) => {
+            let named = Named { name, text: &[] };
+            tell_refused(page, named, kind.too_long())?;
+            Ok(Err(kind.refused()))
+        }
+    }
+}

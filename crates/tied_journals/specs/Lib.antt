@@ -1,0 +1,6 @@
+pub mod Tied
+pub mod Text
+pub mod Untied
+pub mod PostTables
+pub mod Writing
+pub mod Messages
