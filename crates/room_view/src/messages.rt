@@ -86,12 +86,12 @@ fn tell(
 }
 
 /// The way of one message of the run of a model.
-pub(crate) fn tell_message_of(
+pub(crate) fn tell_message_of<'a>(
     rt: HostRuntime,
     page: &mut Page,
-    model: Named<'_>,
-    wiring: &Wiring,
-    message: Message<'_>,
+    model: Named<'a>,
+    wiring: &'a Wiring,
+    message: Message<'a>,
 ) -> Result<Status, AllocError> {
     let lines = match injections_of(rt, page, wiring, message.injections)? {
         Ok(lines) => lines,

@@ -6,6 +6,7 @@ use journal::Journals;
 use journal_reader::{ReadFaultOf, read_journals};
 use journal_views::view_pages::{Named, Page};
 use journal_views::{Wanted, find_signal, tell_end, tell_story};
+use room_kinds::SlotId;
 use room_run::Status;
 use room_wiring::Wiring;
 use std::alloc::AllocError;
@@ -82,31 +83,62 @@ pub(crate) fn tell_unknown(page: &mut Page, what: &[u8], name: &str) -> Result<(
     page.put_line(name.as_bytes())
 }
 
-/// Which lines of a story are wanted; none where the options name what the model doesn't have, which is told.
-fn wanted_of<'a>(
-    page: &mut Page,
-    wiring: &Wiring,
-    options: Options<'a>,
-) -> Result<Option<Wanted<'a>>, AllocError> {
-    let mut wanted = Wanted::all();
-    if let Some(path) = options.actor {
-        wanted.actor = wiring.find(path);
-        if wanted.actor.is_none() {
-            tell_unknown(page, b"model has no actor", path)?;
-            return Ok(None);
-        }
+/// Whether a model has an actor's path; that it hasn't is told.
+fn knows_actor(page: &mut Page, wiring: &Wiring, path: &str) -> Result<bool, AllocError> {
+    if wiring.find(path).is_some() {
+        return Ok(true);
     }
-    if let Some(name) = options.signal {
-        if !find_signal(wiring, name.as_bytes()) {
-            tell_unknown(page, b"model has no message", name)?;
-            return Ok(None);
-        }
-        wanted.signal = Some(name.as_bytes());
+    tell_unknown(page, b"model has no actor", path)?;
+    Ok(false)
+}
+
+/// Whether a model has a message; that it hasn't is told.
+fn knows_signal(page: &mut Page, wiring: &Wiring, name: &str) -> Result<bool, AllocError> {
+    if find_signal(wiring, name.as_bytes()) {
+        return Ok(true);
     }
-    wanted.from = options.from.unwrap_or(wanted.from);
-    wanted.to = options.to.unwrap_or(wanted.to);
-    wanted.only_trouble = options.only_trouble;
-    Ok(Some(wanted))
+    tell_unknown(page, b"model has no message", name)?;
+    Ok(false)
+}
+
+/// Whether a model has what options name; what it hasn't is told.
+fn knows(page: &mut Page, wiring: &Wiring, options: Options<'_>) -> Result<bool, AllocError> {
+    let is_known = match options.actor {
+        Some(path) => knows_actor(page, wiring, path)?,
+        None => true,
+    };
+    if !is_known {
+        return Ok(false);
+    }
+    match options.signal {
+        Some(name) => knows_signal(page, wiring, name),
+        None => Ok(true),
+    }
+}
+
+fn slot_of(wiring: &Wiring, path: Option<&str>) -> Option<SlotId> {
+    match path {
+        Some(path) => wiring.find(path),
+        None => None,
+    }
+}
+
+fn bytes_of(name: Option<&str>) -> Option<&[u8]> {
+    match name {
+        Some(name) => Some(name.as_bytes()),
+        None => None,
+    }
+}
+
+/// Which lines of a story options ask for.
+fn wanted_of<'a>(wiring: &Wiring, options: Options<'a>) -> Wanted<'a> {
+    Wanted {
+        actor: slot_of(wiring, options.actor),
+        signal: bytes_of(options.signal),
+        from: options.from.unwrap_or(0),
+        to: options.to.unwrap_or(u64::MAX),
+        only_trouble: options.only_trouble,
+    }
 }
 
 /// The story of the journals of a file.
@@ -117,9 +149,10 @@ pub(crate) fn tell_story_of(
     name: &str,
     options: Options<'_>,
 ) -> Result<Status, AllocError> {
-    let Some(wanted) = wanted_of(page, wiring, options)? else {
+    if !knows(page, wiring, options)? {
         return Ok(Status::WordsRefused);
-    };
+    }
+    let wanted = wanted_of(wiring, options);
     match journals_of(rt, page, wiring, name)? {
         Ok(journals) => tell_story(rt.alloc(), page, wiring, &journals, wanted)?,
         Err(status) => return Ok(status),

@@ -105,9 +105,19 @@ fn message_of(word: &str) -> Option<MessageName<'_>> {
     Some(MessageName { word, party, sent })
 }
 
-impl<'a> Options<'a> {
-    fn none() -> Options<'a> {
-        Options {
+/// What options say, with the places of their words.
+#[derive(Clone, Copy)]
+struct Places {
+    actor: Option<usize>,
+    signal: Option<usize>,
+    from: Option<u64>,
+    to: Option<u64>,
+    only_trouble: bool,
+}
+
+impl Places {
+    fn none() -> Places {
+        Places {
             actor: None,
             signal: None,
             from: None,
@@ -116,49 +126,67 @@ impl<'a> Options<'a> {
         }
     }
 
-    /// The options with what a flag says; none where it says so twice, or its word has another form.
-    fn with(self, flag: Flag, word: &'a str) -> Option<Options<'a>> {
-        let mut options = self;
+    /// What options say with a flag and the word at a place; none where the flag stood before, or its word has another
+    /// form.
+    fn with(self, flag: Flag, place: usize, word: &str) -> Option<Places> {
+        let mut places = self;
         match flag {
-            Flag::Actor if self.actor.is_none() => options.actor = Some(word),
-            Flag::Signal if self.signal.is_none() => options.signal = Some(word),
-            Flag::From if self.from.is_none() => options.from = Some(stamp_of(word)?),
-            Flag::To if self.to.is_none() => options.to = Some(stamp_of(word)?),
+            Flag::Actor if self.actor.is_none() => places.actor = Some(place),
+            Flag::Signal if self.signal.is_none() => places.signal = Some(place),
+            Flag::From if self.from.is_none() => places.from = Some(stamp_of(word)?),
+            Flag::To if self.to.is_none() => places.to = Some(stamp_of(word)?),
             _ => return None,
         }
-        Some(options)
+        Some(places)
     }
 
-    /// The options where only trouble is asked for; none where it was before.
-    fn with_trouble(self) -> Option<Options<'a>> {
+    /// What options say where only trouble is asked for; none where it was before.
+    fn with_trouble(self) -> Option<Places> {
         if self.only_trouble {
             return None;
         }
-        let mut options = self;
-        options.only_trouble = true;
-        Some(options)
+        let mut places = self;
+        places.only_trouble = true;
+        Some(places)
     }
 }
 
-/// Which lines of a story these words ask for.
-fn options_of(words: &[String]) -> Option<Options<'_>> {
-    let mut options = Options::none();
+/// What options say; none where they have another form.
+fn places_of(words: &[String]) -> Option<Places> {
+    let mut places = Places::none();
     let mut open = None;
-    for word in words {
-        let word = word.as_str();
+    for (place, word) in words.iter().enumerate() {
         match open {
             Some(flag) => {
-                options = options.with(flag, word)?;
+                places = places.with(flag, place, word.as_str())?;
                 open = None;
             }
-            None if word == "--only-trouble" => options = options.with_trouble()?,
-            None => open = Some(flag_of(word)?),
+            None if word.as_str() == "--only-trouble" => places = places.with_trouble()?,
+            None => open = Some(flag_of(word.as_str())?),
         }
     }
     match open {
         Some(_) => None,
-        None => Some(options),
+        None => Some(places),
     }
+}
+
+/// The word at a place.
+fn word_at(words: &[String], place: Option<usize>) -> Option<&str> {
+    let word = words.get(place?)?;
+    Some(word.as_str())
+}
+
+/// Which lines of a story these words ask for.
+fn options_of(words: &[String]) -> Option<Options<'_>> {
+    let places = places_of(words)?;
+    Some(Options {
+        actor: word_at(words, places.actor),
+        signal: word_at(words, places.signal),
+        from: places.from,
+        to: places.to,
+        only_trouble: places.only_trouble,
+    })
 }
 
 fn ask<'a>(model: &'a String, asked: Asked<'a>) -> Option<Question<'a>> {
