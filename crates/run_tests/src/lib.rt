@@ -1,6 +1,8 @@
 //! What only code can try of the parts of a run: messages that are deferred and come back, a controller's
-//! queues, and whether all is quiet while the environment posts.
+//! queues, whether all is quiet while the environment posts, and the mailboxes, alone and among threads.
 #![tactic(auto)]
+
+pub mod mail_tests;
 
 #[cfg(test)]
 mod deferred_tests;

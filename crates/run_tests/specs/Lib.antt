@@ -1,0 +1,1 @@
+pub mod mail_tests

@@ -1,7 +1,0 @@
-use Rattle.std.proofs.Common.{refl}
-use Rattle.world_examples.proofs.Computing.{computing}
-use Rattle.world_examples.proofs.stale_message.Goals as goal
-
-pub returns : goal.returns
-unfolding computing
-returns c = record { begins = refl; run = refl }
