@@ -4,6 +4,7 @@
 mod buffer;
 mod lines;
 mod part;
+mod short_numbers;
 
 pub use buffer::LineBuffer;
 pub use lines::write_line;

@@ -40,7 +40,7 @@ fn text_of(alloc: Global, len: usize) -> Result<Vec<u8>, AllocError> {
 
 /// A text that is read in two pieces.
 fn long_text(alloc: Global) -> Result<Vec<u8>, AllocError> {
-    text_of(alloc, 5_000)
+    text_of(alloc, 70_000)
 }
 
 #[test]
@@ -74,7 +74,7 @@ fn fails_once(rt: &impl Abort, alloc: Global, call: u64) -> Result<(), Fail> {
 
 #[test]
 fn a_read_that_fails_in_mid_stream_is_told_and_counted(rt: HostRuntime) -> Result<(), Fail> {
-    // The reads of the long text are calls 1 to 3, of 4,096 bytes, of 904 and of none.
+    // The reads of the long text are calls 1 to 3, of 65,536 bytes, of 4,464 and of none.
     fails_once(&rt, rt.alloc(), 1)?;
     fails_once(&rt, rt.alloc(), 2)?;
     fails_once(&rt, rt.alloc(), 3)

@@ -1,12 +1,10 @@
 -- Graphs by their keys, and states in order.
-use Rattle.std.proofs.Common.{◌≡◌, ℕ, zero, suc, ◌+◌, ◌-◌, ◌<◌, ◌≤◌, Bool, true, false, cond, not, List, [], ◌∷◌, ◌++◌, length, get_or, take, drop, map, refl, sym, ap, ◌∙◌, subst, arith, Option, Some, None, option_map, append_assoc, nat_lt, Bor}
+use Rattle.std.proofs.Common.{◌≡◌, ℕ, zero, suc, ◌+◌, ◌-◌, ◌<◌, ◌≤◌, List, [], ◌∷◌, ◌++◌, length, get_or, drop, map, refl, sym, ap, ◌∙◌, subst, arith, Option, Some, None, option_map, append_assoc, Bor}
 use Rattle.std.specs.Prelude.{position, option_and_then, slice_get}
-use Rattle.std.specs.List.{flat_map, find, position_or_len}
+use Rattle.std.specs.List.{flat_map}
 use Rattle.std.specs.Option.{option_map_or}
-use Rattle.std.proofs.lemmas.List.{drop_all, drop_more, append-nil, length-map, map-append}
-use Rattle.std.proofs.lemmas.List.Folds.{find_at}
-use Rattle.std.proofs.lemmas.Option.{none-some, same_Some, slice_get-map, slice_get_past}
-use Rattle.std.proofs.lemmas.Bool.Decides.{nat_tests}
+use Rattle.std.proofs.lemmas.List.{drop_all, drop_more, append-nil, map-append}
+use Rattle.std.proofs.lemmas.Option.{slice_get-map}
 use Rattle.name_tables.specs.name_numbers.Names.{same}
 use Rattle.chart_model.specs.Chart.{Path, State, Graph, Chart}
 use Rattle.chart_model.specs.Named.{first, graph_at, same_path}
@@ -15,47 +13,10 @@ use Rattle.chart_reading.specs.chart_graphs.Views.{graph_view}
 use Rattle.chart_reading.specs.declared.chart_graphs.Graph.{Graph as CodeGraph}
 use Rattle.chart_reader.specs.chart_nodes.Keys.{codes}
 use Rattle.chart_reader.proofs.chart_nodes.KeyLaws.{same_codes}
-use Rattle.chart_reader.proofs.chart_nodes.Onward.{path_is, path_own}
+use Rattle.chart_reader.proofs.chart_nodes.Onward.{path_is}
+use Rattle.chart_reader.proofs.chart_nodes.GraphKeys.{first_passes, graph_is}
 use Rattle.chart_compile.specs.declared.chart_places.places.Place.{Place}
 use Rattle.chart_compile.specs.chart_places.Places.{FoundAt, keys_of, shared_key, place_of, place_view, places_below, places_of, states_at, PlaceTree}
-
-same_turn : (p q : Path) → same_path p q ≡ same_path q p
-same_turn p q = split (same_path p q) (same_path q p) refl refl
-  where
-    split : (a b : Bool) → same_path p q ≡ a → same_path q p ≡ b → a ≡ b
-    split true true e f = refl
-    split true false e f = let own : same_path q p ≡ true = subst (λ r. same_path q r ≡ true) (sym (path_is p q e)) (path_own q) in absurd cc
-    split false true e f = let own : same_path p q ≡ true = subst (λ r. same_path r q ≡ true) (path_is q p f) (path_own q) in absurd cc
-    split false false e f = refl
-
--- ---- the first item that passes a test
-
-first_is_find : {A : Type 0} (p : A → Bool) (xs : List A) → first p xs ≡ find p xs
-first_is_find p [] = refl
-first_is_find p (x ∷ xs) = ap (λ o. cond (p x) (Some x) o) (first_is_find p xs)
-
--- it is the one at the first place
-pub first_at : {A : Type 0} (p : A → Bool) (xs : List A) → first p xs ≡ option_and_then (λ i. slice_get xs i) (position p xs)
-first_at p xs = first_is_find p xs ∙ find_at p xs ∙ split xs (position_or_len p xs) (nat_lt (position_or_len p xs) (length xs)) refl
-  where
-    split : {A : Type 0} (xs : List A) (n : ℕ) (b : Bool) → nat_lt n (length xs) ≡ b → slice_get xs n ≡ option_and_then (λ i. slice_get xs i) (cond b (Some n) None)
-    split xs n true e = refl
-    split xs n false e = slice_get_past xs n (let past : length xs ≤ n = grind (arith, nat_tests) in past)
-
-pub first_passes : {A : Type 0} (p : A → Bool) (xs : List A) (x : A) → first p xs ≡ Some x → p x ≡ true
-first_passes p [] x e = absurd (none-some x e)
-first_passes p (y ∷ xs) x e = split p y xs x (p y) refl (first_passes p xs x) e
-  where
-    split : {A : Type 0} (p : A → Bool) (y : A) (xs : List A) (x : A) (b : Bool) → p y ≡ b → (first p xs ≡ Some x → p x ≡ true) → cond b (Some y) (first p xs) ≡ Some x → p x ≡ true
-    split p y xs x true t again e = subst (λ z. p z ≡ true) (same_Some y x e) t
-    split p y xs x false t again e = again e
-
-prefix_agree : {A B : Type 0} (q : B → Bool) (p : A → Bool) (f : A → B) → ((x : A) → q (f x) ≡ p x) → (xs : List A) → position_or_len q (map f xs) ≡ position_or_len p xs
-prefix_agree q p f same [] = refl
-prefix_agree q p f same (x ∷ xs) = ap (λ b. cond (not b) (1 + position_or_len q (map f xs)) 0) (same x) ∙ ap (λ n. cond (not (p x)) (1 + n) 0) (prefix_agree q p f same xs)
-
-pub position_agree : {A B : Type 0} (q : B → Bool) (p : A → Bool) (f : A → B) → ((x : A) → q (f x) ≡ p x) → (xs : List A) → position q (map f xs) ≡ position p xs
-position_agree q p f same xs = rw (prefix_agree q p f same xs, length-map xs f) refl
 
 -- ---- graphs by their keys
 
@@ -67,10 +28,8 @@ pub graph_found : (gs : List CodeGraph) (keys : List (List ℕ)) (key : List ℕ
     → option_map graph_view found ≡ first (λ (g : Graph). same_path g.owner path) (map graph_view gs)
 graph_found gs keys key path found e f h =
     let graphs = map graph_view gs in
-    let place : position (same key) keys ≡ position (λ (g : Graph). same_path g.owner path) graphs =
-    ap (λ k. position (same k) keys) f ∙ ap (position (same (shared_key path))) e ∙ position_agree (same (shared_key path)) (λ (g : Graph). same_path g.owner path) (λ (g : Graph). shared_key g.owner) (λ g. same_codes path g.owner ∙ same_turn path g.owner) graphs
-    in
-    ap (option_map graph_view) (h ∙ ap (option_and_then (λ i. slice_get gs i)) place) ∙ read_made graph_view gs (position (λ (g : Graph). same_path g.owner path) graphs) ∙ sym (first_at (λ (g : Graph). same_path g.owner path) graphs)
+    ap (option_map graph_view) h ∙ read_made graph_view gs (position (same key) keys) ∙ ap (λ k. option_and_then (λ i. slice_get graphs i) (position (same k) keys)) f
+    ∙ ap (λ ks. option_and_then (λ i. slice_get graphs i) (position (same (shared_key path)) ks)) e ∙ graph_is shared_key same_codes graphs path
 
 pub owner_is : (chart : Chart) (path : Path) (g : Graph) → graph_at chart path ≡ Some g → g.owner ≡ path
 owner_is chart path g e = path_is g.owner path (first_passes (λ (g : Graph). same_path g.owner path) chart.graphs g e)

@@ -7,6 +7,7 @@ ghost use Rattle.room_outside.specs.line_text.Parts.{part_text, part_texts};
 ghost use Rattle.room_outside.specs.line_text.Output.{Puts, at_rest};
 
 use crate::line_text::part::Part;
+use crate::line_text::short_numbers::{five_digits, four_digits, three_digits, two_digits};
 use crate::{Sink, WriteFault, write_whole};
 use itoa::Buffer;
 use std::marker::Model;
@@ -176,8 +177,32 @@ impl LineBuffer {
         self.put_digits(sink, number)
     }
 
+    /// Adds a number of more than one digit. The stamps of a run have few.
     #[inline(never)]
     fn put_digits<K: Sink>(&mut self, sink: &mut K, number: u64) -> Result<(), WriteFault>
+        requires { 10 ≤ number }
+        ensures { Puts result
+            (record { written = K.written sink.old; held = self.old })
+            (record { written = K.written sink.new; held = self.new })
+            (decimal number) }
+    {
+        if number < 100 {
+            return self.put(sink, &two_digits(number));
+        }
+        if number < 1_000 {
+            return self.put(sink, &three_digits(number));
+        }
+        if number < 10_000 {
+            return self.put(sink, &four_digits(number));
+        }
+        if number < 100_000 {
+            return self.put(sink, &five_digits(number));
+        }
+        self.put_many_digits(sink, number)
+    }
+
+    #[inline(never)]
+    fn put_many_digits<K: Sink>(&mut self, sink: &mut K, number: u64) -> Result<(), WriteFault>
         ensures { Puts result
             (record { written = K.written sink.old; held = self.old })
             (record { written = K.written sink.new; held = self.new })
@@ -226,6 +251,7 @@ impl LineBuffer {
         Ok(())
     }
 
+    #[inline(always)]
     fn put_part<K: Sink>(&mut self, sink: &mut K, part: &Part) -> Result<(), WriteFault>
         ensures { Puts result
             (record { written = K.written sink.old; held = self.old })
@@ -238,6 +264,67 @@ impl LineBuffer {
             Part::Signed(number) => self.put_signed(sink, number),
             Part::Numbers(numbers) => self.put_numbers(sink, numbers),
         }
+    }
+
+    /// Adds a part of a line. With the three that follow, a part that is known where they are called
+    /// costs no more than its bytes.
+    #[inline(always)]
+    pub fn put_one<K: Sink>(&mut self, sink: &mut K, part: Part) -> Result<(), WriteFault>
+        ensures { Puts result
+            (record { written = K.written sink.old; held = self.old })
+            (record { written = K.written sink.new; held = self.new })
+            (concat (part_text part.entry ∷ [])) }
+    {
+        self.put_part(sink, &part)
+    }
+
+    /// Adds two parts of a line.
+    #[inline(always)]
+    pub fn put_two<K: Sink>(&mut self, sink: &mut K, a: Part, b: Part) -> Result<(), WriteFault>
+        ensures { Puts result
+            (record { written = K.written sink.old; held = self.old })
+            (record { written = K.written sink.new; held = self.new })
+            (concat (part_text a.entry ∷ part_text b.entry ∷ [])) }
+    {
+        self.put_part(sink, &a)?;
+        self.put_one(sink, b)
+    }
+
+    /// Adds three parts of a line.
+    #[inline(always)]
+    pub fn put_three<K: Sink>(
+        &mut self,
+        sink: &mut K,
+        a: Part,
+        b: Part,
+        c: Part,
+    ) -> Result<(), WriteFault>
+        ensures { Puts result
+            (record { written = K.written sink.old; held = self.old })
+            (record { written = K.written sink.new; held = self.new })
+            (concat (part_text a.entry ∷ part_text b.entry ∷ part_text c.entry ∷ [])) }
+    {
+        self.put_part(sink, &a)?;
+        self.put_two(sink, b, c)
+    }
+
+    /// Adds four parts of a line.
+    #[inline(always)]
+    pub fn put_four<K: Sink>(
+        &mut self,
+        sink: &mut K,
+        a: Part,
+        b: Part,
+        c: Part,
+        d: Part,
+    ) -> Result<(), WriteFault>
+        ensures { Puts result
+            (record { written = K.written sink.old; held = self.old })
+            (record { written = K.written sink.new; held = self.new })
+            (concat (part_text a.entry ∷ part_text b.entry ∷ part_text c.entry ∷ part_text d.entry ∷ [])) }
+    {
+        self.put_part(sink, &a)?;
+        self.put_three(sink, b, c, d)
     }
 
     /// Adds the parts of a line.

@@ -1,0 +1,136 @@
+# The kinds of text that front_end.sh and memory.sh measure, for bash to source behind timing.sh.
+
+# All kinds. `long_` stands for names and paths of 200 letters and more, `chain` for mappings nested as
+# deep as the text goes, each in an actor inside the one before.
+all_kinds="references mappings nested_mappings chain bindings layers ports classes derived messages states
+transitions choices branches points subgraphs composites attributes data_classes services long_bindings
+long_mappings long_chain long_classes long_states long_services injections journals read_journals"
+
+head='RoomModel M {\nLogicalSystem L { SubSystemRef s: S }\nProtocolClass P { incoming { Message go() } outgoing { Message ok() } }\n'
+top_class='SubSystemClass S { ActorRef a: A }\n'
+chart="${head}${top_class}ActorClass A { Interface { Port p: P } Structure { external Port p } Behavior { StateMachine {\nTransition b: initial -> S\nState S\n"
+chart_end='} } } }'
+long="$(printf 'name%.0s' {1..50})"
+end_class='ActorClass B { Interface { Port p: P conjugated Port q: P } Structure { external Port p external Port q } }\n'
+
+# A text of at most so many bytes: a beginning, lines with a number each, at most so many of them,
+# and an end. `#` stands for the number, `@` for the number before it.
+fill() {
+    awk -v most="$1" -v start="$2" -v line="$3" -v stop="$4" -v limit="${5:-1000000}" 'BEGIN {
+        size = length(start) + length(stop)
+        printf "%s", start
+        for (i = 1; i <= limit; i++) {
+            text = line
+            gsub(/#/, i, text)
+            gsub(/@/, i - 1, text)
+            if (size + length(text) > most) break
+            printf "%s", text
+            size += length(text)
+        }
+        printf "%s", stop
+    }'
+}
+
+# A chain of actors, each inside the one before, and of mappings nested as deep, of at most so many
+# bytes and 4,000 deep; the references have this name.
+chain() {
+    awk -v most="$1" -v start="$head" -v name="$2" 'BEGIN {
+        size = length(start) + 200
+        depth = int((most - size) / (75 + 2 * length(name)))
+        if (depth > 4000) depth = 4000
+        printf start
+        print "ActorClass C0 { }"
+        for (i = 1; i < depth; i++) printf "ActorClass C%d { Structure { ActorRef %s: C%d } }\n", i, name, i - 1
+        printf "SubSystemClass S { LogicalThread t ActorRef %s: C%d\n", name, depth - 1
+        for (i = 1; i < depth; i++) printf "ActorInstanceMapping %s -> t {\n", name
+        printf "ActorInstanceMapping %s -> t", name
+        for (i = 1; i < depth; i++) printf " }"
+        print "\n} }"
+    }'
+}
+
+# The text of a kind, of at most so many bytes.
+text_of() {
+    local most="$2"
+    case "$1" in
+    references) fill "$most" "${head}${top_class}ActorClass B { }\nActorClass A { Structure {\n" 'ActorRef r#: B\n' '} }\n}' ;;
+    mappings) fill "$most" "${head}ActorClass A { }\nSubSystemClass S { LogicalThread t\n" 'ActorRef r#: A ActorInstanceMapping r# -> t\n' '}\n}' ;;
+    nested_mappings) fill "$most" "${head}ActorClass B { }\nActorClass A { Structure { ActorRef b: B } }\nSubSystemClass S { LogicalThread t\n" 'ActorRef r#: A ActorInstanceMapping r# -> t { ActorInstanceMapping b -> t }\n' '}\n}' ;;
+    chain) chain "$most" a ;;
+    bindings) fill "$most" "${head}${top_class}${end_class}ActorClass A { Structure { ActorRef r0: B\n" 'ActorRef r#: B Binding r#.p and r@.q\n' '} }\n}' ;;
+    layers) fill "$most" "${head}${top_class}ActorClass C { Structure { SAP s: P } }\nActorClass D { Interface { SPP s: P } }\nActorClass A { Structure { ActorRef d: D\n" 'ActorRef r#: C LayerConnection ref r# satisfied_by d.s\n' '} }\n}' ;;
+    ports) fill "$most" "${head}${top_class}ActorClass A { Structure {\n" 'Port p#: P\n' '} }\n}' 60000 ;;
+    classes) fill "$most" "${head}${top_class}ActorClass A { }\n" 'ActorClass C# { Interface { Port p: P } Structure { external Port p ActorRef a: A } }\n' '}' 59000 ;;
+    derived) fill "$most" "${head}${top_class}ActorClass A { }\nActorClass B { Interface { Port p: P } Structure { external Port p } }\n" 'ActorClass C# extends B { Structure { ActorRef a: A } }\n' '}' 59000 ;;
+    messages) fill "$most" "${head}${top_class}ActorClass A { }\nProtocolClass Q { incoming {\n" 'Message m#(int8)\n' '} } }' 60000 ;;
+    states) fill "$most" "$chart" 'State S#\n' "$chart_end" 59999 ;;
+    transitions) fill "$most" "$chart" 'State S# Transition t#: S# -> S# { triggers { <go: p> } }\n' "$chart_end" ;;
+    choices) fill "$most" "$chart" 'ChoicePoint c# Transition t#: S -> cp c# { triggers { <go: p> } } Transition d#: cp c# -> S\n' "$chart_end" ;;
+    branches) fill "$most" "${chart}ChoicePoint c Transition e: S -> cp c { triggers { <go: p> } } Transition d: cp c -> S\n" 'Transition d#: cp c -> S { cond { "1" } }\n' "$chart_end" ;;
+    points) fill "$most" "$chart" 'TransitionPoint q# Transition t#: my q# -> S { triggers { <go: p> } }\n' "$chart_end" ;;
+    subgraphs) fill "$most" "$chart" 'State S# { subgraph { Transition b: initial -> S State S } }\n' "$chart_end" ;;
+    composites) fill "$most" "$chart" 'State S# { subgraph { Transition b: initial -> S State S EntryPoint in ExitPoint out Transition f: my in -> S Transition l: S -> my out { triggers { <go: p> } } } } Transition t#: S -> in of S# { triggers { <go: p> } } Transition o#: out of S# -> S\n' "$chart_end" ;;
+    attributes) fill "$most" "${head}${top_class}ActorClass A { Structure {\n" 'Attribute an_attribute_with_a_longer_name_#: int8 = 1\n' '} }\n}' 4096 ;;
+    data_classes) fill "$most" "${head}${top_class}ActorClass A { }\n" 'DataClass D# { Attribute x: int8 = 1 Attribute y: int16 }\n' '}' 59000 ;;
+    services) fill "$most" "$chart" "Transition t#: S -> S { triggers { <go: p> } action { \"register p as name_#;\" } }\n" "$chart_end" ;;
+    long_bindings) fill "$most" "${head}${top_class}${end_class}ActorClass A { Structure { ActorRef ${long}0: B\n" "ActorRef ${long}#: B Binding ${long}#.p and ${long}@.q\n" '} }\n}' ;;
+    long_mappings) fill "$most" "${head}ActorClass B { }\nActorClass A { Structure { ActorRef ${long}: B } }\nSubSystemClass S { LogicalThread $long\n" "ActorRef ${long}#: A ActorInstanceMapping ${long}#/${long} -> ${long}\n" '}\n}' ;;
+    long_chain) chain "$most" "$long" ;;
+    long_classes) fill "$most" "${head}${top_class}ActorClass A { }\n" "ActorClass ${long}# { Interface { Port ${long}: P } Structure { external Port ${long} ActorRef a: A } }\n" '}' ;;
+    long_states) fill "$most" "$chart" "State ${long}# Transition ${long}#: ${long}# -> ${long}# { triggers { <go: p> } }\n" "$chart_end" ;;
+    long_services) fill "$most" "$chart" "Transition t#: S -> S { triggers { <go: p> } action { \"register p as ${long}#;\" } }\n" "$chart_end" ;;
+    *) return 1 ;;
+    esac
+}
+
+# The model of one actor that counts its messages, on which injections are read and journals written.
+one="$(one_actor 'Transition i: initial -> A State A
+Transition k: A -> A { triggers { <kick: go> } action { "n = n + data;" } }')"
+
+# The program that reads journals: ROOM_VIEW_PROGRAM, or the proved one.
+view_program="${ROOM_VIEW_PROGRAM:-$top/crates/room_view/out/room_view}"
+
+# The program that a kind is for.
+program_for() {
+    if [ "$1" = read_journals ]; then echo "$view_program"; else echo "$program"; fi
+}
+
+# The most bytes that a program had allocated at once on some words.
+most_heap() {
+    valgrind --tool=dhat --dhat-out-file=/dev/null "$@" 2>&1 >/dev/null |
+        awk '/At t-gmax/ { gsub(",", "", $4); print $4 }'
+}
+
+# Writes the texts of a kind, of at most so many bytes: sets `words`, with which its program is run,
+# and `bytes`. Of journals the bytes are those of the answer, some ten times as long as the injections.
+prepare() {
+    case "$1" in
+    injections)
+        # No fuel for a turn more than one: what is left is the reading.
+        fill "$2" '' 'top.go kick # at low\n' '' 10000 >"$work/inject.txt"
+        printf '%s' "$one" >"$work/model.room"
+        words=(run "$work/model.room" "$work/inject.txt" --fuel 1)
+        bytes="$(stat -c %s "$work/inject.txt")"
+        ;;
+    journals | read_journals)
+        fill "$(($2 / 10))" '' 'top.go kick #\n' '' 10000 >"$work/inject.txt"
+        printf '%s' "$one" >"$work/model.room"
+        words=(run "$work/model.room" "$work/inject.txt" --fuel 100000)
+        "$program" "${words[@]}" >"$work/journals"
+        bytes="$(stat -c %s "$work/journals")"
+        [ "$1" = journals ] || words=(end "$work/model.room" "$work/journals")
+        ;;
+    *)
+        text_of "$1" "$2" >"$work/model.room"
+        words=(check "$work/model.room")
+        bytes="$(stat -c %s "$work/model.room")"
+        ;;
+    esac
+}
+
+# The instructions that a kind takes: of journals those of the writing of their text alone.
+counted_of() {
+    local whole
+    whole="$(program="$(program_for "$1")" instructions "${words[@]}")"
+    if [ "$1" = journals ]; then instructions_in "$the_text"; else echo "$whole"; fi
+}
