@@ -27,7 +27,7 @@ kind_is chart (an_entry owner e) = refl
 kind_is chart (an_exit [] x) = refl
 kind_is chart (an_exit (s ∷ owner) x) = refl
 
-filter_made : {A B : Type 0} (p : B → Bool) (f : A → B) (xs : List A) → filter p (map f xs) ≡ map f (filter (λ x. p (f x)) xs)
+pub filter_made : {A B : Type 0} (p : B → Bool) (f : A → B) (xs : List A) → filter p (map f xs) ≡ map f (filter (λ x. p (f x)) xs)
 filter_made p f [] = refl
 filter_made p f (x ∷ xs) = split p f x xs (p (f x)) (filter_made p f xs)
   where

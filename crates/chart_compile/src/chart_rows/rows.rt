@@ -13,7 +13,7 @@ use crate::chart_rows::lookup::{number, state_number, steps_at};
 use action_program::copy_program;
 use chart_reader::{Step, named_key, plain_key};
 use chart_run::{Arrow, Row};
-use name_tables::Numbers;
+use name_tables::NameIndex;
 use room_ast::Name;
 use room_kinds::Sequence;
 use std::alloc::{AllocError, Global};
@@ -21,7 +21,7 @@ use std::alloc::{AllocError, Global};
 /// The numbers of a state and of those that have it, from inner to outer.
 fn up_line<'c>(
     alloc: Global,
-    states: &Numbers<'c>,
+    states: &NameIndex<'c>,
     name: &Name,
     owner: &[Name],
 ) -> Result<Vec<u16>, AllocError>
@@ -42,9 +42,9 @@ fn up_line<'c>(
 /// The row of a state.
 fn make_row<'b, 's, 'g, 'n, 'p>(
     alloc: Global,
-    states: &Numbers<'s>,
-    graphs: &Numbers<'g>,
-    nodes: &Numbers<'n>,
+    states: &NameIndex<'s>,
+    graphs: &NameIndex<'g>,
+    nodes: &NameIndex<'n>,
     steps: &[Step<'b>],
     own: &[Sequence<usize>],
     place: &Place<'p>,
@@ -74,9 +74,9 @@ fn make_row<'b, 's, 'g, 'n, 'p>(
 /// The rows of states, in the order of their numbers.
 pub fn rows_of<'b, 's, 'g, 'n, 'p>(
     alloc: Global,
-    states: &Numbers<'s>,
-    graphs: &Numbers<'g>,
-    nodes: &Numbers<'n>,
+    states: &NameIndex<'s>,
+    graphs: &NameIndex<'g>,
+    nodes: &NameIndex<'n>,
     steps: &[Step<'b>],
     own: &[Sequence<usize>],
     places: &[Place<'p>],
@@ -94,8 +94,8 @@ pub fn rows_of<'b, 's, 'g, 'n, 'p>(
 
 fn make_shared<'b, 'g, 'n>(
     alloc: Global,
-    graphs: &Numbers<'g>,
-    nodes: &Numbers<'n>,
+    graphs: &NameIndex<'g>,
+    nodes: &NameIndex<'n>,
     steps: &[Step<'b>],
     groups: &[Sequence<usize>],
     key: &[u8],
@@ -111,8 +111,8 @@ fn make_shared<'b, 'g, 'n>(
 /// For each graph the transitions from its transition points.
 pub fn shared_of<'b, 'g, 'n>(
     alloc: Global,
-    graphs: &Numbers<'g>,
-    nodes: &Numbers<'n>,
+    graphs: &NameIndex<'g>,
+    nodes: &NameIndex<'n>,
     steps: &[Step<'b>],
     groups: &[Sequence<usize>],
     keys: &[Sequence<u8>],

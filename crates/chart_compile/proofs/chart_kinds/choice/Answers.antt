@@ -5,8 +5,11 @@ use Rattle.chart_compile.specs.chart_places.Groups.{picked}
 use Rattle.chart_run.specs.chart_tables.Tables.{arrow_views}
 use Rattle.chart_run.specs.declared.chart_tables.tables.Arrow.{Arrow}
 use Rattle.chart_compile.specs.chart_parts.Nodes.{IsFirst, has_none}
-use Rattle.chart_compile.proofs.chart_kinds.Lines.{choice_some}
+use Rattle.chart_compile.proofs.chart_kinds.Lines.{choice_some, some_first}
 use Rattle.chart_compile.proofs.chart_kinds.choice.Goals as goal
+
+pub unreachable-requires : goal.unreachable-requires
+unreachable-requires c = some_first c.args.nodes.now c.in_ok-default.default (filter has_none (picked (map step_view c.args.steps.now) c.args.group.now)) c.in_ok-default.ensures c.in-None.is c.requires
 
 pub returns-in-Some : goal.returns-in-Some
 returns-in-Some c =

@@ -3,8 +3,7 @@ use Rattle.chart_model.specs.chart_plan.Same.{Each}
 use Rattle.chart_reader.specs.chart_nodes.Steps.{StepTree, step_view}
 use Rattle.chart_compile.specs.chart_places.Groups.{picked}
 use Rattle.chart_compile.specs.chart_parts.Nodes.{IsNode}
-use Rattle.chart_compile.proofs.chart_rows.Listing.{each_start_plain, taken_all}
-use Rattle.chart_compile.proofs.Making.{picked_next}
+use Rattle.chart_compile.proofs.chart_rows.Listing.{each_start_plain, picked_next, taken_all}
 use Rattle.chart_compile.proofs.nodes.nodes_of.Goals as goal
 
 pub loop-number-init : goal.loop-number-init
