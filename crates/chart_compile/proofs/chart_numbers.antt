@@ -3,3 +3,4 @@ pub mod Ordering
 pub mod Distinct
 pub mod Counting
 pub mod KeyLists
+pub mod Known

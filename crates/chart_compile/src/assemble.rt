@@ -6,7 +6,7 @@ ghost use Rattle.chart_reader.specs.chart_nodes.Keys.{codes};
 ghost use Rattle.chart_reader.specs.chart_nodes.Steps.{step_view};
 ghost use Rattle.chart_reader.specs.chart_nodes.Circles.{parts_of};
 ghost use Rattle.chart_compile.specs.chart_places.Places.{place_view};
-ghost use Rattle.chart_compile.specs.chart_parts.Parts.{IsRow, IsShared, from_key};
+ghost use Rattle.chart_compile.specs.chart_parts.Parts.{IsRow, IsShared, from_key, key_of};
 ghost use Rattle.chart_compile.specs.chart_numbers.Order.{AreNumbered};
 ghost use Rattle.chart_compile.specs.Joined.{AllGoOn, AreKeyed, AreMade, AreOf};
 
@@ -30,7 +30,7 @@ fn state_rows<'b, 'p, 's, 'g, 'n>(
     steps: &[Step<'b>],
     places: &[Place<'p>],
 ) -> Result<Vec<Row>, AllocError>
-    requires { length states.now ≡ length places.now }
+    requires { states.now ≡ map key_of (map place_view places.now) }
     ensures { IfOk result (λ rows. Each (IsRow states.now graphs.now nodes.now (map step_view steps.now)) rows.items (map place_view places.now)) }
 {
     let own = group_by(alloc, states, places.len(), steps)?;
@@ -87,7 +87,7 @@ pub fn assemble<'b, 'p, 's, 'g>(
     count: usize,
     values: &[i64],
 ) -> Result<Tables, AllocError>
-    requires states_are { length states.now ≡ length places.now }
+    requires states_are { states.now ≡ map key_of (map place_view places.now) }
     requires graphs_are { graphs.now ≡ keys.now }
     requires keyed { AreKeyed (map step_view steps.now) }
     requires go_on { AllGoOn (map step_view steps.now) }

@@ -1,7 +1,9 @@
 //! The nodes of the tables.
-ghost use Rattle.std.specs.Prelude.{◌≡◌, ◌≤◌, length, map, IfOk, OnOk};
+ghost use Rattle.std.specs.Prelude.{◌≡◌, ◌≤◌, true, Some, length, map, slice_get, IfOk, OnOk};
+ghost use Rattle.name_tables.specs.name_numbers.Names.{is_among};
 ghost use Rattle.chart_model.specs.chart_plan.Same.{Each};
-ghost use Rattle.chart_reader.specs.chart_nodes.Steps.{step_view};
+ghost use Rattle.chart_reader.specs.chart_nodes.Steps.{StepTree, step_view};
+ghost use Rattle.chart_reader.specs.chart_nodes.Circles.{targets_of};
 ghost use Rattle.chart_compile.specs.chart_places.Groups.{IsGrouped, picked};
 ghost use Rattle.chart_compile.specs.chart_parts.Parts.{from_key, target_of};
 ghost use Rattle.chart_compile.specs.chart_parts.Nodes.{GoesOn, IsNode, node_after};
@@ -27,9 +29,10 @@ fn node_after<'b, 's, 'n>(
     requires grouped { IsGrouped nodes.now groups.now (map step_view steps.now) }
     requires keyed { (step_view step.now).target ≡ target_of (step_view step.now) }
     requires goes_on { GoesOn (node_after (step_view step.now)) (from_key (target_of (step_view step.now)) (map step_view steps.now)) }
+    requires known { is_among nodes.now (step_view step.now).target ≡ true }
     ensures { IfOk result (λ n. IsNode states.now nodes.now (map step_view steps.now) n (step_view step.now)) }
 {
-    let group = steps_at(nodes, groups, step.target.as_slice())?;
+    let group = steps_at(nodes, groups, step.target.as_slice());
     let node = make_node(alloc, states, nodes, steps, group, step)?;
     Ok(node)
 }
@@ -47,6 +50,7 @@ fn add_node<'b, 's, 'n>(
     requires grouped { IsGrouped nodes.now groups.now (map step_view steps.now) }
     requires keyed { AreKeyed (map step_view steps.now) }
     requires go_on { AllGoOn (map step_view steps.now) }
+    requires known { (s : StepTree) → slice_get (map step_view steps.now) number ≡ Some s → is_among nodes.now s.target ≡ true }
     ensures { OnOk result (AddsNode states.now nodes.now (map step_view steps.now) number made.old.items made.new.items) }
 {
     let Some(step) = step_at(steps, number) else {
@@ -69,6 +73,7 @@ pub fn nodes_of<'b, 's, 'n>(
     requires grouped { IsGrouped nodes.now groups.now (map step_view steps.now) }
     requires keyed { AreKeyed (map step_view steps.now) }
     requires go_on { AllGoOn (map step_view steps.now) }
+    requires numbered { nodes.now ≡ targets_of (picked (map step_view steps.now) targets.now) }
     ensures { IfOk result (λ made. Each (IsNode states.now nodes.now (map step_view steps.now)) made.items (picked (map step_view steps.now) targets.now)) }
 {
     let mut made = Vec::new(alloc);

@@ -1,8 +1,9 @@
 -- Steps by their numbers, copies, and lines of states.
-use Rattle.std.proofs.Common.{◌≡◌, ℕ, ◌+◌, ◌<◌, List, [], ◌∷◌, ◌++◌, length, get_or, take, map, refl, arith, sym, ap, ◌∙◌, subst, Option, Some, None, option_map, Bor, append_assoc}
+use Rattle.std.proofs.Common.{◌≡◌, ℕ, ◌+◌, ◌<◌, List, [], ◌∷◌, ◌++◌, length, get_or, take, map, refl, arith, sym, ap, ◌∙◌, subst, true, Option, Some, None, option_map, Bor, append_assoc}
 use Rattle.std.specs.Prelude.{slice_get, position, option_and_then}
 use Rattle.std.proofs.lemmas.List.{append-nil, map-append, take_more}
-use Rattle.name_tables.specs.name_numbers.Names.{same}
+use Rattle.std.proofs.lemmas.Option.{slice_get-get_or}
+use Rattle.name_tables.specs.name_numbers.Names.{same, is_among}
 use Rattle.action_program.specs.Numbered.{ExprTree, expr_view}
 use Rattle.chart_model.specs.chart_plan.Plan.{Trigger}
 use Rattle.chart_model.specs.chart_plan.Same.{Each, none, more}
@@ -14,7 +15,8 @@ use Rattle.chart_run.specs.declared.chart_tables.tables.Event.{Event as CodeEven
 use Rattle.chart_run.specs.declared.chart_tables.tables.Trigger.{Trigger as CodeTrigger}
 use Rattle.chart_reader.specs.chart_nodes.Steps.{StepTree}
 use Rattle.chart_compile.specs.chart_places.Groups.{IsGrouped, picked}
-use Rattle.chart_compile.proofs.chart_places.GroupLaws.{group_at}
+use Rattle.chart_compile.proofs.chart_places.GroupLaws.{group_at, groups_many}
+use Rattle.chart_compile.proofs.chart_numbers.Ordering.{number_among}
 use Rattle.chart_compile.specs.chart_parts.Parts.{AddsArrow, IsArrow, IsState, from_key}
 use Rattle.chart_compile.proofs.chart_rows.Listing.{each_more}
 
@@ -29,6 +31,16 @@ group_found keys groups key r g group steps e is own grouped = split (position (
     split : (o : Option ℕ) → position (same key) keys ≡ o → picked steps group ≡ from_key key steps
     split (Some k) p = group_at keys steps groups k group key grouped p (sym (ap (option_and_then (λ i. slice_get groups i)) p) ∙ there)
     split None p = let no : ◌≡◌ {A = Option (List ℕ)} None (Some group) = sym (ap (option_and_then (λ i. slice_get groups i)) p) ∙ there in absurd cc
+
+-- a key among keys has a group
+pub group_there : (keys groups : List (List ℕ)) (key : List ℕ) (r : Option (Bor (List ℕ))) (steps : List StepTree) → option_map (λ (g : Bor (List ℕ)). g.now) r ≡ option_and_then (λ i. slice_get groups i) (position (same key) keys) → r ≡ None → IsGrouped keys groups steps → is_among keys key ≡ true → ⊥
+group_there keys groups key r steps e is grouped known =
+    let found = number_among keys key known in
+    let many : length groups ≡ length keys = groups_many keys groups steps grouped in
+    let there : slice_get groups found.0 ≡ Some (get_or groups found.0 []) = slice_get-get_or groups found.0 [] (omega (arith, many, found.2)) in
+    let no : ◌≡◌ {A = Option (List ℕ)} None (Some (get_or groups found.0 [])) =
+    sym (ap (option_map (λ (g : Bor (List ℕ)). g.now)) is) ∙ e ∙ ap (option_and_then (λ i. slice_get groups i)) found.1 ∙ there in
+    absurd cc
 
 -- ---- arrows
 

@@ -1,6 +1,6 @@
 //! Numbers and steps by keys.
-ghost use Rattle.std.specs.Prelude.{◌≡◌, ◌∷◌, List, option_and_then, option_map, position, slice_get, IfOk};
-ghost use Rattle.name_tables.specs.name_numbers.Names.{same};
+ghost use Rattle.std.specs.Prelude.{◌≡◌, ◌∷◌, true, List, option_and_then, option_map, position, slice_get, IfOk};
+ghost use Rattle.name_tables.specs.name_numbers.Names.{same, is_among};
 ghost use Rattle.chart_reader.specs.chart_nodes.Steps.{StepTree};
 ghost use Rattle.chart_compile.specs.chart_places.Groups.{IsGrouped, picked};
 ghost use Rattle.chart_compile.specs.chart_parts.Parts.{IsNumber, IsState, from_key};
@@ -63,17 +63,19 @@ fn find_group<'c, 'd>(
     }
 }
 
-/// The numbers of the steps that begin at the place with a key.
+/// The numbers of the steps that begin at the place with a key, which is one of these places.
 pub fn steps_at<'c, 'd>(
     places: &NameIndex<'c>,
     groups: &'d [Sequence<usize>],
     key: &[u8],
-) -> Result<&'d [usize], AllocError>
-    ensures { IfOk result (λ found. (steps : List StepTree) → IsGrouped places.now groups.entry.now steps → picked steps found.now ≡ from_key key.now steps) }
+) -> &'d [usize]
+    requires grouped { (steps : List StepTree) × IsGrouped places.now groups.now steps }
+    requires known { is_among places.now key.now ≡ true }
+    ensures { (steps : List StepTree) → IsGrouped places.now groups.entry.now steps → picked steps result.now ≡ from_key key.now steps }
 {
     let found = find_group(places, groups, key);
     match found {
-        Some(group) => Ok(group.as_slice()),
-        None => Err(AllocError),
+        Some(group) => group.as_slice(),
+        None => unreachable!(),
     }
 }

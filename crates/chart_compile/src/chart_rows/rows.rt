@@ -1,11 +1,12 @@
 //! Rows of states, and the transitions from transition points.
-ghost use Rattle.std.specs.Prelude.{◌∷◌, map, IfOk};
+ghost use Rattle.std.specs.Prelude.{◌≡◌, ◌∷◌, true, map, IfOk};
+ghost use Rattle.name_tables.specs.name_numbers.Names.{is_among};
 ghost use Rattle.chart_model.specs.chart_plan.Same.{Each};
 ghost use Rattle.chart_model.specs.Named.{outward};
 ghost use Rattle.chart_reader.specs.chart_nodes.Steps.{step_view};
 ghost use Rattle.chart_compile.specs.chart_places.Places.{place_view};
 ghost use Rattle.chart_compile.specs.chart_places.Groups.{IsGrouped};
-ghost use Rattle.chart_compile.specs.chart_parts.Parts.{IsRow, IsShared, IsState};
+ghost use Rattle.chart_compile.specs.chart_parts.Parts.{IsRow, IsShared, IsState, key_of};
 
 use crate::chart_places::Place;
 use crate::chart_rows::arrows::arrows_of;
@@ -49,7 +50,8 @@ fn make_row<'b, 's, 'g, 'n, 'p>(
     own: &[Sequence<usize>],
     place: &Place<'p>,
 ) -> Result<Row, AllocError>
-    requires { IsGrouped states.now own.now (map step_view steps.now) }
+    requires grouped { IsGrouped states.now own.now (map step_view steps.now) }
+    requires known { is_among states.now (key_of (place_view place.now)) ≡ true }
     ensures { IfOk result (λ row. IsRow states.now graphs.now nodes.now (map step_view steps.now) row (place_view place.now)) }
 {
     let state = place.state;
@@ -58,7 +60,7 @@ fn make_row<'b, 's, 'g, 'n, 'p>(
     let entry = copy_program(alloc, &state.entry)?;
     let exit = copy_program(alloc, &state.exit)?;
     let key = named_key(alloc, 1, &state.name, owner)?;
-    let group = steps_at(states, own, key.as_slice())?;
+    let group = steps_at(states, own, key.as_slice());
     let arrows = arrows_of(alloc, nodes, steps, group)?;
     let graph_key = plain_key(alloc, 2, owner)?;
     let graph = number(graphs, graph_key.as_slice())?;
@@ -81,7 +83,8 @@ pub fn rows_of<'b, 's, 'g, 'n, 'p>(
     own: &[Sequence<usize>],
     places: &[Place<'p>],
 ) -> Result<Vec<Row>, AllocError>
-    requires { IsGrouped states.now own.now (map step_view steps.now) }
+    requires grouped { IsGrouped states.now own.now (map step_view steps.now) }
+    requires keyed { states.now ≡ map key_of (map place_view places.now) }
     ensures { IfOk result (λ rows. Each (IsRow states.now graphs.now nodes.now (map step_view steps.now)) rows.items (map place_view places.now)) }
 {
     let mut rows = Vec::new(alloc);
@@ -100,10 +103,11 @@ fn make_shared<'b, 'g, 'n>(
     groups: &[Sequence<usize>],
     key: &[u8],
 ) -> Result<Vec<Arrow>, AllocError>
-    requires { IsGrouped graphs.now groups.now (map step_view steps.now) }
+    requires grouped { IsGrouped graphs.now groups.now (map step_view steps.now) }
+    requires known { is_among graphs.now key.now ≡ true }
     ensures { IfOk result (λ arrows. IsShared nodes.now (map step_view steps.now) arrows key.now) }
 {
-    let group = steps_at(graphs, groups, key)?;
+    let group = steps_at(graphs, groups, key);
     let arrows = arrows_of(alloc, nodes, steps, group)?;
     Ok(arrows)
 }
@@ -117,7 +121,8 @@ pub fn shared_of<'b, 'g, 'n>(
     groups: &[Sequence<usize>],
     keys: &[Sequence<u8>],
 ) -> Result<Vec<Vec<Arrow>>, AllocError>
-    requires { IsGrouped graphs.now groups.now (map step_view steps.now) }
+    requires grouped { IsGrouped graphs.now groups.now (map step_view steps.now) }
+    requires keyed { graphs.now ≡ keys.now }
     ensures { IfOk result (λ shared. Each (IsShared nodes.now (map step_view steps.now)) shared.items keys.now) }
 {
     let mut shared = Vec::new(alloc);

@@ -10,6 +10,9 @@ node_after-requires-clause-keyed c = c.requires.keyed c.args.number (step_view c
 pub node_after-requires-clause-goes_on : goal.node_after-requires-clause-goes_on
 node_after-requires-clause-goes_on c = c.requires.go_on c.args.number (step_view c.in-Some.step.now) (step_found step_view c.args.steps.now c.args.number c.step_at.result c.in-Some.step c.step_at.ensures c.in-Some.is)
 
+pub node_after-requires-clause-known : goal.node_after-requires-clause-known
+node_after-requires-clause-known c = c.requires.known (step_view c.in-Some.step.now) (step_found step_view c.args.steps.now c.args.number c.step_at.result c.in-Some.step c.step_at.ensures c.in-Some.is)
+
 pub returns-in_default : goal.returns-in_default
 returns-in_default c =
     node_none c.args.states.now c.args.nodes.now (map step_view c.args.steps.now) c.args.number c.args.made.now.items (step_missing step_view c.args.steps.now c.args.number c.step_at.result c.step_at.ensures c.in_default.is)

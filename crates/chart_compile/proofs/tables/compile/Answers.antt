@@ -12,6 +12,10 @@ use Rattle.chart_compile.proofs.Going.{go_on}
 use Rattle.chart_compile.proofs.Making.{are_keyed, enough, no_circle, starts, tables_of}
 use Rattle.chart_compile.proofs.tables.compile.Goals as goal
 
+pub assemble-requires-clause-states_are : goal.assemble-requires-clause-states_are
+assemble-requires-clause-states_are c =
+    c.in_ok-states.ensures ∙ c.as_slice-3.ensures.value ∙ c.in_ok-state_keys.ensures ∙ ap (λ (l : List Place). map key_of (map place_view l)) (c.as_slice-2.ensures.value ∙ sym c.as_slice-6.ensures.value)
+
 pub assemble-requires-clause-keyed : goal.assemble-requires-clause-keyed
 assemble-requires-clause-keyed c = are_keyed (chart_view c.args.chart.now) (map step_view c.as_slice-5.result.now) (ap (map step_view) c.as_slice-5.ensures.value ∙ c.in_ok-steps.ensures)
 
