@@ -175,12 +175,12 @@ text_sound text tree wiring charts short h sound = record { short = short; tree 
 pub plant_parts : (text : List ℕ) (wiring : Tables) (charts : List (Option Chart)) (tables : List (Option ChartTables)) → IsSoundText text wiring charts → ShowCharts tables charts → AreOfPlant wiring tables
 plant_parts text wiring charts tables is shown =
     let controllers = controllers_few is.tree wiring is.sound.keeps is.sound.wired.wired in record {
-  some_controller = controllers.0;
-  few_controllers = omega (arith, controllers.1);
-  sound = λ class v at. all_sound tables charts shown class v at;
-  order = model_depth_first is.tree wiring is.sound.wired.wired.slots;
-  ports = checked_numbered is.tree wiring is.sound.keeps is.sound.wired.wired.classes;
-  owners = (wiring_consistent is.tree wiring is.sound.wired.wired is.sound.keeps is.sound.wired.flawless).owners_known;
-  ranked = λ class v at.
-      let one = all_compiled tables charts shown class v at in models_ranked is.tree charts is.sound.faultless class one.0 v one.1 one.2;
-}
+      some_controller = controllers.0;
+      few_controllers = omega (arith, controllers.1);
+      sound = λ class v at. all_sound tables charts shown class v at;
+      order = model_depth_first is.tree wiring is.sound.wired.wired.slots;
+      ports = checked_numbered is.tree wiring is.sound.keeps is.sound.wired.wired.classes;
+      owners = (wiring_consistent is.tree wiring is.sound.wired.wired is.sound.keeps is.sound.wired.flawless).owners_known;
+      ranked = λ class v at.
+          let one = all_compiled tables charts shown class v at in models_ranked is.tree charts is.sound.faultless class one.0 v one.1 one.2;
+    }

@@ -78,5 +78,7 @@ unfolding wired_names threads_are_few
 controllers_few m t keeps wiring =
     let few : list_all has_few_threads m.classes ≡ true = threads_few m (threads_kept m keeps) in
     let counts = of_threads (thread_names (wired_of m).items) (of_wired m (wired_subsystem m) (wired_few m.classes few (wired_name (systems m)))) in
+    let some : 1 ≤ length (wired_names m).controllers = counts.0 in
+    let most : length (wired_names m).controllers ≤ 32 = counts.1 in
     let same = ap length wiring.controllers in
-    (omega (arith, counts.0, same), omega (arith, counts.1, same))
+    (omega (arith, some, same), omega (arith, most, same))
