@@ -11,7 +11,7 @@ use Rattle.chart_compile.proofs.chart_kinds.choice.Goals as goal
 pub unreachable-requires : goal.unreachable-requires
 unreachable-requires c = some_first c.args.nodes.now c.in_ok-default.default (filter has_none (picked (map step_view c.args.steps.now) c.args.group.now)) c.in_ok-default.ensures c.in-None.is c.requires
 
-pub returns-in-Some : goal.returns-in-Some
-returns-in-Some c =
+pub returns : goal.returns
+returns c =
     let ss = picked (map step_view c.args.steps.now) c.args.group.now in
     choice_some c.args.nodes.now (arrow_views c.in_ok-branches.branches.items) c.in-Some.default ss c.in_ok-branches.ensures (subst (λ (o : Option Arrow). IsFirst c.args.nodes.now o (filter has_none ss)) c.in-Some.is c.in_ok-default.ensures)

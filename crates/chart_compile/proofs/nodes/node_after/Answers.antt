@@ -6,8 +6,8 @@ use Rattle.chart_compile.specs.chart_parts.Parts.{IsArrow, IsState, from_key}
 use Rattle.chart_compile.specs.chart_parts.Nodes.{GoesOn, kind_by, node_after}
 use Rattle.chart_compile.proofs.nodes.node_after.Goals as goal
 
-pub steps_at-requires-clause-grouped : goal.steps_at-requires-clause-grouped
-steps_at-requires-clause-grouped c = (map step_view c.args.steps.now, c.requires.grouped)
+pub steps_at-group-requires-clause-grouped : goal.steps_at-group-requires-clause-grouped
+steps_at-group-requires-clause-grouped c = (map step_view c.args.steps.now, c.requires.grouped)
 
 pub make_node-requires : goal.make_node-requires
 make_node-requires c =
