@@ -1,5 +1,5 @@
 -- In a valid chart a chain goes on from the nodes that transitions lead to.
-use Rattle.std.proofs.Common.{◌≡◌, ℕ, ◌<◌, ◌==◌, Bool, true, false, List, [], ◌∷◌, length, map, sym, ap, ◌∙◌, subst, arith, eqb-true}
+use Rattle.std.proofs.Common.{◌≡◌, ◌<◌, true, List, [], ◌∷◌, length, map, sym, ap, ◌∙◌, subst, arith, eqb-true}
 use Rattle.std.specs.Prelude.{◌&&◌}
 use Rattle.std.specs.List.{filter, list_all}
 use Rattle.std.proofs.lemmas.List.{length-map}
@@ -9,7 +9,7 @@ use Rattle.chart_model.specs.Chart.{Name, Path, Target, to_state, to_choice, to_
 use Rattle.chart_model.specs.Named as named
 use Rattle.chart_model.specs.Named.{Placed, a_choice, from, is_from_choice, node_of, same_name}
 use Rattle.chart_model.specs.Valid.{HasRightNames, IsValid, goes_on_once, has_default, has_right_parts, is_kind, is_right_transition, source_is_there, target_is_there}
-use Rattle.chart_reader.specs.chart_nodes.Keys.{codes, target_key}
+use Rattle.chart_reader.specs.chart_nodes.Keys.{target_key}
 use Rattle.chart_reader.specs.chart_nodes.Steps.{StepTree, steps_of}
 use Rattle.chart_reader.proofs.chart_nodes.Members.{In, Contains-from_In, any_In}
 use Rattle.chart_reader.proofs.chart_nodes.Onward.{onward_is}

@@ -1,11 +1,10 @@
 -- What the code makes of nodes.
-use Rattle.std.proofs.Common.{◌≡◌, ℕ, ◌+◌, ◌<◌, ◌≤◌, Bool, true, false, cond, not, List, [], ◌∷◌, ◌++◌, length, get_or, take, drop, map, refl, sym, ap, ◌∙◌, subst, arith, Option, Some, None, option_map}
+use Rattle.std.proofs.Common.{◌≡◌, ℕ, ◌+◌, ◌<◌, ◌≤◌, Bool, true, false, cond, List, [], ◌∷◌, ◌++◌, length, get_or, take, drop, refl, sym, ap, ◌∙◌, subst, arith, Option, Some, None, option_map}
 use Rattle.std.specs.Prelude.{slice_get, nat_lt, ◌&&◌}
 use Rattle.std.specs.List.{filter, cons_option, list_all}
-use Rattle.std.specs.Option.{is_some, is_none}
+use Rattle.std.specs.Option.{is_some}
 use Rattle.std.proofs.lemmas.List.{append-nil, drop_more, take-append-drop}
 use Rattle.std.proofs.lemmas.List.Elements.{filter-append, filter_map-append}
-use Rattle.action_program.specs.Numbered.{expr_view}
 use Rattle.chart_model.specs.chart_plan.Plan.{Simple, Border, Choice, Entry, Exit}
 use Rattle.chart_model.specs.chart_plan.Same.{Each, SameKind, simple, border, choice, entry, exit}
 use Rattle.chart_model.specs.Chart.{Name, Path}
@@ -140,7 +139,6 @@ some_view f None = refl
 pub first_passed : (keys : List (List ℕ)) (p : StepTree → Bool) (before after : List StepTree) (s : StepTree) (a : Arrow) → filter p before ≡ [] → p s ≡ true → IsArrow keys (arrow_view a) s → IsFirst keys (Some a) (filter p (before ++ s ∷ after))
 first_passed keys p before after s a e t h =
     subst (λ l. IsFirst keys (Some a) l) (sym (filter-append p before (s ∷ after))) (subst (λ l. IsFirst keys (Some a) (l ++ filter p (s ∷ after))) (sym e) (subst (λ b. IsFirst keys (Some a) (cond b (s ∷ filter p after) (filter p after))) (sym t) h))
-
 
 pub default_none : (keys : List (List ℕ)) (steps : List StepTree) (group : List ℕ) (i : ℕ) → length group ≤ i → filter has_none (picked steps (take i group)) ≡ [] → IsFirst keys None (filter has_none (picked steps group))
 default_none keys steps group i h e = subst (λ l. IsFirst keys None l) (sym (ap (λ (g : List ℕ). filter has_none (picked steps g)) (sym (taken_all group i h)) ∙ e)) tt

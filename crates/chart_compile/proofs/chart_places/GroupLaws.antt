@@ -1,7 +1,7 @@
 -- Groups of steps are the steps with a key.
-use Rattle.std.proofs.Common.{◌≡◌, ◌≢◌, ◌⊎◌, inl, inr, ℕ, zero, suc, ◌+◌, ◌<◌, ◌≤◌, Bool, true, false, cond, List, [], ◌∷◌, ◌++◌, length, get_or, take, map, set, replicate, option_map, refl, sym, ap, ◌∙◌, subst, arith, Option, Some, None, nat_eq, append_assoc}
-use Rattle.std.specs.Prelude.{position, ◌||◌, ◌&&◌, fold, slice_get}
-use Rattle.std.specs.List.{filter, filter_map, cons_option}
+use Rattle.std.proofs.Common.{◌≡◌, ◌≢◌, ℕ, zero, suc, ◌+◌, ◌<◌, Bool, true, false, cond, List, [], ◌∷◌, ◌++◌, length, get_or, take, map, set, replicate, option_map, refl, sym, ap, ◌∙◌, arith, Option, Some, None, nat_eq, append_assoc}
+use Rattle.std.specs.Prelude.{position, fold, slice_get}
+use Rattle.std.specs.List.{filter, cons_option}
 use Rattle.std.proofs.lemmas.List.{append-nil, map-append, map-set, take_more, get_or-set_same, get_or-set_other, length-map, length-set, length-replicate, get_or-replicate}
 use Rattle.std.proofs.lemmas.List.Elements.{filter_agree, filter_map-append}
 use Rattle.std.proofs.lemmas.List.Quantifiers.{position-Some}

@@ -1,10 +1,10 @@
 -- Lists that are related one by one, as loops build them.
-use Rattle.std.proofs.Common.{◌≡◌, ℕ, zero, suc, ◌+◌, ◌<◌, ◌≤◌, Bool, true, false, cond, not, List, [], ◌∷◌, ◌++◌, length, get_or, take, map, refl, sym, ap, ◌∙◌, subst, arith, Option, Some, None, option_map, Bor}
-use Rattle.std.specs.Prelude.{slice_get, position}
+use Rattle.std.proofs.Common.{◌≡◌, ℕ, ◌+◌, ◌<◌, ◌≤◌, Bool, true, false, cond, List, [], ◌∷◌, ◌++◌, length, get_or, take, map, sym, ap, ◌∙◌, subst, Option, Some, None, option_map, Bor}
+use Rattle.std.specs.Prelude.{slice_get}
 use Rattle.std.specs.List.{filter, cons_option}
 use Rattle.std.proofs.lemmas.List.{append-nil, map-append, take_all, take_more}
 use Rattle.std.proofs.lemmas.List.Elements.{filter-append, filter_map-append}
-use Rattle.std.proofs.lemmas.Option.{get_or_from_slice_get, same_Some, slice_get-map}
+use Rattle.std.proofs.lemmas.Option.{slice_get-map}
 use Rattle.chart_model.specs.chart_plan.Same.{Each, none, more}
 use Rattle.chart_reader.specs.chart_nodes.Steps.{StepTree}
 use Rattle.chart_compile.specs.chart_places.Groups.{picked}

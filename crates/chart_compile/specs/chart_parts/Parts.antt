@@ -1,5 +1,5 @@
 -- Rows of tables, by the keys of a chart's states, graphs and nodes.
-use Rattle.std.specs.Prelude.{◌≡◌, ℕ, List, [], ◌∷◌, ◌++◌, Option, Some, map, position}
+use Rattle.std.specs.Prelude.{◌≡◌, ℕ, List, [], ◌∷◌, ◌++◌, Option, Some, position}
 use Rattle.std.specs.Global.{Vec}
 use Rattle.std.specs.List.{cons_option, filter}
 use Rattle.action_program.specs.Numbered.{program_view}
@@ -7,7 +7,7 @@ use Rattle.name_tables.specs.name_numbers.Names.{same}
 use Rattle.chart_model.specs.chart_plan.Same.{Each}
 use Rattle.chart_model.specs.Chart.{Path}
 use Rattle.chart_model.specs.Named.{outward}
-use Rattle.chart_run.specs.chart_tables.Tables.{ArrowTree, arrow_view, arrow_views}
+use Rattle.chart_run.specs.chart_tables.Tables.{ArrowTree, arrow_views}
 use Rattle.chart_run.specs.declared.chart_tables.tables.Arrow.{Arrow}
 use Rattle.chart_run.specs.declared.chart_tables.tables.Row.{Row}
 use Rattle.chart_reader.specs.chart_nodes.Keys.{target_key}

@@ -1,5 +1,4 @@
-use Rattle.std.proofs.Common.{◌≡◌, ◌∙◌, List, ℕ, map, sym, subst, true}
-use Rattle.name_tables.specs.name_numbers.Names.{is_among}
+use Rattle.std.proofs.Common.{map}
 use Rattle.chart_reader.specs.chart_nodes.Steps.{step_view}
 use Rattle.chart_compile.proofs.chart_rows.rows.make_row.Goals as goal
 
