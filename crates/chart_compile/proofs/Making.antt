@@ -1,12 +1,10 @@
 -- What a valid chart gives to the making of its tables, and what the making keeps.
-use Rattle.std.proofs.Common.{◌≡◌, ℕ, zero, suc, ◌+◌, ◌<◌, ◌≤◌, Bool, true, false, List, [], ◌∷◌, ◌++◌, length, get_or, take, drop, map, refl, sym, ap, ◌∙◌, subst, arith, Option, Some, None, option_map, Bor}
+use Rattle.std.proofs.Common.{◌≡◌, ℕ, zero, suc, ◌+◌, ◌<◌, ◌≤◌, Bool, true, false, List, [], ◌∷◌, ◌++◌, length, get_or, take, drop, map, refl, sym, ap, ◌∙◌, subst, arith, Option, Some, None}
 use Rattle.std.specs.Prelude.{slice_get, ◌&&◌, sum}
 use Rattle.std.specs.List.{cons_option, list_all}
 use Rattle.std.specs.Option.{option_map_or}
 use Rattle.std.proofs.lemmas.Bool.Decides.{nat_tests}
-use Rattle.std.proofs.lemmas.List.{append-nil, drop_more, length-map, map-append, take-append-drop, take_more}
-use Rattle.std.proofs.lemmas.List.Elements.{filter_map-append}
-use Rattle.std.proofs.lemmas.Option.{slice_get-map}
+use Rattle.std.proofs.lemmas.List.{append-nil, drop_more, length-map, map-append, take-append-drop}
 use Rattle.std.proofs.lemmas.List.Quantifiers.{position-Some}
 use Rattle.name_tables.specs.name_numbers.Names.{same, AreDistinct}
 use Rattle.number_graphs.specs.class_containment.Containment.{NoneContainsItself}
@@ -151,20 +149,11 @@ assembled states graphs keys steps places numbers count v numbered keyed_ rows_ 
 
 -- ---- loops
 
-pub picked_next : (steps : List StepTree) (numbers : List ℕ) (i : ℕ) → i < length numbers → picked steps (take (i + 1) numbers) ≡ picked steps (take i numbers) ++ cons_option (slice_get steps (get_or numbers i 0)) []
-picked_next steps numbers i h = ap (picked steps) (take_more numbers i 0 h) ∙ filter_map-append (λ j. slice_get steps j) (take i numbers) (get_or numbers i 0 ∷ [])
-
 pub node_none : (states keys : List (List ℕ)) (steps : List StepTree) (number : ℕ) (old : List CodeNode) → slice_get steps number ≡ None → AddsNode states keys steps number old old
 node_none states keys steps number old e = λ ss h. subst (λ (l : List StepTree). Each (IsNode states keys steps) old l) (sym (ap (λ o. ss ++ cons_option o []) e ∙ append-nil ss)) h
 
 pub node_some : (states keys : List (List ℕ)) (steps : List StepTree) (number : ℕ) (old new : List CodeNode) (n : CodeNode) (s : StepTree) → slice_get steps number ≡ Some s → new ≡ old ++ n ∷ [] → IsNode states keys steps n s → AddsNode states keys steps number old new
 node_some states keys steps number old new n s e made is = λ ss h. each_more_plain (IsNode states keys steps) old new n ss (ss ++ cons_option (slice_get steps number) []) s made (ap (λ o. ss ++ cons_option o []) e) is h
-
-pub step_found : {A : Type 0} (v : A → StepTree) (steps : List A) (i : ℕ) (r : Option (Bor A)) (s : Bor A) → option_map (λ (s : Bor A). s.now) r ≡ slice_get steps i → r ≡ Some s → slice_get (map v steps) i ≡ Some (v s.now)
-step_found v steps i r s e is = slice_get-map v steps i ∙ ap (option_map v) (sym e ∙ ap (option_map (λ (s : Bor _). s.now)) is)
-
-pub step_missing : {A : Type 0} (v : A → StepTree) (steps : List A) (i : ℕ) (r : Option (Bor A)) → option_map (λ (s : Bor A). s.now) r ≡ slice_get steps i → r ≡ None → slice_get (map v steps) i ≡ None
-step_missing v steps i r e is = slice_get-map v steps i ∙ ap (option_map v) (sym e ∙ ap (option_map (λ (s : Bor _). s.now)) is)
 
 made_around : {A : Type 0} (v : A → StepTree) (steps : List A) (i : ℕ) (s : A) → i < length steps → s ≡ get_or steps i s → map v steps ≡ map v (take i steps) ++ v s ∷ map v (drop (i + 1) steps)
 made_around v steps i s h is =

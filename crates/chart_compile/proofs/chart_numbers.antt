@@ -2,3 +2,5 @@ pub mod Members
 pub mod Ordering
 pub mod Distinct
 pub mod Counting
+pub mod KeyLists
+pub mod Known

@@ -7,13 +7,17 @@ use Rattle.chart_run.specs.declared.chart_tables.tables.Tables.{Tables}
 use Rattle.chart_reader.specs.chart_nodes.Steps.{StepTree}
 use Rattle.chart_compile.specs.chart_places.Groups.{picked}
 use Rattle.chart_compile.specs.chart_places.Places.{PlaceTree}
-use Rattle.chart_compile.specs.chart_parts.Parts.{target_of}
-use Rattle.chart_compile.specs.chart_parts.Nodes.{IsNode, leads_lower}
+use Rattle.chart_compile.specs.chart_parts.Parts.{from_key, target_of}
+use Rattle.chart_compile.specs.chart_parts.Nodes.{GoesOn, IsNode, leads_lower, node_after}
 use Rattle.chart_compile.specs.chart_parts.Compiled.{IsAssembled, node_kind}
 
 -- each step has the key of the node that it leads to
 abbrev pub AreKeyed : List StepTree → Type 0
 AreKeyed steps = (i : ℕ) (s : StepTree) → slice_get steps i ≡ Some s → s.target ≡ target_of s
+
+-- a chain goes on from the node of each step
+abbrev pub AllGoOn : List StepTree → Type 0
+AllGoOn steps = (i : ℕ) (s : StepTree) → slice_get steps i ≡ Some s → GoesOn (node_after s) (from_key (target_of s) steps)
 
 -- each number has the same node
 abbrev pub SameNodes : List CodeNode → List CodeNode → Type 0

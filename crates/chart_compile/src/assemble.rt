@@ -6,9 +6,9 @@ ghost use Rattle.chart_reader.specs.chart_nodes.Keys.{codes};
 ghost use Rattle.chart_reader.specs.chart_nodes.Steps.{step_view};
 ghost use Rattle.chart_reader.specs.chart_nodes.Circles.{parts_of};
 ghost use Rattle.chart_compile.specs.chart_places.Places.{place_view};
-ghost use Rattle.chart_compile.specs.chart_parts.Parts.{IsRow, IsShared, from_key};
+ghost use Rattle.chart_compile.specs.chart_parts.Parts.{IsRow, IsShared, from_key, key_of};
 ghost use Rattle.chart_compile.specs.chart_numbers.Order.{AreNumbered};
-ghost use Rattle.chart_compile.specs.Joined.{AreKeyed, AreMade, AreOf};
+ghost use Rattle.chart_compile.specs.Joined.{AllGoOn, AreKeyed, AreMade, AreOf};
 
 use crate::chart_numbers::number_nodes;
 use crate::chart_places::{Place, group_by};
@@ -17,20 +17,20 @@ use crate::nodes::{fill_up, nodes_of};
 use crate::start::initial_arrow;
 use chart_reader::Step;
 use chart_run::{Arrow, Node, Row, Tables};
-use name_tables::Numbers;
+use name_tables::NameIndex;
 use room_kinds::Sequence;
 use std::alloc::{AllocError, Global};
 
 /// The rows of states.
 fn state_rows<'b, 'p, 's, 'g, 'n>(
     alloc: Global,
-    states: &Numbers<'s>,
-    graphs: &Numbers<'g>,
-    nodes: &Numbers<'n>,
+    states: &NameIndex<'s>,
+    graphs: &NameIndex<'g>,
+    nodes: &NameIndex<'n>,
     steps: &[Step<'b>],
     places: &[Place<'p>],
 ) -> Result<Vec<Row>, AllocError>
-    requires { length states.now ≡ length places.now }
+    requires { states.now ≡ map key_of (map place_view places.now) }
     ensures { IfOk result (λ rows. Each (IsRow states.now graphs.now nodes.now (map step_view steps.now)) rows.items (map place_view places.now)) }
 {
     let own = group_by(alloc, states, places.len(), steps)?;
@@ -41,8 +41,8 @@ fn state_rows<'b, 'p, 's, 'g, 'n>(
 /// For each graph the transitions from its transition points.
 fn shared_rows<'b, 'g, 'n>(
     alloc: Global,
-    graphs: &Numbers<'g>,
-    nodes: &Numbers<'n>,
+    graphs: &NameIndex<'g>,
+    nodes: &NameIndex<'n>,
     steps: &[Step<'b>],
     keys: &[Sequence<u8>],
 ) -> Result<Vec<Vec<Arrow>>, AllocError>
@@ -58,14 +58,15 @@ fn shared_rows<'b, 'g, 'n>(
 /// in all.
 fn node_rows<'b, 's, 'n>(
     alloc: Global,
-    states: &Numbers<'s>,
-    nodes: &Numbers<'n>,
+    states: &NameIndex<'s>,
+    nodes: &NameIndex<'n>,
     steps: &[Step<'b>],
     targets: &[usize],
     count: usize,
 ) -> Result<Vec<Node>, AllocError>
     requires numbered { AreNumbered (map step_view steps.now) nodes.now targets.now }
     requires keyed { AreKeyed (map step_view steps.now) }
+    requires go_on { AllGoOn (map step_view steps.now) }
     requires enough { length nodes.now ≤ count }
     ensures { IfOk result (λ made. AreMade states.now nodes.now (map step_view steps.now) targets.now count made.items) }
 {
@@ -78,29 +79,30 @@ fn node_rows<'b, 's, 'n>(
 /// The tables of steps and states, with so many nodes.
 pub fn assemble<'b, 'p, 's, 'g>(
     alloc: Global,
-    states: &Numbers<'s>,
-    graphs: &Numbers<'g>,
+    states: &NameIndex<'s>,
+    graphs: &NameIndex<'g>,
     keys: &[Sequence<u8>],
     steps: &[Step<'b>],
     places: &[Place<'p>],
     count: usize,
     values: &[i64],
 ) -> Result<Tables, AllocError>
-    requires states_are { length states.now ≡ length places.now }
+    requires states_are { states.now ≡ map key_of (map place_view places.now) }
     requires graphs_are { graphs.now ≡ keys.now }
     requires keyed { AreKeyed (map step_view steps.now) }
+    requires go_on { AllGoOn (map step_view steps.now) }
     requires no_circle { NoneContainsItself (parts_of (map step_view steps.now)) }
     requires enough { (keys : List (List ℕ)) (targets : List ℕ) → AreNumbered (map step_view steps.now) keys targets → length keys ≤ count }
     requires starts { 0 < length (from_key (0 ∷ codes []) (map step_view steps.now)) }
     ensures tables { IfOk result (λ v. AreOf states.now graphs.now (map step_view steps.now) (map place_view places.now) count v) }
     ensures values { IfOk result (λ v. v.values.items ≡ values.now) }
 {
-    let mut nodes = Numbers::new(alloc);
-    let targets = number_nodes(alloc, steps, &mut nodes)?;
-    let rows = state_rows(alloc, states, graphs, &nodes, steps, places)?;
-    let shared = shared_rows(alloc, graphs, &nodes, steps, keys)?;
-    let made = node_rows(alloc, states, &nodes, steps, targets.as_slice(), count)?;
-    let initial = initial_arrow(alloc, &nodes, steps)?;
+    let nodes = number_nodes(alloc, steps)?;
+    let rows = state_rows(alloc, states, graphs, &nodes.keys, steps, places)?;
+    let shared = shared_rows(alloc, graphs, &nodes.keys, steps, keys)?;
+    let targets = nodes.targets.as_slice();
+    let made = node_rows(alloc, states, &nodes.keys, steps, targets, count)?;
+    let initial = initial_arrow(alloc, &nodes.keys, steps)?;
     let copies = Vec::from_slice(alloc, values)?;
     Ok(Tables {
         states: rows,

@@ -1,46 +1,61 @@
 //! Nodes of the tables of a chart: borders, choice points, entry points and exit points.
-ghost use Rattle.std.specs.Prelude.{◌≡◌, ◌∷◌, ◌++◌, [], ℕ, List, map, nat_lt, IfOk, OnOk};
-ghost use Rattle.std.specs.List.{filter, list_all};
+ghost use Rattle.std.specs.Prelude.{◌≡◌, ◌<◌, ◌∷◌, [], ℕ, List, length, map, nat_lt, slice_get, IfOk, OnOk};
+ghost use Rattle.std.specs.List.{cons_option, filter, list_all};
 ghost use Rattle.chart_model.specs.chart_plan.Same.{Each, SameKind};
 ghost use Rattle.chart_model.specs.Chart.{Name, Path};
 ghost use Rattle.chart_model.specs.Named.{a_choice, a_state, an_entry, an_exit};
 ghost use Rattle.chart_run.specs.chart_tables.Tables.{arrow_views, kind};
-ghost use Rattle.chart_reader.specs.chart_nodes.Steps.{StepTree, step_view};
+ghost use Rattle.chart_reader.specs.chart_nodes.Steps.{step_view};
 ghost use Rattle.chart_compile.specs.chart_places.Groups.{picked};
 ghost use Rattle.chart_compile.specs.chart_parts.Parts.{IsArrow, IsState};
-ghost use Rattle.chart_compile.specs.chart_parts.Nodes.{IsFirst, has_condition, has_none, is_lower, kind_by, leads_lower, node_after};
+ghost use Rattle.chart_compile.specs.chart_parts.Nodes.{AddsBranch, GoesOn, IsFirst, has_condition, has_none, is_lower, kind_by, leads_lower, node_after};
 
 use crate::chart_rows::{make_arrow, state_number, step_at};
 use chart_reader::Step;
 use chart_reading::Target;
 use chart_run::{Arrow, Node};
-use name_tables::Numbers;
+use name_tables::NameIndex;
 use room_ast::Name;
 use std::alloc::{AllocError, Global};
 
-/// The arrow of the first of the steps with some numbers, if there is one.
-fn first_arrow<'b, 'c>(
+/// The arrow of the step with a number, if there is such a step.
+fn arrow_at<'b, 'c>(
     alloc: Global,
-    nodes: &Numbers<'c>,
+    nodes: &NameIndex<'c>,
     steps: &[Step<'b>],
-    group: &[usize],
+    number: usize,
 ) -> Result<Option<Arrow>, AllocError>
-    ensures { IfOk result (λ arrow. IsFirst nodes.now arrow (picked (map step_view steps.now) group.now)) }
+    ensures { IfOk result (λ arrow. IsFirst nodes.now arrow (cons_option (slice_get (map step_view steps.now) number) [])) }
 {
-    let Some(number) = group.first() else {
+    let Some(step) = step_at(steps, number) else {
         return Ok(None);
-    };
-    let Some(step) = step_at(steps, *number) else {
-        return Err(AllocError);
     };
     let arrow = make_arrow(alloc, nodes, step)?;
     Ok(Some(arrow))
 }
 
+/// The arrow of the first of the steps with some numbers, if there is one.
+fn first_arrow<'b, 'c>(
+    alloc: Global,
+    nodes: &NameIndex<'c>,
+    steps: &[Step<'b>],
+    group: &[usize],
+) -> Result<Option<Arrow>, AllocError>
+    ensures { IfOk result (λ arrow. IsFirst nodes.now arrow (picked (map step_view steps.now) group.now)) }
+{
+    for number in group {
+        let arrow = arrow_at(alloc, nodes, steps, *number)?;
+        if arrow.is_some() {
+            return Ok(arrow);
+        }
+    }
+    Ok(None)
+}
+
 /// A state: its border where its graph has an initial transition.
 fn border<'b, 'c>(
     alloc: Global,
-    nodes: &Numbers<'c>,
+    nodes: &NameIndex<'c>,
     steps: &[Step<'b>],
     group: &[usize],
     state: u16,
@@ -54,10 +69,10 @@ fn border<'b, 'c>(
     }
 }
 
-/// An entry point of a state.
+/// An entry point of a state. Where no transition goes on from it, a chain ends there.
 fn entry<'b, 'c>(
     alloc: Global,
-    nodes: &Numbers<'c>,
+    nodes: &NameIndex<'c>,
     steps: &[Step<'b>],
     group: &[usize],
     state: u16,
@@ -67,14 +82,14 @@ fn entry<'b, 'c>(
     let first = first_arrow(alloc, nodes, steps, group)?;
     match first {
         Some(arrow) => Ok(Node::Entry(state, arrow)),
-        None => Err(AllocError),
+        None => Ok(Node::Simple(state)),
     }
 }
 
-/// An exit point of a state.
+/// An exit point of a state. Where no transition goes on from it, a chain ends there.
 fn exit<'b, 'c>(
     alloc: Global,
-    nodes: &Numbers<'c>,
+    nodes: &NameIndex<'c>,
     steps: &[Step<'b>],
     group: &[usize],
     state: u16,
@@ -84,19 +99,23 @@ fn exit<'b, 'c>(
     let first = first_arrow(alloc, nodes, steps, group)?;
     match first {
         Some(arrow) => Ok(Node::Exit(state, arrow)),
-        None => Err(AllocError),
+        None => Ok(Node::Simple(state)),
     }
 }
 
-/// Adds the arrow of a branch, if it has a condition.
+/// Adds the arrow of the branch with a number, if there is such a step and it has a condition.
 fn add_branch<'b, 'c>(
     alloc: Global,
-    nodes: &Numbers<'c>,
+    nodes: &NameIndex<'c>,
+    steps: &[Step<'b>],
+    number: usize,
     branches: &mut Vec<Arrow>,
-    step: &Step<'b>,
 ) -> Result<(), AllocError>
-    ensures { OnOk result ((ss : List StepTree) → Each (IsArrow nodes.now) (arrow_views branches.old.items) (filter has_condition ss) → Each (IsArrow nodes.now) (arrow_views branches.new.items) (filter has_condition (ss ++ step_view step.now ∷ []))) }
+    ensures { OnOk result (AddsBranch nodes.now (slice_get (map step_view steps.now) number) branches.old.items branches.new.items) }
 {
+    let Some(step) = step_at(steps, number) else {
+        return Ok(());
+    };
     let has = step.transition.condition.is_some();
     if !has {
         return Ok(());
@@ -109,7 +128,7 @@ fn add_branch<'b, 'c>(
 /// The branches with a condition.
 fn branches_of<'b, 'c>(
     alloc: Global,
-    nodes: &Numbers<'c>,
+    nodes: &NameIndex<'c>,
     steps: &[Step<'b>],
     group: &[usize],
 ) -> Result<Vec<Arrow>, AllocError>
@@ -117,61 +136,77 @@ fn branches_of<'b, 'c>(
 {
     let mut branches = Vec::new(alloc);
     for number in group {
-        let Some(step) = step_at(steps, *number) else {
-            return Err(AllocError);
-        };
-        add_branch(alloc, nodes, &mut branches, step)?;
+        add_branch(alloc, nodes, steps, *number, &mut branches)?;
     }
     Ok(branches)
 }
 
-/// The first branch without a condition.
+/// The arrow of the branch with a number, if there is such a step and it has no condition.
+fn default_at<'b, 'c>(
+    alloc: Global,
+    nodes: &NameIndex<'c>,
+    steps: &[Step<'b>],
+    number: usize,
+) -> Result<Option<Arrow>, AllocError>
+    ensures { IfOk result (λ arrow. IsFirst nodes.now arrow (filter has_none (cons_option (slice_get (map step_view steps.now) number) []))) }
+{
+    let Some(step) = step_at(steps, number) else {
+        return Ok(None);
+    };
+    let has = step.transition.condition.is_some();
+    if has {
+        return Ok(None);
+    }
+    let arrow = make_arrow(alloc, nodes, step)?;
+    Ok(Some(arrow))
+}
+
+/// The first branch without a condition, if there is one.
 fn default_of<'b, 'c>(
     alloc: Global,
-    nodes: &Numbers<'c>,
+    nodes: &NameIndex<'c>,
     steps: &[Step<'b>],
     group: &[usize],
 ) -> Result<Option<Arrow>, AllocError>
     ensures { IfOk result (λ arrow. IsFirst nodes.now arrow (filter has_none (picked (map step_view steps.now) group.now))) }
 {
     for number in group {
-        let Some(step) = step_at(steps, *number) else {
-            return Err(AllocError);
-        };
-        if step.transition.condition.is_none() {
-            let arrow = make_arrow(alloc, nodes, step)?;
-            return Ok(Some(arrow));
+        let arrow = default_at(alloc, nodes, steps, *number)?;
+        if arrow.is_some() {
+            return Ok(arrow);
         }
     }
     Ok(None)
 }
 
-/// A choice point.
+/// A choice point, which has a branch without a condition.
 fn choice<'b, 'c>(
     alloc: Global,
-    nodes: &Numbers<'c>,
+    nodes: &NameIndex<'c>,
     steps: &[Step<'b>],
     group: &[usize],
 ) -> Result<Node, AllocError>
+    requires { 0 < length (filter has_none (picked (map step_view steps.now) group.now)) }
     ensures { IfOk result (λ n. (states : List (List ℕ)) (graph : Path) (c : Name) → SameKind (IsState states) (IsArrow nodes.now) (kind n) (kind_by (a_choice graph c) (picked (map step_view steps.now) group.now))) }
 {
     let branches = branches_of(alloc, nodes, steps, group)?;
     let default = default_of(alloc, nodes, steps, group)?;
     match default {
         Some(default) => Ok(Node::Choice(branches, default)),
-        None => Err(AllocError),
+        None => unreachable!(),
     }
 }
 
 /// The node that a step leads to, where the steps with some numbers begin.
 pub fn make_node<'b, 's, 'n>(
     alloc: Global,
-    states: &Numbers<'s>,
-    nodes: &Numbers<'n>,
+    states: &NameIndex<'s>,
+    nodes: &NameIndex<'n>,
     steps: &[Step<'b>],
     group: &[usize],
     step: &Step<'b>,
 ) -> Result<Node, AllocError>
+    requires { GoesOn (node_after (step_view step.now)) (picked (map step_view steps.now) group.now) }
     ensures { IfOk result (λ n. SameKind (IsState states.now) (IsArrow nodes.now) (kind n) (kind_by (node_after (step_view step.now)) (picked (map step_view steps.now) group.now))) }
 {
     let owner = step.graph.owner.as_slice();
@@ -197,7 +232,7 @@ pub fn make_node<'b, 's, 'n>(
         }
         Target::Exit(_) => {
             let Some((name, outer)) = owner.split_first() else {
-                return Err(AllocError);
+                unreachable!()
             };
             let state = state_number(alloc, states, name, outer)?;
             let node = exit(alloc, nodes, steps, group, state)?;

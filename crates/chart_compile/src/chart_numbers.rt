@@ -6,5 +6,5 @@
 mod keys;
 mod order;
 
-pub use keys::{count_nodes, state_keys, state_numbers};
-pub use order::number_nodes;
+pub use keys::{count_nodes, state_keys};
+pub use order::{NodeOrder, number_nodes};

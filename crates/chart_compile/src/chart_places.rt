@@ -5,5 +5,5 @@ mod keys;
 mod places;
 
 pub use groups::group_by;
-pub use keys::{find_graph, graph_keys, numbers_of};
+pub use keys::{find_graph, graph_keys, index_of};
 pub use places::{Place, places_of};

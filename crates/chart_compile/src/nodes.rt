@@ -1,34 +1,38 @@
 //! The nodes of the tables.
-ghost use Rattle.std.specs.Prelude.{◌≡◌, ◌≤◌, length, map, IfOk, OnOk};
+ghost use Rattle.std.specs.Prelude.{◌≡◌, ◌≤◌, true, Some, length, map, slice_get, IfOk, OnOk};
+ghost use Rattle.name_tables.specs.name_numbers.Names.{is_among};
 ghost use Rattle.chart_model.specs.chart_plan.Same.{Each};
-ghost use Rattle.chart_reader.specs.chart_nodes.Steps.{step_view};
+ghost use Rattle.chart_reader.specs.chart_nodes.Steps.{StepTree, step_view};
+ghost use Rattle.chart_reader.specs.chart_nodes.Circles.{targets_of};
 ghost use Rattle.chart_compile.specs.chart_places.Groups.{IsGrouped, picked};
-ghost use Rattle.chart_compile.specs.chart_parts.Parts.{target_of};
-ghost use Rattle.chart_compile.specs.chart_parts.Nodes.{IsNode};
-ghost use Rattle.chart_compile.specs.Joined.{AddsNode, AreKeyed, SameNodes};
+ghost use Rattle.chart_compile.specs.chart_parts.Parts.{from_key, target_of};
+ghost use Rattle.chart_compile.specs.chart_parts.Nodes.{GoesOn, IsNode, node_after};
+ghost use Rattle.chart_compile.specs.Joined.{AddsNode, AllGoOn, AreKeyed, SameNodes};
 
 use crate::chart_kinds::make_node;
 use crate::chart_rows::{step_at, steps_at};
 use chart_reader::Step;
 use chart_run::Node;
-use name_tables::Numbers;
+use name_tables::NameIndex;
 use room_kinds::Sequence;
 use std::alloc::{AllocError, Global};
 
 /// The node that a step leads to.
 fn node_after<'b, 's, 'n>(
     alloc: Global,
-    states: &Numbers<'s>,
-    nodes: &Numbers<'n>,
+    states: &NameIndex<'s>,
+    nodes: &NameIndex<'n>,
     steps: &[Step<'b>],
     groups: &[Sequence<usize>],
     step: &Step<'b>,
 ) -> Result<Node, AllocError>
     requires grouped { IsGrouped nodes.now groups.now (map step_view steps.now) }
     requires keyed { (step_view step.now).target ≡ target_of (step_view step.now) }
+    requires goes_on { GoesOn (node_after (step_view step.now)) (from_key (target_of (step_view step.now)) (map step_view steps.now)) }
+    requires known { is_among nodes.now (step_view step.now).target ≡ true }
     ensures { IfOk result (λ n. IsNode states.now nodes.now (map step_view steps.now) n (step_view step.now)) }
 {
-    let group = steps_at(nodes, groups, step.target.as_slice())?;
+    let group = steps_at(nodes, groups, step.target.as_slice());
     let node = make_node(alloc, states, nodes, steps, group, step)?;
     Ok(node)
 }
@@ -36,8 +40,8 @@ fn node_after<'b, 's, 'n>(
 /// Adds the node that the step with a number leads to, if there is such a step.
 fn add_node<'b, 's, 'n>(
     alloc: Global,
-    states: &Numbers<'s>,
-    nodes: &Numbers<'n>,
+    states: &NameIndex<'s>,
+    nodes: &NameIndex<'n>,
     steps: &[Step<'b>],
     groups: &[Sequence<usize>],
     number: usize,
@@ -45,6 +49,8 @@ fn add_node<'b, 's, 'n>(
 ) -> Result<(), AllocError>
     requires grouped { IsGrouped nodes.now groups.now (map step_view steps.now) }
     requires keyed { AreKeyed (map step_view steps.now) }
+    requires go_on { AllGoOn (map step_view steps.now) }
+    requires known { (s : StepTree) → slice_get (map step_view steps.now) number ≡ Some s → is_among nodes.now s.target ≡ true }
     ensures { OnOk result (AddsNode states.now nodes.now (map step_view steps.now) number made.old.items made.new.items) }
 {
     let Some(step) = step_at(steps, number) else {
@@ -58,14 +64,16 @@ fn add_node<'b, 's, 'n>(
 /// The nodes that the steps with some numbers lead to, in their order.
 pub fn nodes_of<'b, 's, 'n>(
     alloc: Global,
-    states: &Numbers<'s>,
-    nodes: &Numbers<'n>,
+    states: &NameIndex<'s>,
+    nodes: &NameIndex<'n>,
     steps: &[Step<'b>],
     groups: &[Sequence<usize>],
     targets: &[usize],
 ) -> Result<Vec<Node>, AllocError>
     requires grouped { IsGrouped nodes.now groups.now (map step_view steps.now) }
     requires keyed { AreKeyed (map step_view steps.now) }
+    requires go_on { AllGoOn (map step_view steps.now) }
+    requires numbered { nodes.now ≡ targets_of (picked (map step_view steps.now) targets.now) }
     ensures { IfOk result (λ made. Each (IsNode states.now nodes.now (map step_view steps.now)) made.items (picked (map step_view steps.now) targets.now)) }
 {
     let mut made = Vec::new(alloc);

@@ -9,7 +9,7 @@ ghost use Rattle.chart_compile.specs.chart_parts.Nodes.{IsFirst};
 use crate::chart_rows::make_arrow;
 use chart_reader::{Step, plain_key};
 use chart_run::Arrow;
-use name_tables::Numbers;
+use name_tables::NameIndex;
 use std::alloc::{AllocError, Global};
 
 /// Whether a step begins at the place with a key.
@@ -22,7 +22,7 @@ fn begins_at<'b>(step: &Step<'b>, key: &[u8]) -> bool
 /// The arrow of the initial transition of the top graph.
 pub fn initial_arrow<'b, 'n>(
     alloc: Global,
-    nodes: &Numbers<'n>,
+    nodes: &NameIndex<'n>,
     steps: &[Step<'b>],
 ) -> Result<Arrow, AllocError>
     requires { 0 < length (from_key (0 ∷ codes []) (map step_view steps.now)) }

@@ -5,8 +5,8 @@ ghost use Rattle.chart_reading.specs.chart_graphs.Views.{chart_view};
 ghost use Rattle.chart_compile.specs.chart_parts.Compiled.{Compiles};
 
 use crate::assemble::assemble;
-use crate::chart_numbers::{count_nodes, state_keys, state_numbers};
-use crate::chart_places::{graph_keys, numbers_of, places_of};
+use crate::chart_numbers::{count_nodes, state_keys};
+use crate::chart_places::{graph_keys, index_of, places_of};
 use chart_reader::steps_of;
 use chart_reading::Chart;
 use chart_run::Tables;
@@ -19,7 +19,8 @@ const MOST_STATES: usize = 65535;
 /// proportion to the transitions and states of the chart and the names of their paths.
 ///
 /// It answers as where memory runs out where the chart has more than 65,535 states, graphs or nodes
-/// to which transitions lead, and where two of its graphs have one path, which no text writes.
+/// to which transitions lead, and where a transition of a graph that is none of its states' leads to a
+/// state, which no text writes. Of two graphs under one path the first alone counts.
 pub fn compile(alloc: Global, chart: &Chart) -> Result<Tables, AllocError>
     requires { IsValid (chart_view chart.now) }
     ensures { IfOk result (λ t. Compiles t (chart_view chart.now)) }
@@ -29,13 +30,13 @@ pub fn compile(alloc: Global, chart: &Chart) -> Result<Tables, AllocError>
     };
     let steps = steps_of(alloc, chart)?;
     let graph_keys = graph_keys(alloc, &chart.graphs)?;
-    let graphs = numbers_of(alloc, graph_keys.as_slice())?;
+    let graphs = index_of(alloc, graph_keys.as_slice())?;
     let places = places_of(alloc, chart, &graphs)?;
     if places.len() > MOST_STATES {
         return Err(AllocError);
     }
     let state_keys = state_keys(alloc, places.as_slice())?;
-    let states = state_numbers(alloc, state_keys.as_slice())?;
+    let states = index_of(alloc, state_keys.as_slice())?;
     let tables = assemble(
         alloc,
         &states,

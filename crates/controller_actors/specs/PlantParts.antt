@@ -1,6 +1,6 @@
 -- What is known of the parts of every plant: its wiring and, class by class, its tables.
 -- A plant carries this fact, so it has one proof at most; that is what the lemmas say.
-use Rattle.std.specs.Prelude.{◌≡◌, ℕ, List, Option, Some, length, slice_get}
+use Rattle.std.specs.Prelude.{◌≡◌, ◌≤◌, ℕ, List, Option, Some, length, slice_get}
 use Rattle.std.specs.List.{AllByRecursion-prop}
 use Rattle.std.specs.Coded.{×_prop, Π_prop, Unit-prop, le_prop}
 use mathlib.Core.Bool.{Bool-set}
@@ -15,9 +15,12 @@ use Rattle.chart_behaviour.specs.Asked.{ClassesAsk}
 use Rattle.chart_behaviour.specs.chart_asks.Asking.{StatementAsks, ProgramAsks, BranchesAsk, ArrowAsks, GoesOn, TablesAsk}
 use Rattle.bounded_sends.specs.Sends.{OwnersAreThere, is_ranked}
 
--- a wiring and tables on which controllers run: the tables are sound, and their programs send at the six
--- priorities; the slots are numbered depth first and are owned by controllers, and the ports have numbers
+-- a wiring and tables on which controllers run: there are 1 to 254 of them, so that they and the environment
+-- have numbers of 8 bits; the tables are sound, and their programs send at the six priorities; the slots are
+-- numbered depth first and are owned by controllers, and the ports have numbers
 pub record AreOfPlant (wiring : Wiring) (tables : List (Option ChartTables)) : Type 0 where
+  pub some_controller : 1 ≤ length wiring.controllers
+  pub few_controllers : length wiring.controllers ≤ 254
   pub sound : (class : ℕ) (v : ChartTables) → slice_get tables class ≡ Some (Some v) → IsSound v
   pub order : IsDepthFirst wiring
   pub ports : ArePortsNumbered wiring
@@ -93,6 +96,8 @@ TablesAsk-prop v x y = λ j. record {
 
 pub AreOfPlant-prop : (wiring : Wiring) (tables : List (Option ChartTables)) → IsProp (AreOfPlant wiring tables)
 AreOfPlant-prop wiring tables x y = λ j. record {
+  some_controller = le_prop x.some_controller y.some_controller j;
+  few_controllers = le_prop x.few_controllers y.few_controllers j;
   sound = Π_prop (λ class. Π_prop (λ v. Π_prop (λ e. IsSound-prop v))) x.sound y.sound j;
   order = IsDepthFirst-prop wiring x.order y.order j;
   ports = Π_prop (λ s. le_prop) x.ports y.ports j;

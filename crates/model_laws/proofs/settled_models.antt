@@ -18,3 +18,4 @@ mod Ports
 mod Mutual
 mod Registers
 pub mod Settled
+pub mod Controllers

@@ -1,3 +1,4 @@
 pub mod JoinLaw
 pub mod SeatLaw
 pub mod Shared
+pub mod PriorityLaw

@@ -1,5 +1,5 @@
 -- What was read from a text, and what it says of the text.
-use Rattle.std.proofs.Common.{◌≡◌, ℕ, ◌≤◌, List, [], length, Option, Some, None, Result, Ok, Err, refl, sym, ap, ◌∙◌, subst}
+use Rattle.std.proofs.Common.{◌≡◌, ℕ, ◌≤◌, List, [], length, Option, Some, None, Result, Ok, Err, refl, sym, ap, ◌∙◌, subst, arith}
 use Rattle.room_lexer.specs.Cut.{Piece, CutTo, placed, FailsAt}
 use Rattle.room_lexer.specs.Cutting.{Gives, tokens as lexed, fault_at}
 use Rattle.room_lexer.specs.declared.piece.Cause.{Cause}
@@ -28,6 +28,7 @@ use Rattle.chart_run.specs.declared.chart_tables.tables.Tables.{Tables as ChartT
 use Rattle.controller_actors.specs.PlantParts.{AreOfPlant}
 use Rattle.model_laws.proofs.settled_models.Models.{models_ranked}
 use Rattle.model_laws.proofs.settled_models.Wired.{wiring_consistent}
+use Rattle.model_laws.proofs.settled_models.Controllers.{controllers_few}
 use Rattle.room_run.proofs.model_plants.Tabled.{all_sound}
 use Rattle.room_run.proofs.settled.Compiled.{all_compiled}
 use Rattle.structure_check.specs.Rules.{first_broken, IsLowest}
@@ -172,11 +173,14 @@ text_sound text tree wiring charts short h sound = record { short = short; tree 
 
 -- tables that show the charts of a sound text make a plant with its wiring
 pub plant_parts : (text : List ℕ) (wiring : Tables) (charts : List (Option Chart)) (tables : List (Option ChartTables)) → IsSoundText text wiring charts → ShowCharts tables charts → AreOfPlant wiring tables
-plant_parts text wiring charts tables is shown = record {
-  sound = λ class v at. all_sound tables charts shown class v at;
-  order = model_depth_first is.tree wiring is.sound.wired.wired.slots;
-  ports = checked_numbered is.tree wiring is.sound.keeps is.sound.wired.wired.classes;
-  owners = (wiring_consistent is.tree wiring is.sound.wired.wired is.sound.keeps is.sound.wired.flawless).owners_known;
-  ranked = λ class v at.
-      let one = all_compiled tables charts shown class v at in models_ranked is.tree charts is.sound.faultless class one.0 v one.1 one.2;
-}
+plant_parts text wiring charts tables is shown =
+    let controllers = controllers_few is.tree wiring is.sound.keeps is.sound.wired.wired in record {
+      some_controller = controllers.0;
+      few_controllers = omega (arith, controllers.1);
+      sound = λ class v at. all_sound tables charts shown class v at;
+      order = model_depth_first is.tree wiring is.sound.wired.wired.slots;
+      ports = checked_numbered is.tree wiring is.sound.keeps is.sound.wired.wired.classes;
+      owners = (wiring_consistent is.tree wiring is.sound.wired.wired is.sound.keeps is.sound.wired.flawless).owners_known;
+      ranked = λ class v at.
+          let one = all_compiled tables charts shown class v at in models_ranked is.tree charts is.sound.faultless class one.0 v one.1 one.2;
+    }

@@ -1,6 +1,6 @@
 -- The tables of a valid chart show it.
-use Rattle.std.proofs.Common.{◌≡◌, ◌⊎◌, inl, inr, ℕ, zero, suc, ◌+◌, ◌<◌, ◌≤◌, Bool, true, false, cond, List, [], ◌∷◌, ◌++◌, length, get_or, map, refl, sym, ap, ◌∙◌, subst, arith, Option, Some, None, option_map}
-use Rattle.std.specs.Prelude.{slice_get, position, ◌&&◌, sum, nat_lt}
+use Rattle.std.proofs.Common.{◌≡◌, ◌⊎◌, inl, inr, ℕ, zero, suc, ◌<◌, ◌≤◌, Bool, true, false, List, [], ◌∷◌, ◌++◌, length, map, refl, sym, ap, ◌∙◌, subst, arith, Some, option_map}
+use Rattle.std.specs.Prelude.{slice_get, ◌&&◌, sum}
 use Rattle.std.specs.List.{filter, list_all, AllByRecursion}
 use Rattle.std.specs.Option.{option_map_or}
 use Rattle.std.specs.Global.{Vec}
@@ -8,13 +8,13 @@ use Rattle.std.proofs.lemmas.Bool.{cases_lt}
 use Rattle.std.proofs.lemmas.Bool.Decides.{nat_tests}
 use Rattle.std.proofs.lemmas.List.{length-map}
 use Rattle.std.proofs.lemmas.List.Quantifiers.{position-Some}
-use Rattle.std.proofs.lemmas.Option.{slice_get-map, slice_get_past, slice_get_within}
+use Rattle.std.proofs.lemmas.Option.{slice_get-map, slice_get_past}
 use lib.Pointwise.{bytes_decides}
 use Rattle.action_program.specs.Numbered.{no_stmt, program_view}
 use Rattle.name_tables.specs.name_numbers.Names.{same, AreDistinct}
 use Rattle.chart_model.specs.chart_plan.Plan.{Kind, Simple, Border, Choice, Entry, Exit}
 use Rattle.chart_model.specs.chart_plan.Same.{Each, none, more, SameKind, simple}
-use Rattle.chart_model.specs.Chart.{Name, Path, State, Graph, Chart}
+use Rattle.chart_model.specs.Chart.{Name, Path, State, Chart}
 use Rattle.chart_model.specs.Named as named
 use Rattle.chart_model.specs.Named.{Placed, Node, from, is_from_point, is_from_state, is_initial, kind_of, nodes_in, outward, state_at, tried}
 use Rattle.chart_model.specs.States.{states_of}
@@ -24,15 +24,15 @@ use Rattle.chart_run.specs.declared.chart_tables.tables.Arrow.{Arrow}
 use Rattle.chart_run.specs.declared.chart_tables.tables.Row.{Row}
 use Rattle.chart_run.specs.declared.chart_tables.tables.Tables.{Tables}
 use Rattle.chart_run.specs.ByName.{Names, IsPath, IsNode, IsTransition, Shows}
-use Rattle.chart_reader.specs.chart_nodes.Keys.{codes, node_key}
+use Rattle.chart_reader.specs.chart_nodes.Keys.{codes}
 use Rattle.chart_reader.specs.chart_nodes.Steps.{StepTree, steps_of}
 use Rattle.chart_reader.proofs.chart_nodes.CircleLaws.{target_is}
 use Rattle.chart_reader.proofs.chart_nodes.Members.{In}
 use Rattle.chart_reader.proofs.chart_nodes.Onward.{from_is, initial_key, onward_is}
 use Rattle.chart_reader.proofs.chart_nodes.Onward as onwards
-use Rattle.chart_compile.specs.chart_places.Places.{PlaceTree, keys_of, place_of, places_of, shared_key, state_key}
+use Rattle.chart_compile.specs.chart_places.Places.{PlaceTree, keys_of, places_of, shared_key, state_key}
 use Rattle.chart_compile.proofs.chart_places.PlaceLaws.{paths_are}
-use Rattle.chart_compile.specs.chart_parts.Parts.{IsArrow, IsNumber, IsRow, IsShared, IsState, from_key, key_of, outer, target_of}
+use Rattle.chart_compile.specs.chart_parts.Parts.{IsArrow, IsNumber, IsRow, IsState, from_key, key_of, outer, target_of}
 use Rattle.chart_compile.specs.chart_parts.Nodes.{IsFirst, is_lower, leads_lower, node_after}
 use Rattle.chart_compile.specs.chart_parts.Compiled.{Compiles, IsAssembled, node_kind}
 use Rattle.chart_compile.proofs.chart_compiled.Naming.{absent, arrow_named, arrows_named, each_at, each_join, each_length, each_map, each_past, get_of, item_at, names_of, none_fresh, path_at, same_named, state_named}

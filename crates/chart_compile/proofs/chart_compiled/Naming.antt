@@ -1,21 +1,20 @@
 -- What the numbers of tables stand for.
-use Rattle.std.proofs.Common.{◌≡◌, ◌⊎◌, inl, inr, ℕ, zero, suc, ◌+◌, ◌<◌, ◌≤◌, Bool, true, false, cond, List, [], ◌∷◌, ◌++◌, length, get_or, map, replicate, refl, sym, ap, ◌∙◌, subst, arith, Option, Some, None, nat_eq}
-use Rattle.std.specs.Prelude.{slice_get, position, ◌&&◌}
+use Rattle.std.proofs.Common.{◌≡◌, ℕ, zero, suc, ◌+◌, ◌<◌, ◌≤◌, Bool, true, false, List, [], ◌∷◌, ◌++◌, length, get_or, map, replicate, refl, sym, ap, ◌∙◌, subst, arith, Some, None, nat_eq}
+use Rattle.std.specs.Prelude.{slice_get, position}
 use Rattle.std.specs.List.{filter, IsDistinct, AllByRecursion}
 use Rattle.std.specs.Option.{option_map_or}
 use Rattle.std.proofs.lemmas.List.{get_or-map, length-map, length-replicate}
 use Rattle.std.proofs.lemmas.List.Quantifiers.{position-Some}
-use Rattle.std.proofs.lemmas.Option.{slice_get-get_or}
 use Rattle.std.proofs.lemmas.Bool.Decides.{nat_tests}
 use lib.Pointwise.{bytes_decides, pointwise_long}
 use lib.Dec.{eqb}
 use Rattle.name_tables.specs.name_numbers.Names.{same, AreDistinct}
 use Rattle.chart_model.specs.chart_plan.Same.{Each, none, more}
 use Rattle.chart_model.specs.Chart.{Name, Path, Source, initial, from_state, from_point, from_choice, from_entry, from_exit, Transition, Graph, Chart}
-use Rattle.chart_model.specs.Named.{same_name, same_path, Placed, Node, a_state, a_choice, an_entry, an_exit, from, graph_at, is_from_choice, node_of, outward}
+use Rattle.chart_model.specs.Named.{same_name, same_path, Placed, Node, a_state, a_choice, an_entry, an_exit, from, graph_at, is_from_choice}
 use Rattle.chart_run.specs.chart_tables.Tables.{ArrowTree}
 use Rattle.chart_run.specs.ByName.{Names, IsPath, IsNode, IsTransition}
-use Rattle.chart_reader.specs.chart_nodes.Keys.{codes, node_key, target_key}
+use Rattle.chart_reader.specs.chart_nodes.Keys.{codes, node_key}
 use Rattle.chart_reader.specs.chart_nodes.Steps.{StepTree}
 use Rattle.chart_reader.proofs.chart_nodes.KeyLaws.{same_codes}
 use Rattle.chart_reader.proofs.chart_nodes.Onward.{path_is}

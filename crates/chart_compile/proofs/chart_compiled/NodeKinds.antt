@@ -1,8 +1,8 @@
 -- What nodes are, by names.
-use Rattle.std.proofs.Common.{◌≡◌, ℕ, Bool, true, false, cond, List, [], ◌∷◌, map, refl, sym, ap, ◌∙◌, subst}
+use Rattle.std.proofs.Common.{◌≡◌, ℕ, Bool, true, false, cond, List, [], ◌∷◌, map, refl, sym, ap, subst}
 use Rattle.std.specs.List.{filter}
 use Rattle.chart_model.specs.chart_plan.Plan.{Kind, Simple, Border, Choice, Entry, Exit}
-use Rattle.chart_model.specs.chart_plan.Same.{Each, SameKind, simple, border, choice, entry, exit}
+use Rattle.chart_model.specs.chart_plan.Same.{SameKind, simple, border, choice, entry, exit}
 use Rattle.chart_model.specs.Chart.{Path, Chart}
 use Rattle.chart_model.specs.Named as named
 use Rattle.chart_model.specs.Named.{Placed, Node, a_state, a_choice, an_entry, an_exit, kind_of}
@@ -27,7 +27,7 @@ kind_is chart (an_entry owner e) = refl
 kind_is chart (an_exit [] x) = refl
 kind_is chart (an_exit (s ∷ owner) x) = refl
 
-filter_made : {A B : Type 0} (p : B → Bool) (f : A → B) (xs : List A) → filter p (map f xs) ≡ map f (filter (λ x. p (f x)) xs)
+pub filter_made : {A B : Type 0} (p : B → Bool) (f : A → B) (xs : List A) → filter p (map f xs) ≡ map f (filter (λ x. p (f x)) xs)
 filter_made p f [] = refl
 filter_made p f (x ∷ xs) = split p f x xs (p (f x)) (filter_made p f xs)
   where

@@ -79,7 +79,7 @@ In_whole f [] x y h i = absurd h
 In_whole f (z ∷ xs) x y (inl e) i = In_left (f z) (flat_map f xs) y (subst (λ w. In (f w) y) (sym e) i)
 In_whole f (z ∷ xs) x y (inr h) i = In_right (f z) (flat_map f xs) y (In_whole f xs x y h i)
 
-and_both : (a b : Bool) → (a && b) ≡ true → (a ≡ true) × (b ≡ true)
+pub and_both : (a b : Bool) → (a && b) ≡ true → (a ≡ true) × (b ≡ true)
 and_both true b e = (refl, e)
 and_both false b e = absurd cc
 
@@ -137,7 +137,7 @@ target_there chart g (to_exit x) h e = In_whole graph_nodes chart.graphs g (an_e
 
 -- ---- steps are transitions of graphs
 
-abbrev IsStep : List Graph → StepTree → Type 0
+abbrev pub IsStep : List Graph → StepTree → Type 0
 IsStep graphs s = (g : Graph) × (t : Transition) × In graphs g × In g.transitions t × (step_of g.owner t ≡ s)
 
 of_graph : (owner : Path) (ts : List Transition) (s : StepTree) → In (map (step_of owner) ts) s → (t : Transition) × In ts t × (step_of owner t ≡ s)
@@ -152,13 +152,13 @@ step_split : (g : Graph) (graphs : List Graph) (xs ys : List StepTree) (s : Step
 step_split g graphs xs ys s true f f' h = step_later g graphs s (f h)
 step_split g graphs xs ys s false f f' h = elim (In_append (steps_in g) ys s h) [ inl i ↦ (let r = of_graph g.owner g.transitions s i in (g, r.0, inl refl, r.1, r.2)) | inr i ↦ step_later g graphs s (f' i) ]
 
-step_is : (seen : List (List ℕ)) (graphs : List Graph) (s : StepTree) → In (steps_behind seen graphs) s → IsStep graphs s
+pub step_is : (seen : List (List ℕ)) (graphs : List Graph) (s : StepTree) → In (steps_behind seen graphs) s → IsStep graphs s
 unfolding steps_behind
 step_is seen [] s h = absurd h
 step_is seen (g ∷ graphs) s h =
     step_split g graphs (steps_behind seen graphs) (steps_behind (seen ++ codes g.owner ∷ []) graphs) s (is_among seen (codes g.owner)) (step_is seen graphs s) (step_is (seen ++ codes g.owner ∷ []) graphs s) h
 
-all_passed : {A : Type 0} (p : A → Bool) (xs : List A) (x : A) → list_all p xs ≡ true → In xs x → p x ≡ true
+pub all_passed : {A : Type 0} (p : A → Bool) (xs : List A) (x : A) → list_all p xs ≡ true → In xs x → p x ≡ true
 all_passed p [] x e h = absurd h
 all_passed p (y ∷ xs) x e (inl s) = subst (λ z. p z ≡ true) s (and_both (p y) (list_all p xs) e).0
 all_passed p (y ∷ xs) x e (inr h) = all_passed p xs x (and_both (p y) (list_all p xs) e).1 h

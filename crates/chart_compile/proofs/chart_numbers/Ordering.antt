@@ -29,7 +29,7 @@ use Rattle.chart_compile.proofs.chart_numbers.Members.{get_pushed}
 key_is : (a b : List ℕ) → same a b ≡ true → a ≡ b
 key_is a b = (bytes_decides a b).0
 
-key_own : (a : List ℕ) → same a a ≡ true
+pub key_own : (a : List ℕ) → same a a ≡ true
 key_own a = (bytes_decides a a).1 refl
 
 same_turn : (a b : List ℕ) → same a b ≡ same b a
@@ -79,11 +79,11 @@ reached_more steps done old new i before keeps here e j s h is at first = split 
         let one : i ≡ j = sym (get_or-next done [] i) ∙ ap (λ k. get_or (done ++ i ∷ []) k 0) (sym last) ∙ is in
         here s (ap (slice_get steps) one ∙ at) (first ∙ ap Some (sym one))
 
-or_first : (a b : Bool) → a ≡ true → (a || b) ≡ true
+pub or_first : (a b : Bool) → a ≡ true → (a || b) ≡ true
 or_first true b e = refl
 or_first false b e = absurd cc
 
-or_second : (a b : Bool) → b ≡ true → (a || b) ≡ true
+pub or_second : (a b : Bool) → b ≡ true → (a || b) ≡ true
 or_second true b e = refl
 or_second false b e = e
 
@@ -101,7 +101,7 @@ some_number None h = absurd cc
 number_kept : (keys : List (List ℕ)) (key k : List ℕ) (q : ℕ) → position (same k) keys ≡ Some q → position (same k) (keys ++ key ∷ []) ≡ Some q
 number_kept keys key k q e = position_push (same k) keys key ∙ ap (λ o. earlier_or o (cond (same k key) (Some (length keys)) None)) e
 
-number_among : (keys : List (List ℕ)) (k : List ℕ) → is_among keys k ≡ true → (q : ℕ) × (position (same k) keys ≡ Some q) × (q < length keys)
+pub number_among : (keys : List (List ℕ)) (k : List ℕ) → is_among keys k ≡ true → (q : ℕ) × (position (same k) keys ≡ Some q) × (q < length keys)
 number_among keys k e =
     let found = some_number (position (same k) keys) (some_place (same k) keys ∙ e) in
     (found.0, found.1, (position-Some (same k) keys found.0 [] found.1).0)

@@ -1,8 +1,8 @@
 -- Groups of steps are the steps with a key.
-use Rattle.std.proofs.Common.{◌≡◌, ◌≢◌, ◌⊎◌, inl, inr, ℕ, zero, suc, ◌+◌, ◌<◌, ◌≤◌, Bool, true, false, cond, List, [], ◌∷◌, ◌++◌, length, get_or, take, map, set, replicate, option_map, refl, sym, ap, ◌∙◌, subst, arith, Option, Some, None, nat_eq, append_assoc}
-use Rattle.std.specs.Prelude.{position, ◌||◌, ◌&&◌, fold, slice_get}
-use Rattle.std.specs.List.{filter, filter_map, cons_option}
-use Rattle.std.proofs.lemmas.List.{append-nil, map-append, map-set, take_more, get_or-set_same, get_or-set_other, length-set, length-replicate, get_or-replicate}
+use Rattle.std.proofs.Common.{◌≡◌, ◌≢◌, ℕ, zero, suc, ◌+◌, ◌<◌, Bool, true, false, cond, List, [], ◌∷◌, ◌++◌, length, get_or, take, map, set, replicate, option_map, refl, sym, ap, ◌∙◌, arith, Option, Some, None, nat_eq, append_assoc}
+use Rattle.std.specs.Prelude.{position, fold, slice_get}
+use Rattle.std.specs.List.{filter, cons_option}
+use Rattle.std.proofs.lemmas.List.{append-nil, map-append, map-set, take_more, get_or-set_same, get_or-set_other, length-map, length-set, length-replicate, get_or-replicate}
 use Rattle.std.proofs.lemmas.List.Elements.{filter_agree, filter_map-append}
 use Rattle.std.proofs.lemmas.List.Quantifiers.{position-Some}
 use Rattle.std.proofs.lemmas.List.Sums.{fold_push}
@@ -125,3 +125,13 @@ put_more v keys none old new steps i s h is e l =
 pub group_at : (keys : List (List ℕ)) (steps : List StepTree) (groups : List (List ℕ)) (k : ℕ) (group key : List ℕ) → IsGrouped keys groups steps → position (same key) keys ≡ Some k → slice_get groups k ≡ Some group → picked steps group ≡ filter (λ (s : StepTree). same s.origin key) steps
 group_at keys steps groups k group key g e h =
     ap (picked steps) (sym (get_or_from_slice_get groups k group [] h)) ∙ read_made steps groups k ∙ ap (λ l. get_or l k []) g ∙ group_is keys steps k key e
+
+fold_long : (keys : List (List ℕ)) (groups : List (List StepTree)) (steps : List StepTree) → length (fold (put_by keys) groups steps) ≡ length groups
+fold_long keys groups [] = refl
+fold_long keys groups (s ∷ steps) = fold_long keys (put_by keys groups s) steps ∙ length-put (position (same s.origin) keys) s groups
+
+-- there are as many groups as keys
+pub groups_many : (keys groups : List (List ℕ)) (steps : List StepTree) → IsGrouped keys groups steps → length groups ≡ length keys
+groups_many keys groups steps grouped =
+    let none : List StepTree = [] in
+    sym (length-map groups (picked steps)) ∙ ap length grouped ∙ fold_long keys (replicate (length keys) none) steps ∙ length-replicate (length keys) none

@@ -1,20 +1,24 @@
 -- Steps by their numbers, copies, and lines of states.
-use Rattle.std.proofs.Common.{◌≡◌, ℕ, ◌+◌, ◌<◌, List, [], ◌∷◌, ◌++◌, length, get_or, take, map, refl, arith, sym, ap, ◌∙◌, subst, Option, Some, None, option_map, Bor, append_assoc}
+use Rattle.std.proofs.Common.{◌≡◌, ℕ, ◌+◌, ◌<◌, List, [], ◌∷◌, ◌++◌, length, get_or, take, map, refl, arith, sym, ap, ◌∙◌, subst, true, Option, Some, None, option_map, Bor, append_assoc}
 use Rattle.std.specs.Prelude.{slice_get, position, option_and_then}
 use Rattle.std.proofs.lemmas.List.{append-nil, map-append, take_more}
-use Rattle.name_tables.specs.name_numbers.Names.{same}
+use Rattle.std.proofs.lemmas.Option.{slice_get-get_or}
+use Rattle.name_tables.specs.name_numbers.Names.{same, is_among}
 use Rattle.action_program.specs.Numbered.{ExprTree, expr_view}
 use Rattle.chart_model.specs.chart_plan.Plan.{Trigger}
 use Rattle.chart_model.specs.chart_plan.Same.{Each, none, more}
 use Rattle.chart_model.specs.Chart.{Event, Name, Path}
 use Rattle.chart_model.specs.Named.{outward}
-use Rattle.chart_run.specs.chart_tables.Tables.{event_view, trigger_view}
+use Rattle.chart_run.specs.chart_tables.Tables.{arrow_view, arrow_views, event_view, trigger_view}
+use Rattle.chart_run.specs.declared.chart_tables.tables.Arrow.{Arrow}
 use Rattle.chart_run.specs.declared.chart_tables.tables.Event.{Event as CodeEvent}
 use Rattle.chart_run.specs.declared.chart_tables.tables.Trigger.{Trigger as CodeTrigger}
 use Rattle.chart_reader.specs.chart_nodes.Steps.{StepTree}
 use Rattle.chart_compile.specs.chart_places.Groups.{IsGrouped, picked}
-use Rattle.chart_compile.proofs.chart_places.GroupLaws.{group_at}
-use Rattle.chart_compile.specs.chart_parts.Parts.{IsState, from_key}
+use Rattle.chart_compile.proofs.chart_places.GroupLaws.{group_at, groups_many}
+use Rattle.chart_compile.proofs.chart_numbers.Ordering.{number_among}
+use Rattle.chart_compile.specs.chart_parts.Parts.{AddsArrow, IsArrow, IsState, from_key}
+use Rattle.chart_compile.proofs.chart_rows.Listing.{each_more}
 
 -- ---- groups
 
@@ -28,9 +32,26 @@ group_found keys groups key r g group steps e is own grouped = split (position (
     split (Some k) p = group_at keys steps groups k group key grouped p (sym (ap (option_and_then (λ i. slice_get groups i)) p) ∙ there)
     split None p = let no : ◌≡◌ {A = Option (List ℕ)} None (Some group) = sym (ap (option_and_then (λ i. slice_get groups i)) p) ∙ there in absurd cc
 
--- the step that a number has
-pub step_got : {A : Type 0} (steps : List A) (number : ℕ) (r : Option (Bor A)) (s : Bor A) → option_map (λ (s : Bor A). s.now) r ≡ slice_get steps number → r ≡ Some s → slice_get steps number ≡ Some s.now
-step_got steps number r s e is = sym e ∙ ap (option_map (λ (s : Bor _). s.now)) is
+-- a key among keys has a group
+pub group_there : (keys groups : List (List ℕ)) (key : List ℕ) (r : Option (Bor (List ℕ))) (steps : List StepTree) → option_map (λ (g : Bor (List ℕ)). g.now) r ≡ option_and_then (λ i. slice_get groups i) (position (same key) keys) → r ≡ None → IsGrouped keys groups steps → is_among keys key ≡ true → ⊥
+group_there keys groups key r steps e is grouped known =
+    let found = number_among keys key known in
+    let many : length groups ≡ length keys = groups_many keys groups steps grouped in
+    let there : slice_get groups found.0 ≡ Some (get_or groups found.0 []) = slice_get-get_or groups found.0 [] (omega (arith, many, found.2)) in
+    let no : ◌≡◌ {A = Option (List ℕ)} None (Some (get_or groups found.0 [])) =
+    sym (ap (option_map (λ (g : Bor (List ℕ)). g.now)) is) ∙ e ∙ ap (option_and_then (λ i. slice_get groups i)) found.1 ∙ there in
+    absurd cc
+
+-- ---- arrows
+
+-- the arrow of a step, or of none
+pub arrow_more : (keys : List (List ℕ)) (old new : List Arrow) (a : Arrow) (o : Option StepTree) (s : StepTree) → o ≡ Some s → new ≡ old ++ a ∷ [] → IsArrow keys (arrow_view a) s → AddsArrow keys o old new
+arrow_more keys old new a o s is e r =
+    subst (λ (o : Option StepTree). AddsArrow keys o old new) (sym is) (λ ss before. each_more (IsArrow keys) arrow_view old new a ss (ss ++ s ∷ []) s e refl r before)
+
+pub arrow_missing : (keys : List (List ℕ)) (old : List Arrow) (o : Option StepTree) → o ≡ None → AddsArrow keys o old old
+arrow_missing keys old o is =
+    subst (λ (o : Option StepTree). AddsArrow keys o old old) (sym is) (λ ss before. subst (λ (l : List StepTree). Each (IsArrow keys) (arrow_views old) l) (sym (append-nil ss)) before)
 
 -- ---- copies
 

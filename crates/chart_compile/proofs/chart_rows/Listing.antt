@@ -1,10 +1,10 @@
 -- Lists that are related one by one, as loops build them.
-use Rattle.std.proofs.Common.{◌≡◌, ℕ, zero, suc, ◌+◌, ◌<◌, ◌≤◌, Bool, true, false, cond, not, List, [], ◌∷◌, ◌++◌, length, get_or, take, map, refl, sym, ap, ◌∙◌, subst, arith, Option, Some, None, option_map}
-use Rattle.std.specs.Prelude.{slice_get, position}
+use Rattle.std.proofs.Common.{◌≡◌, ℕ, ◌+◌, ◌<◌, ◌≤◌, Bool, true, false, cond, List, [], ◌∷◌, ◌++◌, length, get_or, take, map, sym, ap, ◌∙◌, subst, Option, Some, None, option_map, Bor}
+use Rattle.std.specs.Prelude.{slice_get}
 use Rattle.std.specs.List.{filter, cons_option}
 use Rattle.std.proofs.lemmas.List.{append-nil, map-append, take_all, take_more}
 use Rattle.std.proofs.lemmas.List.Elements.{filter-append, filter_map-append}
-use Rattle.std.proofs.lemmas.Option.{get_or_from_slice_get, same_Some, slice_get-map}
+use Rattle.std.proofs.lemmas.Option.{slice_get-map}
 use Rattle.chart_model.specs.chart_plan.Same.{Each, none, more}
 use Rattle.chart_reader.specs.chart_nodes.Steps.{StepTree}
 use Rattle.chart_compile.specs.chart_places.Groups.{picked}
@@ -21,12 +21,15 @@ each_more R f old new a ys ys' y e g r before =
 pub each_more_plain : {A Y : Type 0} (R : A → Y → Type 0) (old new : List A) (a : A) (ys ys' : List Y) (y : Y) → new ≡ old ++ a ∷ [] → ys' ≡ ys ++ y ∷ [] → R a y → Each R old ys → Each R new ys'
 each_more_plain R old new a ys ys' y e g r before = subst (λ (l : List _). Each R l ys') (sym e) (subst (λ (l : List _). Each R (old ++ a ∷ []) l) (sym g) (Each_push R a y before r))
 
--- one more of the steps with some numbers
-pub picked_more : {A : Type 0} (v : A → StepTree) (steps : List A) (numbers : List ℕ) (i : ℕ) (s : A) → i < length numbers → slice_get steps (get_or numbers i 0) ≡ Some s → picked (map v steps) (take (i + 1) numbers) ≡ picked (map v steps) (take i numbers) ++ v s ∷ []
-picked_more v steps numbers i s h e =
-    let number = get_or numbers i 0 in
-    let there : slice_get (map v steps) number ≡ Some (v s) = slice_get-map v steps number ∙ ap (option_map v) e in
-    ap (picked (map v steps)) (take_more numbers i 0 h) ∙ filter_map-append (λ j. slice_get (map v steps) j) (take i numbers) (number ∷ []) ∙ ap (λ o. picked (map v steps) (take i numbers) ++ cons_option o []) there
+-- the steps with some numbers, and then the one with the next number, if there is such a step
+pub picked_next : (steps : List StepTree) (numbers : List ℕ) (i : ℕ) → i < length numbers → picked steps (take (i + 1) numbers) ≡ picked steps (take i numbers) ++ cons_option (slice_get steps (get_or numbers i 0)) []
+picked_next steps numbers i h = ap (picked steps) (take_more numbers i 0 h) ∙ filter_map-append (λ j. slice_get steps j) (take i numbers) (get_or numbers i 0 ∷ [])
+
+pub step_found : {A : Type 0} (v : A → StepTree) (steps : List A) (i : ℕ) (r : Option (Bor A)) (s : Bor A) → option_map (λ (s : Bor A). s.now) r ≡ slice_get steps i → r ≡ Some s → slice_get (map v steps) i ≡ Some (v s.now)
+step_found v steps i r s e is = slice_get-map v steps i ∙ ap (option_map v) (sym e ∙ ap (option_map (λ (s : Bor _). s.now)) is)
+
+pub step_missing : {A : Type 0} (v : A → StepTree) (steps : List A) (i : ℕ) (r : Option (Bor A)) → option_map (λ (s : Bor A). s.now) r ≡ slice_get steps i → r ≡ None → slice_get (map v steps) i ≡ None
+step_missing v steps i r e is = slice_get-map v steps i ∙ ap (option_map v) (sym e ∙ ap (option_map (λ (s : Bor _). s.now)) is)
 
 pub each_start : {A X Y : Type 0} (R : X → Y → Type 0) (f : A → X) (xs : List A) → xs ≡ [] → Each R (map f xs) []
 each_start R f xs e = subst (λ (l : List _). Each R (map f l) []) (sym e) none

@@ -1,10 +1,10 @@
 -- Tables that are compiled from a chart.
-use Rattle.std.specs.Prelude.{◌≡◌, ◌+◌, ◌<◌, ◌≤◌, ℕ, Bool, true, List, [], ◌∷◌, Some, length, map, slice_get, sum}
+use Rattle.std.specs.Prelude.{◌≡◌, ◌<◌, ℕ, true, List, [], ◌∷◌, Some, length, slice_get}
 use Rattle.std.specs.Option.{option_map_or}
 use Rattle.chart_model.specs.chart_plan.Plan.{Kind, Simple}
 use Rattle.chart_model.specs.chart_plan.Same.{Each}
-use Rattle.chart_model.specs.Chart.{Path, Chart}
-use Rattle.chart_model.specs.Named.{Placed, from, is_initial, nodes_in}
+use Rattle.chart_model.specs.Chart.{Chart}
+use Rattle.chart_model.specs.Named.{Placed, from, is_initial}
 use Rattle.chart_model.specs.States.{states_of}
 use Rattle.chart_run.specs.chart_tables.Tables.{ArrowTree, arrow_view, kind, IsSound}
 use Rattle.chart_run.specs.declared.chart_tables.tables.Node.{Node as CodeNode}

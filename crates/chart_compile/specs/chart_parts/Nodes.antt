@@ -1,12 +1,12 @@
 -- Nodes of tables, by the steps that begin at them.
-use Rattle.std.specs.Prelude.{◌&&◌, ℕ, Bool, true, not, List, [], ◌∷◌, Option, Some, None, nat_lt}
-use Rattle.std.specs.List.{filter, list_all}
+use Rattle.std.specs.Prelude.{◌&&◌, ◌<◌, ℕ, Bool, true, not, List, [], ◌∷◌, ◌++◌, Option, Some, None, length, nat_lt}
+use Rattle.std.specs.List.{cons_option, filter, list_all}
 use Rattle.std.specs.Option.{is_some}
 use Rattle.chart_model.specs.chart_plan.Plan.{Kind, Simple, Border, Choice, Entry, Exit}
-use Rattle.chart_model.specs.chart_plan.Same.{SameKind}
+use Rattle.chart_model.specs.chart_plan.Same.{Each, SameKind}
 use Rattle.chart_model.specs.Chart.{Path}
 use Rattle.chart_model.specs.Named.{Node, a_state, a_choice, an_entry, an_exit, node_of}
-use Rattle.chart_run.specs.chart_tables.Tables.{ArrowTree, arrow_view, kind}
+use Rattle.chart_run.specs.chart_tables.Tables.{ArrowTree, arrow_view, arrow_views, kind}
 use Rattle.chart_run.specs.declared.chart_tables.tables.Arrow.{Arrow}
 use Rattle.chart_run.specs.declared.chart_tables.tables.Node.{Node as CodeNode}
 use Rattle.chart_reader.specs.chart_nodes.Steps.{StepTree}
@@ -34,6 +34,20 @@ kind_by (a_choice graph c) steps = by_first graph (λ d. Choice (filter has_cond
 kind_by (an_entry owner e) steps = by_first owner (λ s. Entry owner s) steps
 kind_by (an_exit [] x) steps = Simple []
 kind_by (an_exit (s ∷ owner) x) steps = by_first (s ∷ owner) (λ t. Exit (s ∷ owner) t) steps
+
+-- a choice point has a branch without a condition among the steps that begin at it, and an exit point isn't one of
+-- the top graph
+abbrev pub GoesOn : Node → List StepTree → Type 0
+GoesOn (a_state path) steps = Unit {0}
+GoesOn (a_choice graph c) steps = 0 < length (filter has_none steps)
+GoesOn (an_entry owner e) steps = Unit {0}
+GoesOn (an_exit owner x) steps = 0 < length owner
+
+-- the branch of a step with a condition, if there is one, stands behind other branches
+abbrev pub AddsBranch : List (List ℕ) → Option StepTree → (old new : List Arrow) → Type 0
+AddsBranch nodes step old new =
+    (ss : List StepTree) → Each (IsArrow nodes) (arrow_views old) (filter has_condition ss)
+    → Each (IsArrow nodes) (arrow_views new) (filter has_condition (ss ++ cons_option step []))
 
 -- a node of tables is the one that a step leads to
 abbrev pub IsNode : List (List ℕ) → List (List ℕ) → List StepTree → CodeNode → StepTree → Type 0

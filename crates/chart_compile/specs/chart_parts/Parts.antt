@@ -1,13 +1,13 @@
 -- Rows of tables, by the keys of a chart's states, graphs and nodes.
-use Rattle.std.specs.Prelude.{◌≡◌, ℕ, List, [], ◌∷◌, Some, map, position}
+use Rattle.std.specs.Prelude.{◌≡◌, ℕ, List, [], ◌∷◌, ◌++◌, Option, Some, position}
 use Rattle.std.specs.Global.{Vec}
-use Rattle.std.specs.List.{filter}
+use Rattle.std.specs.List.{cons_option, filter}
 use Rattle.action_program.specs.Numbered.{program_view}
 use Rattle.name_tables.specs.name_numbers.Names.{same}
 use Rattle.chart_model.specs.chart_plan.Same.{Each}
 use Rattle.chart_model.specs.Chart.{Path}
 use Rattle.chart_model.specs.Named.{outward}
-use Rattle.chart_run.specs.chart_tables.Tables.{ArrowTree, arrow_view, arrow_views}
+use Rattle.chart_run.specs.chart_tables.Tables.{ArrowTree, arrow_views}
 use Rattle.chart_run.specs.declared.chart_tables.tables.Arrow.{Arrow}
 use Rattle.chart_run.specs.declared.chart_tables.tables.Row.{Row}
 use Rattle.chart_reader.specs.chart_nodes.Keys.{target_key}
@@ -40,6 +40,10 @@ pub record IsArrow (nodes : List (List ℕ)) (a : ArrowTree) (s : StepTree) : Ty
   pub condition : a.condition ≡ s.placed.transition.condition
   pub action : a.action ≡ s.placed.transition.action
   pub target : IsNumber nodes (target_of s) a.target
+
+-- the arrow of a step, if there is one, stands behind those of other steps
+abbrev pub AddsArrow : List (List ℕ) → Option StepTree → (old new : List Arrow) → Type 0
+AddsArrow nodes step old new = (ss : List StepTree) → Each (IsArrow nodes) (arrow_views old) ss → Each (IsArrow nodes) (arrow_views new) (ss ++ cons_option step [])
 
 -- the path of the state that has the graph with a state
 abbrev pub outer : Path → Path

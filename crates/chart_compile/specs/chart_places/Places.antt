@@ -1,9 +1,8 @@
 -- The states of a chart with their paths, in the order of their numbers.
-use Rattle.std.specs.Prelude.{◌≡◌, ℕ, zero, suc, List, [], ◌∷◌, Option, Some, None, length, map, option_and_then, position, slice_get}
+use Rattle.std.specs.Prelude.{◌≡◌, ℕ, zero, suc, List, [], ◌∷◌, Option, Some, None, length, map}
 use Rattle.std.specs.Borrow.{Bor}
 use Rattle.std.specs.List.{flat_map}
 use Rattle.std.specs.Option.{option_map_or}
-use Rattle.name_tables.specs.name_numbers.Names.{same}
 use Rattle.chart_model.specs.Chart.{Path, State, Graph, Chart}
 use Rattle.chart_model.specs.Named.{graph_at}
 use Rattle.chart_reading.specs.chart_graphs.Views.{graph_view, state_view}

@@ -1,6 +1,5 @@
 //! The keys of states, and how many nodes a chart has.
 ghost use Rattle.std.specs.Prelude.{◌≡◌, map, sum, IfOk, IfSome};
-ghost use Rattle.name_tables.specs.name_numbers.Names.{AreDistinct};
 ghost use Rattle.chart_model.specs.Named.{nodes_in};
 ghost use Rattle.chart_reading.specs.chart_graphs.Views.{graph_view};
 ghost use Rattle.chart_compile.specs.chart_places.Places.{place_view, state_key};
@@ -8,7 +7,6 @@ ghost use Rattle.chart_compile.specs.chart_places.Places.{place_view, state_key}
 use crate::chart_places::Place;
 use chart_reader::named_key;
 use chart_reading::Graph;
-use name_tables::{Numbers, numbered};
 use room_kinds::Sequence;
 use std::alloc::{AllocError, Global};
 
@@ -22,21 +20,6 @@ pub fn state_keys<'a>(alloc: Global, places: &[Place<'a>]) -> Result<Vec<Sequenc
         keys.push(Sequence::from(key))?;
     }
     Ok(keys)
-}
-
-/// The numbers of different keys, in their order.
-pub fn state_numbers<'a>(alloc: Global, keys: &'a [Sequence<u8>]) -> Result<Numbers<'a>, AllocError>
-    requires { AreDistinct keys.now }
-    ensures { IfOk result (λ numbers. numbers ≡ keys.entry.now) }
-{
-    let mut names = Vec::new(alloc);
-    for key in keys {
-        names.push(key.as_slice())?;
-    }
-    match numbered(alloc, names.as_slice())? {
-        Some(numbers) => Ok(numbers),
-        None => unreachable!(),
-    }
 }
 
 /// How many nodes a graph has.

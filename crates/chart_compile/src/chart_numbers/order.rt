@@ -1,9 +1,11 @@
 //! The order of a chart's nodes.
-ghost use Rattle.std.specs.Prelude.{◌≡◌, [], map, not, option_map, slice_get, IfOk, OnOk};
-ghost use Rattle.name_tables.specs.name_numbers.Names.{is_among};
+ghost use Rattle.std.specs.Prelude.{◌≡◌, ◌++◌, [], map, not, option_map, slice_get, IfOk, OnOk};
+ghost use Rattle.std.specs.List.{cons_option};
+ghost use Rattle.name_tables.specs.name_numbers.Names.{is_among, names_of};
 ghost use Rattle.number_graphs.specs.class_containment.Containment.{IsContainmentOrder, NoneContainsItself};
 ghost use Rattle.chart_reader.specs.chart_nodes.Steps.{step_view};
 ghost use Rattle.chart_reader.specs.chart_nodes.Circles.{number_of, parts_of, targets_of};
+ghost use Rattle.chart_compile.specs.chart_places.Groups.{picked};
 ghost use Rattle.chart_compile.specs.chart_numbers.Order.{AreNumbered, is_number, numbered, numbering, with_node, with_step};
 
 use chart_reader::{Step, node_order, target_index};
@@ -94,20 +96,58 @@ fn add_steps<'a, 'b>(
     Ok(targets)
 }
 
-/// Numbers the nodes to which steps lead, so that each leads to lower ones: for each number the
-/// number of the first step that leads to its node. `keys` gains the keys of the nodes. It takes time
-/// in proportion to the steps and their keys.
+/// Adds the key of the node that the step with a number leads to, if there is such a step.
+fn add_key<'a, 'b>(
+    steps: &'a [Step<'b>],
+    number: usize,
+    keys: &mut Vec<&'a [u8]>,
+) -> Result<(), AllocError>
+    ensures { OnOk result (names_of keys.new.items ≡ names_of keys.old.items ++ targets_of (cons_option (slice_get (map step_view steps.now) number) [])) }
+{
+    let Some(step) = step_at(steps, number) else {
+        return Ok(());
+    };
+    keys.push(step.target.as_slice())?;
+    Ok(())
+}
+
+/// An index of the keys of the nodes that the steps with some numbers lead to, in their order.
+fn target_keys<'a, 'b>(
+    alloc: Global,
+    steps: &'a [Step<'b>],
+    targets: &[usize],
+) -> Result<NameIndex<'a>, AllocError>
+    ensures { IfOk result (λ keys. keys ≡ targets_of (picked (map step_view steps.now) targets.now)) }
+{
+    let mut keys = Vec::new(alloc);
+    for number in targets {
+        add_key(steps, *number, &mut keys)?;
+    }
+    let index = NameIndex::of(alloc, keys)?;
+    Ok(index)
+}
+
+/// The nodes in the order of their numbers: their keys, and for each the number of the first step that
+/// leads to it.
+#[derive(Drop)]
+pub struct NodeOrder<'a> {
+    pub keys: NameIndex<'a>,
+    pub targets: Vec<usize>,
+}
+
+/// Numbers the nodes to which steps lead, so that each leads to lower ones. It takes time in
+/// proportion to the steps and their keys.
 pub fn number_nodes<'a, 'b>(
     alloc: Global,
     steps: &'a [Step<'b>],
-    keys: &mut Numbers<'a>,
-) -> Result<Vec<usize>, AllocError>
-    requires empty { keys.old ≡ [] }
-    requires no_circle { NoneContainsItself (parts_of (map step_view steps.now)) }
-    ensures { IfOk result (λ targets. AreNumbered (map step_view steps.now) keys.new targets.items) }
+) -> Result<NodeOrder<'a>, AllocError>
+    requires { NoneContainsItself (parts_of (map step_view steps.now)) }
+    ensures { IfOk result (λ nodes. AreNumbered (map step_view steps.now) nodes.keys nodes.targets.items) }
 {
     let first = target_index(alloc, steps)?;
     let order = ordered(alloc, steps)?;
-    let targets = add_steps(alloc, steps, &first, order.as_slice(), keys)?;
-    Ok(targets)
+    let mut seen = Numbers::new(alloc);
+    let targets = add_steps(alloc, steps, &first, order.as_slice(), &mut seen)?;
+    let keys = target_keys(alloc, steps, targets.as_slice())?;
+    Ok(NodeOrder { keys, targets })
 }

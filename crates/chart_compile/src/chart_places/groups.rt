@@ -5,7 +5,7 @@ ghost use Rattle.chart_reader.specs.chart_nodes.Steps.{step_view};
 ghost use Rattle.chart_compile.specs.chart_places.Groups.{IsGrouped, put_number};
 
 use chart_reader::Step;
-use name_tables::Numbers;
+use name_tables::NameIndex;
 use room_kinds::Sequence;
 use std::alloc::{AllocError, Global};
 
@@ -31,14 +31,14 @@ fn add_to(groups: &mut Vec<Sequence<usize>>, group: usize, number: usize) -> Res
 #[tactic(auto, unfolding(crate::specs::chart_places::Groups::put_number))]
 fn put<'b, 'c>(
     groups: &mut Vec<Sequence<usize>>,
-    places: &Numbers<'c>,
+    places: &NameIndex<'c>,
     step: &Step<'b>,
     number: usize,
 ) -> Result<(), AllocError>
     requires { length groups.old.items ≡ length places.now }
     ensures { OnOk result (groups.new.items ≡ put_number (position (same (step_view step.now).origin) places.now) number groups.old.items) }
 {
-    match places.number_of(step.origin.as_slice()) {
+    match places.place_of(step.origin.as_slice()) {
         Some(group) => add_to(groups, group, number),
         None => Ok(()),
     }
@@ -47,7 +47,7 @@ fn put<'b, 'c>(
 /// For each of some places, by number, the numbers of the steps that begin there, in their order.
 pub fn group_by<'b, 'c>(
     alloc: Global,
-    places: &Numbers<'c>,
+    places: &NameIndex<'c>,
     count: usize,
     steps: &[Step<'b>],
 ) -> Result<Vec<Sequence<usize>>, AllocError>

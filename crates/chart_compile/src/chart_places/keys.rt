@@ -1,12 +1,12 @@
 //! Graphs by their keys.
 ghost use Rattle.std.specs.Prelude.{◌≡◌, map, option_and_then, option_map, position, slice_get, IfOk};
-ghost use Rattle.name_tables.specs.name_numbers.Names.{same, AreDistinct};
+ghost use Rattle.name_tables.specs.name_numbers.Names.{same};
 ghost use Rattle.chart_reading.specs.chart_graphs.Views.{graph_view};
 ghost use Rattle.chart_compile.specs.chart_places.Places.{keys_of};
 
 use chart_reader::plain_key;
 use chart_reading::{Chart, Graph};
-use name_tables::{Numbers, numbered};
+use name_tables::NameIndex;
 use room_kinds::Sequence;
 use std::alloc::{AllocError, Global};
 
@@ -22,27 +22,23 @@ pub fn graph_keys(alloc: Global, graphs: &[Graph]) -> Result<Vec<Sequence<u8>>, 
     Ok(keys)
 }
 
-/// The numbers of keys, in their order. It answers as where memory runs out where two keys are the
-/// same.
-pub fn numbers_of<'a>(alloc: Global, keys: &'a [Sequence<u8>]) -> Result<Numbers<'a>, AllocError>
-    ensures same { IfOk result (λ numbers. numbers ≡ keys.entry.now) }
-    ensures distinct { IfOk result (λ numbers. AreDistinct keys.entry.now) }
+/// An index of keys: the number of a key is its first place among them.
+pub fn index_of<'a>(alloc: Global, keys: &'a [Sequence<u8>]) -> Result<NameIndex<'a>, AllocError>
+    ensures { IfOk result (λ index. index ≡ keys.entry.now) }
 {
     let mut names = Vec::new(alloc);
     for key in keys {
         names.push(key.as_slice())?;
     }
-    match numbered(alloc, names.as_slice())? {
-        Some(numbers) => Ok(numbers),
-        None => Err(AllocError),
-    }
+    let index = NameIndex::of(alloc, names)?;
+    Ok(index)
 }
 
 /// The graph with a key.
-pub fn find_graph<'a, 'b>(chart: &'a Chart, graphs: &Numbers<'b>, key: &[u8]) -> Option<&'a Graph>
+pub fn find_graph<'a, 'b>(chart: &'a Chart, graphs: &NameIndex<'b>, key: &[u8]) -> Option<&'a Graph>
     ensures { option_map (λ g. g.now) result ≡ option_and_then (λ i. slice_get chart.entry.now.graphs.items i) (position (same key.now) graphs.now) }
 {
-    match graphs.number_of(key) {
+    match graphs.place_of(key) {
         Some(number) => chart.graphs.get(number),
         None => None,
     }

@@ -7,7 +7,7 @@ ghost use Rattle.chart_compile.specs.chart_places.Places.{FoundAt, keys_of, plac
 use crate::chart_places::keys::find_graph;
 use chart_reader::{named_key, plain_key};
 use chart_reading::{Chart, Graph, State};
-use name_tables::Numbers;
+use name_tables::NameIndex;
 use std::alloc::{AllocError, Global};
 
 /// A state in its graph.
@@ -21,7 +21,7 @@ pub struct Place<'a> {
 fn inner_graph<'a, 'b>(
     alloc: Global,
     chart: &'a Chart,
-    graphs: &Numbers<'b>,
+    graphs: &NameIndex<'b>,
     graph: &Graph,
     state: &State,
 ) -> Result<Option<&'a Graph>, AllocError>
@@ -36,7 +36,7 @@ fn inner_graph<'a, 'b>(
 fn top_graph<'a, 'b>(
     alloc: Global,
     chart: &'a Chart,
-    graphs: &Numbers<'b>,
+    graphs: &NameIndex<'b>,
 ) -> Result<Option<&'a Graph>, AllocError>
     requires { graphs.now ≡ keys_of (map graph_view chart.now.graphs.items) }
     ensures { IfOk result (λ top. FoundAt (chart_view chart.entry.now) [] top) }
@@ -50,7 +50,7 @@ fn top_graph<'a, 'b>(
 fn add_state<'a, 'b>(
     alloc: Global,
     chart: &'a Chart,
-    graphs: &Numbers<'b>,
+    graphs: &NameIndex<'b>,
     depth: usize,
     graph: &'a Graph,
     state: &'a State,
@@ -76,7 +76,7 @@ fn add_state<'a, 'b>(
 fn add_states<'a, 'b>(
     alloc: Global,
     chart: &'a Chart,
-    graphs: &Numbers<'b>,
+    graphs: &NameIndex<'b>,
     depth: usize,
     graph: &'a Graph,
     places: &mut Vec<Place<'a>>,
@@ -99,7 +99,7 @@ fn add_states<'a, 'b>(
 pub fn places_of<'a, 'b>(
     alloc: Global,
     chart: &'a Chart,
-    graphs: &Numbers<'b>,
+    graphs: &NameIndex<'b>,
 ) -> Result<Vec<Place<'a>>, AllocError>
     requires { graphs.now ≡ keys_of (map graph_view chart.now.graphs.items) }
     ensures { IfOk result (λ places. map place_view places.items ≡ places_of (chart_view chart.entry.now)) }

@@ -1,16 +1,16 @@
 //! Transitions of the tables.
-ghost use Rattle.std.specs.Prelude.{◌≡◌, map, IfOk};
+ghost use Rattle.std.specs.Prelude.{◌≡◌, map, slice_get, IfOk, OnOk};
 ghost use Rattle.chart_model.specs.chart_plan.Same.{Each};
 ghost use Rattle.chart_run.specs.chart_tables.Tables.{arrow_view, arrow_views, trigger_view};
 ghost use Rattle.chart_reader.specs.chart_nodes.Steps.{step_view};
 ghost use Rattle.chart_compile.specs.chart_places.Groups.{picked};
-ghost use Rattle.chart_compile.specs.chart_parts.Parts.{IsArrow};
+ghost use Rattle.chart_compile.specs.chart_parts.Parts.{AddsArrow, IsArrow};
 
 use crate::chart_rows::lookup::{number, step_at};
 use action_program::{copy_guard, copy_program};
 use chart_reader::{Step, target_key};
 use chart_run::{Arrow, Trigger};
-use name_tables::Numbers;
+use name_tables::NameIndex;
 use std::alloc::{AllocError, Global};
 
 fn copy_triggers(alloc: Global, triggers: &[Trigger]) -> Result<Vec<Trigger>, AllocError>
@@ -28,7 +28,7 @@ fn copy_triggers(alloc: Global, triggers: &[Trigger]) -> Result<Vec<Trigger>, Al
 /// The arrow of a step.
 pub fn make_arrow<'b, 'c>(
     alloc: Global,
-    nodes: &Numbers<'c>,
+    nodes: &NameIndex<'c>,
     step: &Step<'b>,
 ) -> Result<Arrow, AllocError>
     ensures { IfOk result (λ arrow. IsArrow nodes.now (arrow_view arrow) (step_view step.now)) }
@@ -47,10 +47,28 @@ pub fn make_arrow<'b, 'c>(
     })
 }
 
+/// Adds the arrow of the step with a number, if there is such a step.
+fn add_arrow<'b, 'c>(
+    alloc: Global,
+    nodes: &NameIndex<'c>,
+    steps: &[Step<'b>],
+    number: usize,
+    arrows: &mut Vec<Arrow>,
+) -> Result<(), AllocError>
+    ensures { OnOk result (AddsArrow nodes.now (slice_get (map step_view steps.now) number) arrows.old.items arrows.new.items) }
+{
+    let Some(step) = step_at(steps, number) else {
+        return Ok(());
+    };
+    let arrow = make_arrow(alloc, nodes, step)?;
+    arrows.push(arrow)?;
+    Ok(())
+}
+
 /// The arrows of the steps with some numbers, in their order.
 pub fn arrows_of<'b, 'c>(
     alloc: Global,
-    nodes: &Numbers<'c>,
+    nodes: &NameIndex<'c>,
     steps: &[Step<'b>],
     group: &[usize],
 ) -> Result<Vec<Arrow>, AllocError>
@@ -58,11 +76,7 @@ pub fn arrows_of<'b, 'c>(
 {
     let mut arrows = Vec::new(alloc);
     for number in group {
-        let Some(step) = step_at(steps, *number) else {
-            return Err(AllocError);
-        };
-        let arrow = make_arrow(alloc, nodes, step)?;
-        arrows.push(arrow)?;
+        add_arrow(alloc, nodes, steps, *number, &mut arrows)?;
     }
     Ok(arrows)
 }

@@ -1,12 +1,12 @@
 //! Numbers and steps by keys.
-ghost use Rattle.std.specs.Prelude.{◌≡◌, ◌∷◌, List, option_and_then, option_map, position, slice_get, IfOk};
-ghost use Rattle.name_tables.specs.name_numbers.Names.{same};
+ghost use Rattle.std.specs.Prelude.{◌≡◌, ◌∷◌, true, List, option_and_then, option_map, position, slice_get, IfOk};
+ghost use Rattle.name_tables.specs.name_numbers.Names.{same, is_among};
 ghost use Rattle.chart_reader.specs.chart_nodes.Steps.{StepTree};
 ghost use Rattle.chart_compile.specs.chart_places.Groups.{IsGrouped, picked};
 ghost use Rattle.chart_compile.specs.chart_parts.Parts.{IsNumber, IsState, from_key};
 
 use chart_reader::{Step, named_key};
-use name_tables::Numbers;
+use name_tables::NameIndex;
 use room_ast::Name;
 use room_kinds::Sequence;
 use std::alloc::{AllocError, Global};
@@ -15,10 +15,10 @@ use std::alloc::{AllocError, Global};
 const MOST: usize = 65535;
 
 /// The number of a key. It answers as where memory runs out where the key has none below 65,535.
-pub fn number<'c>(numbers: &Numbers<'c>, key: &[u8]) -> Result<u16, AllocError>
+pub fn number<'c>(numbers: &NameIndex<'c>, key: &[u8]) -> Result<u16, AllocError>
     ensures { IfOk result (λ n. IsNumber numbers.now key.now n) }
 {
-    match numbers.number_of(key) {
+    match numbers.place_of(key) {
         Some(n) => {
             if n < MOST {
                 Ok(n as u16)
@@ -33,7 +33,7 @@ pub fn number<'c>(numbers: &Numbers<'c>, key: &[u8]) -> Result<u16, AllocError>
 /// The number of the state with a name in a graph.
 pub fn state_number<'c>(
     alloc: Global,
-    states: &Numbers<'c>,
+    states: &NameIndex<'c>,
     name: &Name,
     owner: &[Name],
 ) -> Result<u16, AllocError>
@@ -51,29 +51,31 @@ pub fn step_at<'a, 'b>(steps: &'a [Step<'b>], number: usize) -> Option<&'a Step<
 }
 
 fn find_group<'c, 'd>(
-    places: &Numbers<'c>,
+    places: &NameIndex<'c>,
     groups: &'d [Sequence<usize>],
     key: &[u8],
 ) -> Option<&'d Sequence<usize>>
     ensures { option_map (λ g. g.now) result ≡ option_and_then (λ i. slice_get groups.entry.now i) (position (same key.now) places.now) }
 {
-    match places.number_of(key) {
+    match places.place_of(key) {
         Some(number) => groups.get(number),
         None => None,
     }
 }
 
-/// The numbers of the steps that begin at the place with a key.
+/// The numbers of the steps that begin at the place with a key, which is one of these places.
 pub fn steps_at<'c, 'd>(
-    places: &Numbers<'c>,
+    places: &NameIndex<'c>,
     groups: &'d [Sequence<usize>],
     key: &[u8],
-) -> Result<&'d [usize], AllocError>
-    ensures { IfOk result (λ found. (steps : List StepTree) → IsGrouped places.now groups.entry.now steps → picked steps found.now ≡ from_key key.now steps) }
+) -> &'d [usize]
+    requires grouped { (steps : List StepTree) × IsGrouped places.now groups.now steps }
+    requires known { is_among places.now key.now ≡ true }
+    ensures { (steps : List StepTree) → IsGrouped places.now groups.entry.now steps → picked steps result.now ≡ from_key key.now steps }
 {
     let found = find_group(places, groups, key);
     match found {
-        Some(group) => Ok(group.as_slice()),
-        None => Err(AllocError),
+        Some(group) => group.as_slice(),
+        None => unreachable!(),
     }
 }

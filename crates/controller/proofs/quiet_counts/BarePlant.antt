@@ -18,11 +18,13 @@ bare_ports t none s =
     subst (λ (o : Option Slot). option_map_or (λ (c : ClassNames). length c.ports) (option_and_then (λ (x : Slot). class_at t x.class) o) 0 ≤ 65536)
     (sym (slice_get_past t.slots s (omega (arith, none)))) (omega arith)
 
-pub bare_plant : (wiring : Tables) (tables : List (Option ChartTables)) → wiring.slots ≡ [] → tables ≡ [] → AreOfPlant wiring tables
-bare_plant wiring tables no_slot no_table =
+pub bare_plant : (wiring : Tables) (tables : List (Option ChartTables)) → 1 ≤ length wiring.controllers → length wiring.controllers ≤ 254 → wiring.slots ≡ [] → tables ≡ [] → AreOfPlant wiring tables
+bare_plant wiring tables some few no_slot no_table =
     let no_slots : length wiring.slots ≡ 0 = ap (λ (z : List Slot). length z) no_slot in
     let no_tables : length tables ≡ 0 = ap (λ (z : List (Option ChartTables)). length z) no_table in
     record {
+      some_controller = some;
+      few_controllers = few;
       sound = λ class v at. let within = slice_get_within tables class (Some v) at in absurd (omega arith);
       order = record {
         behind = λ s c h. let within = contained_there wiring s c h in absurd (omega arith);

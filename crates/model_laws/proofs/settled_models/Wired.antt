@@ -41,7 +41,7 @@ actors_known : (m : ModelTree) → first_broken end_rules m ≡ None → has_kno
 unfolding end_rules
 actors_known m e = fourth_kept (has_fitting_values m) (has_known_protocols m) (has_own_ports m) (has_known_actors m) (cond (actors_are_finite m) None (Some 13)) 9 10 11 12 e
 
-threads_few : (m : ModelTree) → first_broken thread_rules m ≡ None → threads_are_few m ≡ true
+pub threads_few : (m : ModelTree) → first_broken thread_rules m ≡ None → threads_are_few m ≡ true
 unfolding thread_rules
 threads_few m e = head_kept _ _ _ e
 

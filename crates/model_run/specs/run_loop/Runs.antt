@@ -8,6 +8,7 @@ use Rattle.actor_world.specs.Journals.{Item}
 use Rattle.controller_actors.specs.declared.plant.Plant.{Plant}
 use Rattle.controller.specs.View.{Controller}
 use Rattle.model_run.specs.declared.run_loop.state.Run.{Run}
+use Rattle.model_run.specs.joined_round.ByPriority.{AreByPriority}
 use Rattle.model_run.specs.joined_round.Joined.{AllStand, RoundDone}
 use Rattle.model_run.specs.part_posts.Items.{items_of}
 use Rattle.model_run.specs.run_ends.Ends.{waits, IsAtEnd}
@@ -18,11 +19,12 @@ pub record StandsBetween (plant : Plant) (given part : List Line) (fuel : ℕ) (
   pub before : run.in_part ≡ false → BeforePart plant (items_of plant.wiring given) part fuel run.controllers.items run.environment
   pub within : run.in_part ≡ true → InPart plant (items_of plant.wiring given) fuel run.controllers.items run.environment
 
--- a round has begun, whose ends did this so far: whatever the controllers do in the round, after it the run
--- stands in a part
+-- a round has begun, whose ends did this so far, each post in the lane of its priority: whatever the
+-- controllers do in the round, after it the run stands in a part
 pub record IsInRound (plant : Plant) (gone : List Item) (fuel : ℕ) (run : Run) (logs : List EndLog) : Type 0 where
   pub stand : AllStand plant run.controllers.items
   pub in_part : run.in_part ≡ true
+  pub by_priority : AreByPriority logs
   pub goes_on : (news : List Controller) (logs' : List EndLog) (answer : List (List Msg)) → RoundDone plant run.controllers.items news logs logs' answer
       → InPart plant gone fuel news run.environment
 

@@ -2,6 +2,7 @@
 ghost use Rattle.std.specs.Prelude.{◌≡◌, ◌+◌, List, map, length, OnOk};
 ghost use Rattle.room_kinds.specs.declared.message.Msg.{Msg as Message};
 ghost use Rattle.mail_core.specs.EndLog.{EndLog};
+ghost use Rattle.model_run.specs.joined_round.ByPriority.{AreByPriority};
 ghost use Rattle.model_run.specs.joined_round.Joined.{AllStand, HavePosted, AreJoined, RoundDone};
 
 use crate::joined_round::at_once::work_at_once;
@@ -24,6 +25,7 @@ fn join_all<M: Mail>(
     requires posted { HavePosted plant.now controllers.old.items }
     requires count { length ends.items ≡ length controllers.old.items + 1 }
     requires tied { M.tied office ends.items }
+    requires by_priority { AreByPriority (map M.log ends.items) }
     ensures { OnOk result (AreJoined plant.now controllers.old.items controllers.new.items (map M.log ends.items)) }
 {
     let left = M::close(alloc, office, ends)?;
@@ -45,6 +47,7 @@ where
     requires stand { AllStand plant.now controllers.old.items }
     requires count { length ends.items ≡ length plant.now.wiring.controllers + 1 }
     requires tied { M.tied office ends.items }
+    requires by_priority { AreByPriority (map M.log ends.items) }
     ensures { OnOk result ((logs : List EndLog) × (answer : List (List Message)) × RoundDone plant.now controllers.old.items controllers.new.items (map M.log ends.items) logs answer) }
 {
     work_in_order(controllers, plant, &mut office, &mut ends)?;
@@ -65,6 +68,7 @@ pub fn round_at_once<M: Mail<Office = ()> + Send + Drop, G: Gate + Sync, R: Thre
     requires stand { AllStand plant.now controllers.old.items }
     requires count { length ends.items ≡ length plant.now.wiring.controllers + 1 }
     requires tied { M.tied tt ends.items }
+    requires by_priority { AreByPriority (map M.log ends.items) }
     ensures { OnOk result ((logs : List EndLog) × (answer : List (List Message)) × RoundDone plant.now controllers.old.items controllers.new.items (map M.log ends.items) logs answer) }
 {
     let after = work_at_once(rt, alloc, controllers, plant, ends, gate)?;

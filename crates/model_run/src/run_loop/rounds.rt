@@ -21,12 +21,7 @@ pub(crate) fn open<M: Mail>(alloc: Global, plant: &Plant) -> Result<(M::Office, 
     ensures fresh { IfOk result (λ made. AreFresh (length plant.now.wiring.controllers + 1) (map M.log made.1.items)) }
     ensures tied { IfOk result (λ made. M.tied made.0 made.1.items) }
 {
-    let count = plant.wiring.controller_count();
-    // There is a controller, and no more than 254 of them.
-    if count < 1 || 254 < count {
-        return Err(AllocError);
-    }
-    M::set_up(alloc, count + 1)
+    M::set_up(alloc, plant.wiring.controller_count() + 1)
 }
 
 /// The environment posts the lines of a part at the last end.

@@ -3,6 +3,9 @@ use Rattle.chart_reader.specs.chart_nodes.Steps.{step_view}
 use Rattle.chart_compile.proofs.Making.{are_made, made_size}
 use Rattle.chart_compile.proofs.assemble.node_rows.Goals as goal
 
+pub nodes_of-requires-clause-numbered : goal.nodes_of-requires-clause-numbered
+nodes_of-requires-clause-numbered c = c.requires.numbered.named
+
 pub fill_up-requires : goal.fill_up-requires
 fill_up-requires c = omega (arith, c.requires.enough, made_size c.args.states.now c.args.nodes.now (map step_view c.args.steps.now) c.args.targets.now c.in_ok-made.made.items c.requires.numbered c.in_ok-made.ensures)
 

@@ -1,9 +1,23 @@
-use Rattle.std.proofs.Common.{◌∙◌, sym}
+use Rattle.std.proofs.Common.{◌∙◌, map, sym}
+use Rattle.std.specs.Prelude.{slice_get}
 use Rattle.action_program.specs.Numbered.{expr_view}
 use Rattle.chart_reader.specs.chart_nodes.Steps.{step_view}
-use Rattle.chart_compile.proofs.chart_kinds.Lines.{branch_with, some_view}
+use Rattle.chart_compile.proofs.chart_kinds.Lines.{branch_missing, branch_with, branch_without, some_view}
+use Rattle.chart_compile.proofs.chart_rows.Listing.{step_found, step_missing}
 use Rattle.chart_compile.proofs.chart_kinds.add_branch.Goals as goal
+
+pub returns-in_default : goal.returns-in_default
+returns-in_default c =
+    branch_missing c.args.nodes.now c.args.branches.now.items (slice_get (map step_view c.args.steps.now) c.args.number) (step_missing step_view c.args.steps.now c.args.number c.step_at.result c.step_at.ensures c.in_default.is)
+
+pub returns-then-not-has : goal.returns-then-not-has
+returns-then-not-has c =
+    let s = c.in-Some.step in
+    branch_without c.args.nodes.now c.args.branches.now.items (slice_get (map step_view c.args.steps.now) c.args.number) (step_view s.now) (step_found step_view c.args.steps.now c.args.number c.step_at.result s c.step_at.ensures c.in-Some.is)
+    (some_view expr_view s.now.transition.now.condition ∙ sym c.is_some-has.ensures ∙ c.if-not-has.true)
 
 pub returns : goal.returns
 returns c =
-    branch_with c.args.nodes.now c.args.branches.now.items c.push.new.self.items c.in_ok-arrow.arrow (step_view c.args.step.now) c.in_ok-push.ensures.items (some_view expr_view c.args.step.now.transition.now.condition ∙ sym c.is_some-has.ensures ∙ c.if-not-has.false) c.in_ok-arrow.ensures
+    let s = c.in-Some.step in
+    branch_with c.args.nodes.now c.args.branches.now.items c.push.new.self.items c.in_ok-arrow.arrow (slice_get (map step_view c.args.steps.now) c.args.number) (step_view s.now) (step_found step_view c.args.steps.now c.args.number c.step_at.result s c.step_at.ensures c.in-Some.is)
+    c.in_ok-push.ensures.items (some_view expr_view s.now.transition.now.condition ∙ sym c.is_some-has.ensures ∙ c.if-not-has.false) c.in_ok-arrow.ensures

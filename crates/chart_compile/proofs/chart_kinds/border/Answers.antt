@@ -1,6 +1,5 @@
-use Rattle.std.proofs.Common.{◌≡◌, ◌≤◌, ◌+◌, ◌++◌, ◌∷◌, ◌∙◌, ℕ, List, [], Option, Some, None, Bor, length, get_or, map, take, drop, refl, sym, ap, subst, arith, true, false}
-use Rattle.std.specs.Prelude.{option_map}
-use Rattle.chart_reader.specs.chart_nodes.Steps.{StepTree, step_view}
+use Rattle.std.proofs.Common.{Option, map, subst}
+use Rattle.chart_reader.specs.chart_nodes.Steps.{step_view}
 use Rattle.chart_compile.specs.chart_places.Groups.{picked}
 use Rattle.chart_run.specs.declared.chart_tables.tables.Arrow.{Arrow}
 use Rattle.chart_compile.specs.chart_parts.Nodes.{IsFirst}

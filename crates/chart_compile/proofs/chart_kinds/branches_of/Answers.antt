@@ -1,4 +1,4 @@
-use Rattle.std.proofs.Common.{◌≡◌, ◌≤◌, ◌+◌, ◌++◌, ◌∷◌, ◌∙◌, ℕ, List, [], Option, Some, None, Bor, length, get_or, map, take, not, refl, sym, ap, subst, true, false}
+use Rattle.std.proofs.Common.{ℕ, List, map, take, sym, subst}
 use Rattle.chart_reader.specs.chart_nodes.Steps.{StepTree, step_view}
 use Rattle.chart_compile.specs.chart_places.Groups.{picked}
 use Rattle.std.specs.List.{filter}
@@ -6,8 +6,7 @@ use Rattle.chart_model.specs.chart_plan.Same.{Each}
 use Rattle.chart_run.specs.chart_tables.Tables.{arrow_view, arrow_views}
 use Rattle.chart_compile.specs.chart_parts.Parts.{IsArrow}
 use Rattle.chart_compile.specs.chart_parts.Nodes.{has_condition}
-use Rattle.chart_compile.proofs.chart_rows.Lines.{step_got}
-use Rattle.chart_compile.proofs.chart_rows.Listing.{each_start, picked_more, taken_all}
+use Rattle.chart_compile.proofs.chart_rows.Listing.{each_start, picked_next, taken_all}
 use Rattle.chart_compile.proofs.chart_kinds.branches_of.Goals as goal
 
 pub loop-number-init : goal.loop-number-init
@@ -15,12 +14,10 @@ loop-number-init c = each_start (IsArrow c.args.nodes.now) arrow_view c.new-bran
 
 pub loop-number-preserved : goal.loop-number-preserved
 loop-number-preserved c =
-    let steps = c.args.steps.now in
+    let steps = map step_view c.args.steps.now in
     let group = c.args.group.now in
     let i = c.loop-number.number-index in
-    let s = c.in-Some.step in
-    let got = step_got steps (get_or group i 0) c.step_at.result s c.step_at.ensures c.in-Some.is in
-    subst (λ (l : List StepTree). Each (IsArrow c.args.nodes.now) (arrow_views c.add_branch.new.branches.items) (filter has_condition l)) (sym (picked_more step_view steps group i s.now c.loop-number-test.true got)) (c.in_ok-add_branch.ensures (picked (map step_view steps) (take i group)) c.loop-number.invariant)
+    subst (λ (l : List StepTree). Each (IsArrow c.args.nodes.now) (arrow_views c.add_branch.new.branches.items) (filter has_condition l)) (sym (picked_next steps group i c.loop-number-test.true)) (c.in_ok-add_branch.ensures (picked steps (take i group)) c.loop-number.invariant)
 
 pub returns : goal.returns
 returns c =

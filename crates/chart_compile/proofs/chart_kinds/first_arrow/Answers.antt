@@ -1,15 +1,15 @@
-use Rattle.std.proofs.Common.{◌≡◌, ◌≤◌, ◌+◌, ◌++◌, ◌∷◌, ◌∙◌, ℕ, List, [], Option, Some, None, Bor, length, get_or, map, take, not, refl, sym, ap, subst, true, false}
-use Rattle.chart_reader.specs.chart_nodes.Steps.{StepTree, step_view}
-use Rattle.chart_compile.specs.chart_places.Groups.{picked}
-use Rattle.std.specs.Option.{option_copied}
-use Rattle.chart_compile.proofs.chart_kinds.Lines.{first_none, first_some}
-use Rattle.chart_compile.proofs.chart_rows.Lines.{step_got}
+use Rattle.std.proofs.Common.{◌∙◌, map, sym}
+use Rattle.chart_reader.specs.chart_nodes.Steps.{step_view}
+use Rattle.chart_compile.proofs.chart_kinds.Lines.{group_empty, group_first, group_none}
 use Rattle.chart_compile.proofs.chart_kinds.first_arrow.Goals as goal
 
-pub returns-in_default : goal.returns-in_default
-returns-in_default c = first_none step_view c.args.steps.now c.args.group.now c.args.nodes.now (sym c.first.ensures.value ∙ ap option_copied c.in_default.is)
+pub loop-number-preserved : goal.loop-number-preserved
+loop-number-preserved c =
+    group_none c.args.nodes.now (map step_view c.args.steps.now) c.args.group.now c.loop-number.number-index c.in_ok-arrow.arrow c.loop-number-test.true c.loop-number.invariant (sym c.is_some.ensures ∙ c.if-is_some.false) c.in_ok-arrow.ensures
+
+pub returns-then-is_some : goal.returns-then-is_some
+returns-then-is_some c =
+    group_first c.args.nodes.now (map step_view c.args.steps.now) c.args.group.now c.loop-number.number-index c.in_ok-arrow.arrow c.loop-number-test.true c.loop-number.invariant (sym c.is_some.ensures ∙ c.if-is_some.true) c.in_ok-arrow.ensures
 
 pub returns : goal.returns
-returns c =
-    let s = c.in-Some-step_at.step in
-    first_some step_view c.args.steps.now c.args.group.now c.args.nodes.now c.in-Some.number.now s.now c.in_ok-arrow.arrow (sym c.first.ensures.value ∙ ap option_copied c.in-Some.is) (step_got c.args.steps.now c.in-Some.number.now c.step_at.result s c.step_at.ensures c.in-Some-step_at.is) c.in_ok-arrow.ensures
+returns c = group_empty c.args.nodes.now (map step_view c.args.steps.now) c.args.group.now c.loop-number.number-index c.loop-number-test.false c.loop-number.invariant

@@ -1,14 +1,20 @@
-use Rattle.std.proofs.Common.{List, ℕ, map, subst, sym, take}
+use Rattle.std.proofs.Common.{◌≡◌, true, List, ℕ, map, subst, sym, take}
+use Rattle.name_tables.specs.name_numbers.Names.{is_among}
 use Rattle.chart_model.specs.chart_plan.Same.{Each}
 use Rattle.chart_reader.specs.chart_nodes.Steps.{StepTree, step_view}
 use Rattle.chart_compile.specs.chart_places.Groups.{picked}
 use Rattle.chart_compile.specs.chart_parts.Nodes.{IsNode}
-use Rattle.chart_compile.proofs.chart_rows.Listing.{each_start_plain, taken_all}
-use Rattle.chart_compile.proofs.Making.{picked_next}
+use Rattle.chart_compile.proofs.chart_numbers.Known.{among_picked}
+use Rattle.chart_compile.proofs.chart_rows.Listing.{each_start_plain, picked_next, taken_all}
 use Rattle.chart_compile.proofs.nodes.nodes_of.Goals as goal
 
 pub loop-number-init : goal.loop-number-init
 loop-number-init c = each_start_plain (IsNode c.args.states.now c.args.nodes.now (map step_view c.args.steps.now)) c.new-made.result.items c.new-made.ensures.items
+
+pub add_node-requires-clause-known : goal.add_node-requires-clause-known
+add_node-requires-clause-known c =
+    let steps = map step_view c.args.steps.now in
+    λ s at. subst (λ (keys : List (List ℕ)). is_among keys s.target ≡ true) (sym c.requires.numbered) (among_picked steps c.args.targets.now c.loop-number.number-index s c.loop-number-test.true at)
 
 pub loop-number-preserved : goal.loop-number-preserved
 loop-number-preserved c =

@@ -1,4 +1,4 @@
-use Rattle.std.proofs.Common.{◌≡◌, ℕ, List, [], ◌∙◌, ap, length, map, replicate}
+use Rattle.std.proofs.Common.{ℕ, List, [], ◌∙◌, ap, length, map, replicate}
 use Rattle.std.proofs.lemmas.List.{length-replicate}
 use Rattle.chart_reader.specs.chart_nodes.Steps.{StepTree, step_view}
 use Rattle.chart_compile.proofs.chart_places.GroupLaws.{length-put_number, none_put, put_more}

@@ -1,4 +1,4 @@
-use Rattle.std.proofs.Common.{◌≡◌, ◌∙◌, Bor, Option, [], ap, length, map, subst, sym}
+use Rattle.std.proofs.Common.{◌∙◌, Bor, Option, [], ap, length, map, subst, sym}
 use Rattle.chart_reading.specs.chart_graphs.Views.{chart_view}
 use Rattle.chart_reading.specs.declared.chart_graphs.Graph.{Graph as CodeGraph}
 use Rattle.chart_compile.specs.chart_places.Places.{FoundAt, place_view}

@@ -1,5 +1,4 @@
-use Rattle.std.proofs.Common.{◌≡◌, ◌≤◌, ◌+◌, ◌++◌, ◌∷◌, ◌∙◌, ℕ, List, [], Option, Some, None, Bor, length, get_or, map, take, drop, refl, sym, ap, subst, arith, true, false}
-use Rattle.action_program.specs.Numbered.{expr_view}
+use Rattle.std.proofs.Common.{◌∙◌}
 use Rattle.chart_run.specs.chart_tables.Tables.{trigger_view}
 use Rattle.chart_compile.proofs.chart_rows.Lines.{copied_more, trigger_copied}
 use Rattle.chart_compile.proofs.chart_rows.arrows.copy_triggers.Goals as goal

@@ -1,14 +1,21 @@
-use Rattle.std.proofs.Common.{◌≡◌, ◌≤◌, ◌+◌, ◌++◌, ◌∷◌, ◌∙◌, ℕ, List, [], Option, Some, None, Bor, length, get_or, map, take, drop, refl, sym, ap, subst, arith, true, false}
+use Rattle.std.proofs.Common.{◌≡◌, ◌+◌, ℕ, List, map, take, sym, subst, true}
 use Rattle.chart_model.specs.chart_plan.Same.{Each}
 use Rattle.chart_reader.specs.chart_nodes.Steps.{step_view}
 use Rattle.chart_compile.specs.chart_places.Places.{place_view}
 use Rattle.chart_compile.specs.declared.chart_places.places.Place.{Place}
-use Rattle.chart_compile.specs.chart_parts.Parts.{IsRow}
+use Rattle.chart_compile.specs.chart_parts.Parts.{IsRow, key_of}
+use Rattle.name_tables.specs.name_numbers.Names.{is_among}
+use Rattle.chart_compile.proofs.chart_numbers.Known.{among_made}
 use Rattle.chart_compile.proofs.chart_rows.Listing.{each_more_plain, each_start_plain, made_more, taken_all}
 use Rattle.chart_compile.proofs.chart_rows.rows.rows_of.Goals as goal
 
 pub loop-place-init : goal.loop-place-init
 loop-place-init c = each_start_plain (IsRow c.args.states.now c.args.graphs.now c.args.nodes.now (map step_view c.args.steps.now)) c.new-rows.result.items c.new-rows.ensures.items
+
+pub make_row-requires-clause-known : goal.make_row-requires-clause-known
+make_row-requires-clause-known c =
+    let p = c.place-item.result in
+    subst (λ (keys : List (List ℕ)). is_among keys (key_of (place_view p)) ≡ true) (sym c.requires.keyed) (among_made key_of place_view c.args.places.now c.loop-place.place-index p c.loop-place-test.true c.place-item.is)
 
 pub loop-place-preserved : goal.loop-place-preserved
 loop-place-preserved c =

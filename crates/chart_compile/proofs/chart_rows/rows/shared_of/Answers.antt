@@ -1,12 +1,21 @@
-use Rattle.std.proofs.Common.{◌≡◌, ◌≤◌, ◌+◌, ◌++◌, ◌∷◌, ◌∙◌, ℕ, List, [], Option, Some, None, Bor, length, get_or, map, take, drop, refl, sym, ap, subst, arith, true, false}
+use Rattle.std.proofs.Common.{◌≡◌, ◌+◌, ℕ, List, map, take, sym, subst, true}
 use Rattle.chart_model.specs.chart_plan.Same.{Each}
 use Rattle.chart_reader.specs.chart_nodes.Steps.{step_view}
 use Rattle.chart_compile.specs.chart_parts.Parts.{IsShared}
+use Rattle.name_tables.specs.name_numbers.Names.{is_among}
+use Rattle.chart_compile.proofs.chart_numbers.Known.{among_keys}
 use Rattle.chart_compile.proofs.chart_rows.Listing.{each_more_plain, each_start_plain, taken_all, taken_more}
 use Rattle.chart_compile.proofs.chart_rows.rows.shared_of.Goals as goal
 
 pub loop-key-init : goal.loop-key-init
 loop-key-init c = each_start_plain (IsShared c.args.nodes.now (map step_view c.args.steps.now)) c.new-shared.result.items c.new-shared.ensures.items
+
+pub make_shared-requires-clause-known : goal.make_shared-requires-clause-known
+make_shared-requires-clause-known c =
+    let keys = c.args.keys.now in
+    let k = c.key-item.result in
+    subst (λ (key : List ℕ). is_among c.args.graphs.now key ≡ true) (sym c.as_slice.ensures)
+    (subst (λ (all : List (List ℕ)). is_among all k ≡ true) (sym c.requires.keyed) (among_keys keys c.loop-key.key-index k c.loop-key-test.true c.key-item.is))
 
 pub loop-key-preserved : goal.loop-key-preserved
 loop-key-preserved c =

@@ -1,6 +1,8 @@
-use Rattle.std.proofs.Common.{Vec, Global, ◌≡◌, ℕ, ◌<◌, List, [], map, slice_get, slice_index_or, length, ap, subst, ◌∙◌, arith}
+use Rattle.std.proofs.Common.{Vec, Global, ◌≡◌, ℕ, ◌<◌, List, [], map, slice_get, slice_index_or, length, ap, sym, subst, ◌∙◌, arith}
+use Rattle.std.specs.Prelude.{All}
 use Rattle.std.proofs.lemmas.List.{length-set}
 use Rattle.room_kinds.specs.declared.message.Msg.{Msg}
+use Rattle.controller_mail.specs.MailState.{HasPriority}
 use Rattle.model_run.specs.run_rounds.OneByOne.{StepsBelow}
 use Rattle.model_run.proofs.run_rounds.OneByOne.{slice_get-other}
 use Rattle.controller.specs.Controllers.{IsOf}
@@ -16,6 +18,14 @@ fetch_left-requires-clause-of c =
     c.requires.of c.loop-i.i c.index_mut-in-loop-i.result.now
     (stood (FetchedAt c.args.plant.now (map (λ (v : Vec Msg Global). v.items) c.args.left.items)) c.args.controllers.now.items c.loop-i.controllers.items c.loop-i.i
     c.index_mut-in-loop-i.result.now c.loop-i.invariant.steps c.index_mut-in-loop-i.ensures.value inside)
+
+pub fetch_left-requires-clause-prio : goal.fetch_left-requires-clause-prio
+fetch_left-requires-clause-prio c =
+    let i = c.loop-i.i in
+    let in_lists : i < length c.loop-i.left.items = omega (arith, c.requires.count) in
+    let same = list_at (λ (v : Vec Msg Global). v.items) c.loop-i.left.items c.args.left.items i c.index_mut.result.now (c.loop-i.invariant.rest i (omega arith)) c.index_mut.ensures.value in_lists in
+    let list : c.replace-list.result.items ≡ slice_index_or (map (λ (v : Vec Msg Global). v.items) c.args.left.items) i [] = ap (λ (v : Vec Msg Global). v.items) c.replace-list.ensures.value ∙ same in
+    subst (All HasPriority) (sym list) (c.requires.priorities i)
 
 pub loop-i-preserved : goal.loop-i-preserved
 loop-i-preserved c =

@@ -1,7 +1,8 @@
-use Rattle.std.proofs.Common.{map}
+use Rattle.std.proofs.Common.{◌+◌, length, map}
 use Rattle.model_run.specs.part_posts.Items.{items_of}
 use Rattle.model_run.specs.part_source.Calls.{seen, Asks}
 use Rattle.model_run.proofs.part_source.CallsLaw.{asks_none, asks_grew}
+use Rattle.model_run.proofs.joined_round.PriorityLaw.{all_fresh}
 use Rattle.model_run.proofs.run_loop.PlayLaw.{quiet_on}
 use Rattle.model_run.proofs.run_loop.next.next_round.Goals.{then-run+else-not-have_stopped+in_ok-more+else-not-more, else-run}
 use Rattle.model_run.proofs.run_loop.next.next_round.Goals as goal
@@ -14,6 +15,7 @@ returns-then-not-have_stopped-clause-begun g c =
     record {
       stand = part.so_far.stand;
       in_part = c.if-run.true;
+      by_priority = all_fresh (length plant.wiring.controllers + 1) (map g.M.Mail.log c.in_ok-open.field-0.1.items) c.in_ok-open.ensures.fresh;
       goes_on = quiet_on plant c.args.fuel (items_of plant.wiring (g.S.PartSource.given c.args.source.now)) run.controllers.items run.environment
           (map g.M.Mail.log c.in_ok-open.field-0.1.items) part c.in_ok-open.ensures.fresh;
     }

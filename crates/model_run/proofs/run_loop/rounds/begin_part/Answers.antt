@@ -1,4 +1,4 @@
-use Rattle.std.proofs.Common.{List, map, refl, sym, ◌∙◌, subst}
+use Rattle.std.proofs.Common.{List, length, map, refl, sym, ◌∙◌, subst}
 use Rattle.std.proofs.lemmas.List.{length-map}
 use Rattle.inject_reader.specs.declared.inject_lines.accepted.Line.{Line}
 use Rattle.inject_reader.specs.Fitting.{FitLines}
@@ -6,6 +6,7 @@ use Rattle.model_run.specs.part_posts.Items.{items_of}
 use Rattle.model_run.specs.part_source.Parts.{IsPart}
 use Rattle.model_run.specs.run_loop.Plays.{PartPosted}
 use Rattle.model_run.proofs.part_source.CallsLaw.{grew_posts}
+use Rattle.model_run.proofs.joined_round.PriorityLaw.{all_posted}
 use Rattle.model_run.proofs.run_loop.PlayLaw.{post_on}
 use Rattle.model_run.proofs.run_loop.rounds.begin_part.Goals as goal
 
@@ -28,6 +29,7 @@ returns-clause-begun g c =
     record {
       stand = c.requires.before.so_far.stand;
       in_part = refl;
+      by_priority = all_posted (length plant.wiring.controllers) logs posted.part.entries posted.ends;
       goes_on = post_on plant c.args.fuel (items_of plant.wiring (g.S.PartSource.given c.args.source.now)) lines run.controllers.items run.environment c.post_at_last.new.environment logs
           c.requires.before posted;
     }

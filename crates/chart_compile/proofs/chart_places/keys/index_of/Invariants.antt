@@ -1,6 +1,6 @@
 use Rattle.std.proofs.Common.{◌≡◌, take}
 use Rattle.name_tables.specs.name_numbers.Names.{names_of}
-use Rattle.chart_compile.proofs.chart_numbers.keys.state_numbers.Given as goal
+use Rattle.chart_compile.proofs.chart_places.keys.index_of.Given as goal
 
 abbrev pub invariant-loop-key : goal.invariant-loop-key
 invariant-loop-key l = names_of l.names.items ≡ take l.key-index l.keys

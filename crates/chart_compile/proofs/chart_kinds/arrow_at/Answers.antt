@@ -1,0 +1,15 @@
+use Rattle.std.proofs.Common.{map}
+use Rattle.std.specs.Prelude.{slice_get}
+use Rattle.chart_reader.specs.chart_nodes.Steps.{step_view}
+use Rattle.chart_compile.proofs.chart_kinds.Lines.{at_none, at_some}
+use Rattle.chart_compile.proofs.chart_rows.Listing.{step_found, step_missing}
+use Rattle.chart_compile.proofs.chart_kinds.arrow_at.Goals as goal
+
+pub returns-in_default : goal.returns-in_default
+returns-in_default c =
+    at_none c.args.nodes.now (slice_get (map step_view c.args.steps.now) c.args.number) (step_missing step_view c.args.steps.now c.args.number c.step_at.result c.step_at.ensures c.in_default.is)
+
+pub returns : goal.returns
+returns c =
+    let s = c.in-Some.step in
+    at_some c.args.nodes.now (slice_get (map step_view c.args.steps.now) c.args.number) (step_view s.now) c.in_ok-arrow.arrow (step_found step_view c.args.steps.now c.args.number c.step_at.result s c.step_at.ensures c.in-Some.is) c.in_ok-arrow.ensures
