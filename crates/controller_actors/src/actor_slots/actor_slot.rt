@@ -9,12 +9,12 @@ ghost use Rattle.actor_world.specs.Turns.{handled_as};
 ghost use Rattle.controller_actors.specs.actor_slots.Occupants.{AreSound, actor_in};
 ghost use Rattle.controller_actors.specs.actor_slots.Slots.{SlotComesUp, SlotFits, SlotTurns, SlotBegins, Works};
 
-use crate::actor_slots::occupant::{Beginning, Occupant, Reaction};
+use crate::actor_slots::occupant::{Beginning, NO_STATE, Occupant, Reaction};
 use actor_commands::{DeferredMessages, Doing, Output, Recalled, Services, Speaker, apply_all};
 use chart_run::{Handling, Tables};
 use controller_mail::TurnResult;
 use journal::Did;
-use room_kinds::{Command, Incarnation, Msg, Note, Notes, Outbox, Sequence};
+use room_kinds::{Commands, Incarnation, Msg, Note, Notes, Outbox};
 use std::alloc::{AllocError, Global};
 use std::mem;
 
@@ -77,6 +77,36 @@ impl ActorSlot {
         }
     }
 
+    /// Nobody stands there any more. It answers how many messages were kept for later, which are lost.
+    pub fn vacate(&mut self, alloc: Global) -> u64
+        ensures lost { result ≡ length self.old.deferred }
+        ensures vacant { self.new ≡ record { occupant = Occupant.Nobody; deferred = [] } }
+    {
+        let lost = self.deferred.len() as u64;
+        self.occupant = Occupant::Nobody;
+        self.deferred = DeferredMessages::new(alloc);
+        lost
+    }
+
+    /// An actor whose class has no chart comes up: there is nothing that it does then.
+    fn come_up_without_chart(
+        &mut self,
+        alloc: Global,
+        who: Incarnation,
+        notes: &mut Notes,
+    ) -> Result<(), AllocError>
+        ensures slot { OnOk result (self.new ≡ record { occupant = Occupant.Chartless; deferred = [] }) }
+        ensures told { OnOk result (notes.new ≡ notes.old ++ Up who 65535 ∷ []) }
+    {
+        self.occupant = Occupant::Chartless;
+        self.deferred = DeferredMessages::new(alloc);
+        notes.push(Note::Up {
+            who,
+            state: NO_STATE,
+        })?;
+        Ok(())
+    }
+
     /// The commands of the actor are applied in order, on top of what was put out and what came back
     /// before. Most actors have none when they come up, and then nothing is moved.
     fn work<S: Services>(
@@ -84,15 +114,15 @@ impl ActorSlot {
         alloc: Global,
         speaker: &Speaker<'_>,
         services: &mut S,
-        message: Option<&Msg>,
-        commands: &[Command],
+        message: Option<Msg>,
+        commands: Commands,
         output: &mut Output,
         back: &mut Recalled,
     ) -> Result<(), AllocError>
         requires serves { S.serves speaker.now.wiring.now speaker.now.me.0 services.old }
         requires there { speaker.now.who.slot.0 < length speaker.now.wiring.now.slots }
         ensures serves { OnOk result (S.serves speaker.now.wiring.now speaker.now.me.0 services.new) }
-        ensures works { OnOk result (Works speaker.now.wiring.now speaker.now.me.0 (S.frame_of services.old) (S.links_of services.old) (S.frame_of services.new) (S.links_of services.new) speaker.now.who (option_copied message.entry) commands.now self.old self.new output.old back.old output.new back.new) }
+        ensures works { OnOk result (Works speaker.now.wiring.now speaker.now.me.0 (S.frame_of services.old) (S.links_of services.old) (S.frame_of services.new) (S.links_of services.new) speaker.now.who message commands self.old self.new output.old back.old output.new back.new) }
     {
         if commands.is_empty() {
             return Ok(());
@@ -124,17 +154,17 @@ impl ActorSlot {
         speaker: &Speaker<'_>,
         services: &mut S,
         tables: Option<&Tables>,
-        m: &Msg,
+        m: Msg,
     ) -> Result<Option<TurnResult>, AllocError>
         requires sound { AreSound (option_copied tables) }
         requires fits { SlotFits speaker.now.who (option_copied tables) self.old }
-        requires prio { IsForActors m.now }
+        requires prio { IsForActors m }
         requires serves { S.serves speaker.now.wiring.now speaker.now.me.0 services.old }
         requires there { speaker.now.who.slot.0 < length speaker.now.wiring.now.slots }
         ensures serves { OnOk result (S.serves speaker.now.wiring.now speaker.now.me.0 services.new) }
-        ensures turns { IfOk result (λ o. MatchOption o ((actor_in self.old.occupant ≡ None) × (self.new ≡ self.old) × (services.new ≡ services.old)) (λ done. SlotTurns speaker.now.wiring.now speaker.now.me.0 (S.frame_of services.old) (S.links_of services.old) (S.frame_of services.new) (S.links_of services.new) speaker.now.who m.now (option_copied tables.entry) self.old self.new done)) }
+        ensures turns { IfOk result (λ o. MatchOption o ((actor_in self.old.occupant ≡ None) × (self.new ≡ self.old) × (services.new ≡ services.old)) (λ done. SlotTurns speaker.now.wiring.now speaker.now.me.0 (S.frame_of services.old) (S.links_of services.old) (S.frame_of services.new) (S.links_of services.new) speaker.now.who m (option_copied tables.entry) self.old self.new done)) }
     {
-        let Some(reaction) = self.occupant.react(alloc, tables, m)? else {
+        let Some(reaction) = self.occupant.react(alloc, tables, &m)? else {
             return Ok(None);
         };
         let Reaction {
@@ -153,7 +183,7 @@ impl ActorSlot {
             speaker,
             services,
             Some(m),
-            commands.as_slice(),
+            commands,
             &mut output,
             &mut back,
         )?;
@@ -201,7 +231,7 @@ impl ActorSlot {
             speaker,
             services,
             None,
-            commands.as_slice(),
+            commands,
             &mut output,
             &mut back,
         )?;
@@ -231,6 +261,10 @@ impl ActorSlot {
         ensures serves { OnOk result (S.serves speaker.now.wiring.now speaker.now.me.0 services.new) }
         ensures up { OnOk result (SlotComesUp speaker.now.wiring.now speaker.now.me.0 (S.frame_of services.old) (S.links_of services.old) (S.frame_of services.new) (S.links_of services.new) speaker.now.who (option_copied tables.entry) self.old self.new output.old back.old output.new back.new) }
     {
+        if tables.is_none() {
+            self.come_up_without_chart(alloc, speaker.who, &mut output.notes)?;
+            return Ok(());
+        }
         let beginning = Occupant::begin(alloc, tables, speaker.who)?;
         let Beginning {
             occupant,
@@ -246,7 +280,7 @@ impl ActorSlot {
             speaker,
             services,
             None,
-            commands.as_slice(),
+            commands,
             output,
             back,
         )?;

@@ -1,11 +1,9 @@
-use Rattle.std.proofs.Common.{◌∷◌, ◌++◌, List, None, refl, ap, ◌∙◌, subst}
+use Rattle.std.proofs.Common.{◌∷◌, ◌++◌, List, refl, ap, ◌∙◌}
 use Rattle.std.specs.Option.{option_copied}
 use Rattle.room_kinds.specs.declared.note.Note.{Note}
 use Rattle.room_kinds.specs.declared.note.Note.TheVariants as notes
-use Rattle.room_kinds.specs.declared.command.Command.{Command}
 use Rattle.controller_actors.specs.declared.actor_slots.actor_slot.ActorSlot.{ActorSlot}
-use Rattle.controller_actors.specs.actor_slots.Slots.{Works}
-use Rattle.controller_actors.proofs.actor_slots.Working.{comes_up}
+use Rattle.controller_actors.proofs.actor_slots.Working.{comes_up, comes_up_without_chart}
 use Rattle.controller_actors.proofs.actor_slots.actor_slot.ActorSlot.come_up.Goals as goal
 
 pub returns-clause-up : goal.returns-clause-up
@@ -24,5 +22,15 @@ returns-clause-up g c =
     let last = c.work.new.output in
     let after = c.work.new.back in
     comes_up t s.me.0 f l f2 l2 s.who (option_copied c.args.tables) c.args.self.now mid c.work.new.self r first before last after c.in_ok-beginning.ensures refl c.new.ensures told
-    (subst (λ (cs : List Command). Works t s.me.0 f l f2 l2 s.who None cs mid c.work.new.self (record { messages = first.messages; notes = told }) before last after) c.as_slice-2.ensures c.in_ok-work.ensures.works)
+    c.in_ok-work.ensures.works
     (c.in_ok-tell_up.ensures ∙ ap (λ (ns : List Note). first.notes ++ notes.Up s.who r.state ∷ ns) c.as_slice.ensures)
+
+pub returns-then-is_none-clause-up : goal.returns-then-is_none-clause-up
+returns-then-is_none-clause-up g c =
+    let s = c.args.speaker.now in
+    let f = g.S.Services.frame_of c.args.services.now in
+    let l = g.S.Services.links_of c.args.services.now in
+    let first = c.args.output.now in
+    rw c.is_none.ensures
+    (comes_up_without_chart s.wiring.now s.me.0 f l s.who c.args.self.now c.come_up_without_chart.new.self first (record { messages = first.messages; notes = c.come_up_without_chart.new.notes }) c.args.back.now
+    c.in_ok-come_up_without_chart.ensures.slot refl c.in_ok-come_up_without_chart.ensures.told)
