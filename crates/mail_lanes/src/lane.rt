@@ -3,7 +3,7 @@ ghost use Rattle.std.specs.Prelude.{◌≡◌, true, false, [], ◌∷◌, ◌++
 ghost use Rattle.crossbeam_deque.specs.Handles.{worker_deque, worker_view, worker_flavor, stealer_deque, stealer_flavor, view, IsPassOf};
 
 use crate::address::addressed;
-use crate::rule::{Got, LaneRule, LaneView, Own, Seen, Sent};
+use crate::rule::{Got, LaneRule, LaneView, Own, Sent};
 use crossbeam_deque::{Pass, Steal, Stealer, Worker};
 use room_kinds::Msg;
 use std::alloc::Global;
@@ -54,8 +54,7 @@ impl Outlet {
         }
     }
 
-    /// What the owner takes itself. A look first sees whether there is anything: it reads one word, where
-    /// a pop that finds nothing writes one twice.
+    /// What the owner takes itself.
     #[tactic(auto, using(crate::proofs::LaneLemmas::lane_steps))]
     pub(crate) fn take(&mut self) -> Option<Msg>
         requires { (out_lane self.old).wire.takes ≡ true }
@@ -63,9 +62,6 @@ impl Outlet {
         ensures is_for { MatchOption result (Unit {0}) (λ m. IsFor self.old.from self.old.to self.old.prio m) }
         ensures within { length (out_lane self.new).taken ≤ length (out_lane self.new).posted }
     {
-        if self.owner.len_as::<Seen>() == 0 {
-            return None;
-        }
         match self.owner.pop_as::<Own>() {
             Some(m) => Some(addressed(m, self.from, self.to, self.prio)),
             None => None,

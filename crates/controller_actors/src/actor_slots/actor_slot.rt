@@ -127,6 +127,27 @@ impl ActorSlot {
         if commands.is_empty() {
             return Ok(());
         }
+        self.work_through(alloc, speaker, services, message, commands, output, back)?;
+        Ok(())
+    }
+
+    /// The same, whether or not there are commands. It stands apart, since a function pays at its entry for
+    /// the room of what it moves.
+    fn work_through<S: Services>(
+        &mut self,
+        alloc: Global,
+        speaker: &Speaker<'_>,
+        services: &mut S,
+        message: Option<Msg>,
+        commands: Commands,
+        output: &mut Output,
+        back: &mut Recalled,
+    ) -> Result<(), AllocError>
+        requires serves { S.serves speaker.now.wiring.now speaker.now.me.0 services.old }
+        requires there { speaker.now.who.slot.0 < length speaker.now.wiring.now.slots }
+        ensures serves { OnOk result (S.serves speaker.now.wiring.now speaker.now.me.0 services.new) }
+        ensures works { OnOk result (Works speaker.now.wiring.now speaker.now.me.0 (S.frame_of services.old) (S.links_of services.old) (S.frame_of services.new) (S.links_of services.new) speaker.now.who message commands self.old self.new output.old back.old output.new back.new) }
+    {
         let mut doing = Doing {
             deferred: mem::replace(&mut self.deferred, DeferredMessages::new(alloc)),
             output: mem::replace(output, nothing_put_out(alloc)),
@@ -242,6 +263,44 @@ impl ActorSlot {
         })
     }
 
+    /// The same, whether or not the actor's class has a chart.
+    fn come_up_by<S: Services>(
+        &mut self,
+        alloc: Global,
+        speaker: &Speaker<'_>,
+        services: &mut S,
+        tables: Option<&Tables>,
+        output: &mut Output,
+        back: &mut Recalled,
+    ) -> Result<(), AllocError>
+        requires sound { AreSound (option_copied tables) }
+        requires serves { S.serves speaker.now.wiring.now speaker.now.me.0 services.old }
+        requires there { speaker.now.who.slot.0 < length speaker.now.wiring.now.slots }
+        ensures serves { OnOk result (S.serves speaker.now.wiring.now speaker.now.me.0 services.new) }
+        ensures up { OnOk result (SlotComesUp speaker.now.wiring.now speaker.now.me.0 (S.frame_of services.old) (S.links_of services.old) (S.frame_of services.new) (S.links_of services.new) speaker.now.who (option_copied tables.entry) self.old self.new output.old back.old output.new back.new) }
+    {
+        let beginning = Occupant::begin(alloc, tables, speaker.who)?;
+        let Beginning {
+            occupant,
+            state,
+            notes,
+            commands,
+        } = beginning;
+        self.occupant = occupant;
+        self.deferred = DeferredMessages::new(alloc);
+        tell_up(&mut output.notes, speaker.who, state, notes.as_slice())?;
+        self.work(
+            alloc,
+            speaker,
+            services,
+            None,
+            commands,
+            output,
+            back,
+        )?;
+        Ok(())
+    }
+
     /// The actor of a slot comes up: it begins with nothing kept for later, its note `up` tells its
     /// state, and its commands are applied, on top of what was put out and what came back before. After
     /// want of memory the slot, and what was put out and came back, is unspecified: the controller has
@@ -265,25 +324,7 @@ impl ActorSlot {
             self.come_up_without_chart(alloc, speaker.who, &mut output.notes)?;
             return Ok(());
         }
-        let beginning = Occupant::begin(alloc, tables, speaker.who)?;
-        let Beginning {
-            occupant,
-            state,
-            notes,
-            commands,
-        } = beginning;
-        self.occupant = occupant;
-        self.deferred = DeferredMessages::new(alloc);
-        tell_up(&mut output.notes, speaker.who, state, notes.as_slice())?;
-        self.work(
-            alloc,
-            speaker,
-            services,
-            None,
-            commands,
-            output,
-            back,
-        )?;
+        self.come_up_by(alloc, speaker, services, tables, output, back)?;
         Ok(())
     }
 }

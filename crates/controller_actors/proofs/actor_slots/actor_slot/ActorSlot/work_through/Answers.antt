@@ -3,7 +3,7 @@ use Rattle.room_kinds.specs.declared.message.Msg.{Msg}
 use Rattle.actor_commands.specs.declared.command_sends.output.Output.{Output}
 use Rattle.actor_commands.specs.declared.doing.Doing.{Doing}
 use Rattle.actor_commands.specs.Doings.{AppliesAll}
-use Rattle.controller_actors.proofs.actor_slots.actor_slot.ActorSlot.work.Goals as goal
+use Rattle.controller_actors.proofs.actor_slots.actor_slot.ActorSlot.work_through.Goals as goal
 
 -- equal parts make equal doings
 same_doing : {ds ds' : List Msg} {o o' : Output} {back back' : List Msg} → ds ≡ ds' → o ≡ o' → back ≡ back' → (kept : Bool)
