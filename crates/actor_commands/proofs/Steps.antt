@@ -1,5 +1,5 @@
 -- Commands, as steps of what is done on any body.
-use Rattle.std.proofs.Common.{◌≡◌, ℕ, ℤ, Bool, true, false, List, [], ◌∷◌, ◌++◌, Option, Some, None, refl, sym, ap, ◌∙◌, subst, inl, inr}
+use Rattle.std.proofs.Common.{◌≡◌, ℕ, ℤ, Bool, true, false, List, [], ◌∷◌, ◌++◌, Option, Some, None, length, refl, sym, ap, ◌∙◌, subst, inl, inr, arith}
 use Rattle.std.proofs.Math.Path.{fun_ext}
 use Rattle.std.proofs.lemmas.Bool.{cases_eq}
 use Rattle.std.proofs.lemmas.List.{append-nil}
@@ -32,6 +32,12 @@ updated_twice f s a b = fun_ext (λ n. elim (cases_eq n s) [
   | inl e ↦ updated_here (updated f s a) s n b e ∙ sym (updated_here f s n b e)
   | inr other ↦ updated_else (updated f s a) s n b other ∙ updated_else f s n a other ∙ sym (updated_else f s n b other)
 ])
+
+-- ---- lists
+
+pub nothing_left : (cs : List Command) → length cs ≡ 0 → cs ≡ []
+nothing_left [] none = refl
+nothing_left (c ∷ cs) none = absurd (omega (arith, none))
 
 -- ---- steps on what is kept
 

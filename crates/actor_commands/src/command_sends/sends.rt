@@ -18,13 +18,7 @@ fn natural(place: i64) -> Option<u64>
 }
 
 /// A message from a place of a port of the speaker.
-fn message(
-    speaker: &Speaker<'_>,
-    port: u16,
-    place: u32,
-    target: Endpoint,
-    content: Content,
-) -> Msg
+fn message(speaker: &Speaker<'_>, port: u16, place: u32, target: Endpoint, content: Content) -> Msg
     ensures { result ≡ message speaker.now.wiring.now speaker.now.me.0 (endpoint speaker.now.who.slot.0 speaker.now.who.generation.0 port place) target (content_of content) }
 {
     Msg {

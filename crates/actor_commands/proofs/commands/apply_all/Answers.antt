@@ -1,7 +1,7 @@
-use Rattle.std.proofs.Common.{List, sym, ◌∙◌, subst}
+use Rattle.std.proofs.Common.{List, sym, ◌∙◌, subst, arith}
 use Rattle.room_kinds.specs.declared.command.Command.{Command}
 use Rattle.actor_commands.specs.Doings.{AppliesAll}
-use Rattle.actor_commands.proofs.Steps.{none_applied, first_applied}
+use Rattle.actor_commands.proofs.Steps.{none_applied, first_applied, nothing_left}
 use Rattle.actor_commands.proofs.commands.apply_all.Goals as goal
 
 pub loop-command-init : goal.loop-command-init
@@ -13,7 +13,7 @@ loop-command-init g c =
       serves = c.requires.serves;
       rest = λ m i. (
         i,
-        λ f' l' new h. subst (λ (cs : List Command). AppliesAll s.wiring.now s.me.0 f l f' l' s.who m cs c.args.doing.now new) (c.from_vec.ensures ∙ c.into_vec.ensures) h,
+        λ f' l' new h. subst (λ (cs : List Command). AppliesAll s.wiring.now s.me.0 f l f' l' s.who m cs c.args.doing.now new) (c.from_vec-queue.ensures.items ∙ c.into_vec.ensures) h,
       );
     }
 
@@ -42,5 +42,5 @@ returns-clause-applied g c =
     let f = g.S.Services.frame_of c.loop-command.services in
     let l = g.S.Services.links_of c.loop-command.services in
     λ m i. (c.loop-command.invariant.rest m i).1 f l c.loop-command.doing
-    (subst (λ (cs : List Command). AppliesAll s.wiring.now s.me.0 f l f l s.who m cs c.loop-command.doing c.loop-command.doing) (sym c.in-None.ensures.items)
+    (subst (λ (cs : List Command). AppliesAll s.wiring.now s.me.0 f l f l s.who m cs c.loop-command.doing c.loop-command.doing) (sym (nothing_left c.loop-command.queue.items (omega (arith, c.loop-command.queue.ok.0, c.in_default.ensures.cases.0))))
     (none_applied s.wiring.now s.me.0 f l s.who m c.loop-command.doing))

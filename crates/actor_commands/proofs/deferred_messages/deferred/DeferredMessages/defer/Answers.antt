@@ -1,7 +1,7 @@
-use Rattle.std.proofs.Common.{[], true, false, Option, Bool, refl, sym, subst}
+use Rattle.std.proofs.Common.{[], Bool, refl, sym, subst}
 use Rattle.actor_duties.specs.Commands.{defer}
 use Rattle.actor_commands.specs.deferred_messages.Steps.{Applies}
-use Rattle.actor_commands.proofs.deferred_messages.Kept.{kept_already, kept_now, nothing_in_hand}
+use Rattle.actor_commands.proofs.deferred_messages.Kept.{kept_already, nothing_in_hand}
 use Rattle.actor_commands.proofs.deferred_messages.deferred.DeferredMessages.defer.Goals as goal
 
 pub returns-then-kept : goal.returns-then-kept
