@@ -15,7 +15,7 @@ use Rattle.room_wiring.specs.declared.tables.Tables.{Tables}
 use Rattle.actor_duties.specs.Words.{updated}
 use Rattle.actor_duties.specs.State.{Frame, Links}
 use Rattle.actor_duties.specs.Commands.{Sent, Kept, defer, recall, recall_all}
-use Rattle.actor_world.specs.Body.{Body, Doing as WorldDoing, keeping, sending, apply, apply_all}
+use Rattle.actor_world.specs.Body.{Body, Doing as WorldDoing, keeping, sending, apply_all}
 use Rattle.frame_lives.proofs.Rows.{updated_here, updated_else}
 use Rattle.chart_behaviour.specs.ModelCharts.{Actor}
 use Rattle.actor_commands.specs.declared.command_sends.output.Output.{Output}
