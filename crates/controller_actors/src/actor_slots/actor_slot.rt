@@ -289,15 +289,7 @@ impl ActorSlot {
         self.occupant = occupant;
         self.deferred = DeferredMessages::new(alloc);
         tell_up(&mut output.notes, speaker.who, state, notes.as_slice())?;
-        self.work(
-            alloc,
-            speaker,
-            services,
-            None,
-            commands,
-            output,
-            back,
-        )?;
+        self.work(alloc, speaker, services, None, commands, output, back)?;
         Ok(())
     }
 
@@ -320,11 +312,15 @@ impl ActorSlot {
         ensures serves { OnOk result (S.serves speaker.now.wiring.now speaker.now.me.0 services.new) }
         ensures up { OnOk result (SlotComesUp speaker.now.wiring.now speaker.now.me.0 (S.frame_of services.old) (S.links_of services.old) (S.frame_of services.new) (S.links_of services.new) speaker.now.who (option_copied tables.entry) self.old self.new output.old back.old output.new back.new) }
     {
-        if tables.is_none() {
-            self.come_up_without_chart(alloc, speaker.who, &mut output.notes)?;
-            return Ok(());
+        match tables {
+            Some(_) => {
+                self.come_up_by(alloc, speaker, services, tables, output, back)?;
+                Ok(())
+            }
+            None => {
+                self.come_up_without_chart(alloc, speaker.who, &mut output.notes)?;
+                Ok(())
+            }
         }
-        self.come_up_by(alloc, speaker, services, tables, output, back)?;
-        Ok(())
     }
 }
