@@ -1,5 +1,5 @@
 -- Each step keeps the rule of a lane.
-use Rattle.std.proofs.Common.{◌≡◌, ◌≢◌, ℕ, zero, suc, true, false, true≢false, List, [], ◌∷◌, ◌++◌, length, set, sym, refl, ap, ◌∙◌, subst, ⊎_elim, append_assoc, arith}
+use Rattle.std.proofs.Common.{◌≡◌, ◌≢◌, ℕ, zero, suc, true, false, true≢false, List, [], ◌∷◌, ◌++◌, length, set, sym, refl, ap, ◌∙◌, subst, ⊎_elim, append_assoc}
 use Rattle.std.proofs.lemmas.List.{append-nil}
 use mathlib.Core.Option.{some, some-ne-none}
 use lib.ListN.{get_elem?}
@@ -59,11 +59,6 @@ gets port v may xs items views _ _ h at = let w : LaneView = lane_view v.pushes 
 -- what one that alone pushes and takes knows
 pub totals : (port : ℕ) (v : LaneView) → v.pushes ≡ true → v.takes ≡ true → Learns InOrder port v (λ items. v.sent ≡ v.got ++ items)
 totals port v a b items views h at = let mine = h.5 port v at in (mine.0 a).1 ∙ h.4 ∙ ap (λ l. l ++ items) (sym (mine.1 b).1)
-
--- and where nothing is left
-pub none_left : (sent got items : List Msg) → length items ≡ 0 → sent ≡ got ++ items → sent ≡ got
-none_left sent got [] none e = e ∙ append-nil got
-none_left sent got (m ∷ ms) none e = absurd (omega (arith, none))
 
 pub owns : (port : ℕ) (v : LaneView) → v.pushes ≡ true → v.takes ≡ true →
     Takes InOrder port v 1 (λ xs w. (w ≡ lane_view v.pushes v.takes v.sent (v.got ++ xs)) × (rest : List Msg) × (v.sent ≡ (v.got ++ xs) ++ rest))
