@@ -1,5 +1,5 @@
 -- What an actor does in a turn, as the world's definitions see it.
-use Rattle.std.specs.Prelude.{◌≡◌, ℕ, ℤ, Bool, List, ◌++◌, Option, Some, None}
+use Rattle.std.specs.Prelude.{◌≡◌, ℕ, ℤ, Bool, false, List, ◌++◌, Option, Some, None}
 use Rattle.room_kinds.specs.declared.message.Msg.{Msg}
 use Rattle.room_kinds.specs.declared.command.Command.{Command}
 use Rattle.room_kinds.specs.declared.numbers.Incarnation.{Incarnation}
@@ -38,6 +38,15 @@ pub record Keeps (k : Kept) (held : Bool) (old new : Doing) : Type 0 where
 -- one command is applied, whatever else the body has: from this state of the services to that
 pub record Applies (t : Tables) (me : ℕ) (f : Frame) (l : Links) (f' : Frame) (l' : Links) (x : Incarnation) (m : Option Msg) (c : Command) (old new : Doing) : Type 0 where
   pub on : (b : Body Actor) → apply t me x m (doing_on f l b x.slot.0 old) c ≡ doing_on f' l' b x.slot.0 new
+
+-- what is in hand is this message, or none at a start, unless it is kept already
+abbrev pub IsInHand : Option Msg → Bool → Option Msg → Type 0
+IsInHand m kept hand = kept ≡ false → hand ≡ m
+
+-- one command is applied with what is in hand, and leaves that in hand
+pub record AppliesNow (t : Tables) (me : ℕ) (f : Frame) (l : Links) (f' : Frame) (l' : Links) (x : Incarnation) (c : Command) (hand : Option Msg) (old : Doing) (hand' : Option Msg) (new : Doing) : Type 0 where
+  pub on : (m : Option Msg) → IsInHand m old.kept hand → Applies t me f l f' l' x m c old new
+  pub left : (m : Option Msg) → IsInHand m old.kept hand → IsInHand m new.kept hand'
 
 -- commands are applied in order, whatever else the body has; each sees what those before it changed
 pub record AppliesAll (t : Tables) (me : ℕ) (f : Frame) (l : Links) (f' : Frame) (l' : Links) (x : Incarnation) (m : Option Msg) (cs : List Command) (old new : Doing) : Type 0 where

@@ -1,14 +1,15 @@
 //! Commands, one and several.
-ghost use Rattle.std.specs.Prelude.{◌<◌, length, OnOk};
-ghost use Rattle.std.specs.Option.{option_copied};
+ghost use Rattle.std.specs.Prelude.{◌<◌, length, Option, OnOk};
+ghost use Rattle.room_kinds.specs.declared.message.Msg.{Msg as Message};
 ghost use Rattle.actor_duties.specs.Commands.{broadcast};
 ghost use Rattle.actor_commands.specs.command_sends.Adding.{Adds, content_of};
-ghost use Rattle.actor_commands.specs.Doings.{Applies, AppliesAll, sent_at};
+ghost use Rattle.actor_commands.specs.Doings.{AppliesAll, AppliesNow, IsInHand, sent_at};
 
 use crate::command_sends::{Content, Output, Services, Speaker, broadcast, send};
 use crate::doing::Doing;
-use room_kinds::{Command, Msg};
+use room_kinds::{Command, Commands, Msg};
 use std::alloc::{AllocError, Global};
+use std::collections::VecDeque;
 
 /// A send at all places of a port.
 fn send_to_all<S: Services>(
@@ -16,7 +17,7 @@ fn send_to_all<S: Services>(
     speaker: &Speaker<'_>,
     services: &S,
     port: u16,
-    content: &Content<'_>,
+    content: &Content,
     output: &mut Output,
 ) -> Result<(), AllocError>
     requires serves { S.serves speaker.now.wiring.now speaker.now.me.0 services.now }
@@ -37,39 +38,39 @@ fn say<S: Services>(
     services: &S,
     port: u16,
     place: Option<i64>,
-    content: &Content<'_>,
+    content: Content,
     output: &mut Output,
 ) -> Result<(), AllocError>
     requires serves { S.serves speaker.now.wiring.now speaker.now.me.0 services.now }
     requires there { speaker.now.who.slot.0 < length speaker.now.wiring.now.slots }
-    ensures { OnOk result (Adds (sent_at speaker.now.wiring.now speaker.now.me.0 (S.frame_of services.now) (S.links_of services.now) speaker.now.who port place (content_of content.now)) output.old output.new) }
+    ensures { OnOk result (Adds (sent_at speaker.now.wiring.now speaker.now.me.0 (S.frame_of services.now) (S.links_of services.now) speaker.now.who port place (content_of content)) output.old output.new) }
 {
     match place {
         Some(at) => {
-            send(alloc, speaker, services, port, at, content, output)?;
+            send(speaker, services, port, at, content, output)?;
             Ok(())
         }
         None => {
-            send_to_all(alloc, speaker, services, port, content, output)?;
+            send_to_all(alloc, speaker, services, port, &content, output)?;
             Ok(())
         }
     }
 }
 
 /// Applies a command of the speaker, who has this message in hand, or none.
-#[tactic(auto, using(crate::proofs::Steps::sends, crate::proofs::Steps::asks_frame, crate::proofs::Steps::asks_name, crate::proofs::Steps::defers, crate::proofs::Steps::recalls, crate::proofs::Steps::recalls_all))]
+#[tactic(auto, using(crate::proofs::Steps::sends_now, crate::proofs::Steps::asks_frame_now, crate::proofs::Steps::asks_name_now, crate::proofs::Steps::defers_now, crate::proofs::Steps::recalls_now, crate::proofs::Steps::recalls_all_now))]
 fn apply<S: Services>(
     alloc: Global,
     speaker: &Speaker<'_>,
     services: &mut S,
-    message: Option<&Msg>,
-    command: &Command,
+    hand: &mut Option<Msg>,
+    command: Command,
     doing: &mut Doing,
 ) -> Result<(), AllocError>
     requires serves { S.serves speaker.now.wiring.now speaker.now.me.0 services.old }
     requires there { speaker.now.who.slot.0 < length speaker.now.wiring.now.slots }
     ensures serves { OnOk result (S.serves speaker.now.wiring.now speaker.now.me.0 services.new) }
-    ensures applied { OnOk result (Applies speaker.now.wiring.now speaker.now.me.0 (S.frame_of services.old) (S.links_of services.old) (S.frame_of services.new) (S.links_of services.new) speaker.now.who (option_copied message.entry) command.now doing.old doing.new) }
+    ensures applied { OnOk result (AppliesNow speaker.now.wiring.now speaker.now.me.0 (S.frame_of services.old) (S.links_of services.old) (S.frame_of services.new) (S.links_of services.new) speaker.now.who command hand.old doing.old hand.new doing.new) }
 {
     match command {
         Command::Send {
@@ -80,23 +81,16 @@ fn apply<S: Services>(
             prio,
         } => {
             let content = Content {
-                signal: *signal,
+                signal,
                 payload,
-                prio: *prio,
+                prio,
             };
-            say(
-                alloc,
-                speaker,
-                services,
-                *port,
-                *place,
-                &content,
-                &mut doing.output,
-            )?;
+            let output = &mut doing.output;
+            say(alloc, speaker, services, port, place, content, output)?;
             Ok(())
         }
         Command::Defer => {
-            doing.defer(message)?;
+            doing.defer(hand)?;
             Ok(())
         }
         Command::Recall => {
@@ -112,7 +106,7 @@ fn apply<S: Services>(
                 speaker.wiring,
                 speaker.me,
                 speaker.who,
-                command,
+                &command,
                 &mut doing.output.messages,
             )?;
             Ok(())
@@ -122,7 +116,7 @@ fn apply<S: Services>(
                 speaker.wiring,
                 speaker.me,
                 speaker.who,
-                command,
+                &command,
                 &mut doing.output.messages,
             )?;
             Ok(())
@@ -130,24 +124,27 @@ fn apply<S: Services>(
     }
 }
 
-/// Applies commands of the speaker in order, in the turn of a message, or at its start without one. After
-/// want of memory what was done is unspecified: the controller has failed.
+/// Applies commands of the speaker in order, in the turn of a message, or at its start without one. What
+/// is sent and what is kept is moved, and copied only where it goes to several places. After want of memory
+/// what was done is unspecified: the controller has failed.
 #[tactic(auto, using(crate::proofs::Steps::none_applied))]
 pub fn apply_all<S: Services>(
     alloc: Global,
     speaker: &Speaker<'_>,
     services: &mut S,
-    message: Option<&Msg>,
-    commands: &[Command],
+    message: Option<Msg>,
+    commands: Commands,
     doing: &mut Doing,
 ) -> Result<(), AllocError>
     requires serves { S.serves speaker.now.wiring.now speaker.now.me.0 services.old }
     requires there { speaker.now.who.slot.0 < length speaker.now.wiring.now.slots }
     ensures serves { OnOk result (S.serves speaker.now.wiring.now speaker.now.me.0 services.new) }
-    ensures applied { OnOk result (AppliesAll speaker.now.wiring.now speaker.now.me.0 (S.frame_of services.old) (S.links_of services.old) (S.frame_of services.new) (S.links_of services.new) speaker.now.who (option_copied message.entry) commands.now doing.old doing.new) }
+    ensures applied { OnOk result ((m : Option Message) → IsInHand m doing.old.kept message → AppliesAll speaker.now.wiring.now speaker.now.me.0 (S.frame_of services.old) (S.links_of services.old) (S.frame_of services.new) (S.links_of services.new) speaker.now.who m commands doing.old doing.new) }
 {
-    for command in commands {
-        apply(alloc, speaker, services, message, command, doing)?;
+    let mut hand = message;
+    let mut queue = VecDeque::from_vec(commands.into_vec());
+    while let Some(command) = queue.pop_front() {
+        apply(alloc, speaker, services, &mut hand, command, doing)?;
     }
     Ok(())
 }

@@ -1,6 +1,5 @@
 //! What an actor does in a turn, so far.
 ghost use Rattle.std.specs.Prelude.{true, OnOk};
-ghost use Rattle.std.specs.Option.{option_copied};
 ghost use Rattle.actor_duties.specs.Commands.{defer, recall, recall_all};
 ghost use Rattle.actor_commands.specs.Doings.{Keeps};
 
@@ -25,11 +24,12 @@ pub struct Doing {
 }
 
 impl Doing {
-    /// `defer`, with the message in hand.
+    /// `defer`, with the message in hand, which is moved.
     #[tactic(auto, using(crate::proofs::Steps::keeps_here))]
-    pub(crate) fn defer(&mut self, message: Option<&Msg>) -> Result<(), AllocError>
-        ensures { OnOk result (Keeps (defer self.old.kept (option_copied message.entry) self.old.deferred) true self.old self.new) }
+    pub(crate) fn defer(&mut self, hand: &mut Option<Msg>) -> Result<(), AllocError>
+        ensures { OnOk result (Keeps (defer self.old.kept hand.old self.old.deferred) true self.old self.new) }
     {
+        let message = hand.take();
         self.deferred
             .defer(self.kept, message, &mut self.output.notes)?;
         self.kept = true;

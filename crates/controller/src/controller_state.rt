@@ -82,8 +82,9 @@ impl ControllerState {
         let Some(m) = self.mail.take_next() else {
             return Ok(None);
         };
-        let done = self.actors.treat(plant, self.me, &m)?;
-        let entry = self.mail.end_turn(m.from, m.stamp, done)?;
+        let (from, sent) = (m.from, m.stamp);
+        let done = self.actors.treat(plant, self.me, m)?;
+        let entry = self.mail.end_turn(from, sent, done)?;
         Ok(Some(entry))
     }
 

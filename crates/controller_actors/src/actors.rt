@@ -50,11 +50,10 @@ fn discarded(alloc: Global, did: Did) -> TurnResult
     }
 }
 
-/// A message that nobody stands there for.
-fn nobody_there(alloc: Global, m: &Msg) -> TurnResult
-    ensures { result ≡ record { sent = []; back = []; did = Did.Empty (whose m.now.target); notes = [] } }
+/// A message to an actor that isn't there.
+fn nobody_there(alloc: Global, target: Incarnation) -> TurnResult
+    ensures { result ≡ record { sent = []; back = []; did = Did.Empty target; notes = [] } }
 {
-    let target = whose(m.target);
     discarded(alloc, Did::Empty { target })
 }
 
@@ -110,15 +109,16 @@ impl Actors {
         plant: &Plant,
         me: ControllerId,
         who: Incarnation,
-        m: &Msg,
+        m: Msg,
     ) -> Result<TurnResult, AllocError>
         requires well { IsWell plant.now me.0 self.old }
         requires last { IsLast plant.now.wiring (lives_of self.old) who }
-        requires target { who.slot ≡ m.now.target.slot }
-        requires prio { IsForActors m.now }
-        ensures { IfOk result (λ done. Dispatches plant.now me.0 m.now self.old self.new done) }
+        requires target { who.slot ≡ m.target.slot }
+        requires prio { IsForActors m }
+        ensures { IfOk result (λ done. Dispatches plant.now me.0 m self.old self.new done) }
     {
         let alloc = self.alloc;
+        let target = whose(m.target);
         let speaker = Speaker {
             wiring: &plant.wiring,
             me,
@@ -129,7 +129,7 @@ impl Actors {
         let handled = actor_slot.handle(alloc, &speaker, &mut self.services, tables, m)?;
         match handled {
             Some(done) => Ok(done),
-            None => Ok(nobody_there(alloc, m)),
+            None => Ok(nobody_there(alloc, target)),
         }
     }
 
@@ -156,18 +156,18 @@ impl Actors {
         &mut self,
         plant: &Plant,
         me: ControllerId,
-        m: &Msg,
+        m: Msg,
     ) -> Result<TurnResult, AllocError>
         requires well { IsWell plant.now me.0 self.old }
-        requires prio { IsForActors m.now }
-        ensures treated { IfOk result (λ done. dispatch (model_of plant.now) plant.now.wiring me.0 (body_of plant.now me.0 self.old) m.now ≡ with_body (done_of done) (body_of plant.now me.0 self.new)) }
+        requires prio { IsForActors m }
+        ensures treated { IfOk result (λ done. dispatch (model_of plant.now) plant.now.wiring me.0 (body_of plant.now me.0 self.old) m ≡ with_body (done_of done) (body_of plant.now me.0 self.new)) }
         ensures well { OnOk result (IsWell plant.now me.0 self.new) }
         ensures back { IfOk result (λ done. All IsForActors done.back) }
     {
         let Some(who) = self.occupant(plant, me, m.target.slot) else {
-            return Ok(nobody_there(self.alloc, m));
+            return Ok(nobody_there(self.alloc, whose(m.target)));
         };
-        if !is_meant(m, who) {
+        if !is_meant(&m, who) {
             let target = whose(m.target);
             return Ok(discarded(self.alloc, Did::Stale { target }));
         }
@@ -181,16 +181,16 @@ impl Actors {
         &mut self,
         plant: &Plant,
         me: ControllerId,
-        m: &Msg,
+        m: Msg,
     ) -> Result<TurnResult, AllocError>
         requires well { IsWell plant.now me.0 self.old }
-        requires prio { HasPriority m.now }
-        ensures treated { IfOk result (λ done. treat (model_of plant.now) plant.now.wiring me.0 (body_of plant.now me.0 self.old) m.now ≡ with_body (done_of done) (body_of plant.now me.0 self.new)) }
+        requires prio { HasPriority m }
+        ensures treated { IfOk result (λ done. treat (model_of plant.now) plant.now.wiring me.0 (body_of plant.now me.0 self.old) m ≡ with_body (done_of done) (body_of plant.now me.0 self.new)) }
         ensures well { OnOk result (IsWell plant.now me.0 self.new) }
         ensures back { IfOk result (λ done. All IsForActors done.back) }
     {
         if m.prio.0 == 0 {
-            let done = self.duty(plant, me, m)?;
+            let done = self.duty(plant, me, &m)?;
             return Ok(done);
         }
         let done = self.dispatch(plant, me, m)?;

@@ -6,7 +6,6 @@ ghost use Rattle.controller_actors.specs.Plants.{model_of};
 ghost use Rattle.controller_actors.specs.Bodies.{AreEmpty, HasSlots, lives_of};
 ghost use Rattle.controller_actors.specs.Steps.{IsLast, Moves};
 
-use crate::actor_slots::ActorSlot;
 use crate::actors::Actors;
 use crate::plant::Plant;
 use actor_commands::{Output, Recalled, Speaker};
@@ -86,10 +85,10 @@ impl Actors {
         ensures moves { OnOk result (Moves (gone plant.now.wiring me.0 who) plant.now me.0 self.old so_far.old self.new so_far.new) }
         ensures empty { OnOk result ((rest : List Actor) → AreEmpty (who ∷ rest) self.old → AreEmpty rest self.new) }
     {
+        let alloc = self.alloc;
         let actor_slot = &mut self.slots[usize::from(who.slot.0)];
-        let lost = actor_slot.deferred.len() as u64;
+        let lost = actor_slot.vacate(alloc);
         so_far.output.notes.push(Note::Down { who, lost })?;
-        *actor_slot = ActorSlot::vacant(self.alloc);
         let out = &mut so_far.output.messages;
         self.services.links.end_of(&plant.wiring, me, who, out)?;
         Ok(())

@@ -3,7 +3,7 @@ ghost use Rattle.std.specs.Prelude.{◌≡◌, true, false, [], ◌∷◌, ◌++
 ghost use Rattle.crossbeam_deque.specs.Handles.{worker_deque, worker_view, worker_flavor, stealer_deque, stealer_flavor, view, IsPassOf};
 
 use crate::address::addressed;
-use crate::rule::{Got, LaneRule, LaneView, Own, Sent};
+use crate::rule::{Got, LaneRule, LaneView, Own, Seen, Sent};
 use crossbeam_deque::{Pass, Steal, Stealer, Worker};
 use room_kinds::Msg;
 use std::alloc::Global;
@@ -54,7 +54,7 @@ impl Outlet {
         }
     }
 
-    /// What the owner takes itself.
+    /// What the owner takes itself. Most looks find nothing: that is seen before room for a message is made.
     #[tactic(auto, using(crate::proofs::LaneLemmas::lane_steps))]
     pub(crate) fn take(&mut self) -> Option<Msg>
         requires { (out_lane self.old).wire.takes ≡ true }
@@ -62,10 +62,24 @@ impl Outlet {
         ensures is_for { MatchOption result (Unit {0}) (λ m. IsFor self.old.from self.old.to self.old.prio m) }
         ensures within { length (out_lane self.new).taken ≤ length (out_lane self.new).posted }
     {
-        match self.owner.pop_as::<Own>() {
-            Some(m) => Some(addressed(m, self.from, self.to, self.prio)),
-            None => None,
+        if self.owner.len_as::<Seen>() == 0 {
+            return None;
         }
+        self.pop()
+    }
+
+    /// The same, whether or not there is something.
+    #[tactic(auto, using(crate::proofs::LaneLemmas::lane_steps))]
+    fn pop(&mut self) -> Option<Msg>
+        requires { (out_lane self.old).wire.takes ≡ true }
+        ensures lane { MatchOption result ((out_lane self.new ≡ out_lane self.old) × ((out_lane self.old).posted ≡ (out_lane self.old).taken)) (λ m. out_lane self.new ≡ popping (out_lane self.old) m) }
+        ensures is_for { MatchOption result (Unit {0}) (λ m. IsFor self.old.from self.old.to self.old.prio m) }
+        ensures within { length (out_lane self.new).taken ≤ length (out_lane self.new).posted }
+    {
+        let Some(m) = self.owner.pop_as::<Own>() else {
+            return None;
+        };
+        Some(addressed(m, self.from, self.to, self.prio))
     }
 }
 
@@ -80,10 +94,9 @@ impl Inlet {
         ensures lane { MatchOption result (in_lane self.new ≡ in_lane self.old) (λ m. in_lane self.new ≡ stealing (in_lane self.old) m) }
         ensures is_for { MatchOption result (Unit {0}) (λ m. IsFor self.old.from self.old.to self.old.prio m) }
     {
-        match self.thief.steal_as::<Got>(&mut self.pass) {
-            Steal::Success(m) => Some(addressed(m, self.from, self.to, self.prio)),
-            Steal::Empty => None,
-            Steal::Retry => None,
-        }
+        let Steal::Success(m) = self.thief.steal_as::<Got>(&mut self.pass) else {
+            return None;
+        };
+        Some(addressed(m, self.from, self.to, self.prio))
     }
 }

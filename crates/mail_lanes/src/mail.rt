@@ -60,10 +60,9 @@ impl Mail for MailLanes {
         let lane = lane_in(self.parties, b);
         self.add_look(b);
         if lane.sender == self.party {
-            self.take_own(lane.prio)
-        } else {
-            self.take_from(lane.sender, lane.prio)
+            return self.take_own(lane.prio);
         }
+        self.take_from(lane.sender, lane.prio)
     }
 
     fn close(alloc: Global, _office: (), ends: Vec<MailLanes>) -> Result<Vec<Vec<Msg>>, AllocError>

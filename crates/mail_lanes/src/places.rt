@@ -34,8 +34,8 @@ pub(crate) fn steal_at(inlets: &mut Vec<Option<Inlet>>, at: usize) -> Option<Msg
     requires within { at < length inlets.old.items }
     ensures lane { MatchOption result (map in_side inlets.new.items ≡ map in_side inlets.old.items) (λ m. (i : InLane) × (in_at (map in_side inlets.old.items) at ≡ Some i) × (map in_side inlets.new.items ≡ slice_set (map in_side inlets.old.items) at (Some (stealing i m))) × IsFor i.wire.from i.wire.to i.wire.prio m) }
 {
-    match &mut inlets[at] {
-        Some(inlet) => inlet.take(),
-        None => None,
-    }
+    let Some(inlet) = &mut inlets[at] else {
+        return None;
+    };
+    inlet.take()
 }

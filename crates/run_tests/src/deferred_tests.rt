@@ -10,9 +10,9 @@ fn deferred_messages_come_back(rt: HostRuntime) -> Result<(), Fail> {
     let mut deferred = DeferredMessages::new(alloc);
     let mut back = Recalled::new(alloc);
     let mut notes = Notes::new(alloc);
-    deferred.defer(false, Some(&message(alloc, 0, 0, 3, 1)), &mut notes)?;
-    deferred.defer(false, Some(&message(alloc, 0, 0, 3, 2)), &mut notes)?;
-    deferred.defer(false, Some(&message(alloc, 0, 0, 3, 3)), &mut notes)?;
+    deferred.defer(false, Some(message(alloc, 0, 0, 3, 1)), &mut notes)?;
+    deferred.defer(false, Some(message(alloc, 0, 0, 3, 2)), &mut notes)?;
+    deferred.defer(false, Some(message(alloc, 0, 0, 3, 3)), &mut notes)?;
     deferred.recall(&mut back, &mut notes)?;
     deferred.recall_all(&mut back, &mut notes)?;
     assert_eq!(rt; deferred.len(), 0);

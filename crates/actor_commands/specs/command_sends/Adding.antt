@@ -11,4 +11,4 @@ pub record Adds (s : Sent) (old new : Output) : Type 0 where
 
 -- what is sent
 abbrev pub content_of : CodeContent → Content
-content_of c = record { signal = c.signal; payload = c.payload.now; prio = c.prio }
+content_of c = record { signal = c.signal; payload = c.payload; prio = c.prio }

@@ -1,10 +1,10 @@
 //! Broadcasts.
-ghost use Rattle.std.specs.Prelude.{◌≡◌, ◌<◌, ◌∷◌, [], length, map, nat_le, OnOk};
+ghost use Rattle.std.specs.Prelude.{◌≡◌, ◌<◌, ◌∷◌, [], pos, length, map, nat_le, OnOk};
 ghost use Rattle.std.specs.List.{filter};
 ghost use Rattle.room_wiring.specs.Places.{port_count};
 ghost use Rattle.actor_duties.specs.State.{Link};
 ghost use Rattle.actor_duties.specs.Words.{places_of};
-ghost use Rattle.actor_duties.specs.Commands.{send_each, broadcast};
+ghost use Rattle.actor_duties.specs.Commands.{send, send_each, broadcast};
 ghost use Rattle.actor_commands.specs.command_sends.Adding.{Adds, content_of};
 
 use crate::command_sends::output::{Content, Output, Speaker};
@@ -13,13 +13,31 @@ use crate::command_sends::services::Services;
 use service_messages::is_spp;
 use std::alloc::{AllocError, Global};
 
+/// Sends a copy at a place.
+fn send_copy<S: Services>(
+    alloc: Global,
+    speaker: &Speaker<'_>,
+    services: &S,
+    port: u16,
+    place: u32,
+    content: &Content,
+    output: &mut Output,
+) -> Result<(), AllocError>
+    requires serves { S.serves speaker.now.wiring.now speaker.now.me.0 services.now }
+    ensures { OnOk result (Adds (send speaker.now.wiring.now speaker.now.me.0 (S.frame_of services.now) (S.links_of services.now) speaker.now.who port (pos place) (content_of content.now)) output.old output.new) }
+{
+    let copy = content.copy(alloc)?;
+    let at = u64::from(place);
+    send_at(speaker, services, port, i64::from(place), at, copy, output)
+}
+
 /// Sends at each place that the model gives a port.
 fn send_to_places<S: Services>(
     alloc: Global,
     speaker: &Speaker<'_>,
     services: &S,
     port: u16,
-    content: &Content<'_>,
+    content: &Content,
     output: &mut Output,
 ) -> Result<(), AllocError>
     requires serves { S.serves speaker.now.wiring.now speaker.now.me.0 services.now }
@@ -28,16 +46,7 @@ fn send_to_places<S: Services>(
     ensures { OnOk result (Adds (send_each speaker.now.wiring.now speaker.now.me.0 (S.frame_of services.now) (S.links_of services.now) speaker.now.who port (content_of content.now) (places_of speaker.now.wiring.now speaker.now.who.slot.0 port)) output.old output.new) }
 {
     for place in 0..speaker.wiring.places(speaker.who.slot, port) {
-        send_at(
-            alloc,
-            speaker,
-            services,
-            port,
-            i64::from(place),
-            u64::from(place),
-            content,
-            output,
-        )?;
+        send_copy(alloc, speaker, services, port, place, content, output)?;
     }
     Ok(())
 }
@@ -50,7 +59,7 @@ fn send_to_link<S: Services>(
     port: u16,
     first: u32,
     place: u32,
-    content: &Content<'_>,
+    content: &Content,
     output: &mut Output,
 ) -> Result<(), AllocError>
     requires serves { S.serves speaker.now.wiring.now speaker.now.me.0 services.now }
@@ -59,16 +68,7 @@ fn send_to_link<S: Services>(
     if place < first {
         return Ok(());
     }
-    send_at(
-        alloc,
-        speaker,
-        services,
-        port,
-        i64::from(place),
-        u64::from(place),
-        content,
-        output,
-    )
+    send_copy(alloc, speaker, services, port, place, content, output)
 }
 
 /// Sends at each place that is linked by name, from the place `first` on.
@@ -78,7 +78,7 @@ fn send_to_links<S: Services>(
     services: &S,
     port: u16,
     first: u32,
-    content: &Content<'_>,
+    content: &Content,
     output: &mut Output,
 ) -> Result<(), AllocError>
     requires serves { S.serves speaker.now.wiring.now speaker.now.me.0 services.now }
@@ -101,7 +101,7 @@ pub fn broadcast<S: Services>(
     speaker: &Speaker<'_>,
     services: &S,
     port: u16,
-    content: &Content<'_>,
+    content: &Content,
     output: &mut Output,
 ) -> Result<(), AllocError>
     requires serves { S.serves speaker.now.wiring.now speaker.now.me.0 services.now }

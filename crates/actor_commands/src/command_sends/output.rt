@@ -1,6 +1,9 @@
 //! What an actor says.
+ghost use Rattle.std.specs.Prelude.{◌≡◌, IfOk};
+
 use room_kinds::{ControllerId, Incarnation, Notes, Outbox, Payload, Priority};
 use room_wiring::Wiring;
+use std::alloc::{AllocError, Global};
 
 /// The messages that were sent so far, and the notes.
 #[derive(Drop)]
@@ -18,9 +21,23 @@ pub struct Speaker<'a> {
 }
 
 /// What is sent.
-#[derive(Clone, Copy)]
-pub struct Content<'a> {
+#[derive(Drop)]
+pub struct Content {
     pub signal: u16,
-    pub payload: &'a Payload,
+    pub payload: Payload,
     pub prio: Priority,
+}
+
+impl Content {
+    /// The same once more, for another place.
+    pub(crate) fn copy(&self, alloc: Global) -> Result<Content, AllocError>
+        ensures { IfOk result (λ c. c ≡ self.now) }
+    {
+        let payload = self.payload.copy(alloc)?;
+        Ok(Content {
+            signal: self.signal,
+            payload,
+            prio: self.prio,
+        })
+    }
 }

@@ -1,6 +1,5 @@
 //! The messages that an actor keeps.
 ghost use Rattle.std.specs.Prelude.{◌≡◌, ◌∷◌, ◌++◌, [], length, OnOk, MatchOption};
-ghost use Rattle.std.specs.Option.{option_copied};
 ghost use Rattle.actor_duties.specs.Commands.{defer, recall, recall_all};
 ghost use Rattle.actor_commands.specs.deferred_messages.Steps.{Applies};
 
@@ -16,7 +15,6 @@ use std::marker::Model;
 /// failed.
 #[derive(Drop)]
 pub struct DeferredMessages {
-    alloc: Global,
     messages: VecDeque<Msg>,
 }
 
@@ -35,7 +33,6 @@ impl DeferredMessages {
         ensures { result ≡ [] }
     {
         DeferredMessages {
-            alloc,
             messages: VecDeque::new(alloc),
         }
     }
@@ -47,11 +44,10 @@ impl DeferredMessages {
         self.messages.len()
     }
 
-    fn keep(&mut self, m: &Msg) -> Result<(), AllocError>
-        ensures { OnOk result (self.new ≡ self.old ++ m.now ∷ []) }
+    fn keep(&mut self, m: Msg) -> Result<(), AllocError>
+        ensures { OnOk result (self.new ≡ self.old ++ m ∷ []) }
     {
-        let copy = m.copy(self.alloc)?;
-        self.messages.push_back(copy)?;
+        self.messages.push_back(m)?;
         Ok(())
     }
 
@@ -73,10 +69,10 @@ impl DeferredMessages {
     pub fn defer(
         &mut self,
         kept: bool,
-        message: Option<&Msg>,
+        message: Option<Msg>,
         notes: &mut Notes,
     ) -> Result<(), AllocError>
-        ensures { OnOk result (Applies (defer kept (option_copied message.entry) self.old) self.new [] [] notes.old notes.new) }
+        ensures { OnOk result (Applies (defer kept message self.old) self.new [] [] notes.old notes.new) }
     {
         if kept {
             return Ok(());

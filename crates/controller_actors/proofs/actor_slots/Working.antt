@@ -1,5 +1,5 @@
 -- A turn and a start of the actor of a slot: what its machine did, and then its commands.
-use Rattle.std.proofs.Common.{◌≡◌, ℕ, Bool, false, List, [], ◌∷◌, ◌++◌, All, Option, Some, None, sym, ap, ◌∙◌, subst}
+use Rattle.std.proofs.Common.{◌≡◌, ℕ, Bool, false, List, [], ◌∷◌, ◌++◌, All, Option, Some, None, refl, sym, ap, ◌∙◌, subst}
 use Rattle.std.proofs.lemmas.List.Elements.{All-nil}
 use Rattle.room_kinds.specs.declared.message.Msg.{Msg}
 use Rattle.room_kinds.specs.declared.note.Note.{Note}
@@ -23,6 +23,7 @@ use Rattle.actor_commands.specs.declared.doing.Doing.{Doing}
 use Rattle.actor_commands.specs.Doings.{doing_on}
 use Rattle.actor_commands.proofs.Steps.{updated_twice}
 use Rattle.controller_actors.specs.declared.actor_slots.occupant.Occupant.{Occupant}
+use Rattle.controller_actors.specs.declared.actor_slots.occupant.Occupant.TheVariants as occupants
 use Rattle.controller_actors.specs.declared.actor_slots.occupant.Reaction.{Reaction}
 use Rattle.controller_actors.specs.declared.actor_slots.occupant.Beginning.{Beginning}
 use Rattle.controller_actors.specs.declared.actor_slots.actor_slot.ActorSlot.{ActorSlot}
@@ -30,6 +31,7 @@ use Rattle.controller_actors.specs.declared.actor_slots.actor_slot.Entrance.{Ent
 use Rattle.controller_actors.specs.actor_slots.Occupants.{HasTables, IsOf, Reacts, Begins, actor_of, actor_in}
 use Rattle.controller_actors.specs.actor_slots.Slots.{SlotFits, SlotTurns, SlotBegins, SlotComesUp, Works, slot_body, treated_on, turned, entered, risen}
 use Rattle.controller_actors.proofs.actor_slots.Priorities.{kept_ranks, back_ranks, lives_stay}
+use Rattle.controller_actors.proofs.actor_slots.Occupying.{chartless_begins}
 
 module _ (t : Wiring) (me : ℕ) (f : Frame) (l : Links) (f' : Frame) (l' : Links) (x : Incarnation) where
   -- another function for the machines of a body
@@ -177,3 +179,17 @@ module _ (t : Wiring) (me : ℕ) (f : Frame) (l : Links) (f' : Frame) (l' : Link
           };
           back = λ all. back_ranks t me x None tt f l f' l' r.commands from to w.applied kept all;
         }
+
+-- an actor whose class has no chart comes up
+pub comes_up_without_chart : (t : Wiring) (me : ℕ) (f : Frame) (l : Links) (x : Incarnation) (old new : ActorSlot) (first last : Output) (before : List Msg)
+    → new ≡ record { occupant = occupants.Chartless; deferred = [] } → last.messages ≡ first.messages → last.notes ≡ first.notes ++ notes.Up x 65535 ∷ []
+    → SlotComesUp t me f l f l x None old new first before last before
+comes_up_without_chart t me f l x old new first last before now sent told =
+    let r : Beginning = record { occupant = occupants.Chartless; state = 65535; notes = []; commands = [] } in
+    comes_up t me f l f l x None old new new r first before last before (chartless_begins x) (ap (λ (s : ActorSlot). s.occupant) now) (ap (λ (s : ActorSlot). s.deferred) now) last.notes
+    (record {
+      kept = false;
+      occupant = refl;
+      applied = record { on = λ b. ap (λ (ms : List Msg). doing_on f l b x.slot.0 (record { deferred = new.deferred; output = record { messages = ms; notes = last.notes }; back = before; kept = false })) (sym sent) };
+    })
+    told

@@ -9,12 +9,12 @@ ghost use Rattle.actor_world.specs.Turns.{handled_as};
 ghost use Rattle.controller_actors.specs.actor_slots.Occupants.{AreSound, actor_in};
 ghost use Rattle.controller_actors.specs.actor_slots.Slots.{SlotComesUp, SlotFits, SlotTurns, SlotBegins, Works};
 
-use crate::actor_slots::occupant::{Beginning, Occupant, Reaction};
+use crate::actor_slots::occupant::{Beginning, NO_STATE, Occupant, Reaction};
 use actor_commands::{DeferredMessages, Doing, Output, Recalled, Services, Speaker, apply_all};
 use chart_run::{Handling, Tables};
 use controller_mail::TurnResult;
 use journal::Did;
-use room_kinds::{Command, Incarnation, Msg, Note, Notes, Outbox, Sequence};
+use room_kinds::{Commands, Incarnation, Msg, Note, Notes, Outbox};
 use std::alloc::{AllocError, Global};
 use std::mem;
 
@@ -77,6 +77,36 @@ impl ActorSlot {
         }
     }
 
+    /// Nobody stands there any more. It answers how many messages were kept for later, which are lost.
+    pub fn vacate(&mut self, alloc: Global) -> u64
+        ensures lost { result ≡ length self.old.deferred }
+        ensures vacant { self.new ≡ record { occupant = Occupant.Nobody; deferred = [] } }
+    {
+        let lost = self.deferred.len() as u64;
+        self.occupant = Occupant::Nobody;
+        self.deferred = DeferredMessages::new(alloc);
+        lost
+    }
+
+    /// An actor whose class has no chart comes up: there is nothing that it does then.
+    fn come_up_without_chart(
+        &mut self,
+        alloc: Global,
+        who: Incarnation,
+        notes: &mut Notes,
+    ) -> Result<(), AllocError>
+        ensures slot { OnOk result (self.new ≡ record { occupant = Occupant.Chartless; deferred = [] }) }
+        ensures told { OnOk result (notes.new ≡ notes.old ++ Up who 65535 ∷ []) }
+    {
+        self.occupant = Occupant::Chartless;
+        self.deferred = DeferredMessages::new(alloc);
+        notes.push(Note::Up {
+            who,
+            state: NO_STATE,
+        })?;
+        Ok(())
+    }
+
     /// The commands of the actor are applied in order, on top of what was put out and what came back
     /// before. Most actors have none when they come up, and then nothing is moved.
     fn work<S: Services>(
@@ -84,19 +114,40 @@ impl ActorSlot {
         alloc: Global,
         speaker: &Speaker<'_>,
         services: &mut S,
-        message: Option<&Msg>,
-        commands: &[Command],
+        message: Option<Msg>,
+        commands: Commands,
         output: &mut Output,
         back: &mut Recalled,
     ) -> Result<(), AllocError>
         requires serves { S.serves speaker.now.wiring.now speaker.now.me.0 services.old }
         requires there { speaker.now.who.slot.0 < length speaker.now.wiring.now.slots }
         ensures serves { OnOk result (S.serves speaker.now.wiring.now speaker.now.me.0 services.new) }
-        ensures works { OnOk result (Works speaker.now.wiring.now speaker.now.me.0 (S.frame_of services.old) (S.links_of services.old) (S.frame_of services.new) (S.links_of services.new) speaker.now.who (option_copied message.entry) commands.now self.old self.new output.old back.old output.new back.new) }
+        ensures works { OnOk result (Works speaker.now.wiring.now speaker.now.me.0 (S.frame_of services.old) (S.links_of services.old) (S.frame_of services.new) (S.links_of services.new) speaker.now.who message commands self.old self.new output.old back.old output.new back.new) }
     {
         if commands.is_empty() {
             return Ok(());
         }
+        self.work_through(alloc, speaker, services, message, commands, output, back)?;
+        Ok(())
+    }
+
+    /// The same, whether or not there are commands. It stands apart, since a function pays at its entry for
+    /// the room of what it moves.
+    fn work_through<S: Services>(
+        &mut self,
+        alloc: Global,
+        speaker: &Speaker<'_>,
+        services: &mut S,
+        message: Option<Msg>,
+        commands: Commands,
+        output: &mut Output,
+        back: &mut Recalled,
+    ) -> Result<(), AllocError>
+        requires serves { S.serves speaker.now.wiring.now speaker.now.me.0 services.old }
+        requires there { speaker.now.who.slot.0 < length speaker.now.wiring.now.slots }
+        ensures serves { OnOk result (S.serves speaker.now.wiring.now speaker.now.me.0 services.new) }
+        ensures works { OnOk result (Works speaker.now.wiring.now speaker.now.me.0 (S.frame_of services.old) (S.links_of services.old) (S.frame_of services.new) (S.links_of services.new) speaker.now.who message commands self.old self.new output.old back.old output.new back.new) }
+    {
         let mut doing = Doing {
             deferred: mem::replace(&mut self.deferred, DeferredMessages::new(alloc)),
             output: mem::replace(output, nothing_put_out(alloc)),
@@ -124,17 +175,17 @@ impl ActorSlot {
         speaker: &Speaker<'_>,
         services: &mut S,
         tables: Option<&Tables>,
-        m: &Msg,
+        m: Msg,
     ) -> Result<Option<TurnResult>, AllocError>
         requires sound { AreSound (option_copied tables) }
         requires fits { SlotFits speaker.now.who (option_copied tables) self.old }
-        requires prio { IsForActors m.now }
+        requires prio { IsForActors m }
         requires serves { S.serves speaker.now.wiring.now speaker.now.me.0 services.old }
         requires there { speaker.now.who.slot.0 < length speaker.now.wiring.now.slots }
         ensures serves { OnOk result (S.serves speaker.now.wiring.now speaker.now.me.0 services.new) }
-        ensures turns { IfOk result (λ o. MatchOption o ((actor_in self.old.occupant ≡ None) × (self.new ≡ self.old) × (services.new ≡ services.old)) (λ done. SlotTurns speaker.now.wiring.now speaker.now.me.0 (S.frame_of services.old) (S.links_of services.old) (S.frame_of services.new) (S.links_of services.new) speaker.now.who m.now (option_copied tables.entry) self.old self.new done)) }
+        ensures turns { IfOk result (λ o. MatchOption o ((actor_in self.old.occupant ≡ None) × (self.new ≡ self.old) × (services.new ≡ services.old)) (λ done. SlotTurns speaker.now.wiring.now speaker.now.me.0 (S.frame_of services.old) (S.links_of services.old) (S.frame_of services.new) (S.links_of services.new) speaker.now.who m (option_copied tables.entry) self.old self.new done)) }
     {
-        let Some(reaction) = self.occupant.react(alloc, tables, m)? else {
+        let Some(reaction) = self.occupant.react(alloc, tables, &m)? else {
             return Ok(None);
         };
         let Reaction {
@@ -153,7 +204,7 @@ impl ActorSlot {
             speaker,
             services,
             Some(m),
-            commands.as_slice(),
+            commands,
             &mut output,
             &mut back,
         )?;
@@ -201,7 +252,7 @@ impl ActorSlot {
             speaker,
             services,
             None,
-            commands.as_slice(),
+            commands,
             &mut output,
             &mut back,
         )?;
@@ -212,11 +263,8 @@ impl ActorSlot {
         })
     }
 
-    /// The actor of a slot comes up: it begins with nothing kept for later, its note `up` tells its
-    /// state, and its commands are applied, on top of what was put out and what came back before. After
-    /// want of memory the slot, and what was put out and came back, is unspecified: the controller has
-    /// failed.
-    pub fn come_up<S: Services>(
+    /// The same, whether or not the actor's class has a chart.
+    fn come_up_by<S: Services>(
         &mut self,
         alloc: Global,
         speaker: &Speaker<'_>,
@@ -241,15 +289,38 @@ impl ActorSlot {
         self.occupant = occupant;
         self.deferred = DeferredMessages::new(alloc);
         tell_up(&mut output.notes, speaker.who, state, notes.as_slice())?;
-        self.work(
-            alloc,
-            speaker,
-            services,
-            None,
-            commands.as_slice(),
-            output,
-            back,
-        )?;
+        self.work(alloc, speaker, services, None, commands, output, back)?;
         Ok(())
+    }
+
+    /// The actor of a slot comes up: it begins with nothing kept for later, its note `up` tells its
+    /// state, and its commands are applied, on top of what was put out and what came back before. After
+    /// want of memory the slot, and what was put out and came back, is unspecified: the controller has
+    /// failed.
+    pub fn come_up<S: Services>(
+        &mut self,
+        alloc: Global,
+        speaker: &Speaker<'_>,
+        services: &mut S,
+        tables: Option<&Tables>,
+        output: &mut Output,
+        back: &mut Recalled,
+    ) -> Result<(), AllocError>
+        requires sound { AreSound (option_copied tables) }
+        requires serves { S.serves speaker.now.wiring.now speaker.now.me.0 services.old }
+        requires there { speaker.now.who.slot.0 < length speaker.now.wiring.now.slots }
+        ensures serves { OnOk result (S.serves speaker.now.wiring.now speaker.now.me.0 services.new) }
+        ensures up { OnOk result (SlotComesUp speaker.now.wiring.now speaker.now.me.0 (S.frame_of services.old) (S.links_of services.old) (S.frame_of services.new) (S.links_of services.new) speaker.now.who (option_copied tables.entry) self.old self.new output.old back.old output.new back.new) }
+    {
+        match tables {
+            Some(_) => {
+                self.come_up_by(alloc, speaker, services, tables, output, back)?;
+                Ok(())
+            }
+            None => {
+                self.come_up_without_chart(alloc, speaker.who, &mut output.notes)?;
+                Ok(())
+            }
+        }
     }
 }

@@ -9,7 +9,7 @@ use room_kinds::{Commands, Incarnation, Msg, Notes};
 use std::alloc::{AllocError, Global};
 
 /// The number of the state of an actor whose class has no chart.
-const NO_STATE: u16 = 65535;
+pub(crate) const NO_STATE: u16 = 65535;
 
 /// What stands in a slot: nobody, an actor whose class has no chart, or one with its machine.
 #[derive(Drop)]

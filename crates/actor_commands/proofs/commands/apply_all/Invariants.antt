@@ -1,10 +1,18 @@
-use Rattle.std.proofs.Common.{take}
-use Rattle.std.specs.Option.{option_copied}
-use Rattle.actor_commands.specs.Doings.{AppliesAll}
+use Rattle.std.proofs.Common.{Option, length}
+use Rattle.room_kinds.specs.declared.message.Msg.{Msg}
+use Rattle.actor_duties.specs.State.{Frame, Links}
+use Rattle.actor_commands.specs.declared.doing.Doing.{Doing}
+use Rattle.actor_commands.specs.Doings.{AppliesAll, IsInHand}
 use Rattle.actor_commands.proofs.commands.apply_all.Given as goal
 
+-- with the rest of the commands, all are applied
 abbrev pub invariant-loop-command : goal.invariant-loop-command
-invariant-loop-command g l =
-    g.S.Services.serves l.speaker.wiring.now l.speaker.me.0 l.services
-    × AppliesAll l.speaker.wiring.now l.speaker.me.0 (g.S.Services.frame_of l.fn.services) (g.S.Services.links_of l.fn.services) (g.S.Services.frame_of l.services) (g.S.Services.links_of l.services)
-    l.speaker.who (option_copied l.message) (take l.command-index l.commands) l.fn.doing l.doing
+invariant-loop-command g l = record {
+  serves : g.S.Services.serves l.speaker.wiring.now l.speaker.me.0 l.services;
+  rest : (m : Option Msg) → IsInHand m l.fn.doing.kept l.fn.message → IsInHand m l.doing.kept l.hand × ((f : Frame) (k : Links) (new : Doing)
+      → AppliesAll l.speaker.wiring.now l.speaker.me.0 (g.S.Services.frame_of l.services) (g.S.Services.links_of l.services) f k l.speaker.who m l.queue.items l.doing new
+      → AppliesAll l.speaker.wiring.now l.speaker.me.0 (g.S.Services.frame_of l.fn.services) (g.S.Services.links_of l.fn.services) f k l.speaker.who m l.fn.commands l.fn.doing new);
+}
+
+abbrev pub decreases-loop-command : goal.decreases-loop-command
+decreases-loop-command g l = length l.queue.items

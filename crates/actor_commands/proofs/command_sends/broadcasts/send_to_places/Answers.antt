@@ -1,6 +1,6 @@
-use Rattle.std.proofs.Common.{[], ◌∷◌, List, ℕ, pos, sym, subst}
+use Rattle.std.proofs.Common.{[], ◌∷◌, List, ℕ, sym, subst}
 use Rattle.std.specs.List.{range_with_len}
-use Rattle.actor_duties.specs.Commands.{send, send_each}
+use Rattle.actor_duties.specs.Commands.{send_each}
 use Rattle.actor_commands.specs.command_sends.Adding.{Adds, content_of}
 use Rattle.actor_commands.proofs.command_sends.Broadcasting.{Adds-append, Adds-one, range-more}
 use Rattle.actor_commands.proofs.command_sends.broadcasts.send_to_places.Goals as goal
@@ -14,8 +14,7 @@ loop-place-preserved g c =
     let p = c.args.port in
     let content = content_of c.args.content.now in
     let at = c.loop-place.place in
-    let new = c.send_at.new.output in
+    let new = c.send_copy.new.output in
     subst (λ (ks : List ℕ). Adds (send_each t s.me.0 f l s.who p content ks) c.args.output.now new) (sym (range-more at))
     (Adds-append t s.me.0 f l s.who p content (range_with_len 0 at) (at ∷ []) c.args.output.now c.loop-place.output new c.loop-place.invariant
-    (Adds-one t s.me.0 f l s.who p content at c.loop-place.output new
-    (subst (λ (n : ℕ). Adds (send t s.me.0 f l s.who p (pos n) content) c.loop-place.output new) c.from-in-loop-place.ensures c.in_ok-send_at.ensures)))
+    (Adds-one t s.me.0 f l s.who p content at c.loop-place.output new c.in_ok-send_copy.ensures))

@@ -9,15 +9,15 @@ pub returns-in_ok-push-in-Some : goal.returns-in_ok-push-in-Some
 returns-in_ok-push-in-Some g c =
     let s = c.args.speaker.now in
     let output = c.args.output.now in
-    adds_message s.wiring.now s.me.0 (g.S.Services.frame_of c.args.services.now) (g.S.Services.links_of c.args.services.now) s.who c.args.port c.args.at (content_of c.args.content.now)
-    c.in-Some.target c.in_ok-m-in-Some.m output (record { messages = c.push.new.self; notes = output.notes })
-    (sym c.peer.ensures.peer ∙ c.in-Some.is) c.in_ok-m-in-Some.ensures c.in_ok-push-in-Some.ensures.ok refl
+    adds_message s.wiring.now s.me.0 (g.S.Services.frame_of c.args.services.now) (g.S.Services.links_of c.args.services.now) s.who c.args.port c.args.at (content_of c.args.content)
+    c.in-Some.target c.message-m.result output (record { messages = c.push.new.self; notes = output.notes })
+    (sym c.peer.ensures.peer ∙ c.in-Some.is) c.message-m.ensures c.in_ok-push-in-Some.ensures.ok refl
 
 pub returns-in_ok-push-in-None : goal.returns-in_ok-push-in-None
 returns-in_ok-push-in-None g c =
     let s = c.args.speaker.now in
     let output = c.args.output.now in
-    adds_note s.wiring.now s.me.0 (g.S.Services.frame_of c.args.services.now) (g.S.Services.links_of c.args.services.now) s.who c.args.port c.args.at c.args.place (content_of c.args.content.now)
+    adds_note s.wiring.now s.me.0 (g.S.Services.frame_of c.args.services.now) (g.S.Services.links_of c.args.services.now) s.who c.args.port c.args.at c.args.place (content_of c.args.content)
     output (record { messages = output.messages; notes = c.push-in-None.new.self })
     c.requires.place (sym c.peer.ensures.peer ∙ c.in-None.is) refl
     (c.in_ok-push-in-None.ensures.ok ∙ ap (λ (z : ℤ). output.notes ++ notes.Unbound c.args.port z ∷ []) (to_z-of_z w64 c.args.place c.ranges.place))

@@ -1,4 +1,4 @@
-use Rattle.std.proofs.Common.{◌+◌, ◌-◌, ◌<◌, sym, ap, ◌∙◌, subst, arith}
+use Rattle.std.proofs.Common.{◌-◌, sym, ap, ◌∙◌, subst, arith}
 use Rattle.room_kinds.specs.declared.numbers.ControllerId.{ControllerId}
 use Rattle.mail_core.proofs.Tied.{IsTied-step, StaysTied-step}
 use Rattle.controller_mail.specs.Steps.{Posts}

@@ -1,7 +1,8 @@
-use Rattle.std.proofs.Common.{◌≡◌, ◌<◌, true, Option, None, length, set, refl, sym, ap, ◌∙◌, subst, arith}
+use Rattle.std.proofs.Common.{◌≡◌, ◌<◌, true, [], Option, None, length, set, refl, sym, ap, ◌∙◌, subst, arith}
 use Rattle.std.specs.Option.{option_copied}
 use Rattle.room_kinds.specs.declared.numbers.SlotId.{SlotId}
 use Rattle.room_kinds.specs.declared.numbers.Incarnation.{Incarnation}
+use Rattle.journal.specs.declared.entry.Did.TheVariants as did
 use Rattle.actor_duties.specs.Lives.{last_of}
 use Rattle.chart_run.specs.declared.chart_tables.tables.Tables.{Tables}
 use Rattle.chart_behaviour.specs.ModelCharts.{tables_at}
@@ -21,7 +22,7 @@ pub returns-in-Some : goal.returns-in-Some
 returns-in-Some c =
     let p = c.args.plant.now in
     let old = c.args.self.now in
-    let m = c.args.m.now in
+    let m = c.args.m in
     let s = m.target.slot.0 in
     let same : c.args.who.slot.0 ≡ s = ap (λ (n : SlotId). n.0) c.requires.target in
     let f = frame_in old.services.frame in
@@ -49,7 +50,7 @@ pub returns-in-None : goal.returns-in-None
 returns-in-None c =
     let p = c.args.plant.now in
     let old = c.args.self.now in
-    let m = c.args.m.now in
+    let m = c.args.m in
     let s = m.target.slot.0 in
     let same : c.args.who.slot.0 ≡ s = ap (λ (n : SlotId). n.0) c.requires.target in
     let before = c.index_mut-actor_slot.result.now in
@@ -62,4 +63,4 @@ returns-in-None c =
     dispatches_none p c.args.me.0 m old _ before after c.nobody_there.result there
     (slot_read old.slots.items s c.from.result before at within c.index_mut-actor_slot.ensures.value) h.2 refl
     (ap (λ i. set old.slots.items i after) at) h.0 h.1
-    c.nobody_there.ensures live c.requires.well
+    (c.nobody_there.ensures ∙ ap (λ (x : Incarnation). record { sent = []; back = []; did = did.Empty x; notes = [] }) c.whose-target.ensures) live c.requires.well

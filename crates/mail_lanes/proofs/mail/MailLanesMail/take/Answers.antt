@@ -1,4 +1,4 @@
-use Rattle.std.proofs.Common.{◌≡◌, Option, Some, None, IfNone, MatchOption, ap, sym, subst, ◌∙◌}
+use Rattle.std.proofs.Common.{◌≡◌, Option, Some, None, IfNone, MatchOption, subst}
 use Rattle.room_kinds.specs.declared.message.Msg.{Msg}
 use Rattle.mail_core.specs.EndLog.{EndLog}
 use Rattle.mail_core.specs.BoxLaws.{one_lane}

@@ -1,9 +1,7 @@
-use Rattle.std.proofs.Common.{List, None, refl, subst}
+use Rattle.std.proofs.Common.{refl}
 use Rattle.std.specs.Option.{option_copied}
-use Rattle.room_kinds.specs.declared.command.Command.{Command}
 use Rattle.controller_actors.specs.declared.actor_slots.actor_slot.ActorSlot.{ActorSlot}
 use Rattle.controller_actors.specs.declared.actor_slots.actor_slot.Entrance.{Entrance}
-use Rattle.controller_actors.specs.actor_slots.Slots.{Works}
 use Rattle.controller_actors.proofs.actor_slots.Working.{starts}
 use Rattle.controller_actors.proofs.actor_slots.actor_slot.ActorSlot.begin.Goals as goal
 
@@ -19,5 +17,4 @@ returns-clause-begins g c =
     let mid : ActorSlot = record { occupant = r.occupant; deferred = c.args.self.now.deferred } in
     let e : Entrance = record { output = c.work.new.output; back = c.work.new.back; state = r.state } in
     starts t s.me.0 f l f2 l2 s.who (option_copied c.args.tables) c.args.self.now mid c.work.new.self r c.args.sent c.args.back e c.in_ok-beginning.ensures refl refl
-    (subst (λ (cs : List Command). Works t s.me.0 f l f2 l2 s.who None cs mid c.work.new.self (record { messages = c.args.sent; notes = r.notes }) c.args.back e.output e.back) c.as_slice.ensures c.in_ok-work.ensures.works)
-    refl c.requires.kept
+    c.in_ok-work.ensures.works refl c.requires.kept

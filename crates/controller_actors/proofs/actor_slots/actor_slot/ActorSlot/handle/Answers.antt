@@ -14,15 +14,14 @@ use Rattle.controller_actors.specs.actor_slots.Slots.{Works}
 use Rattle.controller_actors.proofs.actor_slots.Working.{turns}
 use Rattle.controller_actors.proofs.actor_slots.actor_slot.ActorSlot.handle.Goals as goal
 
--- the same with equal commands, nothing put out before, and nothing that came back before
-same_work : (t : Wiring) (me : ℕ) (f : Frame) (l : Links) (f' : Frame) (l' : Links) (x : Incarnation) (m : Option Msg) (cs cs' : List Command) (mid new : ActorSlot) (output back after after' : List Msg) (notes : List Note) (last : Output)
-    → cs ≡ cs' → output ≡ [] → back ≡ [] → after' ≡ after → Works t me f l f' l' x m cs mid new (record { messages = output; notes = notes }) back last after
-    → Works t me f l f' l' x m cs' mid new (record { messages = []; notes = notes }) [] last after'
-same_work t me f l f' l' x m cs cs' mid new output back after after' notes last p q r e w =
-    subst (λ (ms : List Msg). Works t me f l f' l' x m cs' mid new (record { messages = []; notes = notes }) [] last ms) (sym e)
-    (subst (λ (ms : List Msg). Works t me f l f' l' x m cs' mid new (record { messages = []; notes = notes }) ms last after) r
-    (subst (λ (ms : List Msg). Works t me f l f' l' x m cs' mid new (record { messages = ms; notes = notes }) back last after) q
-    (subst (λ (ks : List Command). Works t me f l f' l' x m ks mid new (record { messages = output; notes = notes }) back last after) p w)))
+-- the same with nothing put out before, and nothing that came back before
+same_work : (t : Wiring) (me : ℕ) (f : Frame) (l : Links) (f' : Frame) (l' : Links) (x : Incarnation) (m : Option Msg) (cs : List Command) (mid new : ActorSlot) (output back after after' : List Msg) (notes : List Note) (last : Output)
+    → output ≡ [] → back ≡ [] → after' ≡ after → Works t me f l f' l' x m cs mid new (record { messages = output; notes = notes }) back last after
+    → Works t me f l f' l' x m cs mid new (record { messages = []; notes = notes }) [] last after'
+same_work t me f l f' l' x m cs mid new output back after after' notes last q r e w =
+    subst (λ (ms : List Msg). Works t me f l f' l' x m cs mid new (record { messages = []; notes = notes }) [] last ms) (sym e)
+    (subst (λ (ms : List Msg). Works t me f l f' l' x m cs mid new (record { messages = []; notes = notes }) ms last after) r
+    (subst (λ (ms : List Msg). Works t me f l f' l' x m cs mid new (record { messages = ms; notes = notes }) back last after) q w))
 
 pub returns-clause-turns : goal.returns-clause-turns
 returns-clause-turns g c =
@@ -37,8 +36,8 @@ returns-clause-turns g c =
     let mid : ActorSlot = record { occupant = c.react.new.self; deferred = c.args.self.now.deferred } in
     let last = c.work.new.output in
     let done : TurnResult = record { sent = last.messages; back = c.into_sequence.result; did = c.did_of.result; notes = last.notes } in
-    let h : Reacts c.args.m.now o c.args.self.now.occupant c.react.new.self r = rw c.in-Some.is at c.in_ok-reaction.ensures in
-    turns t s.me.0 f l f2 l2 s.who c.args.m.now o c.args.self.now mid c.work.new.self r done h refl
-    (same_work t s.me.0 f l f2 l2 s.who (Some c.args.m.now) c.as_slice.result.now r.commands mid c.work.new.self c.new.result c.new-back.result c.work.new.back c.into_sequence.result r.notes last
-    c.as_slice.ensures c.new.ensures c.new-back.ensures c.into_sequence.ensures c.in_ok-work.ensures.works)
+    let h : Reacts c.args.m o c.args.self.now.occupant c.react.new.self r = rw c.in-Some.is at c.in_ok-reaction.ensures in
+    turns t s.me.0 f l f2 l2 s.who c.args.m o c.args.self.now mid c.work.new.self r done h refl
+    (same_work t s.me.0 f l f2 l2 s.who (Some c.args.m) r.commands mid c.work.new.self c.new.result c.new-back.result c.work.new.back c.into_sequence.result r.notes last
+    c.new.ensures c.new-back.ensures c.into_sequence.ensures c.in_ok-work.ensures.works)
     c.did_of.ensures c.requires.fits c.requires.prio

@@ -1,10 +1,9 @@
 use Rattle.std.proofs.Common.{◌≡◌, Bool, false, List, refl, subst}
-use Rattle.std.specs.Option.{option_copied}
 use Rattle.room_kinds.specs.declared.message.Msg.{Msg}
 use Rattle.actor_commands.specs.declared.command_sends.output.Output.{Output}
 use Rattle.actor_commands.specs.declared.doing.Doing.{Doing}
 use Rattle.actor_commands.specs.Doings.{AppliesAll}
-use Rattle.controller_actors.proofs.actor_slots.actor_slot.ActorSlot.work.Goals as goal
+use Rattle.controller_actors.proofs.actor_slots.actor_slot.ActorSlot.work_through.Goals as goal
 
 -- equal parts make equal doings
 same_doing : {ds ds' : List Msg} {o o' : Output} {back back' : List Msg} → ds ≡ ds' → o ≡ o' → back ≡ back' → (kept : Bool)
@@ -17,7 +16,7 @@ returns-clause-works g c =
     record {
       kept = c.apply_all.new.doing.kept;
       occupant = refl;
-      applied = subst (λ (d : Doing). AppliesAll s.wiring.now s.me.0 (g.S.Services.frame_of c.args.services.now) (g.S.Services.links_of c.args.services.now) (g.S.Services.frame_of c.apply_all.new.services) (g.S.Services.links_of c.apply_all.new.services) s.who (option_copied c.args.message) c.args.commands.now
+      applied = subst (λ (d : Doing). AppliesAll s.wiring.now s.me.0 (g.S.Services.frame_of c.args.services.now) (g.S.Services.links_of c.args.services.now) (g.S.Services.frame_of c.apply_all.new.services) (g.S.Services.links_of c.apply_all.new.services) s.who c.args.message c.args.commands
           d c.apply_all.new.doing)
-          (same_doing c.replace.ensures.value c.replace-2.ensures.value c.replace-3.ensures.value false) c.in_ok-apply_all.ensures.applied;
+          (same_doing c.replace.ensures.value c.replace-2.ensures.value c.replace-3.ensures.value false) (c.in_ok-apply_all.ensures.applied c.args.message (λ _. refl));
     }
