@@ -23,13 +23,11 @@ fn put_incarnation<K: Sink>(
         (record { written = K.written sink.new; held = out.new })
         (concat (incarnation_parts wiring.now who)) }
 {
-    out.put_all(
+    out.put_three(
         sink,
-        &[
-            Part::Text(naming::path(wiring, who.slot)),
-            Part::Text(b"#"),
-            Part::Number(u64::from(who.generation.0)),
-        ],
+        Part::Text(naming::path(wiring, who.slot)),
+        Part::Text(b"#"),
+        Part::Number(u64::from(who.generation.0)),
     )
 }
 
@@ -44,18 +42,19 @@ fn put_endpoint<K: Sink>(
         (record { written = K.written sink.new; held = out.new })
         (concat (endpoint_parts wiring.now endpoint)) }
 {
-    out.put_all(
+    out.put_four(
         sink,
-        &[
-            Part::Text(naming::path(wiring, endpoint.slot)),
-            Part::Text(b"#"),
-            Part::Number(u64::from(endpoint.generation.0)),
-            Part::Text(b"."),
-            Part::Text(naming::port_name(wiring, endpoint.slot, endpoint.port)),
-            Part::Text(b"["),
-            Part::Number(u64::from(endpoint.place)),
-            Part::Text(b"]"),
-        ],
+        Part::Text(naming::path(wiring, endpoint.slot)),
+        Part::Text(b"#"),
+        Part::Number(u64::from(endpoint.generation.0)),
+        Part::Text(b"."),
+    )?;
+    out.put_four(
+        sink,
+        Part::Text(naming::port_name(wiring, endpoint.slot, endpoint.port)),
+        Part::Text(b"["),
+        Part::Number(u64::from(endpoint.place)),
+        Part::Text(b"]"),
     )
 }
 
@@ -72,7 +71,7 @@ fn put_source<K: Sink>(
 {
     match source {
         Some(endpoint) => put_endpoint(out, sink, wiring, endpoint),
-        None => out.put_all(sink, &[Part::Text(b"-")]),
+        None => out.put_one(sink, Part::Text(b"-")),
     }
 }
 
@@ -88,13 +87,11 @@ fn put_signal<'a, K: Sink>(
         (record { written = K.written sink.new; held = out.new })
         (concat (signal_parts wiring.now msg.now)) }
 {
-    out.put_all(
+    out.put_three(
         sink,
-        &[
-            Part::Text(b" "),
-            Part::Text(naming::signal_name(wiring, msg)),
-            Part::Numbers(msg.payload.numbers()),
-        ],
+        Part::Text(b" "),
+        Part::Text(naming::signal_name(wiring, msg)),
+        Part::Numbers(msg.payload.numbers()),
     )
 }
 
@@ -108,7 +105,7 @@ fn put_priority<K: Sink>(
         (record { written = K.written sink.new; held = out.new })
         (concat (priority_parts prio.0)) }
 {
-    out.put_all(sink, &[Part::Number(u64::from(prio.0)), Part::Text(b" ")])
+    out.put_two(sink, Part::Number(u64::from(prio.0)), Part::Text(b" "))
 }
 
 fn put_message<K: Sink>(
@@ -124,7 +121,7 @@ fn put_message<K: Sink>(
 {
     put_priority(out, sink, msg.prio)?;
     put_source(out, sink, wiring, msg.source)?;
-    out.put_all(sink, &[Part::Text(b" ")])?;
+    out.put_one(sink, Part::Text(b" "))?;
     put_endpoint(out, sink, wiring, msg.target)?;
     put_signal(out, sink, wiring, msg)
 }
