@@ -1,7 +1,7 @@
 //! The lines of a journal, each written as one piece where a piece holds it.
-ghost use Rattle.std.specs.Prelude.{◌≡◌, [], ◌∷◌, ◌++◌};
+ghost use Rattle.std.specs.Prelude.{◌≡◌, [], ◌∷◌, ◌++◌, codes, decimal};
 ghost use Rattle.std.specs.List.{concat};
-ghost use Rattle.journal.specs.Names.{incarnation_parts, endpoint_parts, source_parts};
+ghost use Rattle.journal.specs.Names.{path_text, port_text, incarnation_parts, endpoint_parts, source_parts};
 ghost use Rattle.room_outside.specs.line_text.Lines.{line};
 ghost use Rattle.journal.specs.Lines.{priority_parts, signal_parts, message_parts, standing_parts};
 ghost use Rattle.room_outside.specs.line_text.Parts.{part_texts};
@@ -23,13 +23,55 @@ fn put_incarnation<K: Sink>(
         (record { written = K.written sink.new; held = out.new })
         (concat (incarnation_parts wiring.now who)) }
 {
-    out.put_all(
+    out.put_three(
         sink,
-        &[
-            Part::Text(naming::path(wiring, who.slot)),
-            Part::Text(b"#"),
-            Part::Number(u64::from(who.generation.0)),
-        ],
+        Part::Text(naming::path(wiring, who.slot)),
+        Part::Text(b"#"),
+        Part::Number(u64::from(who.generation.0)),
+    )
+}
+
+/// The actor of an endpoint, and the mark behind it.
+fn put_actor<K: Sink>(
+    out: &mut LineBuffer,
+    sink: &mut K,
+    wiring: &Wiring,
+    endpoint: Endpoint,
+) -> Result<(), WriteFault>
+    ensures { Puts result
+        (record { written = K.written sink.old; held = out.old })
+        (record { written = K.written sink.new; held = out.new })
+        (concat (path_text wiring.now endpoint.slot.0 ∷ codes "#"
+        ∷ decimal endpoint.generation.0 ∷ codes "." ∷ [])) }
+{
+    out.put_four(
+        sink,
+        Part::Text(naming::path(wiring, endpoint.slot)),
+        Part::Text(b"#"),
+        Part::Number(u64::from(endpoint.generation.0)),
+        Part::Text(b"."),
+    )
+}
+
+/// The port of an endpoint, and the place there.
+fn put_place<K: Sink>(
+    out: &mut LineBuffer,
+    sink: &mut K,
+    wiring: &Wiring,
+    endpoint: Endpoint,
+) -> Result<(), WriteFault>
+    ensures { Puts result
+        (record { written = K.written sink.old; held = out.old })
+        (record { written = K.written sink.new; held = out.new })
+        (concat (port_text wiring.now endpoint.slot.0 endpoint.port ∷ codes "["
+        ∷ decimal endpoint.place ∷ codes "]" ∷ [])) }
+{
+    out.put_four(
+        sink,
+        Part::Text(naming::port_name(wiring, endpoint.slot, endpoint.port)),
+        Part::Text(b"["),
+        Part::Number(u64::from(endpoint.place)),
+        Part::Text(b"]"),
     )
 }
 
@@ -44,19 +86,8 @@ fn put_endpoint<K: Sink>(
         (record { written = K.written sink.new; held = out.new })
         (concat (endpoint_parts wiring.now endpoint)) }
 {
-    out.put_all(
-        sink,
-        &[
-            Part::Text(naming::path(wiring, endpoint.slot)),
-            Part::Text(b"#"),
-            Part::Number(u64::from(endpoint.generation.0)),
-            Part::Text(b"."),
-            Part::Text(naming::port_name(wiring, endpoint.slot, endpoint.port)),
-            Part::Text(b"["),
-            Part::Number(u64::from(endpoint.place)),
-            Part::Text(b"]"),
-        ],
-    )
+    put_actor(out, sink, wiring, endpoint)?;
+    put_place(out, sink, wiring, endpoint)
 }
 
 fn put_source<K: Sink>(
@@ -72,7 +103,7 @@ fn put_source<K: Sink>(
 {
     match source {
         Some(endpoint) => put_endpoint(out, sink, wiring, endpoint),
-        None => out.put_all(sink, &[Part::Text(b"-")]),
+        None => out.put_one(sink, Part::Text(b"-")),
     }
 }
 
@@ -88,13 +119,11 @@ fn put_signal<'a, K: Sink>(
         (record { written = K.written sink.new; held = out.new })
         (concat (signal_parts wiring.now msg.now)) }
 {
-    out.put_all(
+    out.put_three(
         sink,
-        &[
-            Part::Text(b" "),
-            Part::Text(naming::signal_name(wiring, msg)),
-            Part::Numbers(msg.payload.numbers()),
-        ],
+        Part::Text(b" "),
+        Part::Text(naming::signal_name(wiring, msg)),
+        Part::Numbers(msg.payload.numbers()),
     )
 }
 
@@ -108,7 +137,7 @@ fn put_priority<K: Sink>(
         (record { written = K.written sink.new; held = out.new })
         (concat (priority_parts prio.0)) }
 {
-    out.put_all(sink, &[Part::Number(u64::from(prio.0)), Part::Text(b" ")])
+    out.put_two(sink, Part::Number(u64::from(prio.0)), Part::Text(b" "))
 }
 
 fn put_message<K: Sink>(
@@ -124,7 +153,7 @@ fn put_message<K: Sink>(
 {
     put_priority(out, sink, msg.prio)?;
     put_source(out, sink, wiring, msg.source)?;
-    out.put_all(sink, &[Part::Text(b" ")])?;
+    out.put_one(sink, Part::Text(b" "))?;
     put_endpoint(out, sink, wiring, msg.target)?;
     put_signal(out, sink, wiring, msg)
 }

@@ -25,15 +25,15 @@ returns-in_err-put_source g c =
     let signal = signal_parts c.args.wiring.now c.args.msg.now in
     rw p.1 (parts_break_second _ _ _ prio (source ++ (blank ++ (target ++ signal))) c.in_ok-put_priority.ensures (parts_break_first _ _ source (blank ++ (target ++ signal)) c.in_err-put_source.ensures))
 
-pub returns-in_err-put_all : goal.returns-in_err-put_all
-returns-in_err-put_all g c =
-    let p = err_from_is_err_and c.from_residual-in_err-put_all.result c.from_residual-in_err-put_all.ensures.1 in
+pub returns-in_err-put_one : goal.returns-in_err-put_one
+returns-in_err-put_one g c =
+    let p = err_from_is_err_and c.from_residual-in_err-put_one.result c.from_residual-in_err-put_one.ensures.1 in
     let prio = priority_parts c.args.msg.now.prio.0 in
     let source = source_parts c.args.wiring.now c.args.msg.now.source in
     let blank : List (List ℕ) = codes " " ∷ [] in
     let target = endpoint_parts c.args.wiring.now c.args.msg.now.target in
     let signal = signal_parts c.args.wiring.now c.args.msg.now in
-    rw p.1 (parts_break_second _ _ _ prio (source ++ (blank ++ (target ++ signal))) c.in_ok-put_priority.ensures (parts_break_second _ _ _ source (blank ++ (target ++ signal)) c.in_ok-put_source.ensures (parts_break_first _ _ blank (target ++ signal) c.in_err-put_all.ensures)))
+    rw p.1 (parts_break_second _ _ _ prio (source ++ (blank ++ (target ++ signal))) c.in_ok-put_priority.ensures (parts_break_second _ _ _ source (blank ++ (target ++ signal)) c.in_ok-put_source.ensures (parts_break_first _ _ blank (target ++ signal) c.in_err-put_one.ensures)))
 
 pub returns-in_err-put_endpoint : goal.returns-in_err-put_endpoint
 returns-in_err-put_endpoint g c =
@@ -43,7 +43,7 @@ returns-in_err-put_endpoint g c =
     let blank : List (List ℕ) = codes " " ∷ [] in
     let target = endpoint_parts c.args.wiring.now c.args.msg.now.target in
     let signal = signal_parts c.args.wiring.now c.args.msg.now in
-    rw p.1 (parts_break_second _ _ _ prio (source ++ (blank ++ (target ++ signal))) c.in_ok-put_priority.ensures (parts_break_second _ _ _ source (blank ++ (target ++ signal)) c.in_ok-put_source.ensures (parts_break_second _ _ _ blank (target ++ signal) c.in_ok-put_all.ensures (parts_break_first _ _ target (signal) c.in_err-put_endpoint.ensures))))
+    rw p.1 (parts_break_second _ _ _ prio (source ++ (blank ++ (target ++ signal))) c.in_ok-put_priority.ensures (parts_break_second _ _ _ source (blank ++ (target ++ signal)) c.in_ok-put_source.ensures (parts_break_second _ _ _ blank (target ++ signal) c.in_ok-put_one.ensures (parts_break_first _ _ target (signal) c.in_err-put_endpoint.ensures))))
 
 pub returns : goal.returns
 returns g c =
@@ -52,4 +52,4 @@ returns g c =
     let blank : List (List ℕ) = codes " " ∷ [] in
     let target = endpoint_parts c.args.wiring.now c.args.msg.now.target in
     let signal = signal_parts c.args.wiring.now c.args.msg.now in
-    parts_second _ _ _ _ prio (source ++ (blank ++ (target ++ signal))) c.in_ok-put_priority.ensures (parts_second _ _ _ _ source (blank ++ (target ++ signal)) c.in_ok-put_source.ensures (parts_second _ _ _ _ blank (target ++ signal) c.in_ok-put_all.ensures (parts_second _ _ _ _ target signal c.in_ok-put_endpoint.ensures c.put_signal.ensures)))
+    parts_second _ _ _ _ prio (source ++ (blank ++ (target ++ signal))) c.in_ok-put_priority.ensures (parts_second _ _ _ _ source (blank ++ (target ++ signal)) c.in_ok-put_source.ensures (parts_second _ _ _ _ blank (target ++ signal) c.in_ok-put_one.ensures (parts_second _ _ _ _ target signal c.in_ok-put_endpoint.ensures c.put_signal.ensures)))
