@@ -1,7 +1,7 @@
 //! The lines of a journal, each written as one piece where a piece holds it.
-ghost use Rattle.std.specs.Prelude.{◌≡◌, [], ◌∷◌, ◌++◌};
+ghost use Rattle.std.specs.Prelude.{◌≡◌, [], ◌∷◌, ◌++◌, codes, decimal};
 ghost use Rattle.std.specs.List.{concat};
-ghost use Rattle.journal.specs.Names.{incarnation_parts, endpoint_parts, source_parts};
+ghost use Rattle.journal.specs.Names.{path_text, port_text, incarnation_parts, endpoint_parts, source_parts};
 ghost use Rattle.room_outside.specs.line_text.Lines.{line};
 ghost use Rattle.journal.specs.Lines.{priority_parts, signal_parts, message_parts, standing_parts};
 ghost use Rattle.room_outside.specs.line_text.Parts.{part_texts};
@@ -31,6 +31,50 @@ fn put_incarnation<K: Sink>(
     )
 }
 
+/// The actor of an endpoint, and the mark behind it.
+fn put_actor<K: Sink>(
+    out: &mut LineBuffer,
+    sink: &mut K,
+    wiring: &Wiring,
+    endpoint: Endpoint,
+) -> Result<(), WriteFault>
+    ensures { Puts result
+        (record { written = K.written sink.old; held = out.old })
+        (record { written = K.written sink.new; held = out.new })
+        (concat (path_text wiring.now endpoint.slot.0 ∷ codes "#"
+        ∷ decimal endpoint.generation.0 ∷ codes "." ∷ [])) }
+{
+    out.put_four(
+        sink,
+        Part::Text(naming::path(wiring, endpoint.slot)),
+        Part::Text(b"#"),
+        Part::Number(u64::from(endpoint.generation.0)),
+        Part::Text(b"."),
+    )
+}
+
+/// The port of an endpoint, and the place there.
+fn put_place<K: Sink>(
+    out: &mut LineBuffer,
+    sink: &mut K,
+    wiring: &Wiring,
+    endpoint: Endpoint,
+) -> Result<(), WriteFault>
+    ensures { Puts result
+        (record { written = K.written sink.old; held = out.old })
+        (record { written = K.written sink.new; held = out.new })
+        (concat (port_text wiring.now endpoint.slot.0 endpoint.port ∷ codes "["
+        ∷ decimal endpoint.place ∷ codes "]" ∷ [])) }
+{
+    out.put_four(
+        sink,
+        Part::Text(naming::port_name(wiring, endpoint.slot, endpoint.port)),
+        Part::Text(b"["),
+        Part::Number(u64::from(endpoint.place)),
+        Part::Text(b"]"),
+    )
+}
+
 fn put_endpoint<K: Sink>(
     out: &mut LineBuffer,
     sink: &mut K,
@@ -42,20 +86,8 @@ fn put_endpoint<K: Sink>(
         (record { written = K.written sink.new; held = out.new })
         (concat (endpoint_parts wiring.now endpoint)) }
 {
-    out.put_four(
-        sink,
-        Part::Text(naming::path(wiring, endpoint.slot)),
-        Part::Text(b"#"),
-        Part::Number(u64::from(endpoint.generation.0)),
-        Part::Text(b"."),
-    )?;
-    out.put_four(
-        sink,
-        Part::Text(naming::port_name(wiring, endpoint.slot, endpoint.port)),
-        Part::Text(b"["),
-        Part::Number(u64::from(endpoint.place)),
-        Part::Text(b"]"),
-    )
+    put_actor(out, sink, wiring, endpoint)?;
+    put_place(out, sink, wiring, endpoint)
 }
 
 fn put_source<K: Sink>(

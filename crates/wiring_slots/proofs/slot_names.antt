@@ -1,2 +1,3 @@
+pub mod Braces
 pub mod Steps
 pub mod Tops

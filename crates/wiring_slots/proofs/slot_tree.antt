@@ -4,6 +4,8 @@ pub mod Placed
 pub mod Growing
 pub mod PlaceSums
 pub mod KnownSlots
+pub mod Cutting
+pub mod MappingOrders
 pub mod Sorting
 pub mod Handing
 pub mod Alike

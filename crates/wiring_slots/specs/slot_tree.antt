@@ -1,4 +1,6 @@
+pub mod MappingOrders
 pub mod Owners
+pub mod Runs
 pub mod Slots
 pub mod Orders
 pub mod Places

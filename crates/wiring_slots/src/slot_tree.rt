@@ -8,12 +8,15 @@
 mod children;
 mod counts;
 mod leading;
+mod mapping_order;
 mod names;
 mod owners;
 mod places;
+mod runs;
 mod slots;
 
 pub use counts::has_few_slots;
+pub use mapping_order::MappingOrder;
 pub use names::{MappingPlan, ReferenceLabel, SlotNames, StepPlan};
 pub use places::has_too_many_places;
 pub use slots::slots_of;

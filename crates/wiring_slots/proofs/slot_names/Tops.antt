@@ -1,5 +1,5 @@
 -- The names by a walk over the classes are those of the model.
-use Rattle.std.proofs.Common.{◌≡◌, ◌∙◌, ℕ, List, Option, Some, None, refl, ap}
+use Rattle.std.proofs.Common.{◌≡◌, ◌∙◌, ℕ, List, map, Option, Some, None, refl, ap}
 use Rattle.std.specs.Prelude.{option_map, option_and_then, unwrap_or}
 use Rattle.std.specs.Option.{option_map_or}
 use Rattle.room_ast.specs.Trees.{ModelTree, SubsystemTree}
@@ -9,7 +9,12 @@ use Rattle.check_tables.specs.declared.class_tables.tables.Tables.{Tables}
 use Rattle.wiring_plan.specs.structure_plan.Steps.{first_named}
 use Rattle.wiring_plan.proofs.structure_plan.Walks.{found_all}
 use Rattle.wiring_slots.specs.slot_names.Found.{wired_with, named_in, wired_in}
-use Rattle.wiring_slots.specs.slot_names.Names.{names_with, nothing_wired, wired_of, wired_names}
+use Rattle.check_mappings.specs.mapping_rules.Rules.{thread_names}
+use Rattle.check_tables.specs.declared.class_tables.container.Container.{Container}
+use Rattle.wiring_slots.specs.declared.slot_tree.names.MappingPlan.{MappingPlan}
+use Rattle.wiring_slots.specs.declared.slot_tree.names.ReferenceLabel.{ReferenceLabel}
+use Rattle.wiring_slots.specs.declared.slot_names.names.WiredNames.{WiredNames}
+use Rattle.wiring_slots.specs.slot_names.Names.{labels_of, controllers_of, mappings_in, names_with, nothing_wired, wired_of, wired_names}
 use Rattle.wiring_slots.specs.slot_names.Wireds.{WiredTree}
 
 or_of_map : {X P : Type 0} (f : X → P) (o : Option X) (none : P) → unwrap_or (option_map f o) none ≡ option_map_or f o none
@@ -32,3 +37,9 @@ unfolding wired_names
 names_are m t e =
     ap (λ (t' : Tables). names_with t'.actors (unwrap_or (wired_in m.classes t'.subsystems) nothing_wired)) e
     ∙ ap (λ (w : WiredTree). names_with (tables_of m).actors w) (own_wired m)
+
+-- the names of a model from those of its parts
+pub same_names : (actors : List Container) (w : WiredTree) (classes : List (List ReferenceLabel)) (subsystem : List ReferenceLabel) (mappings : List MappingPlan) (controllers : List (List ℕ)) → classes ≡ map labels_of actors
+    → subsystem ≡ labels_of w.container → mappings ≡ mappings_in actors w → controllers ≡ controllers_of (thread_names w.items)
+    → ◌≡◌ {A = WiredNames} (record { slots = record { classes = classes; subsystem = subsystem }; mappings = mappings; controllers = controllers }) (names_with actors w)
+same_names actors w classes subsystem mappings controllers a b c d = rw (a, b, c, d) refl

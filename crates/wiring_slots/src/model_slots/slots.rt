@@ -45,8 +45,7 @@ pub fn wired_slots<'m>(
         return Err(SlotFault::TooManySlots);
     }
     let names = wired_names(alloc, model, tables)?;
-    let mappings = names.mappings.as_slice();
-    let Some(slots) = slots_of(alloc, &plan, &names.slots, mappings)? else {
+    let Some(slots) = slots_of(alloc, &plan, &names.slots, &names.mappings)? else {
         return Err(SlotFault::TooManySlots);
     };
     if has_too_many_places(alloc, &plan, slots.as_slice())? {

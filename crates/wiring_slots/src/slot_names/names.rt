@@ -13,7 +13,7 @@ ghost use Rattle.wiring_slots.specs.slot_names.Names.{reference_label, labels_of
 
 use crate::slot_names::ways::{Way, add_item};
 use crate::slot_names::wired::{Wired, wired_in};
-use crate::slot_tree::{MappingPlan, ReferenceLabel, SlotNames};
+use crate::slot_tree::{MappingOrder, ReferenceLabel, SlotNames};
 use check_mappings::thread_names;
 use check_tables::{Container, Tables};
 use name_tables::NameIndex;
@@ -28,7 +28,7 @@ use wiring_plan::label_of;
 #[derive(Drop, Debug)]
 pub struct WiredNames {
     pub slots: SlotNames,
-    pub mappings: Sequence<MappingPlan>,
+    pub mappings: MappingOrder,
     pub controllers: Sequence<Label>,
 }
 
@@ -130,10 +130,10 @@ fn mappings_in<'m>(
     actors: &'m [Container<'m>],
     wired: Wired<'m>,
     threads: &NameIndex,
-) -> Result<Vec<MappingPlan>, AllocError>
-    ensures { IfOk result (λ v. v.items ≡ flat_map (item_mappings actors.entry.now threads.now (record { steps = []; place = Some (wired_view wired.entry).container })) (wired_view wired.entry).items) }
+) -> Result<MappingOrder, AllocError>
+    ensures { IfOk result (λ v. v ≡ flat_map (item_mappings actors.entry.now threads.now (record { steps = []; place = Some (wired_view wired.entry).container })) (wired_view wired.entry).items) }
 {
-    let mut plans = Vec::new(alloc);
+    let mut plans = MappingOrder::new(alloc);
     let way = Way {
         steps: Vec::new(alloc),
         place: Some(wired.container),
@@ -163,7 +163,7 @@ fn names_with<'m>(
             classes: Sequence::from(classes),
             subsystem,
         },
-        mappings: Sequence::from(mappings),
+        mappings,
         controllers: Sequence::from(controllers),
     })
 }
@@ -179,7 +179,7 @@ fn names_without<'m>(alloc: Global, actors: &'m [Container<'m>]) -> Result<Wired
             classes: Sequence::from(classes),
             subsystem: Sequence::new(alloc),
         },
-        mappings: Sequence::<MappingPlan>::new(alloc),
+        mappings: MappingOrder::new(alloc),
         controllers: Sequence::from(controllers),
     })
 }

@@ -5,7 +5,7 @@ ghost use Rattle.room_ast.specs.Trees.{subsystem_item_view};
 ghost use Rattle.wiring_slots.specs.slot_names.Ways.{stepped, step_in, further, walked, path_end, byte_or_zero, controller_of, mappings_of, all_mappings, item_mappings};
 ghost use Rattle.wiring_slots.specs.slot_names.Wireds.{way_view};
 
-use crate::slot_tree::{MappingPlan, StepPlan};
+use crate::slot_tree::{MappingOrder, MappingPlan, StepPlan};
 use check_tables::Container;
 use name_tables::NameIndex;
 use room_ast::{Mapping, MappingPath, Segment, SubsystemItem};
@@ -145,22 +145,27 @@ fn plan_of(alloc: Global, way: &Way, controller: ControllerId) -> Result<Mapping
 #[cycle(mappings)]
 fn add_mapping<'t>(
     alloc: Global,
-    plans: &mut Vec<MappingPlan>,
+    plans: &mut MappingOrder,
     actors: &'t [Container<'t>],
     threads: &NameIndex,
     way: &Way<'t>,
     mapping: &Mapping,
 ) -> Result<(), AllocError>
-    ensures { OnOk result (plans.new.items ≡ plans.old.items ++ mappings_of actors.entry.now threads.now (way_view way.now) (mapping_view mapping.now)) }
+    ensures { OnOk result (plans.new ≡ plans.old ++ mappings_of actors.entry.now threads.now (way_view way.now) (mapping_view mapping.now)) }
 {
     let start = same_way(alloc, way)?;
     let Some(end) = path_end(actors, start, &mapping.path)? else {
         return Ok(());
     };
     let controller = controller_of(threads, mapping.thread.as_bytes());
+    let first = plans.len();
     plans.push(plan_of(alloc, &end, controller)?)?;
     match &mapping.nested {
-        Some(nested) => add_all(alloc, plans, actors, threads, &end, nested),
+        Some(nested) => {
+            add_all(alloc, plans, actors, threads, &end, nested)?;
+            plans.close(first);
+            Ok(())
+        }
         None => Ok(()),
     }
 }
@@ -168,13 +173,13 @@ fn add_mapping<'t>(
 #[cycle(mappings)]
 fn add_all<'t>(
     alloc: Global,
-    plans: &mut Vec<MappingPlan>,
+    plans: &mut MappingOrder,
     actors: &'t [Container<'t>],
     threads: &NameIndex,
     way: &Way<'t>,
     mappings: &Vec<Mapping>,
 ) -> Result<(), AllocError>
-    ensures { OnOk result (plans.new.items ≡ plans.old.items ++ all_mappings actors.entry.now threads.now (way_view way.now) (mappings_tree (map mapping_view mappings.now.items))) }
+    ensures { OnOk result (plans.new ≡ plans.old ++ all_mappings actors.entry.now threads.now (way_view way.now) (mappings_tree (map mapping_view mappings.now.items))) }
 {
     for mapping in mappings {
         add_mapping(alloc, plans, actors, threads, way, mapping)?;
@@ -185,13 +190,13 @@ fn add_all<'t>(
 /// Adds the mappings that an item of a subsystem class is.
 pub(crate) fn add_item<'t>(
     alloc: Global,
-    plans: &mut Vec<MappingPlan>,
+    plans: &mut MappingOrder,
     actors: &'t [Container<'t>],
     threads: &NameIndex,
     way: &Way<'t>,
     item: &SubsystemItem,
 ) -> Result<(), AllocError>
-    ensures { OnOk result (plans.new.items ≡ plans.old.items ++ item_mappings actors.entry.now threads.now (way_view way.now) (subsystem_item_view item.now)) }
+    ensures { OnOk result (plans.new ≡ plans.old ++ item_mappings actors.entry.now threads.now (way_view way.now) (subsystem_item_view item.now)) }
 {
     match item {
         SubsystemItem::Mapping(mapping) => {

@@ -8,10 +8,12 @@ ghost use Rattle.wiring_slots.specs.slot_tree.Leading.{trails_through};
 ghost use Rattle.wiring_slots.specs.slot_tree.Placing.{Adds, Fits};
 
 use crate::slot_tree::leading::{by_index, by_reference};
-use crate::slot_tree::names::{MappingPlan, ReferenceLabel};
-use crate::slot_tree::owners::{Trail, owner_at};
+use crate::slot_tree::mapping_order::MappingOrder;
+use crate::slot_tree::names::ReferenceLabel;
+use crate::slot_tree::owners::owner_at;
+use crate::slot_tree::runs::Trails;
 use itoa::Buffer;
-use room_kinds::{ControllerId, ReferenceKind, Sequence, SlotId};
+use room_kinds::{ControllerId, ReferenceKind, SlotId};
 use room_wiring::{Label, Slot};
 use std::alloc::{AllocError, Global};
 use std::mem;
@@ -22,7 +24,7 @@ use wiring_plan::ReferencePlan;
 #[derive(Drop)]
 pub(crate) struct Pending {
     pub(crate) slot: Slot,
-    pub(crate) trails: Sequence<Trail>,
+    pub(crate) trails: Trails,
     pub(crate) depth: usize,
 }
 
@@ -34,7 +36,7 @@ pub(crate) struct Above {
     /// The container's number; none for the subsystem.
     pub(crate) parent: Option<SlotId>,
     pub(crate) owner: ControllerId,
-    pub(crate) trails: Sequence<Trail>,
+    pub(crate) trails: Trails,
     /// How many containers deep the insides of these slots are looked into.
     pub(crate) depth: usize,
 }
@@ -81,10 +83,10 @@ fn path_text(
 
 /// The owner of a slot; an imported slot has its container's owner.
 fn owner_of(
-    mappings: &[MappingPlan],
+    mappings: &MappingOrder,
     container_owner: ControllerId,
     kind: ReferenceKind,
-    trails: &[Trail],
+    trails: &Trails,
 ) -> ControllerId
     ensures { result ≡ owner_of mappings.now container_owner kind trails.now }
 {
@@ -98,19 +100,19 @@ fn owner_of(
 /// The slot of a reference, with its number in its class, and of an index, to which these trails lead.
 fn pending_with(
     alloc: Global,
-    mappings: &[MappingPlan],
+    mappings: &MappingOrder,
     above: &Above,
     labels: &[ReferenceLabel],
     number: u16,
     reference: &ReferencePlan,
     index: u32,
-    trails: Sequence<Trail>,
+    trails: Trails,
 ) -> Result<Pending, AllocError>
     ensures { IfOk result (λ p.
         p ≡ pending_with mappings.now above.now labels.now number reference.now index trails) }
 {
     let path = path_text(alloc, &above.prefix, labels, number, index)?;
-    let owner = owner_of(mappings, above.owner, reference.kind, trails.as_slice());
+    let owner = owner_of(mappings, above.owner, reference.kind, &trails);
     Ok(Pending {
         slot: Slot {
             path,
@@ -132,12 +134,12 @@ fn add_reference(
     alloc: Global,
     children: &mut Vec<Pending>,
     room: usize,
-    mappings: &[MappingPlan],
+    mappings: &MappingOrder,
     above: &Above,
     labels: &[ReferenceLabel],
     number: u16,
     reference: &ReferencePlan,
-    trails: &[Trail],
+    trails: &Trails,
 ) -> Result<bool, AllocError>
     requires room { length children.old.items ≤ room }
     requires through { trails.now ≡ trails_through mappings.now above.now.trails number }
@@ -151,7 +153,7 @@ fn add_reference(
     }
     let mut lists = by_index(alloc, mappings, number, count, trails)?;
     for index in 0..reference.count {
-        let leading = mem::replace(&mut lists[index as usize], Sequence::new(alloc));
+        let leading = mem::replace(&mut lists[index as usize], Trails::new(alloc));
         children.push(pending_with(
             alloc, mappings, above, labels, number, reference, index, leading,
         )?)?;
@@ -165,7 +167,7 @@ fn add_reference(
 pub(crate) fn slots_of_references(
     alloc: Global,
     room: usize,
-    mappings: &[MappingPlan],
+    mappings: &MappingOrder,
     above: &Above,
     labels: &[ReferenceLabel],
     references: &[ReferencePlan],
@@ -173,7 +175,7 @@ pub(crate) fn slots_of_references(
     requires { length references.now ≤ 65536 }
     ensures { IfOk result (λ v. Fits room (slots_of_references mappings.now above.now labels.now references.now) v) }
 {
-    let lists = by_reference(alloc, mappings, references.len(), above.trails.as_slice())?;
+    let lists = by_reference(alloc, mappings, references.len(), &above.trails)?;
     let mut children = Vec::new(alloc);
     for (number, reference) in references.iter().enumerate() {
         if !add_reference(
@@ -185,7 +187,7 @@ pub(crate) fn slots_of_references(
             labels,
             number as u16,
             reference,
-            lists[number].as_slice(),
+            &lists[number],
         )? {
             return Ok(None);
         }
@@ -211,12 +213,12 @@ pub(crate) fn above_in(
     ensures { IfOk result (λ a. a ≡ above_in depth number pending.now) }
 {
     let prefix = prefix_in(alloc, &pending.slot.path)?;
-    let trails = Vec::from_slice(alloc, pending.trails.as_slice())?;
+    let trails = pending.trails.copy(alloc)?;
     Ok(Above {
         prefix,
         parent: Some(SlotId(number)),
         owner: pending.slot.owner,
-        trails: Sequence::from(trails),
+        trails,
         depth,
     })
 }

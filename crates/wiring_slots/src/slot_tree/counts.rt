@@ -3,6 +3,7 @@
 ghost use Rattle.std.specs.Prelude.{◌≡◌, IfOk};
 ghost use Rattle.wiring_slots.specs.slot_tree.Placing.{IsNumbered, TellsFew};
 
+use crate::slot_tree::mapping_order::MappingOrder;
 use crate::slot_tree::names::SlotNames;
 use crate::slot_tree::slots::slots_of;
 use room_kinds::Sequence;
@@ -19,7 +20,8 @@ pub fn has_few_slots(alloc: Global, plan: &StructurePlan) -> Result<bool, AllocE
         classes: Sequence::new(alloc),
         subsystem: Sequence::new(alloc),
     };
-    match slots_of(alloc, plan, &nameless, &[])? {
+    let unmapped = MappingOrder::new(alloc);
+    match slots_of(alloc, plan, &nameless, &unmapped)? {
         Some(_) => Ok(true),
         None => Ok(false),
     }

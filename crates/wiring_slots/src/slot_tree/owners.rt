@@ -2,8 +2,10 @@
 
 ghost use Rattle.std.specs.Prelude.{◌≡◌};
 ghost use Rattle.wiring_slots.specs.slot_tree.Owners.{mapped_at, owner_at};
+ghost use Rattle.wiring_slots.specs.slot_tree.Runs.{trails_of};
 
-use crate::slot_tree::names::MappingPlan;
+use crate::slot_tree::mapping_order::MappingOrder;
+use crate::slot_tree::runs::{Run, Trails};
 use room_kinds::ControllerId;
 
 /// A mapping that leads through a slot or to it, and how many of its steps have led there.
@@ -14,10 +16,10 @@ pub(crate) struct Trail {
 }
 
 /// The controller of a trail's mapping, where the trail has all its steps.
-fn mapped_at(mappings: &[MappingPlan], trail: Trail) -> Option<ControllerId>
+fn mapped_at(mappings: &MappingOrder, trail: Trail) -> Option<ControllerId>
     ensures { result ≡ mapped_at mappings.now trail }
 {
-    let Some(mapping) = mappings.get(trail.mapping) else {
+    let Some(mapping) = mappings.as_slice().get(trail.mapping) else {
         return None;
     };
     if trail.steps == mapping.steps.len() {
@@ -27,19 +29,38 @@ fn mapped_at(mappings: &[MappingPlan], trail: Trail) -> Option<ControllerId>
     }
 }
 
+/// The owner after the trails of a run, where it is this one before them.
+fn owner_after(mappings: &MappingOrder, run: Run, owner_before: ControllerId) -> ControllerId
+    ensures { result ≡ owner_at mappings.now owner_before (trails_of run) }
+{
+    let mut owner = owner_before;
+    let mut first = run.first;
+    while first < run.end {
+        let group = mappings.group_at(run, first);
+        let mapped = mapped_at(
+            mappings,
+            Trail {
+                mapping: first,
+                steps: run.steps,
+            },
+        );
+        owner = mapped.unwrap_or(owner);
+        first = group.end;
+    }
+    owner
+}
+
 /// The controller of the last declared mapping that ends at a slot; where none does, this one.
 pub(crate) fn owner_at(
-    mappings: &[MappingPlan],
-    trails: &[Trail],
+    mappings: &MappingOrder,
+    trails: &Trails,
     container_owner: ControllerId,
 ) -> ControllerId
     ensures { result ≡ owner_at mappings.now container_owner trails.now }
 {
     let mut owner = container_owner;
-    for trail in trails {
-        if let Some(mapped) = mapped_at(mappings, *trail) {
-            owner = mapped;
-        }
+    for run in trails.runs() {
+        owner = owner_after(mappings, *run, owner);
     }
     owner
 }

@@ -6,8 +6,9 @@ ghost use Rattle.wiring_slots.specs.slot_tree.Placing.{IsNumbered, Fits, inside_
 ghost use Rattle.wiring_slots.specs.slot_tree.Slots.{references_of_class, labels_of_class, top, top_slots, slots_of};
 
 use crate::slot_tree::children::{Above, Pending, above_in, slots_of_references};
-use crate::slot_tree::names::{MappingPlan, ReferenceLabel, SlotNames};
-use crate::slot_tree::owners::Trail;
+use crate::slot_tree::mapping_order::MappingOrder;
+use crate::slot_tree::names::{ReferenceLabel, SlotNames};
+use crate::slot_tree::runs::Trails;
 use room_kinds::{ControllerId, Sequence};
 use room_wiring::{Label, Slot};
 use std::alloc::{AllocError, Global};
@@ -44,7 +45,7 @@ fn inside_of(
     room: usize,
     plan: &StructurePlan,
     names: &SlotNames,
-    mappings: &[MappingPlan],
+    mappings: &MappingOrder,
     number: u16,
     pending: &Pending,
 ) -> Result<Option<Vec<Pending>>, AllocError>
@@ -78,7 +79,7 @@ fn place(
     alloc: Global,
     plan: &StructurePlan,
     names: &SlotNames,
-    mappings: &[MappingPlan],
+    mappings: &MappingOrder,
     waiting: Vec<Pending>,
 ) -> Result<Option<Vec<Slot>>, AllocError>
     requires numbered { IsNumbered plan.now }
@@ -100,28 +101,17 @@ fn place(
     Ok(Some(slots))
 }
 
-/// All mappings at their beginnings.
-fn all_trails(alloc: Global, count: usize) -> Result<Vec<Trail>, AllocError>
-    ensures { IfOk result (λ v. v.items ≡ map (λ i. record { mapping = i; steps = 0 }) (range_with_len 0 count)) }
-{
-    let mut trails = Vec::new(alloc);
-    for mapping in 0..count {
-        trails.push(Trail { mapping, steps: 0 })?;
-    }
-    Ok(trails)
-}
-
 /// What the slots directly inside the subsystem have from it.
-fn top(alloc: Global, plan: &StructurePlan, mappings: &[MappingPlan]) -> Result<Above, AllocError>
+fn top(alloc: Global, plan: &StructurePlan, mappings: &MappingOrder) -> Result<Above, AllocError>
     ensures { IfOk result (λ a. a ≡ top plan.now mappings.now) }
 {
     let prefix = Label::from_text(alloc, "")?;
-    let trails = all_trails(alloc, mappings.len())?;
+    let trails = Trails::all(alloc, mappings.len())?;
     Ok(Above {
         prefix,
         parent: None,
         owner: ControllerId(0),
-        trails: Sequence::from(trails),
+        trails,
         depth: plan.classes.len(),
     })
 }
@@ -131,7 +121,7 @@ fn top_slots(
     alloc: Global,
     plan: &StructurePlan,
     names: &SlotNames,
-    mappings: &[MappingPlan],
+    mappings: &MappingOrder,
 ) -> Result<Option<Vec<Pending>>, AllocError>
     requires { IsNumbered plan.now }
     ensures { IfOk result (λ v. Fits most_slots (top_slots plan.now names.now mappings.now) v) }
@@ -153,7 +143,7 @@ pub fn slots_of(
     alloc: Global,
     plan: &StructurePlan,
     names: &SlotNames,
-    mappings: &[MappingPlan],
+    mappings: &MappingOrder,
 ) -> Result<Option<Sequence<Slot>>, AllocError>
     requires { IsNumbered plan.now }
     ensures { IfOk result (λ slots. slots ≡ at_most most_slots (slots_of plan.now names.now mappings.now)) }

@@ -7,5 +7,5 @@ use Rattle.wiring_slots.proofs.slot_names.names.mappings_in.Given as goal
 
 abbrev pub invariant-loop-item : goal.invariant-loop-item
 invariant-loop-item l =
-    l.plans.items ++ flat_map (item_mappings l.actors l.threads (way_view l.way)) (map subsystem_item_view (drop l.item-index l.wired.items.now))
+    l.plans ++ flat_map (item_mappings l.actors l.threads (way_view l.way)) (map subsystem_item_view (drop l.item-index l.wired.items.now))
     ≡ flat_map (item_mappings l.actors l.threads (way_view l.way)) (map subsystem_item_view l.wired.items.now)
