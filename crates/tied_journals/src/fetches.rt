@@ -63,14 +63,12 @@ fn put_further<K: Sink>(
         (record { written = K.written sink.new; held = out.new })
         (concat (sent_parts wiring.now msg.now)) }
 {
-    out.put_all(
+    out.put_four(
         sink,
-        &[
-            Part::Text(b" "),
-            naming::party(wiring, msg.from),
-            Part::Text(b"@"),
-            Part::Number(msg.stamp.0),
-        ],
+        Part::Text(b" "),
+        naming::party(wiring, msg.from),
+        Part::Text(b"@"),
+        Part::Number(msg.stamp.0),
     )
 }
 
