@@ -1,5 +1,5 @@
 //! The two ends of a lane.
-ghost use Rattle.std.specs.Prelude.{◌≡◌, true, false, [], ◌∷◌, ◌++◌, ◌<◌, length, OnOk, OnErr, IfOk, IfErr, MatchOption};
+ghost use Rattle.std.specs.Prelude.{◌≡◌, true, false, [], ◌∷◌, ◌++◌, ◌<◌, length, OnOk, OnErr, IfOk, IfErr, MatchOption, None};
 ghost use Rattle.crossbeam_deque.specs.Handles.{worker_deque, worker_view, worker_flavor, stealer_deque, stealer_flavor, view, IsPassOf};
 
 use crate::address::addressed;
@@ -37,7 +37,7 @@ pub struct Inlet {
 }
 
 impl Outlet {
-    ghost use Rattle.std.specs.Prelude.{◌≡◌, true, false, [], ◌∷◌, ◌++◌, ◌<◌, ◌≤◌, length, OnOk, OnErr, IfOk, IfErr, MatchOption};
+    ghost use Rattle.std.specs.Prelude.{◌≡◌, true, false, [], ◌∷◌, ◌++◌, ◌<◌, ◌≤◌, length, OnOk, OnErr, IfOk, IfErr, MatchOption, None};
     ghost use Rattle.mail_core.specs.Lanes.{IsFor};
     ghost use Rattle.mail_lanes.specs.Lanes.{out_lane, sending, popping};
 
@@ -54,23 +54,9 @@ impl Outlet {
         }
     }
 
-    /// What the owner takes itself. Most looks find nothing: that is seen before room for a message is made.
+    /// What the owner takes itself.
     #[tactic(auto, using(crate::proofs::LaneLemmas::lane_steps))]
     pub(crate) fn take(&mut self) -> Option<Msg>
-        requires { (out_lane self.old).wire.takes ≡ true }
-        ensures lane { MatchOption result ((out_lane self.new ≡ out_lane self.old) × ((out_lane self.old).posted ≡ (out_lane self.old).taken)) (λ m. out_lane self.new ≡ popping (out_lane self.old) m) }
-        ensures is_for { MatchOption result (Unit {0}) (λ m. IsFor self.old.from self.old.to self.old.prio m) }
-        ensures within { length (out_lane self.new).taken ≤ length (out_lane self.new).posted }
-    {
-        if self.owner.len_as::<Seen>() == 0 {
-            return None;
-        }
-        self.pop()
-    }
-
-    /// The same, whether or not there is something.
-    #[tactic(auto, using(crate::proofs::LaneLemmas::lane_steps))]
-    fn pop(&mut self) -> Option<Msg>
         requires { (out_lane self.old).wire.takes ≡ true }
         ensures lane { MatchOption result ((out_lane self.new ≡ out_lane self.old) × ((out_lane self.old).posted ≡ (out_lane self.old).taken)) (λ m. out_lane self.new ≡ popping (out_lane self.old) m) }
         ensures is_for { MatchOption result (Unit {0}) (λ m. IsFor self.old.from self.old.to self.old.prio m) }
@@ -81,22 +67,35 @@ impl Outlet {
         };
         Some(addressed(m, self.from, self.to, self.prio))
     }
+
+    /// The same, to an empty place. Most looks find nothing, and no room for a message is made for them.
+    #[tactic(auto, using(crate::proofs::LaneLemmas::lane_steps))]
+    pub(crate) fn take_to(&mut self, found: &mut Option<Msg>)
+        requires takes { (out_lane self.old).wire.takes ≡ true }
+        requires empty { found.old ≡ None }
+        ensures lane { MatchOption found.new ((out_lane self.new ≡ out_lane self.old) × ((out_lane self.old).posted ≡ (out_lane self.old).taken)) (λ m. out_lane self.new ≡ popping (out_lane self.old) m) }
+        ensures is_for { MatchOption found.new (Unit {0}) (λ m. IsFor self.old.from self.old.to self.old.prio m) }
+    {
+        if self.owner.len_as::<Seen>() > 0 {
+            *found = self.take();
+        }
+    }
 }
 
 impl Inlet {
-    ghost use Rattle.std.specs.Prelude.{◌≡◌, true, false, [], ◌∷◌, ◌++◌, ◌<◌, length, OnOk, OnErr, IfOk, IfErr, MatchOption};
+    ghost use Rattle.std.specs.Prelude.{◌≡◌, true, false, [], ◌∷◌, ◌++◌, ◌<◌, length, OnOk, OnErr, IfOk, IfErr, MatchOption, None};
     ghost use Rattle.mail_core.specs.Lanes.{IsFor};
     ghost use Rattle.mail_lanes.specs.Lanes.{in_lane, stealing};
 
-    /// What a steal finds, if it finds something at once.
+    /// What a steal finds, if it finds something at once, goes to an empty place.
     #[tactic(auto, using(crate::proofs::LaneLemmas::lane_steps))]
-    pub(crate) fn take(&mut self) -> Option<Msg>
-        ensures lane { MatchOption result (in_lane self.new ≡ in_lane self.old) (λ m. in_lane self.new ≡ stealing (in_lane self.old) m) }
-        ensures is_for { MatchOption result (Unit {0}) (λ m. IsFor self.old.from self.old.to self.old.prio m) }
+    pub(crate) fn take_to(&mut self, found: &mut Option<Msg>)
+        requires { found.old ≡ None }
+        ensures lane { MatchOption found.new (in_lane self.new ≡ in_lane self.old) (λ m. in_lane self.new ≡ stealing (in_lane self.old) m) }
+        ensures is_for { MatchOption found.new (Unit {0}) (λ m. IsFor self.old.from self.old.to self.old.prio m) }
     {
-        let Steal::Success(m) = self.thief.steal_as::<Got>(&mut self.pass) else {
-            return None;
-        };
-        Some(addressed(m, self.from, self.to, self.prio))
+        if let Steal::Success(m) = self.thief.steal_as::<Got>(&mut self.pass) {
+            *found = Some(addressed(m, self.from, self.to, self.prio));
+        }
     }
 }

@@ -59,10 +59,13 @@ impl Mail for MailLanes {
     fn take(&mut self, _office: &mut (), b: u32) -> Option<Msg> {
         let lane = lane_in(self.parties, b);
         self.add_look(b);
+        let mut found = None;
         if lane.sender == self.party {
-            return self.take_own(lane.prio);
+            self.take_own(lane.prio, &mut found);
+            return found;
         }
-        self.take_from(lane.sender, lane.prio)
+        self.take_from(lane.sender, lane.prio, &mut found);
+        found
     }
 
     fn close(alloc: Global, _office: (), ends: Vec<MailLanes>) -> Result<Vec<Vec<Msg>>, AllocError>

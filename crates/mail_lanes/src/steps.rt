@@ -4,7 +4,7 @@ use crate::places::{pop_at, post_at, steal_at};
 use room_kinds::Msg;
 
 impl MailLanes {
-    ghost use Rattle.std.specs.Prelude.{◌≡◌, ◌+◌, ◌*◌, ◌<◌, OnOk, OnErr, IfErr, MatchOption};
+    ghost use Rattle.std.specs.Prelude.{◌≡◌, ◌+◌, ◌*◌, ◌<◌, OnOk, OnErr, IfErr, MatchOption, None};
     ghost use Rattle.mail_core.specs.EndLog.{gained, looked, posting};
     ghost use Rattle.mail_core.specs.Lanes.{IsFor};
     ghost use Rattle.mail_lanes.specs.Ends.{log_of, wiring_of};
@@ -34,24 +34,26 @@ impl MailLanes {
     }
 
     #[tactic(auto, using(crate::proofs::EndLemmas::end_steps))]
-    pub(crate) fn take_own(&mut self, prio: u8) -> Option<Msg>
+    pub(crate) fn take_own(&mut self, prio: u8, found: &mut Option<Msg>)
         requires prio { prio < 6 }
-        ensures log { MatchOption result ((log_of self.new ≡ log_of self.old) × ((log_of self.old).posted self.old.party prio ≡ (log_of self.old).taken self.old.party prio)) (λ m. IsFor self.old.party self.old.party prio m × (log_of self.new ≡ record (log_of self.old) { taken = gained (log_of self.old).taken self.old.party prio m })) }
+        requires empty { found.old ≡ None }
+        ensures log { MatchOption found.new ((log_of self.new ≡ log_of self.old) × ((log_of self.old).posted self.old.party prio ≡ (log_of self.old).taken self.old.party prio)) (λ m. IsFor self.old.party self.old.party prio m × (log_of self.new ≡ record (log_of self.old) { taken = gained (log_of self.old).taken self.old.party prio m })) }
         ensures wiring { wiring_of self.new ≡ wiring_of self.old }
     {
         let at = usize::from(self.party) * 6 + usize::from(prio);
-        pop_at(&mut self.outlets, at)
+        pop_at(&mut self.outlets, at, found)
     }
 
     #[tactic(auto, using(crate::proofs::EndLemmas::end_steps))]
-    pub(crate) fn take_from(&mut self, sender: u8, prio: u8) -> Option<Msg>
+    pub(crate) fn take_from(&mut self, sender: u8, prio: u8, found: &mut Option<Msg>)
         requires sender { sender < self.old.parties }
         requires other { sender ≡ self.old.party → ⊥ }
         requires prio { prio < 6 }
-        ensures log { MatchOption result (log_of self.new ≡ log_of self.old) (λ m. IsFor sender self.old.party prio m × (log_of self.new ≡ record (log_of self.old) { taken = gained (log_of self.old).taken sender prio m })) }
+        requires empty { found.old ≡ None }
+        ensures log { MatchOption found.new (log_of self.new ≡ log_of self.old) (λ m. IsFor sender self.old.party prio m × (log_of self.new ≡ record (log_of self.old) { taken = gained (log_of self.old).taken sender prio m })) }
         ensures wiring { wiring_of self.new ≡ wiring_of self.old }
     {
         let at = usize::from(sender) * 6 + usize::from(prio);
-        steal_at(&mut self.inlets, at)
+        steal_at(&mut self.inlets, at, found)
     }
 }

@@ -13,7 +13,7 @@ pub returns-then-lane-self-clause-none : goal.returns-then-lane-self-clause-none
 returns-then-lane-self-clause-none c =
     let log = log_of c.args.self.now in
     let looked = c.add_look.ensures.log in
-    if_none c.take_own.result _ _ c.take_own.ensures.log (λ e. record {
+    if_none c.take_own.new.found _ _ c.take_own.ensures.log (λ e. record {
       own = λ p i.
           let all : log.posted log.party c.lane_in-lane.result.prio ≡ log.taken log.party c.lane_in-lane.result.prio =
           subst (λ (l : EndLog). l.posted l.party c.lane_in-lane.result.prio ≡ l.taken l.party c.lane_in-lane.result.prio) looked e in
