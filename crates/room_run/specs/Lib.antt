@@ -2,6 +2,7 @@ pub mod Words
 pub mod Statuses
 pub mod Models
 pub mod Reading
+pub mod Conversions
 pub mod Causes
 pub mod Fitting
 pub mod Outcome
