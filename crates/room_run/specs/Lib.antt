@@ -12,3 +12,4 @@ pub mod MadeShelf
 pub mod model_plants
 pub mod Agreement
 pub mod fitting_plants
+pub mod fitting_journals

@@ -3,10 +3,8 @@
 //! There are no premises but these two.
 //!
 //! No code but a call of the law that the owner of each slot of a model is a controller.
-#![tactic(auto)]
-
-ghost use Rattle.fitting_journals.specs.Fitting.{FittingRunsAreInPlace};
-ghost use Rattle.fitting_journals.specs.Naming.{NamedJournalsFit};
+ghost use Rattle.room_run.specs.fitting_journals.Fitting.{FittingRunsAreInPlace};
+ghost use Rattle.room_run.specs.fitting_journals.Naming.{NamedJournalsFit};
 
 use model_laws::settled_models::wirings::owners_are_there;
 

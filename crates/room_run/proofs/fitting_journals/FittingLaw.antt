@@ -26,7 +26,7 @@ use Rattle.run_promises.proofs.run_journals.ReachingLaw.{reach}
 use Rattle.run_promises.proofs.run_journals.TiedLaw.{tied}
 use Rattle.room_run.specs.fitting_plants.Lines.{WhatFits, LinesFit}
 use Rattle.room_run.specs.fitting_plants.Plants.{PlantFits}
-use Rattle.fitting_journals.specs.Fitting.{JournalsInPlace, FittingRunsAreInPlace}
+use Rattle.room_run.specs.fitting_journals.Fitting.{JournalsInPlace, FittingRunsAreInPlace}
 
 -- lines that fit name what the wiring has
 one_names : (t : Wired) (what : What) → WhatFits t what → WhatNames t what

@@ -35,10 +35,10 @@ use Rattle.run_promises.proofs.run_journals.OneRun.{queue}
 use Rattle.run_promises.proofs.run_journals.Waiting.{all_counted, each_behind, each_weaker}
 use Rattle.room_run.specs.fitting_plants.Lines.{LinesFit}
 use Rattle.room_run.specs.fitting_plants.Plants.{PlantFits}
-use Rattle.fitting_journals.specs.Fitting.{JournalsInPlace}
-use Rattle.fitting_journals.specs.Naming.{NamesPlaces, NamesWhatIsThere, ControllersName, NamedJournalsFit}
-use Rattle.fitting_journals.proofs.FittingLaw.{fitting_in_place}
-use Rattle.fitting_journals.proofs.Testing.{passes, passed, is_fit, none_counted_at}
+use Rattle.room_run.specs.fitting_journals.Fitting.{JournalsInPlace}
+use Rattle.room_run.specs.fitting_journals.Naming.{NamesPlaces, NamesWhatIsThere, ControllersName, NamedJournalsFit}
+use Rattle.room_run.proofs.fitting_journals.FittingLaw.{fitting_in_place}
+use Rattle.room_run.proofs.fitting_journals.Testing.{passes, passed, is_fit, none_counted_at}
 
 -- ---- entries
 
