@@ -45,8 +45,8 @@ echo "stack of a shell's program $(ulimit -s) KiB"
 one_actor 'Transition i: initial -> A State A Transition k: A -> A { triggers { <kick: go> } }' >"$work/one.room"
 for kind in 'in turn' 'in a row'; do
     for size in 16 64 256; do
-        # The lines of a message have at most 125 bytes in texts of this size.
-        journals "$kind" $((size * 1048576 / 125)) >"$work/first"
+        # The lines of a message have at most 140 bytes in texts of this size.
+        journals "$kind" $((size * 1048576 / 140)) >"$work/first"
         echo "$kind, form 1, $(convert "$work/first" "$work/second")"
         echo "$kind, form 2, $(convert "$work/second" "$work/again")"
         cmp "$work/second" "$work/again"

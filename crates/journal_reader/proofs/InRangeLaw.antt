@@ -1,17 +1,18 @@
 -- What a text is read as has its numbers in the ranges of their types.
-use Rattle.std.proofs.Common.{◌≡◌, ℕ, zero, suc, ◌+◌, ◌<◌, ◌≤◌, nat_lt, nat_le, ◌==◌, ◌&&◌, Bool, true, false, if◌then◌else◌, List, [], ◌∷◌, ◌++◌, length, map, Option, Some, None, ℤ, pos, negsuc, refl, subst, arith}
-use Rattle.std.specs.Prelude.{All, codes, fold, unwrap_or, option_map, position}
+use Rattle.std.proofs.Common.{◌≡◌, ℕ, zero, suc, ◌+◌, ◌<◌, ◌≤◌, nat_lt, nat_le, ◌==◌, ◌&&◌, Bool, true, false, if◌then◌else◌, List, [], ◌∷◌, ◌++◌, length, map, Option, Some, None, ℤ, pos, negsuc, refl, subst, leb-true, arith}
+use Rattle.std.specs.Prelude.{All, codes, fold, unwrap_or, option_map, option_and_then, position}
 use Rattle.std.specs.List.{AllByRecursion as Each, slice_split, flat_map, slice_index_or}
 use Rattle.std.specs.Option.{option_map_or}
-use Rattle.std.proofs.lemmas.Bool.{ltb-true, leb-true, and_parts}
+use Rattle.std.proofs.lemmas.Bool.{ltb-true, and_parts}
 use Rattle.std.proofs.lemmas.List.Elements.{All-nil, All-push, All-map, All-weaker, All-from_recursion, recursion_from_All}
 use Rattle.name_tables.specs.name_numbers.Names.{same}
-use Rattle.text_reading.specs.Numerals as numerals
+use Rattle.text_reading.specs.Numerals.{are_digits, value_of, minus, positive_in, negative_in, number_in as numeral_in}
 use Rattle.room_kinds.specs.Kinds.{number_of}
 use Rattle.room_kinds.specs.Names.{kind_named}
 use Rattle.room_kinds.specs.declared.system.SysKind.{SysKind}
 use Rattle.room_kinds.specs.declared.system.SysKind.TheVariants as kinds
 use Rattle.room_kinds.specs.declared.numbers.ControllerId.{ControllerId}
+use Rattle.room_kinds.specs.declared.numbers.Endpoint.{Endpoint}
 use Rattle.room_kinds.specs.declared.numbers.SlotId.{SlotId}
 use Rattle.room_kinds.specs.declared.numbers.Stamp.{Stamp}
 use Rattle.room_kinds.specs.declared.message.Msg.{Msg}
@@ -22,7 +23,6 @@ use Rattle.room_wiring.specs.declared.names.PortNames.{PortNames}
 use Rattle.room_wiring.specs.Consistent.{IsConsistent}
 use Rattle.room_wiring.specs.Slots.{class_of}
 use Rattle.room_wiring.specs.wiring_names.Lookup.{narrowed, place_of, port_in, state_in as label_in, signal_in as signal_of, port_of, port_called, state_called, signal_called}
-use Rattle.std.specs.Prelude.{option_and_then}
 use Rattle.journal.specs.declared.entry.Did.{Did}
 use Rattle.journal.specs.declared.entry.Entry.{Entry}
 use Rattle.journal.specs.declared.entry.Entry.TheVariants as entries
@@ -70,33 +70,33 @@ unfolding word_in
 word_small s = below_small 4294967296 (number_in s) (omega arith)
 
 -- the number of digits, if they are one
-SignedIf : Option ℤ → Type 0
+abbrev SignedIf : Option ℤ → Type 0
 SignedIf o = IsSigned64 (unwrap_or o (pos 0))
 
-minus_small : (n : ℕ) → n ≤ 9223372036854775808 → IsSigned64 (numerals.minus n)
+minus_small : (n : ℕ) → n ≤ 9223372036854775808 → IsSigned64 (minus n)
 minus_small zero h = omega arith
 minus_small (suc n) h = omega (arith, h)
 
-positive_small : (s : List ℕ) → SignedIf (numerals.positive_in s)
-positive_small s = go (numerals.are_digits s && nat_lt (numerals.value_of s) 9223372036854775808) refl
+positive_small : (s : List ℕ) → SignedIf (positive_in s)
+positive_small s = go (are_digits s && nat_lt (value_of s) 9223372036854775808) refl
   where
-    go : (b : Bool) → (numerals.are_digits s && nat_lt (numerals.value_of s) 9223372036854775808) ≡ b
-        → SignedIf (if b then Some (pos (numerals.value_of s)) else None)
-    go true e = ltb-true (numerals.value_of s) 9223372036854775808 (and_parts (numerals.are_digits s) (nat_lt (numerals.value_of s) 9223372036854775808) e).1
+    go : (b : Bool) → (are_digits s && nat_lt (value_of s) 9223372036854775808) ≡ b
+        → SignedIf (if b then Some (pos (value_of s)) else None)
+    go true e = ltb-true (value_of s) 9223372036854775808 (and_parts (are_digits s) (nat_lt (value_of s) 9223372036854775808) e).1
     go false e = omega arith
 
-negative_small : (s : List ℕ) → SignedIf (numerals.negative_in s)
-negative_small s = go (numerals.are_digits s && nat_le (numerals.value_of s) 9223372036854775808) refl
+negative_small : (s : List ℕ) → SignedIf (negative_in s)
+negative_small s = go (are_digits s && nat_le (value_of s) 9223372036854775808) refl
   where
-    go : (b : Bool) → (numerals.are_digits s && nat_le (numerals.value_of s) 9223372036854775808) ≡ b
-        → SignedIf (if b then Some (numerals.minus (numerals.value_of s)) else None)
-    go true e = minus_small (numerals.value_of s) (leb-true (numerals.value_of s) 9223372036854775808 (and_parts (numerals.are_digits s) (nat_le (numerals.value_of s) 9223372036854775808) e).1)
+    go : (b : Bool) → (are_digits s && nat_le (value_of s) 9223372036854775808) ≡ b
+        → SignedIf (if b then Some (minus (value_of s)) else None)
+    go true e = minus_small (value_of s) (leb-true (value_of s) 9223372036854775808 (and_parts (are_digits s) (nat_le (value_of s) 9223372036854775808) e).1)
     go false e = omega arith
 
 signed_small : (s : List ℕ) → IsSigned64 (signed_in s)
-unfolding signed_in numerals.number_in
+unfolding signed_in numeral_in
 signed_small [] = omega arith
-signed_small (b ∷ bs) = either SignedIf (b == 45) (numerals.negative_in bs) (numerals.positive_in (b ∷ bs)) (negative_small bs) (positive_small (b ∷ bs))
+signed_small (b ∷ bs) = either SignedIf (b == 45) (negative_in bs) (positive_in (b ∷ bs)) (negative_small bs) (positive_small (b ∷ bs))
 
 numbers_small : (n : ℕ) (s : List ℕ) → Each IsSigned64 (numbers_from n s)
 unfolding numbers_from
@@ -205,7 +205,7 @@ kind_small w = go (kind_named w)
     go None = omega arith
     go (Some k) = kind_number_small k
 
-signal_small : (t : Tables) (prio : ℕ) (target : _) (w : List ℕ) → Is16Bit (signal_in t prio target w)
+signal_small : (t : Tables) (prio : ℕ) (target : Endpoint) (w : List ℕ) → Is16Bit (signal_in t prio target w)
 unfolding signal_in
 signal_small t prio target w = either Is16Bit (prio == 0) (kind_in w) (signal_called t target.slot.0 target.port w) (kind_small w) (port_signal_small t target.slot.0 target.port w)
 
@@ -253,7 +253,7 @@ note_small t speaker s =
 
 -- ---- what was read so far
 
-HeadSmall : Head → Type 0
+abbrev HeadSmall : Head → Type 0
 HeadSmall heads.Nothing = Unit {0}
 HeadSmall (heads.Start who state) = InRangeStanding who state
 HeadSmall (heads.Turn stamp from sent did) = Is64Bit stamp.0 × Is8Bit from.0 × Is64Bit sent.0 × InRangeDid did

@@ -94,9 +94,10 @@ module _ (j : Journals) where
   same_first c d x y h k = go (cases_order h.party k.party)
     where
       go : (h.party ≡ k.party) ⊎ ((h.party < k.party) ⊎ (k.party < h.party)) → (c ≡ d) × (x ≡ y)
-      go (inl same) =
-          (h.number ∙ ap party_number same ∙ sym k.number,
-          first_in (journal_of j k.party) x y (subst (λ (p : ℕ). IsFirstUntiedIn j None (journal_of j p) x) same h.first) k.first)
+      go (inl same) = (
+        h.number ∙ ap party_number same ∙ sym k.number,
+        first_in (journal_of j k.party) x y (subst (λ (p : ℕ). IsFirstUntiedIn j None (journal_of j p) x) same h.first) k.first,
+      )
       go (inr (inl below)) = absurd (tied_first (journal_of j h.party) x (k.earlier h.party below) h.first)
       go (inr (inr above)) = absurd (tied_first (journal_of j k.party) y (h.earlier k.party above) k.first)
 

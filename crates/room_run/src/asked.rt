@@ -128,11 +128,7 @@ fn asked_of<'a>(command: &str, word: &'a str) -> Option<Asked<'a>>
 }
 
 /// What three words ask for.
-fn asked_of_files<'a>(
-    command: &str,
-    model: &'a String,
-    second: &'a String,
-) -> Option<Asked<'a>>
+fn asked_of_files<'a>(command: &str, model: &'a String, second: &'a String) -> Option<Asked<'a>>
     ensures { option_map asked_view result ≡ asked_of_files command.now (string_bytes model.now) (string_bytes second.now) }
 {
     if command == "run" {

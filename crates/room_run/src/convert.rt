@@ -57,9 +57,11 @@ fn read_record<S: Shelf>(
     wiring: &Wiring,
 ) -> Result<Journals, Refusal>
     requires { IsWellNamed wiring.now }
-    ensures ok { IfOk result (λ j. TextIs (S.shown shelf.old) name.now (λ text. HasTiedJournals wiring.now text j)) }
+    ensures ok { IfOk result (λ j. TextIs (S.shown shelf.old) name.now
+        (λ text. HasTiedJournals wiring.now text j)) }
     ensures tied { IfOk result (λ j. Tied j) }
-    ensures err { IfErr result (λ why. JournalsCauses (S.shown shelf.old) (S.shown shelf.new) name.now wiring.now why) }
+    ensures err { IfErr result (λ why. JournalsCauses (S.shown shelf.old) (S.shown shelf.new)
+        name.now wiring.now why) }
     ensures keeps { Keeps (S.shown shelf.old) (S.shown shelf.new) }
 {
     let text = match read_limit(alloc, shelf, name, MOST_JOURNAL_BYTES) {
@@ -77,9 +79,11 @@ pub(crate) fn convert<S: Shelf>(
     shelf: &mut S,
     files: Record,
 ) -> Result<Recorded, Refusal>
-    ensures ok { IfOk result (λ r. AreRecorded (S.shown shelf.old) (record_view files.entry) r.wiring r.journals) }
+    ensures ok { IfOk result (λ r. AreRecorded (S.shown shelf.old) (record_view files.entry)
+        r.wiring r.journals) }
     ensures tied { IfOk result (λ r. Tied r.journals) }
-    ensures err { IfErr result (λ why. ConvertCauses (S.shown shelf.old) (S.shown shelf.new) (record_view files.entry) why) }
+    ensures err { IfErr result (λ why. ConvertCauses (S.shown shelf.old) (S.shown shelf.new)
+        (record_view files.entry) why) }
     ensures keeps { Keeps (S.shown shelf.old) (S.shown shelf.new) }
 {
     let wiring = match read_wiring(alloc, shelf, files.model) {

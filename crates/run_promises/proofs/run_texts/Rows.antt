@@ -9,7 +9,10 @@ use Rattle.std.specs.Prelude.{codes, decimal}
 use Rattle.std.specs.Fmt.{signed_decimal}
 use Rattle.std.specs.List.{AllByRecursion as Each, concat, flat_map, slice_index_or, slice_split}
 use Rattle.std.proofs.lemmas.Bool.{or_left}
+use Rattle.room_kinds.specs.declared.numbers.ControllerId.{ControllerId}
+use Rattle.room_kinds.specs.declared.numbers.Incarnation.{Incarnation}
 use Rattle.room_kinds.specs.declared.numbers.SlotId.{SlotId}
+use Rattle.room_kinds.specs.declared.numbers.Stamp.{Stamp}
 use Rattle.room_kinds.specs.declared.message.Msg.{Msg}
 use Rattle.room_kinds.specs.declared.note.Note.{Note}
 use Rattle.room_kinds.specs.declared.note.Note.TheVariants as notes
@@ -78,7 +81,7 @@ one_text a b x y h k e = same_lines a b h.plain k.plain (sym h.is ∙ e ∙ k.is
 -- ---- what lines tell of events
 
 -- what a line tells of an event: of a fetch the word `<from>@<sent>`, of a post its stamp and its priority
-data pub Told : Type 0 where
+pub data Told : Type 0 where
   Fetched : (word : List ℕ) → Told
   Turned : Told
   Posted : (stamp prio : List ℕ) → Told
@@ -212,6 +215,19 @@ quiet_line parts h quiet may = record {
 digit_line : (w : List ℕ) → begins_digit w ≡ true → is_entry_line w ≡ true
 digit_line w h = or_left (begins_digit w) _ h
 
+-- the line of fetches that stands open has these words behind its stamp
+record Open (w : List ℕ) (v : List ℕ) (us : List (List ℕ)) : Type 0 where
+  stamp : ℕ
+  is : w ≡ fetch_line stamp (v ∷ us)
+  first : lacks 32 v ≡ true
+  others : NoBlanks us
+  plain : lacks 10 w ≡ true
+
+-- the entries of a controller's journal, where no line of fetches stands open, and where one does
+record Both (t : Tables) (es : List Entry) : Type 0 where
+  fresh : Telling (tied_entries_text t false es) (told t es)
+  begun : (w v : List ℕ) (us : List (List ℕ)) → Open w v us → Telling (w ++ tied_entries_text t true es) (map Fetched (v ∷ us) ++ told t es)
+
 module _ (t : Tables) (named : IsWellNamed t) where
   one_note : (speaker : Option SlotId) (n : Note) → Telling (note_line t speaker n) []
   one_note speaker notes.Zero = quiet_line (codes "note zero" ∷ []) (refl, tt) refl refl
@@ -239,12 +255,12 @@ module _ (t : Tables) (named : IsWellNamed t) where
     each = (digit_line (concat parts) digit, tt);
   }
 
-  start_told : (who : _) (state : ℕ) (ns : List Note) → Telling (entry_text t (entry.Start who state ns)) []
+  start_told : (who : Incarnation) (state : ℕ) (ns : List Note) → Telling (entry_text t (entry.Start who state ns)) []
   start_told who state ns =
       more_told (line (codes "start " ∷ standing_parts t who state)) (note_lines t false (Some who.slot) ns) [] []
       (quiet_line (codes "start " ∷ standing_parts t who state) (refl, standing_plain t named who state) refl refl) (notes_of false ns (Some who.slot))
 
-  turned_told : (stamp : _) (from : _) (sent : _) (did : Did) (ns : List Note) → Telling (entry_text t (entry.Turn stamp from sent did ns)) (Turned ∷ [])
+  turned_told : (stamp : Stamp) (from : ControllerId) (sent : Stamp) (did : Did) (ns : List Note) → Telling (entry_text t (entry.Turn stamp from sent did ns)) (Turned ∷ [])
   turned_told stamp from sent did ns =
       let parts : List (List ℕ) = turn_parts t stamp.0 from.0 sent.0 ++ did_parts t did in
       more_told (line parts) (note_lines t (is_duty did) (speaker_of did) ns) (Turned ∷ []) []
@@ -252,7 +268,7 @@ module _ (t : Tables) (named : IsWellNamed t) where
       (number_begins stamp.0 _) (turn_told t stamp.0 from.0 sent.0 did))
       (notes_of (is_duty did) ns (speaker_of did))
 
-  posted_told : (stamp : _) (m : Msg) → Telling (entry_text t (entry.Post stamp m)) (Posted (decimal stamp.0) (decimal m.prio.0) ∷ [])
+  posted_told : (stamp : Stamp) (m : Msg) → Telling (entry_text t (entry.Post stamp m)) (Posted (decimal stamp.0) (decimal m.prio.0) ∷ [])
   posted_told stamp m =
       event_line (decimal stamp.0 ∷ codes " post " ∷ decimal m.to.0 ∷ codes " " ∷ message_parts t m) (Posted (decimal stamp.0) (decimal m.prio.0))
       (number_lacks 10 stamp.0 refl, (refl, (number_lacks 10 m.to.0 refl, (refl, message_plain t named m)))) (number_begins stamp.0 _) (post_told t stamp.0 m)
@@ -277,14 +293,6 @@ module _ (t : Tables) (named : IsWellNamed t) where
 
   sent_shape : (m : Msg) → concat (sent_parts t m) ≡ 32 ∷ word t m
   sent_shape m = ap (λ (x : List ℕ). 32 ∷ (party_text t m.from.0 ++ 64 ∷ x)) (append-nil (decimal m.stamp.0))
-
-  -- the line of fetches that stands open has these words behind its stamp
-  record Open (w : List ℕ) (v : List ℕ) (us : List (List ℕ)) : Type 0 where
-    stamp : ℕ
-    is : w ≡ fetch_line stamp (v ∷ us)
-    first : lacks 32 v ≡ true
-    others : NoBlanks us
-    plain : lacks 10 w ≡ true
 
   blanks_more : (vs : List (List ℕ)) (u : List ℕ) → blanks vs ++ 32 ∷ u ≡ blanks (vs ++ u ∷ [])
   blanks_more [] u = ap (λ (z : List ℕ). 32 ∷ z) (sym (append-nil u))
@@ -338,12 +346,7 @@ module _ (t : Tables) (named : IsWellNamed t) where
   map_more [] u what = refl
   map_more (v ∷ us) u what = ap (λ (z : List Told). Fetched v ∷ z) (map_more us u what)
 
-  -- the entries of a controller's journal, where no line of fetches stands open, and where one does
-  record Both (es : List Entry) : Type 0 where
-    fresh : Telling (tied_entries_text t false es) (told t es)
-    begun : (w v : List ℕ) (us : List (List ℕ)) → Open w v us → Telling (w ++ tied_entries_text t true es) (map Fetched (v ∷ us) ++ told t es)
-
-  tied_lines : (es : List Entry) → Both es
+  tied_lines : (es : List Entry) → Both t es
   tied_lines [] = record {
     fresh = nothing_told;
     begun = λ w v us o. subst (Telling (w ++ 10 ∷ [])) (sym (append-nil (map Fetched (v ∷ us)))) (closed_line w v us o);

@@ -1,8 +1,7 @@
 -- What the lines of a journal tell of a party's events are these events: of a fetch from whom it is, and, by
 -- the post that it names, at which priority.
-use Rattle.std.proofs.Common.{◌≡◌, ℕ, ◌<◌, ◌≤◌, ◌==◌, nat_lt, if◌then◌else◌, Bool, true, false, cond, List, [], ◌∷◌, ◌++◌, map, length, refl, sym, ap, ap₂, ◌∙◌, subst, eqb-true, eqb-refl, arith, ◌⊎◌, inl, inr}
+use Rattle.std.proofs.Common.{◌≡◌, ℕ, ◌<◌, ◌≤◌, ◌==◌, nat_lt, if◌then◌else◌, Bool, true, false, cond, List, [], ◌∷◌, ◌++◌, map, length, refl, sym, ap, ap₂, ◌∙◌, subst, eqb-true, eq-eqb, arith, ◌⊎◌, inl, inr}
 use Rattle.std.specs.Prelude.{codes, decimal}
-use Rattle.std.specs.List.{AllByRecursion as Each}
 use Rattle.std.proofs.lemmas.Bool.{ltb-false}
 use Rattle.std.proofs.lemmas.Fmt.{decimal_injective}
 use Rattle.room_kinds.specs.declared.message.Msg.{Msg}
@@ -102,7 +101,7 @@ told_posted t a b (entry.Turn stamp from sent did ns ∷ es) (inr h) = later (en
 told_posted t a b (entry.Post stamp m ∷ es) (inl e) = record {
   at = stamp.0;
   message = m;
-  posted = subst (λ (q : Bool). Has m ((if q then m ∷ [] else []) ++ posted_at stamp.0 es)) (sym (eqb-refl stamp.0)) (inl refl);
+  posted = subst (λ (q : Bool). Has m ((if q then m ∷ [] else []) ++ posted_at stamp.0 es)) (sym (eq-eqb stamp.0 stamp.0 refl)) (inl refl);
   stamp_is = let same : a ≡ decimal stamp.0 = cc in sym same;
   priority_is = let same : b ≡ decimal m.prio.0 = cc in sym same;
 }
