@@ -1,5 +1,5 @@
 -- What a text is read as has its numbers in the ranges of their types.
-use Rattle.std.proofs.Common.{◌≡◌, ℕ, zero, suc, ◌+◌, ◌<◌, ◌≤◌, nat_lt, nat_le, ◌==◌, ◌&&◌, Bool, true, false, if◌then◌else◌, List, [], ◌∷◌, ◌++◌, length, map, Option, Some, None, ℤ, pos, negsuc, refl, subst, leb-true, arith}
+use Rattle.std.proofs.Common.{◌≡◌, ℕ, zero, suc, ◌+◌, ◌-◌, ◌<◌, ◌≤◌, nat_lt, nat_le, ◌==◌, ◌&&◌, Bool, true, false, if◌then◌else◌, List, [], ◌∷◌, ◌++◌, length, map, Option, Some, None, ℤ, pos, negsuc, refl, subst, leb-true, arith}
 use Rattle.std.specs.Prelude.{All, codes, fold, unwrap_or, option_map, option_and_then, position}
 use Rattle.std.specs.List.{AllByRecursion as Each, slice_split, flat_map, slice_index_or}
 use Rattle.std.specs.Option.{option_map_or}
@@ -74,8 +74,11 @@ abbrev SignedIf : Option ℤ → Type 0
 SignedIf o = IsSigned64 (unwrap_or o (pos 0))
 
 minus_small : (n : ℕ) → n ≤ 9223372036854775808 → IsSigned64 (minus n)
-minus_small zero h = omega arith
-minus_small (suc n) h = omega (arith, h)
+minus_small n h = go (n == 0)
+  where
+    go : (b : Bool) → IsSigned64 (if b then pos 0 else negsuc (n - 1))
+    go true = omega arith
+    go false = omega (arith, h)
 
 positive_small : (s : List ℕ) → SignedIf (positive_in s)
 positive_small s = go (are_digits s && nat_lt (value_of s) 9223372036854775808) refl
