@@ -18,11 +18,11 @@ entries_in_time [] h s x k = absurd k
 entries_in_time (entry.Start who state ns ∷ es) h s x k = entries_in_time es h.1 s x k
 entries_in_time (entry.Fetch stamp m ∷ es) h s x k = entries_in_time es h.1 s x k
 entries_in_time (entry.Turn stamp from sent did ns ∷ es) h s x k = entries_in_time es h.1 s x k
-entries_in_time (entry.Post stamp m ∷ es) h s x k = go (stamp.0 == s) refl k
+entries_in_time (entry.Post stamp m ∷ es) h s x k = go (stamp.0 == s) refl k (λ there. entries_in_time es h.1 s x there)
   where
-    go : (b : Bool) → (stamp.0 == s) ≡ b → Has x ((if b then m ∷ [] else []) ++ posted_at s es) → s < 18446744073709551616
-    go true e there = subst (λ (n : ℕ). n < 18446744073709551616) (eqb-true stamp.0 s e) h.0.0
-    go false e there = entries_in_time es h.1 s x there
+    go : (b : Bool) → (stamp.0 == s) ≡ b → Has x ((if b then m ∷ [] else []) ++ posted_at s es) → (Has x (posted_at s es) → s < 18446744073709551616) → s < 18446744073709551616
+    go true e there more = subst (λ (n : ℕ). n < 18446744073709551616) (eqb-true stamp.0 s e) h.0.0
+    go false e there more = more there
 
 pub posts_in_time : (j : Journals) → IsInRange j → (party : ℕ) → PostsInTime (journal_of j party)
 posts_in_time j range party = entries_in_time (journal_of j party) (recursion_from_All InRangeEntry (journal_of j party) (journal_in_range j range party))

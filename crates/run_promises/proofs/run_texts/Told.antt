@@ -65,13 +65,14 @@ posted_told t s x [] h = h
 posted_told t s x (entry.Start who state ns ∷ es) h = posted_told t s x es h
 posted_told t s x (entry.Fetch stamp m ∷ es) h = inr (posted_told t s x es h)
 posted_told t s x (entry.Turn stamp from sent did ns ∷ es) h = inr (posted_told t s x es h)
-posted_told t s x (entry.Post stamp m ∷ es) h = go (stamp.0 == s) refl h
+posted_told t s x (entry.Post stamp m ∷ es) h = go (stamp.0 == s) refl h (λ k. posted_told t s x es k)
   where
     go : (b : Bool) → (stamp.0 == s) ≡ b → Has x ((if b then m ∷ [] else []) ++ posted_at s es)
+        → (Has x (posted_at s es) → Has (Posted (decimal s) (decimal x.prio.0)) (told t es))
         → (Posted (decimal s) (decimal x.prio.0) ≡ Posted (decimal stamp.0) (decimal m.prio.0)) ⊎ Has (Posted (decimal s) (decimal x.prio.0)) (told t es)
-    go true e (inl is) = inl (ap₂ Posted (ap decimal (sym (eqb-true stamp.0 s e))) (ap (λ (y : Msg). decimal y.prio.0) is))
-    go true e (inr more) = inr (posted_told t s x es more)
-    go false e more = inr (posted_told t s x es more)
+    go true e (inl is) more = inl (ap₂ Posted (ap decimal (sym (eqb-true stamp.0 s e))) (ap (λ (y : Msg). decimal y.prio.0) is))
+    go true e (inr there) more = inr (more there)
+    go false e there more = inr (more there)
 
 -- a post of which a line tells
 record IsPostOf (es : List Entry) (stamp prio : List ℕ) : Type 0 where
