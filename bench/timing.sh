@@ -66,7 +66,7 @@ peer_best() {
 
 # The functions of the run, and of the text of its journals, of which the outermost is counted.
 the_run='[ :]model_run::'
-the_text='[ :]journal::'
+the_text='[ :](tied_journals|journal)::'
 
 # The first number divided by the second, with so many places behind the point (2 without); `-`
 # where the second is 0.

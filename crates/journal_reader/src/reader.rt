@@ -111,6 +111,7 @@ fn read_first_form(
     requires { names.now ≡ wiring.now }
     ensures text { IfOk result (λ j. text_of wiring.now j ≡ bytes.now) }
     ensures fits { IfOk result (λ j. Fits wiring.now j) }
+    ensures in_range { IfOk result (λ j. IsInRange j) }
     ensures only { IsWellNamed wiring.now → (j : Journals) → Fits wiring.now j → IsInRange j
         → text_of wiring.now j ≡ bytes.now → Answers result j }
 {
@@ -152,6 +153,7 @@ fn read_second_form(
     requires { names.now ≡ wiring.now }
     ensures text { IfOk result (λ j. IsTiedText wiring.now j bytes.now) }
     ensures fits { IfOk result (λ j. Fits wiring.now j) }
+    ensures in_range { IfOk result (λ j. IsInRange j) }
     ensures only { IsWellNamed wiring.now → (j : Journals) → Fits wiring.now j → IsInRange j
         → IsTiedText wiring.now j bytes.now → Answers result j }
 {
@@ -180,9 +182,10 @@ fn read_second_form(
 /// things apart at most one has it (`texts_differ`, `tied_texts_differ`). It takes time and memory
 /// in proportion to the text and to the tables of the wiring.
 pub fn read_journals(alloc: Global, bytes: &[u8], wiring: &Wiring) -> Result<Journals, ReadFaultOf>
-    // What is read fits, and has this text.
+    // What is read fits, has its numbers in the ranges of their types, and has this text.
     ensures text { IfOk result (λ j. IsTextOf wiring.now j bytes.now) }
     ensures fits { IfOk result (λ j. Fits wiring.now j) }
+    ensures in_range { IfOk result (λ j. IsInRange j) }
     // Where journals that fit have this text, they are what is read.
     ensures only { IsWellNamed wiring.now → (j : Journals) → Fits wiring.now j → IsInRange j
         → IsTextOf wiring.now j bytes.now → Answers result j }

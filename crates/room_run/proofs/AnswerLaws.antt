@@ -1,5 +1,5 @@
 -- A call has one answer besides want of memory.
-use Rattle.std.proofs.Common.{◌≡◌, ℕ, ◌<◌, ◌≤◌, Bool, true, false, if◌then◌else◌, List, [], ◌∷◌, length, Option, Some, None, IfSome, Result, Ok, Err, refl, sym, ap, ◌∙◌, subst, arith, ◌⊎◌, inl, inr, ⊎_elim}
+use Rattle.std.proofs.Common.{◌≡◌, ℕ, ◌<◌, ◌≤◌, Bool, true, false, if◌then◌else◌, List, [], ◌∷◌, length, Option, Some, None, IfSome, Result, Ok, Err, refl, sym, ap, ap₂, ◌∙◌, subst, arith, ◌⊎◌, inl, inr, ⊎_elim}
 use Rattle.std.proofs.lemmas.Bool.{cases_order}
 use Rattle.room_outside.specs.Shown.{Shown}
 use Rattle.room_ast.specs.Trees.{ModelTree}
@@ -19,19 +19,26 @@ use Rattle.controller_actors.specs.declared.plant.Plant.{Plant}
 use Rattle.made_model.specs.Texts.{model_text, injections_text}
 use Rattle.room_inherit.specs.Flat.{flat}
 use Rattle.room_inherit.specs.Rules.{lowest_broken}
-use Rattle.room_run.specs.Words.{Files, Asked, Check, Tree, Run, Made, asked_by}
+use Rattle.room_kinds.specs.declared.numbers.ControllerId.{ControllerId}
+use Rattle.room_kinds.specs.declared.numbers.Stamp.{Stamp}
+use Rattle.journal.specs.declared.entry.Journals.{Journals}
+use Rattle.tied_journals.specs.Text.{tied_text_of}
+use Rattle.tied_journals.specs.Untied.{IsFirstUntied}
+use Rattle.room_run.specs.Words.{Files, Record, Asked, Check, Tree, Run, Convert, Made, asked_by}
 use Rattle.room_run.specs.MadeShelf.{made_files, made_shelf}
 use Rattle.room_run.specs.Models.{most_bytes, HasTokens, IsWritten, HasTree, IsSound, IsModel, IsUncut, HasNoTree, BreaksBaseRule, BreaksRule, HasBadWiring, HasBadChart, SoundCauses, uncut, no_tree, breaks_base_rule, breaks_rule, bad_wiring, bad_chart, no_memory}
-use Rattle.room_run.specs.Causes.{IsInjections, HasBadLine, TextIs, AreOf, model_unread, model_long, model_no_memory, ModelCauses, no_text, model_refused, LinesCauses, faulty_line, no_memory_for_lines, InjectionsCauses, injections_unread, injections_long, injections_refused, injections_no_memory, RunCauses, of_model, of_injections, run_no_memory, Causes, no_such_words, of_check, of_tree, of_run, of_made, status_of}
+use Rattle.room_run.specs.Conversions.{most_journal_bytes, HasJournals, HasTiedJournals, HasNoJournals, HasUntiedJournals}
+use Rattle.room_run.specs.Causes.{IsInjections, HasBadLine, TextIs, AreOf, model_unread, model_long, model_no_memory, ModelCauses, no_text, model_refused, LinesCauses, faulty_line, no_memory_for_lines, InjectionsCauses, injections_unread, injections_long, injections_refused, injections_no_memory, RunCauses, of_model, of_injections, run_no_memory, RecordedCauses, malformed, untied, no_memory_for_journals, JournalsCauses, journals_unread, journals_long, journals_refused, journals_no_memory, ConvertCauses, of_its_model, of_journals, Causes, no_such_words, of_check, of_tree, of_run, of_convert, of_made, status_of}
 use Rattle.binding_expand.specs.tree_text.Text.{tree_text}
-use Rattle.room_run.specs.Outcome.{accepted, Answers, says_ok, says_tree, says_run, says_made, status_of_run, whole, cut_short, refused, refused_unheard}
-use Rattle.room_run.specs.OneAnswer.{IsRead, AreRead, IsMemory, SameRefusal, IsOfModel, CallsHaveOneAnswer, HasModel, HasFiles, AreAccepted, IsEnd, AcceptedCallsEnd}
+use Rattle.room_run.specs.Outcome.{accepted, Answers, says_ok, says_tree, says_run, says_converted, says_made, AreRecorded, status_of_run, whole, cut_short, refused, refused_unheard}
+use Rattle.room_run.specs.OneAnswer.{IsRead, AreRead, IsMemory, SameRefusal, AskForNoRun, CallsHaveOneAnswer, HasModel, HasFiles, HasRecord, AreAccepted, IsEnd, AcceptedCallsEnd}
 use Rattle.room_run.specs.declared.model_fault.ModelFault.{ModelFault}
 use Rattle.room_run.specs.declared.model_fault.ModelFault.TheVariants as faults
 use Rattle.room_run.specs.declared.refusal.Refusal.{Refusal}
 use Rattle.room_run.specs.declared.refusal.Refusal.TheVariants as refusals
 use Rattle.room_run.specs.declared.status.Status.{Status}
 use Rattle.room_run.specs.declared.status.Status.TheVariants as statuses
+use Rattle.room_run.proofs.JournalLaws.{same_journals, same_first, none_first}
 use Rattle.room_run.proofs.OneCut.{not_both_cut, one_fault, one_cut}
 
 -- ---- a text has one tree, and a tree one lowest fault
@@ -252,7 +259,7 @@ once_fault f g why other (inl e) is are = inl (memory_is f why e is)
 once_fault f g why other (inr (inl e)) is are = inr (inl (memory_is g other e are))
 once_fault f g why other (inr (inr (inl e))) is are = inr (inr (inl (is ∙ ap (λ (z : ModelFault). refusals.Model z) e ∙ sym are)))
 once_fault f g why other (inr (inr (inr s))) is are =
-    inr (inr (inr ((s.0.0, is ∙ ap (λ (z : ModelFault). refusals.Model z) s.0.1), (s.1.0, are ∙ ap (λ (z : ModelFault). refusals.Model z) s.1.1))))
+    inr (inr (inr (inl ((s.0.0, is ∙ ap (λ (z : ModelFault). refusals.Model z) s.0.1), (s.1.0, are ∙ ap (λ (z : ModelFault). refusals.Model z) s.1.1)))))
 
 model_once : (text : List ℕ) (why other : Refusal) → ModelSays text why → ModelSays text other → Once why other
 model_once text why other (says_memory e) k = inl e
@@ -344,6 +351,92 @@ sound_run model injections wiring lines why s i (for_model h) = sound_model mode
 sound_run model injections wiring lines why s i (for_lines wired u k) =
     sound_lines wiring injections lines why i (subst (λ (z : Tables). LinesSay z injections why) (one_sound_wiring model wired wiring u s) k)
 
+-- the text of journals is refused so
+data JournalsSay (wiring : Tables) (text : List ℕ) (why : Refusal) : Type 0 where
+  for_memory : IsMemory why → JournalsSay wiring text why
+  for_length : most_journal_bytes < length text → why ≡ refusals.JournalsTooLong → JournalsSay wiring text why
+  for_form : (offset : ℕ) → HasNoJournals wiring text → why ≡ refusals.JournalsMalformed offset → JournalsSay wiring text why
+  for_fetch : (controller : ControllerId) (stamp : Stamp) → HasUntiedJournals wiring text controller stamp → why ≡ refusals.JournalsUntied controller stamp → JournalsSay wiring text why
+
+recorded_say : (wiring : Tables) (text : List ℕ) (why : Refusal) → RecordedCauses wiring text why → JournalsSay wiring text why
+recorded_say wiring text _ (malformed offset h) = for_form offset h refl
+recorded_say wiring text _ (untied controller stamp h) = for_fetch controller stamp h refl
+recorded_say wiring text _ no_memory_for_journals = for_memory refl
+
+journals_say : (before after : Shown) (name : List ℕ) (wiring : Tables) (why : Refusal) → (read : IsRead before after name)
+    → JournalsCauses before after name wiring why → JournalsSay wiring read.text why
+journals_say before after name wiring why read (journals_unread h is) = absurd (read.unfailed h)
+journals_say before after name wiring why read (journals_long h is) =
+    for_length (told_text before name read.text (λ t. most_journal_bytes < length t) read.told h) is
+journals_say before after name wiring why read (journals_refused h) =
+    recorded_say wiring read.text why (told_text before name read.text (λ t. RecordedCauses wiring t why) read.told h)
+journals_say before after name wiring why read (journals_no_memory is) = for_memory (ap status_of is)
+
+-- a text that has journals isn't one that has none
+no_both : (wiring : Tables) (text : List ℕ) (j : Journals) → HasNoJournals wiring text → HasJournals wiring text j → ⊥
+no_both wiring text j h k = h.none j k.fit k.in_range k.is
+
+one_read : (model : List ℕ) (wiring : Tables) (text : List ℕ) (i j : Journals) → IsSound model wiring → HasJournals wiring text i → HasJournals wiring text j → i ≡ j
+one_read model wiring text i j sound h k = same_journals model wiring text i j sound h.fit h.in_range h.is k.fit k.in_range k.is
+
+journals_once : (model : List ℕ) (wiring : Tables) (text : List ℕ) (why other : Refusal) → IsSound model wiring → JournalsSay wiring text why → JournalsSay wiring text other
+    → Once why other
+journals_once model wiring text why other sound (for_memory e) k = inl e
+journals_once model wiring text why other sound (for_length long is) (for_memory e) = inr (inl e)
+journals_once model wiring text why other sound (for_length long is) (for_length also are) = inr (inr (inl (is ∙ sym are)))
+journals_once model wiring text why other sound (for_length long is) (for_form offset h are) = let short = h.short in absurd (omega (arith, long, short))
+journals_once model wiring text why other sound (for_length long is) (for_fetch c x h are) = let short = h.has.short in absurd (omega (arith, long, short))
+journals_once model wiring text why other sound (for_form offset h is) (for_memory e) = inr (inl e)
+journals_once model wiring text why other sound (for_form offset h is) (for_length long are) = let short = h.short in absurd (omega (arith, long, short))
+journals_once model wiring text why other sound (for_form offset h is) (for_form place k are) = inr (inr (inr (inr ((offset, is), (place, are)))))
+journals_once model wiring text why other sound (for_form offset h is) (for_fetch c x k are) = absurd (no_both wiring text k.journals h k.has)
+journals_once model wiring text why other sound (for_fetch c x h is) (for_memory e) = inr (inl e)
+journals_once model wiring text why other sound (for_fetch c x h is) (for_length long are) = let short = h.has.short in absurd (omega (arith, long, short))
+journals_once model wiring text why other sound (for_fetch c x h is) (for_form place k are) = absurd (no_both wiring text h.journals k h.has)
+journals_once model wiring text why other sound (for_fetch c x h is) (for_fetch d y k are) =
+    let one : k.journals ≡ h.journals = one_read model wiring text k.journals h.journals sound k.has h.has in
+    let same = same_first h.journals c d x y h.first (subst (λ (z : Journals). IsFirstUntied z d y) one k.first) in
+    inr (inr (inl (is ∙ ap₂ refusals.JournalsUntied same.0 same.1 ∙ sym are)))
+
+-- tied journals are refused for want of memory alone
+sound_journals : (model : List ℕ) (wiring : Tables) (text : List ℕ) (j : Journals) (why : Refusal) → IsSound model wiring → HasTiedJournals wiring text j
+    → JournalsSay wiring text why → IsMemory why
+sound_journals model wiring text j why sound h (for_memory e) = e
+sound_journals model wiring text j why sound h (for_length long is) = let short = h.has.short in absurd (omega (arith, long, short))
+sound_journals model wiring text j why sound h (for_form offset k is) = absurd (no_both wiring text j k h.has)
+sound_journals model wiring text j why sound h (for_fetch c x k is) =
+    let one : k.journals ≡ j = one_read model wiring text k.journals j sound k.has h.has in
+    absurd (none_first j h.tied c x (subst (λ (z : Journals). IsFirstUntied z c x) one k.first))
+
+-- a conversion of two texts is refused so
+data ConvertSays (model journals : List ℕ) (why : Refusal) : Type 0 where
+  for_its_model : ModelSays model why → ConvertSays model journals why
+  for_journals : (wiring : Tables) → IsSound model wiring → JournalsSay wiring journals why → ConvertSays model journals why
+
+convert_says : (before after : Shown) (files : Record) (why : Refusal) → (model : IsRead before after files.model)
+    → (journals : IsRead before after files.journals)
+    → ConvertCauses before after files why → ConvertSays model.text journals.text why
+convert_says before after files why model journals (of_its_model h) = for_its_model (model_says before after files.model why model h)
+convert_says before after files why model journals (of_journals wiring h k) =
+    for_journals wiring (told_text before files.model model.text (λ t. IsSound t wiring) model.told h)
+    (journals_say before after files.journals wiring why journals k)
+
+convert_once : (model journals : List ℕ) (why other : Refusal) → ConvertSays model journals why → ConvertSays model journals other
+    → Once why other
+convert_once model journals why other (for_its_model h) (for_its_model k) = model_once model why other h k
+convert_once model journals why other (for_its_model h) (for_journals wiring s k) = inl (sound_model model wiring why s h)
+convert_once model journals why other (for_journals wiring s h) (for_its_model k) = inr (inl (sound_model model wiring other s k))
+convert_once model journals why other (for_journals wiring s h) (for_journals wired u k) =
+    journals_once model wiring journals why other s h (subst (λ (z : Tables). JournalsSay z journals other) (one_sound_wiring model wired wiring u s) k)
+
+-- accepted texts are refused for want of memory alone
+sound_record : (model journals : List ℕ) (wiring : Tables) (j : Journals) (why : Refusal) → IsSound model wiring
+    → HasTiedJournals wiring journals j
+    → ConvertSays model journals why → IsMemory why
+sound_record model journals wiring j why s i (for_its_model h) = sound_model model wiring why s h
+sound_record model journals wiring j why s i (for_journals wired u k) =
+    sound_journals model wiring journals j why s i (subst (λ (z : Tables). JournalsSay z journals why) (one_sound_wiring model wired wiring u s) k)
+
 -- ---- by what words ask for
 
 made_model_read : (actors : ℕ) → IsRead (made_shelf actors) (made_shelf actors) made_files.model
@@ -359,6 +452,7 @@ CausesOf before after None why = why ≡ refusals.Words
 CausesOf before after (Some (Check name)) why = ModelCauses before after name why
 CausesOf before after (Some (Tree name)) why = ModelCauses before after name why
 CausesOf before after (Some (Run files fuel)) why = RunCauses before after files why
+CausesOf before after (Some (Convert files)) why = ConvertCauses before after files why
 CausesOf before after (Some (Made actors)) why = RunCauses (made_shelf actors) (made_shelf actors) made_files why
 
 causes_of : (before after : Shown) (words : List (List ℕ)) (why : Refusal) → Causes before after words why
@@ -367,6 +461,7 @@ causes_of before after words why (no_such_words e is) = subst (λ (o : Option As
 causes_of before after words why (of_check name e h) = subst (λ (o : Option Asked). CausesOf before after o why) (sym e) h
 causes_of before after words why (of_tree name e h) = subst (λ (o : Option Asked). CausesOf before after o why) (sym e) h
 causes_of before after words why (of_run files fuel e h) = subst (λ (o : Option Asked). CausesOf before after o why) (sym e) h
+causes_of before after words why (of_convert files e h) = subst (λ (o : Option Asked). CausesOf before after o why) (sym e) h
 causes_of before after words why (of_made actors e h) = subst (λ (o : Option Asked). CausesOf before after o why) (sym e) h
 
 once_of : (before after : Shown) (o : Option Asked) (why other : Refusal) → AreRead before after o → CausesOf before after o why
@@ -378,6 +473,8 @@ once_of before after (Some (Tree name)) why other read h k =
     model_once read.text why other (model_says before after name why read h) (model_says before after name other read k)
 once_of before after (Some (Run files fuel)) why other read h k =
     run_once read.0.text read.1.text why other (run_says before after files why read.0 read.1 h) (run_says before after files other read.0 read.1 k)
+once_of before after (Some (Convert files)) why other read h k =
+    convert_once read.0.text read.1.text why other (convert_says before after files why read.0 read.1 h) (convert_says before after files other read.0 read.1 k)
 once_of before after (Some (Made actors)) why other read h k =
     let shelf = made_shelf actors in
     run_once (made_model_read actors).text (made_lines_read actors).text why other
@@ -402,12 +499,21 @@ files_memory before after files why model injections h k =
     (subst (λ (z : List ℕ). IsInjections h.wiring z h.lines) (same_told before files.injections h.text injections.text h.told injections.told) h.injections)
     (run_says before after files why model injections k)
 
+record_memory : (before after : Shown) (files : Record) (why : Refusal) (model : IsRead before after files.model) (journals : IsRead before after files.journals) → HasRecord before files
+    → ConvertCauses before after files why → IsMemory why
+record_memory before after files why model journals h k =
+    sound_record model.text journals.text h.wiring h.read why
+    (subst (λ (z : List ℕ). IsSound z h.wiring) (same_told before files.model h.model.text model.text h.model.told model.told) h.model.sound)
+    (subst (λ (z : List ℕ). HasTiedJournals h.wiring z h.read) (same_told before files.journals h.text journals.text h.told journals.told) h.journals)
+    (convert_says before after files why model journals k)
+
 memory_of : (before after : Shown) (o : Option Asked) (why : Refusal) → AreAccepted before o → AreRead before after o
     → CausesOf before after o why → IsMemory why
 memory_of before after None why h read k = absurd h
 memory_of before after (Some (Check name)) why h read k = model_memory before after name why read h.0 h.1 k
 memory_of before after (Some (Tree name)) why h read k = model_memory before after name why read h.0 h.1 k
 memory_of before after (Some (Run files fuel)) why h read k = files_memory before after files why read.0 read.1 h k
+memory_of before after (Some (Convert files)) why h read k = record_memory before after files why read.0 read.1 h k
 memory_of before after (Some (Made actors)) why h read k =
     files_memory (made_shelf actors) (made_shelf actors) made_files why (made_model_read actors) (made_lines_read actors) h k
 
@@ -428,6 +534,22 @@ files_accepted before after files plant lines model injections h = record {
   injections = told_text before files.injections injections.text (λ t. IsInjections plant.wiring t lines) injections.told h.lines_accepted;
 }
 
+record_accepted : (before after : Shown) (files : Record) (wiring : Tables) (j : Journals) → IsRead before after files.model
+    → IsRead before after files.journals
+    → AreRecorded before files wiring j → HasRecord before files
+record_accepted before after files wiring j model journals h = record {
+  wiring = wiring;
+  read = j;
+  model = record {
+    text = model.text;
+    told = model.told;
+    sound = told_text before files.model model.text (λ t. IsSound t wiring) model.told h.model_accepted;
+  };
+  text = journals.text;
+  told = journals.told;
+  journals = told_text before files.journals journals.text (λ t. HasTiedJournals wiring t j) journals.told h.journals_accepted;
+}
+
 accepted_of : (before after : Shown) (words : List (List ℕ)) (text : List ℕ) (status : Status) → AreRead before after (asked_by words)
     → Answers before words text status
     → AreAccepted before (asked_by words)
@@ -441,19 +563,24 @@ accepted_of before after words text status read (says_tree name wiring e h is en
 accepted_of before after words text status read (says_run files fuel plant lines j e h is ends) =
     let r : IsRead before after files.model × IsRead before after files.injections = subst (AreRead before after) e read in
     subst (AreAccepted before) (sym e) (files_accepted before after files plant lines r.0 r.1 h.texts)
+accepted_of before after words text status read (says_converted files wiring j e h is ends) =
+    let r : IsRead before after files.model × IsRead before after files.journals = subst (AreRead before after) e read in
+    subst (AreAccepted before) (sym e) (record_accepted before after files wiring j r.0 r.1 h)
 accepted_of before after words text status read (says_made actors plant lines j e h is ends) =
     subst (AreAccepted before) (sym e)
     (files_accepted (made_shelf actors) (made_shelf actors) made_files plant lines (made_model_read actors) (made_lines_read actors) h.texts)
 
--- ---- a model has one answer
+-- ---- what asks for no run has one answer
 
--- what is answered about a model
+-- what is answered where no run is asked for
 abbrev AnswerIs : Shown → Option Asked → List ℕ → Status → Type 0
 AnswerIs shelf None text status = Unit {0}
 AnswerIs shelf (Some (Check name)) text status = (text ≡ accepted) × (status ≡ statuses.Done)
 AnswerIs shelf (Some (Tree name)) text status =
     (wiring : Tables) × TextIs shelf name (λ t. IsSound t wiring) × (text ≡ tree_text wiring) × (status ≡ statuses.Done)
 AnswerIs shelf (Some (Run files fuel)) text status = Unit {0}
+AnswerIs shelf (Some (Convert files)) text status =
+    (wiring : Tables) × (j : Journals) × AreRecorded shelf files wiring j × (text ≡ tied_text_of wiring j) × (status ≡ statuses.Done)
 AnswerIs shelf (Some (Made actors)) text status = Unit {0}
 
 answer_is : (shelf : Shown) (words : List (List ℕ)) (text : List ℕ) (status : Status) → Answers shelf words text status
@@ -463,10 +590,24 @@ answer_is shelf words text status (says_tree name wiring e h is ends) =
     subst (λ (o : Option Asked). AnswerIs shelf o text status) (sym e) (wiring, h, is, ends)
 answer_is shelf words text status (says_run files fuel plant lines j e h is ends) =
     subst (λ (o : Option Asked). AnswerIs shelf o text status) (sym e) tt
+answer_is shelf words text status (says_converted files wiring j e h is ends) =
+    subst (λ (o : Option Asked). AnswerIs shelf o text status) (sym e) (wiring, j, h, is, ends)
 answer_is shelf words text status (says_made actors plant lines j e h is ends) =
     subst (λ (o : Option Asked). AnswerIs shelf o text status) (sym e) tt
 
-same_answer : (before after : Shown) (o : Option Asked) (text other : List ℕ) (status also : Status) → IsOfModel o → AreRead before after o
+-- the journals of a text over the wiring of a model
+same_record : (before after : Shown) (files : Record) (a b : Tables) (i j : Journals) → IsRead before after files.model → IsRead before after files.journals
+    → AreRecorded before files a i → AreRecorded before files b j → tied_text_of a i ≡ tied_text_of b j
+same_record before after files a b i j model journals h k =
+    let sound = told_text before files.model model.text (λ t. IsSound t a) model.told h.model_accepted in
+    let also = told_text before files.model model.text (λ t. IsSound t b) model.told k.model_accepted in
+    let wired : b ≡ a = one_sound_wiring model.text b a also sound in
+    let left = told_text before files.journals journals.text (λ t. HasTiedJournals a t i) journals.told h.journals_accepted in
+    let right : HasTiedJournals a journals.text j =
+    subst (λ (z : Tables). HasTiedJournals z journals.text j) wired (told_text before files.journals journals.text (λ t. HasTiedJournals b t j) journals.told k.journals_accepted) in
+    ap (tied_text_of a) (one_read model.text a journals.text i j sound left.has right.has) ∙ ap (λ (z : Tables). tied_text_of z j) (sym wired)
+
+same_answer : (before after : Shown) (o : Option Asked) (text other : List ℕ) (status also : Status) → AskForNoRun o → AreRead before after o
     → AnswerIs before o text status → AnswerIs before o other also → (text ≡ other) × (status ≡ also)
 same_answer before after None text other status also model read h k = absurd model
 same_answer before after (Some (Check name)) text other status also model read h k = (h.0 ∙ sym k.0, h.1 ∙ sym k.1)
@@ -475,6 +616,8 @@ same_answer before after (Some (Tree name)) text other status also model read h 
     let b = told_text before name read.text (λ t. IsSound t k.0) read.told k.1 in
     (h.2 ∙ ap tree_text (one_sound_wiring read.text h.0 k.0 a b) ∙ sym k.2, h.3 ∙ sym k.3)
 same_answer before after (Some (Run files fuel)) text other status also model read h k = absurd model
+same_answer before after (Some (Convert files)) text other status also model read h k =
+    (h.3 ∙ same_record before after files h.0 k.0 h.1 k.1 read.0 read.1 h.2 k.2 ∙ sym k.3, h.4 ∙ sym k.4)
 same_answer before after (Some (Made actors)) text other status also model read h k = absurd model
 
 pub calls_have_one_answer : CallsHaveOneAnswer
@@ -496,6 +639,7 @@ answer_ends : (shelf : Shown) (words : List (List ℕ)) (text : List ℕ) (statu
 answer_ends shelf words text status (says_ok name e h is ends) = inl ends
 answer_ends shelf words text status (says_tree name wiring e h is ends) = inl ends
 answer_ends shelf words text status (says_run files fuel plant lines j e h is ends) = run_ends j.done status ends
+answer_ends shelf words text status (says_converted files wiring j e h is ends) = inl ends
 answer_ends shelf words text status (says_made actors plant lines j e h is ends) = run_ends j.done status ends
 
 pub accepted_calls_end : AcceptedCallsEnd

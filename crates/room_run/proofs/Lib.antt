@@ -1,8 +1,10 @@
 pub mod Names
 pub mod OneCut
+pub mod JournalLaws
 pub mod AnswerLaws
 pub mod settled
 pub mod JudgeLemmas
 pub mod CauseLemmas
+pub mod ConvertLemmas
 pub mod OutcomeLemmas
 pub mod MadeLemmas

@@ -3,7 +3,7 @@ use Rattle.std.proofs.Common.{◌≡◌, ℕ, true, List, Option, Some, None, If
 use Rattle.room_outside.specs.Shown.{Shown}
 use Rattle.room_outside.specs.Written.{Written}
 use Rattle.room_outside.proofs.SinkLemmas.{Appends-none}
-use Rattle.journal.specs.Text.{text_of}
+use Rattle.tied_journals.specs.Text.{tied_text_of}
 use Rattle.inject_reader.specs.Fitting.{FitLines}
 use Rattle.inject_reader.specs.declared.inject_lines.accepted.Line.{Line}
 use Rattle.controller_actors.specs.declared.plant.Plant.{Plant}
@@ -29,13 +29,13 @@ use Rattle.room_run.specs.Models.{IsModel, IsSoundText}
 use Rattle.room_run.specs.Causes.{AreOf, Causes, IsInjections}
 use Rattle.room_run.specs.Finished.{Finishes, Summarizes}
 use Rattle.room_run.specs.Outcome.{Answers, says_made, IsByCharts, IsRunOfFiles, status_of_run, Outcome, Prints, written, cut, Tells, told, broken, whole, cut_short, refused, refused_unheard}
-use Rattle.room_run.specs.declared.prepare.Finished.{Finished}
+use Rattle.room_run.specs.declared.prepare.Recorded.{Recorded}
 use Rattle.room_run.specs.declared.refusal.Refusal.{Refusal}
 use Rattle.room_run.specs.declared.status.Status.{Status}
 
 -- the text of a run's journals
-pub text_is : (p : Plant) (lines : List Line) (fuel : ℕ) (f : Finished) → Finishes p lines fuel f → text_of f.wiring f.journals ≡ text_of p.wiring f.journals
-text_is p lines fuel f h = ap (λ w. text_of w f.journals) h.wiring
+pub text_is : (p : Plant) (lines : List Line) (fuel : ℕ) (f : Recorded) → Finishes p lines fuel f → tied_text_of f.wiring f.journals ≡ tied_text_of p.wiring f.journals
+text_is p lines fuel f h = ap (λ w. tied_text_of w f.journals) h.wiring
 
 -- a run of a plant is one of its model's charts
 by_model : (o : Option (List ℕ)) (p : Plant) (lines : List Line) (fuel : ℕ) (j : Journals) → IfSome o (λ text. IsModel text p) → IsRun p lines fuel j

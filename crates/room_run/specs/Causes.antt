@@ -1,12 +1,14 @@
 -- Which texts run, and why a call is refused.
 -- The causes stand in the order in which things are looked at, and each is a fact: that the words
 -- ask for nothing; that the count of read faults of a named file rose; that a text is too long;
--- what its tokens or its tree lack; that a line of the injections is faulty. Want of memory may
--- come wherever the words ask for something.
+-- what its tokens or its tree lack; that a line of the injections is faulty; that no journals have a
+-- text, or untied ones. Want of memory may come wherever the words ask for something.
 use Rattle.std.specs.Prelude.{◌≡◌, ℕ, ◌<◌, ◌≤◌, List, ◌∷◌, [], length, Some, None, IfSome, Ok, Err, codes, decimal}
 use Rattle.room_outside.specs.Faults.{Rose}
 use Rattle.room_outside.specs.Shown.{Shown}
 use Rattle.room_outside.specs.line_text.Lines.{line}
+use Rattle.room_kinds.specs.declared.numbers.ControllerId.{ControllerId}
+use Rattle.room_kinds.specs.declared.numbers.Stamp.{Stamp}
 use Rattle.room_wiring.specs.declared.tables.Tables.{Tables}
 use Rattle.controller_actors.specs.declared.plant.Plant.{Plant}
 use Rattle.inject_reader.specs.Fitting.{FitLines}
@@ -14,9 +16,12 @@ use Rattle.inject_reader.specs.declared.inject_lines.accepted.Line.{Line}
 use Rattle.inject_reader.specs.Answer.{answer}
 use Rattle.inject_reader.specs.declared.fault.InjectFault.{InjectFault}
 use Rattle.inject_reader.specs.declared.fault.InjectFault.TheVariants as inject_faults
-use Rattle.room_run.specs.Words.{Files, Check, Tree, Run, Made, asked_by}
+use Rattle.journal_reader.specs.declared.fault.ReadFaultOf.{ReadFaultOf}
+use Rattle.journal_reader.specs.declared.fault.ReadFaultOf.TheVariants as journal_faults
+use Rattle.room_run.specs.Words.{Files, Record, Check, Tree, Run, Convert, Made, asked_by}
 use Rattle.room_run.specs.MadeShelf.{made_files, made_shelf}
-use Rattle.room_run.specs.Models.{IsModel, SoundCauses, most_bytes}
+use Rattle.room_run.specs.Models.{IsModel, IsSound, SoundCauses, most_bytes}
+use Rattle.room_run.specs.Conversions.{most_journal_bytes, HasNoJournals, HasUntiedJournals}
 use Rattle.room_run.specs.declared.model_fault.ModelFault.{ModelFault}
 use Rattle.room_run.specs.declared.model_fault.ModelFault.TheVariants as faults
 use Rattle.room_run.specs.declared.refusal.Refusal.{Refusal}
@@ -83,6 +88,30 @@ pub data RunCauses (before after : Shown) (files : Files) (why : Refusal) : Type
   of_injections : (plant : Plant) → TextIs before files.model (λ text. IsModel text plant) → InjectionsCauses before after files.injections plant.wiring why → RunCauses before after files why
   run_no_memory : why ≡ refusals.Memory → RunCauses before after files why
 
+-- why journals are refused whose text can't be read
+abbrev pub refusal_of_journals : ReadFaultOf → Refusal
+refusal_of_journals (journal_faults.Malformed offset) = refusals.JournalsMalformed offset
+refusal_of_journals journal_faults.Memory = refusals.Memory
+
+-- why a text of journals may be refused, over the names of a wiring
+pub data RecordedCauses (wiring : Tables) (text : List ℕ) : Refusal → Type 0 where
+  malformed : (offset : ℕ) → HasNoJournals wiring text → RecordedCauses wiring text (refusals.JournalsMalformed offset)
+  untied : (controller : ControllerId) (stamp : Stamp) → HasUntiedJournals wiring text controller stamp → RecordedCauses wiring text (refusals.JournalsUntied controller stamp)
+  no_memory_for_journals : RecordedCauses wiring text refusals.Memory
+
+-- why journals may be refused, whose text is looked for under a name
+pub data JournalsCauses (before after : Shown) (name : List ℕ) (wiring : Tables) (why : Refusal) : Type 0 where
+  journals_unread : RoseAt before after name → why ≡ refusals.ReadFault → JournalsCauses before after name wiring why
+  journals_long : TextIs before name (λ text. most_journal_bytes < length text) → why ≡ refusals.JournalsTooLong → JournalsCauses before after name wiring why
+  journals_refused : TextIs before name (λ text. RecordedCauses wiring text why) → JournalsCauses before after name wiring why
+  journals_no_memory : why ≡ refusals.Memory → JournalsCauses before after name wiring why
+
+-- Why journals of a model may not be written in form 2. The order is: reading the model, the model, reading the
+-- journals, the journals.
+pub data ConvertCauses (before after : Shown) (files : Record) (why : Refusal) : Type 0 where
+  of_its_model : ModelCauses before after files.model why → ConvertCauses before after files why
+  of_journals : (wiring : Tables) → TextIs before files.model (λ text. IsSound text wiring) → JournalsCauses before after files.journals wiring why → ConvertCauses before after files why
+
 -- why a text that stands in memory may be refused as that of a model which runs
 pub data PlantCauses (text : List ℕ) : Refusal → Type 0 where
   long_model : most_bytes < length text → PlantCauses text refusals.ModelTooLong
@@ -99,6 +128,7 @@ pub data Causes (before after : Shown) (words : List (List ℕ)) (why : Refusal)
   of_check : (name : List ℕ) → asked_by words ≡ Some (Check name) → ModelCauses before after name why → Causes before after words why
   of_tree : (name : List ℕ) → asked_by words ≡ Some (Tree name) → ModelCauses before after name why → Causes before after words why
   of_run : (files : Files) (fuel : ℕ) → asked_by words ≡ Some (Run files fuel) → RunCauses before after files why → Causes before after words why
+  of_convert : (files : Record) → asked_by words ≡ Some (Convert files) → ConvertCauses before after files why → Causes before after words why
   of_made : (actors : ℕ) → asked_by words ≡ Some (Made actors) → RunCauses (made_shelf actors) (made_shelf actors) made_files why → Causes before after words why
 
 -- the status of a refusal of a model's text
@@ -117,6 +147,9 @@ status_of refusals.ModelTooLong = statuses.ModelRefused
 status_of (refusals.Model fault) = status_of_fault fault
 status_of refusals.InjectionsTooLong = statuses.InjectionsRefused
 status_of (refusals.InjectionsLine number code) = statuses.InjectionsRefused
+status_of refusals.JournalsTooLong = statuses.JournalsRefused
+status_of (refusals.JournalsMalformed offset) = statuses.JournalsRefused
+status_of (refusals.JournalsUntied controller stamp) = statuses.JournalsRefused
 status_of refusals.ReadFault = statuses.ReadFault
 status_of refusals.Memory = statuses.Memory
 
@@ -136,5 +169,9 @@ note_of refusals.ModelTooLong = line (codes "room: model refused: too long" ∷ 
 note_of (refusals.Model fault) = note_of_fault fault
 note_of refusals.InjectionsTooLong = line (codes "room: injections refused: too long" ∷ [])
 note_of (refusals.InjectionsLine number code) = line (codes "room: injections refused: line " ∷ decimal number ∷ codes " " ∷ decimal code ∷ [])
+note_of refusals.JournalsTooLong = line (codes "room: journals refused: too long" ∷ [])
+note_of (refusals.JournalsMalformed offset) = line (codes "room: journals refused: malformed " ∷ decimal offset ∷ [])
+note_of (refusals.JournalsUntied controller stamp) =
+    line (codes "room: journals refused: untied " ∷ decimal controller.0 ∷ codes " " ∷ decimal stamp.0 ∷ [])
 note_of refusals.ReadFault = line (codes "room: read fault" ∷ [])
 note_of refusals.Memory = line (codes "room: memory" ∷ [])

@@ -9,10 +9,10 @@ use Rattle.model_run.specs.run_ends.Runs.{IsRun}
 use Rattle.room_run.specs.Words.{usual_fuel}
 use Rattle.room_run.specs.MadeShelf.{made_files, made_shelf}
 use Rattle.room_run.specs.Causes.{AreOf}
-use Rattle.room_run.specs.declared.prepare.Finished.{Finished}
+use Rattle.room_run.specs.declared.prepare.Recorded.{Recorded}
 
 -- it is a run of this plant over these lines with so much fuel, under the names of the plant's wiring
-pub record Finishes (plant : Plant) (lines : List Line) (fuel : ℕ) (f : Finished) : Type 0 where
+pub record Finishes (plant : Plant) (lines : List Line) (fuel : ℕ) (f : Recorded) : Type 0 where
   pub wiring : f.wiring ≡ plant.wiring
   pub run : IsRun plant lines fuel f.journals
 

@@ -2,6 +2,7 @@ pub mod Words
 pub mod Statuses
 pub mod Models
 pub mod Reading
+pub mod Conversions
 pub mod Causes
 pub mod Fitting
 pub mod Outcome
@@ -11,3 +12,4 @@ pub mod MadeShelf
 pub mod model_plants
 pub mod Agreement
 pub mod fitting_plants
+pub mod fitting_journals

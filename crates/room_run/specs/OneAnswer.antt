@@ -7,9 +7,11 @@ use Rattle.room_outside.specs.Shown.{Shown}
 use Rattle.room_outside.specs.Faults.{Rose}
 use Rattle.room_wiring.specs.declared.tables.Tables.{Tables}
 use Rattle.inject_reader.specs.declared.inject_lines.accepted.Line.{Line}
-use Rattle.room_run.specs.Words.{Files, Asked, Check, Tree, Run, Made, asked_by}
+use Rattle.journal.specs.declared.entry.Journals.{Journals}
+use Rattle.room_run.specs.Words.{Files, Record, Asked, Check, Tree, Run, Convert, Made, asked_by}
 use Rattle.room_run.specs.MadeShelf.{made_files, made_shelf}
 use Rattle.room_run.specs.Models.{IsSound}
+use Rattle.room_run.specs.Conversions.{HasTiedJournals}
 use Rattle.room_run.specs.Causes.{IsInjections, RoseAt, Causes, status_of}
 use Rattle.room_run.specs.Outcome.{Answers, Streams, Outcome}
 use Rattle.room_run.specs.declared.model_fault.ModelFault.TheVariants as faults
@@ -30,6 +32,7 @@ AreRead before after None = Unit {0}
 AreRead before after (Some (Check name)) = IsRead before after name
 AreRead before after (Some (Tree name)) = IsRead before after name
 AreRead before after (Some (Run files fuel)) = IsRead before after files.model × IsRead before after files.injections
+AreRead before after (Some (Convert files)) = IsRead before after files.model × IsRead before after files.journals
 AreRead before after (Some (Made actors)) = Unit {0}
 
 -- want of memory
@@ -40,25 +43,30 @@ IsMemory why = status_of why ≡ statuses.Memory
 abbrev pub IsSyntax : Refusal → Type 0
 IsSyntax why = (line : ℕ) × (why ≡ refusals.Model (faults.Syntax line))
 
--- two refusals are one, but for the line of a text that has no tree
+-- no journals have a text; nothing is said of the offset that is told
+abbrev pub IsMalformed : Refusal → Type 0
+IsMalformed why = (offset : ℕ) × (why ≡ refusals.JournalsMalformed offset)
+
+-- two refusals are one, but for the line of a text that has no tree, and the offset in one that has no journals
 abbrev pub SameRefusal : Refusal → Refusal → Type 0
-SameRefusal why other = (why ≡ other) ⊎ (IsSyntax why × IsSyntax other)
+SameRefusal why other = (why ≡ other) ⊎ ((IsSyntax why × IsSyntax other) ⊎ (IsMalformed why × IsMalformed other))
 
--- the words ask about a model and for no run
-abbrev pub IsOfModel : Option Asked → Type 0
-IsOfModel None = ⊥
-IsOfModel (Some (Check name)) = Unit {0}
-IsOfModel (Some (Tree name)) = Unit {0}
-IsOfModel (Some (Run files fuel)) = ⊥
-IsOfModel (Some (Made actors)) = ⊥
+-- the words ask for something, and for no run
+abbrev pub AskForNoRun : Option Asked → Type 0
+AskForNoRun None = ⊥
+AskForNoRun (Some (Check name)) = Unit {0}
+AskForNoRun (Some (Tree name)) = Unit {0}
+AskForNoRun (Some (Run files fuel)) = ⊥
+AskForNoRun (Some (Convert files)) = Unit {0}
+AskForNoRun (Some (Made actors)) = ⊥
 
--- besides want of memory at most one refusal holds of these words, and none where they have an answer; and `check` and
--- `tree` have one answer, with one text
+-- besides want of memory at most one refusal holds of these words, and none where they have an answer; and `check`,
+-- `tree` and `convert` have one answer, with one text
 pub record HasOneAnswer (before after : Shown) (words : List (List ℕ)) : Type 0 where
   pub refused_once : (why other : Refusal) → Causes before after words why → Causes before after words other
       → IsMemory why ⊎ (IsMemory other ⊎ SameRefusal why other)
   pub answered : (why : Refusal) (text : List ℕ) (status : Status) → Causes before after words why → Answers before words text status → IsMemory why
-  pub answered_once : IsOfModel (asked_by words) → (text other : List ℕ) (status also : Status) → Answers before words text status
+  pub answered_once : AskForNoRun (asked_by words) → (text other : List ℕ) (status also : Status) → Answers before words text status
       → Answers before words other also → (text ≡ other) × (status ≡ also)
 
 -- over every shelf that tells the texts that the words name, where no read of them failed
@@ -80,12 +88,22 @@ pub record HasFiles (shelf : Shown) (files : Files) : Type 0 where
   pub told : shelf.text files.injections ≡ Some text
   pub injections : IsInjections wiring text lines
 
+-- the texts of two files are those of such a model, and of tied journals over its names
+pub record HasRecord (shelf : Shown) (files : Record) : Type 0 where
+  pub wiring : Tables
+  pub read : Journals
+  pub model : HasModel shelf files.model wiring
+  pub text : List ℕ
+  pub told : shelf.text files.journals ≡ Some text
+  pub journals : HasTiedJournals wiring text read
+
 -- the words ask for something, and the texts that they name are accepted
 abbrev pub AreAccepted : Shown → Option Asked → Type 0
 AreAccepted shelf None = ⊥
 AreAccepted shelf (Some (Check name)) = (wiring : Tables) × HasModel shelf name wiring
 AreAccepted shelf (Some (Tree name)) = (wiring : Tables) × HasModel shelf name wiring
 AreAccepted shelf (Some (Run files fuel)) = HasFiles shelf files
+AreAccepted shelf (Some (Convert files)) = HasRecord shelf files
 AreAccepted shelf (Some (Made actors)) = HasFiles (made_shelf actors) made_files
 
 -- no write failed in the call

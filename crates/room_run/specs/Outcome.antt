@@ -6,12 +6,12 @@
 -- spoken of over every shelf and sink.
 -- The answer is `ok` of a model that keeps all rules and whose wiring and charts have no fault,
 -- the text of its wiring, the text of journals that are a run of the model over the lines, or the
--- summary of such journals of a made model, with status done or spent as the run ended.
+-- summary of such journals of a made model, with status done or spent as the run ended; or the text of
+-- journals that a text of them has. The text of journals is that of form 2, wherever one is written.
 use Rattle.std.specs.Prelude.{◌≡◌, ℕ, List, [], ◌∷◌, Bool, true, Option, Some, codes, if◌then◌else◌}
 use Rattle.room_outside.specs.Shown.{Shown}
 use Rattle.room_outside.specs.Written.{Written, Appends, BreaksOff}
 use Rattle.room_outside.specs.line_text.Lines.{line}
-use Rattle.journal.specs.Text.{text_of}
 use Rattle.journal.specs.declared.entry.Journals.{Journals}
 use Rattle.inject_reader.specs.declared.inject_lines.accepted.Line.{Line}
 use Rattle.controller_actors.specs.declared.plant.Plant.{Plant}
@@ -25,11 +25,13 @@ use Rattle.room_run.specs.Agreement.{AllAgree}
 use Rattle.room_wiring.specs.declared.tables.Tables.{Tables}
 use Rattle.binding_expand.specs.tree_text.Text.{tree_text}
 use Rattle.made_model.specs.Summaries.{summary_of, summary_text}
-use Rattle.room_run.specs.Words.{Files, Check, Tree, Run, Made, asked_by, usual_fuel}
+use Rattle.room_run.specs.Words.{Files, Record, Check, Tree, Run, Convert, Made, asked_by, usual_fuel}
 use Rattle.room_run.specs.MadeShelf.{made_files, made_shelf}
 use Rattle.run_promises.specs.run_journals.InPlace.{AreInPlace}
 use Rattle.tied_journals.specs.Tied.{Tied}
+use Rattle.tied_journals.specs.Text.{tied_text_of}
 use Rattle.room_run.specs.Models.{IsSound, IsSoundText}
+use Rattle.room_run.specs.Conversions.{HasTiedJournals}
 use Rattle.room_run.specs.Causes.{Causes, AreOf, TextIs, status_of, note_of}
 use Rattle.room_run.specs.Fitting.{SettlesWhenTold}
 use Rattle.room_run.specs.declared.prepare.Answer.{Answer}
@@ -73,16 +75,23 @@ pub record IsRunOfFiles (shelf : Shown) (files : Files) (fuel : ℕ) (plant : Pl
   pub in_place : AreInPlace plant.wiring journals
   pub tied : Tied journals
 
+-- the texts of two files are those of a model without a fault, with this wiring, and, over its names, of these journals, which are tied
+pub record AreRecorded (shelf : Shown) (files : Record) (wiring : Tables) (journals : Journals) : Type 0 where
+  pub model_accepted : TextIs shelf files.model (λ text. IsSound text wiring)
+  pub journals_accepted : TextIs shelf files.journals (λ text. HasTiedJournals wiring text journals)
+
 -- how a run ended: done, or by its fuel
 abbrev pub status_of_run : Bool → Status
 status_of_run done = if done then statuses.Done else statuses.Spent
 
--- THE HEADLINE. What the words ask for, as a text with the status of a call that writes it whole: `ok` of a model that keeps all rules and whose wiring and charts have no fault; the slots and joined places of such a model; the text of the journals of a run of the model over the lines (`IsRunOfFiles`); or the summary of the journals of a run of the made model of so many actors over its injections, of which all is said that is said of the run of two files with these texts.
+-- THE HEADLINE. What the words ask for, as a text with the status of a call that writes it whole: `ok` of a model that keeps all rules and whose wiring and charts have no fault; the slots and joined places of such a model; the text of the journals of a run of the model over the lines (`IsRunOfFiles`); the text of the journals of which a text of journals is; or the summary of the journals of a run of the made model of so many actors over its injections, of which all is said that is said of the run of two files with these texts.
 pub data Answers (shelf : Shown) (words : List (List ℕ)) (text : List ℕ) (status : Status) : Type 0 where
   says_ok : (name : List ℕ) → asked_by words ≡ Some (Check name) → TextIs shelf name (λ bytes. (wiring : Tables) × IsSound bytes wiring) → text ≡ accepted → status ≡ statuses.Done → Answers shelf words text status
   says_tree : (name : List ℕ) (wiring : Tables) → asked_by words ≡ Some (Tree name) → TextIs shelf name (λ bytes. IsSound bytes wiring) → text ≡ tree_text wiring → status ≡ statuses.Done → Answers shelf words text status
   says_run : (files : Files) (fuel : ℕ) (plant : Plant) (lines : List Line) (journals : Journals) → asked_by words ≡ Some (Run files fuel) → IsRunOfFiles shelf files fuel plant lines journals
-      → text ≡ text_of plant.wiring journals → status ≡ status_of_run journals.done → Answers shelf words text status
+      → text ≡ tied_text_of plant.wiring journals → status ≡ status_of_run journals.done → Answers shelf words text status
+  says_converted : (files : Record) (wiring : Tables) (journals : Journals) → asked_by words ≡ Some (Convert files) → AreRecorded shelf files wiring journals
+      → text ≡ tied_text_of wiring journals → status ≡ statuses.Done → Answers shelf words text status
   says_made : (actors : ℕ) (plant : Plant) (lines : List Line) (journals : Journals) → asked_by words ≡ Some (Made actors) → IsRunOfFiles (made_shelf actors) made_files usual_fuel plant lines journals
       → text ≡ summary_text (summary_of actors journals) → status ≡ status_of_run journals.done → Answers shelf words text status
 
@@ -90,14 +99,24 @@ pub data Answers (shelf : Shown) (words : List (List ℕ)) (text : List ℕ) (st
 abbrev pub answer_text : Answer → List ℕ
 answer_text answers.Accepted = accepted
 answer_text (answers.Wired wiring) = tree_text wiring
-answer_text (answers.Ran run) = text_of run.wiring run.journals
+answer_text (answers.Ran run) = tied_text_of run.wiring run.journals
+answer_text (answers.Converted read) = tied_text_of read.wiring read.journals
 answer_text (answers.Summed summary) = summary_text summary
+
+-- journals that are to be written are tied
+abbrev pub HasTied : Answer → Type 0
+HasTied answers.Accepted = Unit {0}
+HasTied (answers.Wired wiring) = Unit {0}
+HasTied (answers.Ran run) = Tied run.journals
+HasTied (answers.Converted read) = Tied read.journals
+HasTied (answers.Summed summary) = Unit {0}
 
 -- the status where that text is written whole
 abbrev pub answer_status : Answer → Status
 answer_status answers.Accepted = statuses.Done
 answer_status (answers.Wired wiring) = statuses.Done
 answer_status (answers.Ran run) = status_of_run run.journals.done
+answer_status (answers.Converted read) = statuses.Done
 answer_status (answers.Summed summary) = status_of_run summary.done
 
 -- a text was written, which has this status, or writing it broke off

@@ -5,17 +5,24 @@ use Rattle.text_reading.specs.Numerals.{are_digits, value_of}
 use Rattle.room_run.specs.declared.asked.Asked.{Asked as CodeAsked}
 use Rattle.room_run.specs.declared.asked.Asked.TheVariants as code
 use Rattle.room_run.specs.declared.asked.Files.{Files as CodeFiles}
+use Rattle.room_run.specs.declared.asked.Record.{Record as CodeRecord}
 
 -- the names of the two files of a run
 pub record Files : Type 0 where
   pub model : List ℕ
   pub injections : List ℕ
 
+-- the names of the files of a model and of journals
+pub record Record : Type 0 where
+  pub model : List ℕ
+  pub journals : List ℕ
+
 -- what is asked for, of the files of these names, or of a made model of so many actors
 pub data Asked : Type 0 where
   Check : (model : List ℕ) → Asked
   Tree : (model : List ℕ) → Asked
   Run : (files : Files) (fuel : ℕ) → Asked
+  Convert : (files : Record) → Asked
   Made : (actors : ℕ) → Asked
 
 -- whether a word is this one
@@ -55,19 +62,26 @@ asked_of command word =
 abbrev pub run_asked : List ℕ → List ℕ → ℕ → Asked
 run_asked model injections fuel = Run (record { model = model; injections = injections }) fuel
 
+-- the text in form 2 of the journals of these files
+abbrev pub convert_asked : List ℕ → List ℕ → Asked
+convert_asked model journals = Convert (record { model = model; journals = journals })
+
 -- what three words ask for
 abbrev pub asked_of_files : List ℕ → List ℕ → List ℕ → Option Asked
-asked_of_files command model injections = if is_word command (codes "run") then Some (run_asked model injections usual_fuel) else None
+asked_of_files command model second =
+    if is_word command (codes "run") then Some (run_asked model second usual_fuel)
+    else if is_word command (codes "convert") then Some (convert_asked model second)
+    else None
 
 -- what five words ask for
 abbrev pub asked_with : List ℕ → List ℕ → List ℕ → List ℕ → List ℕ → Option Asked
 asked_with command model injections flag fuel =
     if is_word command (codes "run") && is_word flag (codes "--fuel") then option_map (run_asked model injections) (fuel_of fuel) else None
 
--- `check MODEL` asks whether a model keeps all rules and its wiring and charts have no fault, `tree MODEL` for its slots and joined places, `run MODEL INJECT` for the run of a model over injections with the usual fuel, `run MODEL INJECT --fuel N` for the same with this one, and `made N` for the summary of the run of a made model of N actors; no other list of words asks for anything
+-- `check MODEL` asks whether a model keeps all rules and its wiring and charts have no fault, `tree MODEL` for its slots and joined places, `run MODEL INJECT` for the run of a model over injections with the usual fuel, `run MODEL INJECT --fuel N` for the same with this one, `convert MODEL JOURNALS` for journals of a model in form 2, and `made N` for the summary of the run of a made model of N actors; no other list of words asks for anything
 abbrev pub asked_by : List (List ℕ) → Option Asked
 asked_by (command ∷ word ∷ []) = asked_of command word
-asked_by (command ∷ model ∷ injections ∷ []) = asked_of_files command model injections
+asked_by (command ∷ model ∷ second ∷ []) = asked_of_files command model second
 asked_by (command ∷ model ∷ injections ∷ flag ∷ fuel ∷ []) = asked_with command model injections flag fuel
 asked_by words = None
 
@@ -75,8 +89,12 @@ asked_by words = None
 abbrev pub files_view : CodeFiles → Files
 files_view files = record { model = files.model.now; injections = files.injections.now }
 
+abbrev pub record_view : CodeRecord → Record
+record_view files = record { model = files.model.now; journals = files.journals.now }
+
 abbrev pub asked_view : CodeAsked → Asked
 asked_view (code.Check name) = Check name.now
 asked_view (code.Tree name) = Tree name.now
 asked_view (code.Run files fuel) = Run (files_view files) fuel
+asked_view (code.Convert files) = Convert (record_view files)
 asked_view (code.Made actors) = Made actors

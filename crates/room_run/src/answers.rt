@@ -1,6 +1,7 @@
 //! That a call has one answer: the laws of what a call answers.
 //!
 //! No code: the laws.
+ghost use Rattle.room_run.specs.Conversions.{ConversionsKeepJournals};
 ghost use Rattle.room_run.specs.OneAnswer.{AcceptedCallsEnd, CallsHaveOneAnswer};
 
 /// Of the words and the texts that they name at most one refusal holds besides want of memory, and none
@@ -13,4 +14,10 @@ pub fn one_answer()
 /// memory, where no read of a named file and no write failed.
 pub fn accepted_calls_end()
     ensures { AcceptedCallsEnd }
+{}
+
+/// What is written of journals that were read, in form 2, is the text of these journals and of no others, so
+/// who reads it gets them again.
+pub fn conversions_keep_journals()
+    ensures { ConversionsKeepJournals }
 {}

@@ -1,7 +1,7 @@
 //! What the words of a call ask for.
 ghost use Rattle.std.specs.Prelude.{◌≡◌, option_map, map};
 ghost use Rattle.std.specs.String.{string_bytes};
-ghost use Rattle.room_run.specs.Words.{Made, Run, actors_of, asked_by, asked_of, asked_of_files, asked_view, asked_with, files_view, fuel_of, number_in, number_of};
+ghost use Rattle.room_run.specs.Words.{Made, Run, actors_of, asked_by, asked_of, asked_of_files, asked_view, asked_with, files_view, fuel_of, number_in, number_of, record_view};
 
 use text_reading::{are_digits, value};
 
@@ -21,6 +21,13 @@ pub(crate) struct Files<'a> {
     pub(crate) injections: &'a str,
 }
 
+/// A model, and journals of its runs.
+#[derive(Clone, Copy)]
+pub(crate) struct Record<'a> {
+    pub(crate) model: &'a str,
+    pub(crate) journals: &'a str,
+}
+
 /// What is asked for.
 #[derive(Clone, Copy)]
 pub(crate) enum Asked<'a> {
@@ -30,6 +37,8 @@ pub(crate) enum Asked<'a> {
     Tree(&'a str),
     /// The run of a model over injections, in which each controller takes so many turns at most.
     Run(Files<'a>, u64),
+    /// The text in form 2 of the journals of these files.
+    Convert(Record<'a>),
     /// The summary of the run of the made model of so many actors.
     Made(u64),
 }
@@ -73,6 +82,16 @@ fn files_of<'a>(model: &'a String, injections: &'a String) -> Files<'a>
     }
 }
 
+/// A model and journals under these names.
+fn record_of<'a>(model: &'a String, journals: &'a String) -> Record<'a>
+    ensures { record_view result ≡ record { model = string_bytes model.now; journals = string_bytes journals.now } }
+{
+    Record {
+        model: model.as_str(),
+        journals: journals.as_str(),
+    }
+}
+
 /// A run with the fuel that a word names.
 fn run_with<'a>(files: Files<'a>, word: &[u8]) -> Option<Asked<'a>>
     ensures { option_map asked_view result ≡ option_map (Run (files_view files.entry)) (fuel_of word.now) }
@@ -109,11 +128,13 @@ fn asked_of<'a>(command: &str, word: &'a str) -> Option<Asked<'a>>
 }
 
 /// What three words ask for.
-fn asked_of_files<'a>(command: &str, files: Files<'a>) -> Option<Asked<'a>>
-    ensures { option_map asked_view result ≡ asked_of_files command.now files.entry.model.now files.entry.injections.now }
+fn asked_of_files<'a>(command: &str, model: &'a String, second: &'a String) -> Option<Asked<'a>>
+    ensures { option_map asked_view result ≡ asked_of_files command.now (string_bytes model.now) (string_bytes second.now) }
 {
     if command == "run" {
-        Some(Asked::Run(files, USUAL_FUEL))
+        Some(Asked::Run(files_of(model, second), USUAL_FUEL))
+    } else if command == "convert" {
+        Some(Asked::Convert(record_of(model, second)))
     } else {
         None
     }
@@ -136,9 +157,7 @@ pub(crate) fn asked_by(words: &[String]) -> Option<Asked<'_>>
 {
     match words {
         [command, word] => asked_of(command.as_str(), word.as_str()),
-        [command, model, injections] => {
-            asked_of_files(command.as_str(), files_of(model, injections))
-        }
+        [command, model, second] => asked_of_files(command.as_str(), model, second),
         [command, model, injections, flag, fuel] => asked_with(
             command.as_str(),
             files_of(model, injections),

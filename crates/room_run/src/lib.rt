@@ -2,11 +2,14 @@
 //!
 //! `room_top` is the whole program over a shelf of texts and two sinks. Its contract is the
 //! headline of the project: every model that keeps the rules and has no fault runs, and what is printed is a
-//! run of it. It is the exact answer of the check of a model and of the text of its wiring, too.
+//! run of it. It is the exact answer of the check of a model, of the text of its wiring, and of the conversion
+//! of journals, too.
 #![tactic(auto)]
 
 pub mod answers;
 mod asked;
+mod convert;
+pub mod fitting_journals;
 pub mod fitting_plants;
 mod judge;
 mod made;
@@ -19,7 +22,8 @@ mod stack;
 mod status;
 mod top;
 
-pub use answers::{accepted_calls_end, one_answer};
+pub use answers::{accepted_calls_end, conversions_keep_journals, one_answer};
+pub use fitting_journals::{fitting_runs_journals, named_journals_fit};
 pub use fitting_plants::{fitting_runs_settle, plants_fit, read_lines_fit};
 pub use judge::{read_plant, read_wiring};
 pub use model_fault::ModelFault;

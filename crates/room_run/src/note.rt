@@ -45,14 +45,19 @@ fn write_class<'a, K: Sink>(
 }
 
 /// Writes a line of a text and two numbers.
-fn write_place<K: Sink>(notes: &mut K, text: &[u8], number: u32, code: u8) -> Result<(), WriteFault>
-    ensures { Puts result (at_rest (K.written notes.old)) (at_rest (K.written notes.new)) (line (text.now ∷ decimal number ∷ codes " " ∷ decimal code ∷ [])) }
+fn write_place<K: Sink>(
+    notes: &mut K,
+    text: &[u8],
+    first: u64,
+    second: u64,
+) -> Result<(), WriteFault>
+    ensures { Puts result (at_rest (K.written notes.old)) (at_rest (K.written notes.new)) (line (text.now ∷ decimal first ∷ codes " " ∷ decimal second ∷ [])) }
 {
     let parts = [
         Part::Text(text),
-        Part::Number(u64::from(number)),
+        Part::Number(first),
         Part::Text(b" "),
-        Part::Number(u64::from(code)),
+        Part::Number(second),
     ];
     write_line(&mut LineBuffer::new(), notes, &parts)
 }
@@ -91,9 +96,22 @@ fn write_refusal<K: Sink>(why: &Refusal, notes: &mut K) -> Result<(), WriteFault
         Refusal::ModelTooLong => write_text(notes, b"room: model refused: too long"),
         Refusal::Model(fault) => write_model_fault(fault, notes),
         Refusal::InjectionsTooLong => write_text(notes, b"room: injections refused: too long"),
-        Refusal::InjectionsLine { line, code } => {
-            write_place(notes, b"room: injections refused: line ", *line, *code)
+        Refusal::InjectionsLine { line, code } => write_place(
+            notes,
+            b"room: injections refused: line ",
+            u64::from(*line),
+            u64::from(*code),
+        ),
+        Refusal::JournalsTooLong => write_text(notes, b"room: journals refused: too long"),
+        Refusal::JournalsMalformed { offset } => {
+            write_number(notes, b"room: journals refused: malformed ", *offset as u64)
         }
+        Refusal::JournalsUntied { controller, stamp } => write_place(
+            notes,
+            b"room: journals refused: untied ",
+            u64::from(controller.0),
+            stamp.0,
+        ),
         Refusal::ReadFault => write_text(notes, b"room: read fault"),
         Refusal::Memory => write_text(notes, b"room: memory"),
     }

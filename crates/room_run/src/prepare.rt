@@ -8,10 +8,12 @@ ghost use Rattle.inject_reader.specs.declared.inject_lines.accepted.Line.{Line a
 ghost use Rattle.room_run.specs.Words.{files_view};
 ghost use Rattle.room_run.specs.Models.{IsSound, IsModel};
 ghost use Rattle.room_run.specs.Causes.{AreOf, Causes, InjectionsCauses, IsInjections, LinesCauses, ModelCauses, RunCauses, TextIs, UnreadCauses, refusal_of_lines};
-ghost use Rattle.room_run.specs.Outcome.{Answers, answer_status, answer_text};
+ghost use Rattle.room_wiring.specs.WellNamed.{IsWellNamed};
+ghost use Rattle.room_run.specs.Outcome.{Answers, HasTied, answer_status, answer_text};
 ghost use Rattle.room_run.specs.Finished.{Finishes};
 
 use crate::asked::{Asked, Files, asked_by};
+use crate::convert::convert;
 use crate::judge::{read_plant, sound_model};
 use crate::made::run_made;
 use crate::refusal::Refusal;
@@ -27,9 +29,9 @@ use room_wiring::Wiring;
 use std::alloc::{AllocError, Global};
 use std::thread::Threads;
 
-/// A run that has ended and is not written yet.
+/// Journals that are not written yet, and the wiring whose names they tell.
 #[derive(Drop)]
-pub(crate) struct Finished {
+pub(crate) struct Recorded {
     pub(crate) wiring: Wiring,
     pub(crate) journals: Journals,
 }
@@ -41,7 +43,10 @@ pub(crate) enum Answer {
     Accepted,
     /// The wiring of such a model.
     Wired(Wiring),
-    Ran(Finished),
+    /// The journals of a run that has ended.
+    Ran(Recorded),
+    /// The journals of a text.
+    Converted(Recorded),
     /// What is told of the run of a made model.
     Summed(Summary),
 }
@@ -63,8 +68,13 @@ fn read_text<S: Shelf>(alloc: Global, shelf: &mut S, name: &str) -> Result<Vec<u
 
 /// The wiring of the model whose text stands under a name, where it keeps all rules and its wiring and
 /// charts have no fault.
-fn read_wiring<S: Shelf>(alloc: Global, shelf: &mut S, name: &str) -> Result<Wiring, Refusal>
+pub(crate) fn read_wiring<S: Shelf>(
+    alloc: Global,
+    shelf: &mut S,
+    name: &str,
+) -> Result<Wiring, Refusal>
     ensures ok { IfOk result (λ w. TextIs (S.shown shelf.old) name.now (λ text. IsSound text w)) }
+    ensures named { IfOk result (λ w. IsWellNamed w) }
     ensures err { IfErr result (λ why. ModelCauses (S.shown shelf.old) (S.shown shelf.new) name.now why) }
     ensures keeps { Keeps (S.shown shelf.old) (S.shown shelf.new) }
 {
@@ -146,12 +156,12 @@ fn run<G: Gate + Sync, R: Threads + Sync>(
     lines: &[Line],
     fuel: u64,
     gate: &G,
-) -> Result<Finished, AllocError>
+) -> Result<Recorded, AllocError>
     requires { FitLines plant.wiring lines.now }
     ensures { IfOk result (λ f. Finishes plant lines.now fuel f) }
 {
     let journals = run_model::<MailLanes, G, R>(rt, alloc, &plant, lines, fuel, gate)?;
-    Ok(Finished {
+    Ok(Recorded {
         wiring: plant.wiring,
         journals,
     })
@@ -165,7 +175,7 @@ fn run_files<S: Shelf, G: Gate + Sync, R: Threads + Sync>(
     files: Files,
     fuel: u64,
     gate: &G,
-) -> Result<Finished, Refusal>
+) -> Result<Recorded, Refusal>
     ensures ok { IfOk result (λ f. (plant : RunPlant) × (lines : List InjectedLine) × AreOf (S.shown shelf.old) (files_view files.entry) plant lines × Finishes plant lines fuel f) }
     ensures err { IfErr result (λ why. RunCauses (S.shown shelf.old) (S.shown shelf.new) (files_view files.entry) why) }
     ensures keeps { Keeps (S.shown shelf.old) (S.shown shelf.new) }
@@ -193,6 +203,7 @@ pub(crate) fn prepare<S: Shelf, G: Gate + Sync, R: Threads + Sync>(
     gate: &G,
 ) -> Result<Answer, Refusal>
     ensures ok { IfOk result (λ a. Answers (S.shown shelf.old) (map string_bytes words.now) (answer_text a) (answer_status a)) }
+    ensures tied { IfOk result (λ a. HasTied a) }
     ensures err { IfErr result (λ why. Causes (S.shown shelf.old) (S.shown shelf.new) (map string_bytes words.now) why) }
     ensures keeps { Keeps (S.shown shelf.old) (S.shown shelf.new) }
 {
@@ -208,6 +219,10 @@ pub(crate) fn prepare<S: Shelf, G: Gate + Sync, R: Threads + Sync>(
         },
         Some(Asked::Run(files, fuel)) => match run_files(rt, alloc, shelf, files, fuel, gate) {
             Ok(finished) => Ok(Answer::Ran(finished)),
+            Err(why) => Err(why),
+        },
+        Some(Asked::Convert(files)) => match convert(alloc, shelf, files) {
+            Ok(read) => Ok(Answer::Converted(read)),
             Err(why) => Err(why),
         },
         Some(Asked::Made(actors)) => match run_made(rt, alloc, actors, gate) {

@@ -4,6 +4,7 @@ ghost use Rattle.room_run.specs.Causes.{status_of};
 
 use crate::model_fault::ModelFault;
 use crate::status::Status;
+use room_kinds::{ControllerId, Stamp};
 
 /// Why a call was refused, before anything was written.
 #[derive(Debug, Drop)]
@@ -15,7 +16,22 @@ pub enum Refusal {
     InjectionsTooLong,
     /// The line of this number, from 1, is the first of the injections that is faulty; its lowest
     /// code is this one, 1 to 5. Code 6, at line 10,001, says that there are more lines than may be.
-    InjectionsLine { line: u32, code: u8 },
+    InjectionsLine {
+        line: u32,
+        code: u8,
+    },
+    JournalsTooLong,
+    /// No journals have this text. The offset is that of the first byte, from 0, at which it differs from the
+    /// text of the journals as which it can be read; the text's length where these don't fit the model.
+    JournalsMalformed {
+        offset: usize,
+    },
+    /// The journals are told by their posts only in part: this fetch is the first, by controller and then in
+    /// order of the journal, that isn't that of the one post which it names, or is stamped out of turn.
+    JournalsUntied {
+        controller: ControllerId,
+        stamp: Stamp,
+    },
     ReadFault,
     Memory,
 }
@@ -30,6 +46,9 @@ impl Refusal {
             Refusal::Model(fault) => fault.status(),
             Refusal::InjectionsTooLong => Status::InjectionsRefused,
             Refusal::InjectionsLine { .. } => Status::InjectionsRefused,
+            Refusal::JournalsTooLong => Status::JournalsRefused,
+            Refusal::JournalsMalformed { .. } => Status::JournalsRefused,
+            Refusal::JournalsUntied { .. } => Status::JournalsRefused,
             Refusal::ReadFault => Status::ReadFault,
             Refusal::Memory => Status::Memory,
         }

@@ -2,7 +2,7 @@
 ghost use Rattle.std.specs.Prelude.{◌≡◌};
 ghost use Rattle.room_run.specs.Statuses.{number_of};
 
-/// How a call of the program ended. The program's exit status is the number, from 0 in this order.
+/// How a call of the program ended. The program's exit status is its number.
 #[derive(Clone, Copy, Debug, PartialEq, Eq)]
 pub enum Status {
     Done,
@@ -13,6 +13,7 @@ pub enum Status {
     Memory,
     ReadFault,
     WriteFault,
+    JournalsRefused,
 }
 
 impl Status {
@@ -20,6 +21,17 @@ impl Status {
     pub fn number(self) -> u8
         ensures { result ≡ number_of self }
     {
-        self as u8
+        match self {
+            Status::Done => 0,
+            Status::WordsRefused => 1,
+            Status::ModelRefused => 2,
+            Status::InjectionsRefused => 3,
+            Status::Spent => 4,
+            Status::Memory => 5,
+            Status::ReadFault => 6,
+            Status::WriteFault => 7,
+            // 8 is kept free.
+            Status::JournalsRefused => 9,
+        }
     }
 }

@@ -1,18 +1,18 @@
 //! The whole program.
 ghost use Rattle.std.specs.Prelude.{◌≡◌, map};
 ghost use Rattle.std.specs.String.{string_bytes};
-ghost use Rattle.room_run.specs.Outcome.{Prints, Outcome, Tells, answer_status, answer_text, status_of_run};
+ghost use Rattle.room_run.specs.Outcome.{HasTied, Prints, Outcome, Tells, answer_status, answer_text, status_of_run};
 
 use crate::note::{write_note, write_ok};
 use crate::prepare::{Answer, prepare};
 use crate::refusal::Refusal;
 use crate::status::Status;
 use binding_expand::expand_text;
-use journal::text_to;
 use made_model::write_summary;
 use room_outside::{Gate, Shelf, Sink};
 use std::alloc::Global;
 use std::thread::Threads;
+use tied_journals::text_to;
 
 /// Tells why the call was refused, and gives its status.
 fn tell<K: Sink>(why: Refusal, notes: &mut K) -> Status
@@ -39,18 +39,21 @@ fn status_of(answer: &Answer) -> Status
         Answer::Accepted => Status::Done,
         Answer::Wired(_) => Status::Done,
         Answer::Ran(run) => status_of_run(run.journals.done),
+        Answer::Converted(_) => Status::Done,
         Answer::Summed(summary) => status_of_run(summary.done),
     }
 }
 
 /// Writes what the words asked for, and gives the status.
 fn print<K: Sink>(answer: &Answer, out: &mut K) -> Status
+    requires { HasTied answer.now }
     ensures { Prints (K.written out.old) (K.written out.new) (answer_text answer.now) (answer_status answer.now) result }
 {
     let written = match answer {
         Answer::Accepted => write_ok(out),
         Answer::Wired(wiring) => expand_text(wiring, out),
         Answer::Ran(run) => text_to(&run.journals, &run.wiring, out),
+        Answer::Converted(read) => text_to(&read.journals, &read.wiring, out),
         Answer::Summed(summary) => write_summary(summary, out),
     };
     match written {
@@ -64,11 +67,14 @@ fn print<K: Sink>(answer: &Answer, out: &mut K) -> Status
 /// The words `check MODEL` ask whether a model keeps all rules and its wiring and charts have no fault,
 /// `tree MODEL` for the slots and the joined places of such a model, `run MODEL INJECT` for the run of a
 /// model over injections, in which each controller takes 10,000 turns at most, or N with `--fuel N` behind
-/// it, 1 to 100,000, and `made N` for the summary of the run of a made model of N actors, 1 to 4,000; every
+/// it, 1 to 100,000, `convert MODEL JOURNALS` for journals of a model, in form 1 or in form 2, to be written in
+/// form 2, and `made N` for the summary of the run of a made model of N actors, 1 to 4,000; every
 /// other list of words is refused. No file is read for a made model. The order is: the words, reading
-/// the model, the model (its text, its rules, its wiring, its charts), reading the injections, the
-/// injections, the run, writing. After a failed read nothing more is read, and want of memory never
-/// comes once something was written.
+/// the model, the model (its text, its rules, its wiring, its charts), reading the injections or the
+/// journals, the injections or the journals (their text, whether they are tied), the run, writing. After a
+/// failed read nothing more is read, and want of memory never comes once something was written.
+///
+/// The text of journals may have 268,435,456 bytes, each other one 1,048,576.
 ///
 /// The controllers of a run work at once, on as many threads as there are, and each enters the gate before
 /// a turn that it takes while others work. One controller runs on the calling thread. Where the system gives

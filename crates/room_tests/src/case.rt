@@ -25,18 +25,18 @@ ActorClass T { Structure { ActorRef a: A ActorRef b: B Binding a.p and b.p } }
 const INJECTIONS: &str = "top/a.go kick\n";
 
 /// What a run of the model over these injections prints, in 17 lines.
-pub(crate) const JOURNAL: &str = "room-journal 1
+pub(crate) const JOURNAL: &str = "room-journal 2
 controller 0 t0
 start top#1 -
 start top/a#1 Wait
-2 fetch env@1 3 - top/a#0.go[0] kick
+2 fetch env@1
 3 turn env@1 handled top/a#1 Wait
 4 post 1 3 top/a#1.p[0] top/b#1.p[0] ping 1
-8 fetch 1@7 3 top/b#1.p[0] top/a#1.p[0] pong 2
+8 fetch 1@7
 9 turn 1@7 handled top/a#1 Wait
 controller 1 t1
 start top/b#1 Up
-5 fetch 0@4 3 top/a#1.p[0] top/b#1.p[0] ping 1
+5 fetch 0@4
 6 turn 0@4 handled top/b#1 Up
 7 post 0 3 top/b#1.p[0] top/a#1.p[0] pong 2
 environment

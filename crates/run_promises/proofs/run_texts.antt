@@ -2,6 +2,7 @@ pub mod OneRun
 pub mod Plain
 pub mod Rows
 pub mod Told
+pub mod InTime
 pub mod Party
 pub mod SameRuns
 pub mod Sends

@@ -55,7 +55,7 @@ split_at c (b ∷ bs) r h =
     let other : (b == c) ≡ false = not-true (b == c) parts.0 in
     rw (other, split_at c bs r parts.1) refl
 
-split_none : (c : ℕ) (w : List ℕ) → lacks c w ≡ true → slice_split (λ b. b == c) w ≡ w ∷ []
+pub split_none : (c : ℕ) (w : List ℕ) → lacks c w ≡ true → slice_split (λ b. b == c) w ≡ w ∷ []
 split_none c [] h = refl
 split_none c (b ∷ bs) h =
     let parts = and_parts (not (b == c)) (lacks c bs) h in

@@ -10,6 +10,7 @@ use Rattle.journal.specs.declared.entry.Entry.TheVariants as entry
 use Rattle.journal.specs.declared.entry.Journals.{Journals}
 use Rattle.inject_reader.specs.declared.inject_lines.accepted.Line.{Line}
 use Rattle.actor_world.specs.Journals.{lines_of}
+use Rattle.actor_world.specs.world_laws.Whereabouts.{fetched}
 use Rattle.actor_world.specs.Start.{first_state, start_entries, plant_of}
 use Rattle.controller_actors.specs.Plants.{model_of}
 use Rattle.controller_actors.specs.declared.plant.Plant.{Plant}
@@ -25,11 +26,14 @@ use Rattle.run_promises.proofs.run_journals.InARow.{EachPosted, replay_tied, sta
 use Rattle.run_promises.proofs.run_journals.OneRun.{own, replay, environment_posts}
 
 module _ (plant : Plant) (lines : List Line) (fuel : ℕ) (j : Journals) (run : IsRun plant lines fuel j) where
-  was_posted : (party : ℕ) → EachPosted j (journal_of j party)
-  was_posted party stamp m there =
+  -- each fetched message is that of the only post of its sender with its stamp
+  pub fetched_is_posted : (party : ℕ) (m : Msg) → Contains (fetched (journal_of j party)) m → IsPosted j m
+  fetched_is_posted party m there =
       let p : RunPromises plant lines fuel j = promises plant lines fuel j run in
-      only_post (journal_of j m.from.0) (p.stamps.rise m.from.0) (p.stamps.stamped m.from.0) m
-      (p.mail.fetched_was_posted party m (entry_fetched (journal_of j party) stamp m there)).1
+      only_post (journal_of j m.from.0) (p.stamps.rise m.from.0) (p.stamps.stamped m.from.0) m (p.mail.fetched_was_posted party m there).1
+
+  was_posted : (party : ℕ) → EachPosted j (journal_of j party)
+  was_posted party stamp m there = fetched_is_posted party m (entry_fetched (journal_of j party) stamp m there)
 
   each : (party : ℕ) → AreTied j None (journal_of j party)
   each party = go (cases_order party (length plant.wiring.controllers))

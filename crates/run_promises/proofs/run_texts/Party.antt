@@ -1,5 +1,6 @@
 -- What the lines of a run's journals tell of each party.
 use Rattle.std.proofs.Common.{◌≡◌, ℕ, ◌<◌, ◌≤◌, nat_lt, Bool, true, if◌then◌else◌, cond, List, [], ◌∷◌, ◌++◌, map, filter, length, slice_index_or, Some, refl, sym, ap, ◌∙◌, subst, lt-ltb, le-ltb, arith, ◌⊎◌, inl, inr}
+use Rattle.std.specs.Prelude.{decimal}
 use Rattle.std.specs.List.{Contains}
 use Rattle.std.proofs.lemmas.Bool.{cases_eq, cases_order, ne_eqb, eq-eqb}
 use Rattle.std.proofs.lemmas.List.Elements.{filter-append}
@@ -28,9 +29,8 @@ use Rattle.run_promises.specs.Stamps.{is_event}
 use Rattle.run_promises.proofs.Named.{nothing_in, in_head, in_tail}
 use Rattle.run_promises.proofs.Party.{whole, fetched_is}
 use Rattle.run_promises.proofs.PromisesLaw.{promises}
-use Rattle.run_promises.specs.run_texts.Texts.{AtSixPriorities}
-use Rattle.run_promises.proofs.run_texts.Rows.{row, rows}
-use Rattle.run_promises.proofs.run_texts.Told.{AllTell}
+use Rattle.run_promises.proofs.run_texts.Rows.{Told, Fetched, Turned, Posted, word, told}
+use Rattle.run_promises.proofs.run_texts.Told.{AllHappened}
 
 -- entries of which none is a start
 abbrev AllHappen : List Entry → Type 0
@@ -66,26 +66,20 @@ module _ {B : Type 0} (plant : RunPlant B) where
       go (inl own) first rest = rw (eq-eqb party x.party own) (first, rest)
       go (inr other) first rest = rw (ne_eqb party x.party other) rest
 
-all_happen : (es : List Entry) → AllHappen es → filter is_event es ≡ es
-all_happen [] h = refl
-all_happen (e ∷ es) h =
-    ap (λ (b : Bool). cond b (e ∷ filter is_event es) (filter is_event es)) h.0 ∙ ap (λ (z : List Entry). e ∷ z) (all_happen es h.1)
+-- what is known of each fetched message, of entries that happened
+all_happened_of : (P : Msg → Type 0) (es : List Entry) → AllHappen es → ((m : Msg) → Contains (fetched es) m → P m) → AllHappened P es
+all_happened_of P [] h k = tt
+all_happened_of P (entry.Start who state ns ∷ es) h k = absurd cc
+all_happened_of P (entry.Fetch stamp m ∷ es) h k = (k m (in_head m (fetched es)), all_happened_of P es h.1 (λ x c. k x (in_tail m (fetched es) x c)))
+all_happened_of P (entry.Turn stamp from sent did ns ∷ es) h k = all_happened_of P es h.1 k
+all_happened_of P (entry.Post stamp m ∷ es) h k = all_happened_of P es h.1 k
 
--- what an entry that happened tells, where each fetched message is from a party and has a priority
-all_tell : (t : Tables) (es : List Entry) → AllHappen es
-    → ((m : Msg) → Contains (fetched es) m → (m.from.0 ≤ length t.controllers) × (m.prio.0 ≤ 5)) → AllTell t es
-all_tell t [] h k = tt
-all_tell t (entry.Start who state ns ∷ es) h k = absurd cc
-all_tell t (entry.Fetch stamp m ∷ es) h k = (k m (in_head m (fetched es)), all_tell t es h.1 (λ x c. k x (in_tail m (fetched es) x c)))
-all_tell t (entry.Turn stamp from sent did ns ∷ es) h k = (tt, all_tell t es h.1 k)
-all_tell t (entry.Post stamp m ∷ es) h k = (tt, all_tell t es h.1 k)
-
-map_append : {A C : Type 0} (f : A → C) (a b : List A) → map f (a ++ b) ≡ map f a ++ map f b
-map_append f [] b = refl
-map_append f (x ∷ a) b = ap (λ (z : List _). f x ∷ z) (map_append f a b)
-
-rows_append : (t : Tables) (a b : List Entry) → rows t (a ++ b) ≡ rows t a ++ rows t b
-rows_append t a b = ap (map (row t)) (filter-append is_event a b) ∙ map_append (row t) (filter is_event a) (filter is_event b)
+told_append : (t : Tables) (a b : List Entry) → told t (a ++ b) ≡ told t a ++ told t b
+told_append t [] b = refl
+told_append t (entry.Start who state ns ∷ a) b = told_append t a b
+told_append t (entry.Fetch stamp m ∷ a) b = let rest = told_append t a b in λ i. Fetched (word t m) ∷ rest i
+told_append t (entry.Turn stamp from sent did ns ∷ a) b = let rest = told_append t a b in λ i. Turned ∷ rest i
+told_append t (entry.Post stamp m ∷ a) b = let rest = told_append t a b in λ i. Posted (decimal stamp.0) (decimal m.prio.0) ∷ rest i
 
 -- ---- one run
 
@@ -144,20 +138,15 @@ module _ (plant : Plant) (lines : List Asked) (fuel : ℕ) (j : Journals) (run :
       go (inr (inl below)) = omega (arith, below)
       go (inr (inr above)) = absurd (nothing_in m (subst (λ (z : List Entry). Contains (posted z) m) (nobody m.from.0 above) was_posted))
 
-  pub tells : AtSixPriorities j → (party : ℕ) → AllTell plant.wiring (did party)
-  tells six party = all_tell plant.wiring (did party) (all_happened party) each
+  -- what happened, with what is known of each fetched message
+  pub happened_with : (P : Msg → Type 0) (party : ℕ) → ((m : Msg) → Contains (fetched (journal_of j party)) m → P m) → AllHappened P (did party)
+  happened_with P party known = all_happened_of P (did party) (all_happened party) (λ m h. known m (here m h))
     where
       here : (m : Msg) → Contains (fetched (did party)) m → Contains (fetched (journal_of j party)) m
       here m h =
           subst (λ (z : List Msg). Contains z m)
           (sym (fetched_is (model_of plant) plant.wiring (lines_of (items_of plant.wiring lines)) fuel (journal_of j) j.left run.world run.lawful nobody party)) h
 
-      each : (m : Msg) → Contains (fetched (did party)) m → (m.from.0 ≤ length plant.wiring.controllers) × (m.prio.0 ≤ 5)
-      each m h = (is_party party m (here m h), six party m (here m h))
-
-  -- the lines of its events are those of what happened
-  pub lines_are : (party : ℕ)
-      → rows plant.wiring (journal_of j party) ≡ rows plant.wiring (starts party) ++ map (row plant.wiring) (did party)
-  lines_are party =
-      ap (rows plant.wiring) (journal_is party) ∙ rows_append plant.wiring (starts party) (did party)
-      ∙ ap (λ (z : List Entry). rows plant.wiring (starts party) ++ map (row plant.wiring) z) (all_happen (did party) (all_happened party))
+  -- what its journal tells is what is told of the starts, and then of what happened
+  pub told_is : (party : ℕ) → told plant.wiring (journal_of j party) ≡ told plant.wiring (starts party) ++ told plant.wiring (did party)
+  told_is party = ap (told plant.wiring) (journal_is party) ∙ told_append plant.wiring (starts party) (did party)

@@ -3,15 +3,18 @@ use Rattle.std.proofs.Common.{◌≡◌, ℕ, zero, suc, ◌+◌, ◌<◌, ◌�
 use Rattle.std.specs.List.{flat_map, range_with_len}
 use Rattle.std.proofs.lemmas.Bool.{cases_order}
 use lib.Seq.{ext_get_or}
+use Rattle.room_kinds.specs.declared.message.Msg.{Msg}
 use Rattle.journal.specs.declared.entry.Entry.{Entry}
 use Rattle.journal.specs.declared.entry.Left.{Left}
 use Rattle.journal.specs.declared.entry.Journals.{Journals}
-use Rattle.journal.specs.Text.{text_of}
+use Rattle.tied_journals.specs.Tied.{IsPosted}
+use Rattle.tied_journals.specs.Text.{tied_text_of}
+use Rattle.journal_reader.specs.journal_texts.InRange.{IsInRange}
 use Rattle.room_wiring.specs.declared.tables.Tables.{Tables}
 use Rattle.room_wiring.specs.Consistent.{IsConsistent}
 use Rattle.room_wiring.specs.WellNamed.{IsWellNamed}
 use Rattle.inject_reader.specs.declared.inject_lines.accepted.Line.{Line as Asked}
-use Rattle.actor_merge.specs.Mail.{Lane, lane, event_of}
+use Rattle.actor_merge.specs.Mail.{Lane, lane, Fetch, event_of}
 use Rattle.actor_merge.specs.Parties.{State, Environment, Plant as RunPlant}
 use Rattle.actor_merge.specs.World.{World, Placed, start, IsQuiet}
 use Rattle.actor_merge.specs.Merge.{entries_of}
@@ -23,17 +26,20 @@ use Rattle.model_run.specs.part_posts.Items.{items_of}
 use Rattle.model_run.specs.run_ends.Runs.{journal_of, IsRun}
 use Rattle.run_promises.specs.run_texts.Texts.{AtSixPriorities}
 use Rattle.run_promises.proofs.run_texts.OneRun.{one_run}
-use Rattle.run_promises.proofs.run_texts.Rows.{rows, SameRows, same_rows}
-use Rattle.run_promises.proofs.run_texts.Told.{same_events}
-use Rattle.run_promises.proofs.run_texts.Party.{plan, did, starts, nobody, outside, inside, journal_is, tells, lines_are}
+use Rattle.run_promises.proofs.run_texts.Rows.{word, told, SameTold, same_told}
+use Rattle.run_promises.proofs.run_texts.Told.{OneFetch, PostsInTime, same_sender, same_sent, same_priority, same_events}
+use Rattle.run_promises.proofs.run_texts.Party.{plan, did, starts, nobody, outside, inside, is_party, journal_is, happened_with, told_is}
+use Rattle.run_promises.proofs.run_texts.InTime.{posts_in_time}
+use Rattle.run_promises.proofs.run_journals.OneRun.{environment_posts}
+use Rattle.run_promises.proofs.run_journals.TiedLaw.{fetched_is_posted}
 
-rows_at : (t : Tables) (ess fss : List (List Entry)) (c : ℕ) → SameRows t ess fss
-    → rows t (slice_index_or ess c []) ≡ rows t (slice_index_or fss c [])
-rows_at t [] [] c h = refl
-rows_at t [] (fs ∷ fss) c h = absurd h
-rows_at t (es ∷ ess) [] c h = absurd h
-rows_at t (es ∷ ess) (fs ∷ fss) zero h = h.0
-rows_at t (es ∷ ess) (fs ∷ fss) (suc c) h = rows_at t ess fss c h.1
+told_at : (t : Tables) (ess fss : List (List Entry)) (c : ℕ) → SameTold t ess fss
+    → told t (slice_index_or ess c []) ≡ told t (slice_index_or fss c [])
+told_at t [] [] c h = refl
+told_at t [] (fs ∷ fss) c h = absurd h
+told_at t (es ∷ ess) [] c h = absurd h
+told_at t (es ∷ ess) (fs ∷ fss) zero h = h.0
+told_at t (es ∷ ess) (fs ∷ fss) (suc c) h = told_at t ess fss c h.1
 
 same_front : {A : Type 0} (xs a b : List A) → xs ++ a ≡ xs ++ b → a ≡ b
 same_front [] a b e = e
@@ -73,7 +79,7 @@ module _ {B : Type 0} (plant : RunPlant B) (w v : World B) (controllers : (c : �
 
 module _ (plant : Plant) (lines : List Asked) (fuel other_fuel : ℕ) (i j : Journals) (a : IsRun plant lines fuel i) (b : IsRun plant lines other_fuel j)
     (consistent : IsConsistent plant.wiring) (named : IsWellNamed plant.wiring) (i_six : AtSixPriorities i) (j_six : AtSixPriorities j)
-    (one_text : text_of plant.wiring i ≡ text_of plant.wiring j) where
+    (range : IsInRange j) (one_text : tied_text_of plant.wiring i ≡ tied_text_of plant.wiring j) where
   abbrev t : Tables
   t = plant.wiring
 
@@ -86,27 +92,40 @@ module _ (plant : Plant) (lines : List Asked) (fuel other_fuel : ℕ) (i j : Jou
   same_length : length i.controllers ≡ length j.controllers
   same_length = a.count ∙ sym b.count
 
-  all_rows : SameRows t i.controllers j.controllers × (rows t i.environment ≡ rows t j.environment)
-  all_rows = same_rows t named i j same_length one_text
+  all_told : SameTold t i.controllers j.controllers × (told t i.environment ≡ told t j.environment)
+  all_told =
+      same_told t named i j same_length (environment_posts plant lines fuel i a) (environment_posts plant lines other_fuel j b) one_text
 
-  journal_rows : (party : ℕ) → rows t (journal_of i party) ≡ rows t (journal_of j party)
-  journal_rows party = go (cases_order party n)
+  journals_told : (party : ℕ) → told t (journal_of i party) ≡ told t (journal_of j party)
+  journals_told party = go (cases_order party n)
     where
-      go : (party ≡ n) ⊎ ((party < n) ⊎ (n < party)) → rows t (journal_of i party) ≡ rows t (journal_of j party)
+      go : (party ≡ n) ⊎ ((party < n) ⊎ (n < party)) → told t (journal_of i party) ≡ told t (journal_of j party)
       go (inl is) =
-          ap (rows t) (ap (journal_of i) is ∙ outside plant lines fuel i a) ∙ all_rows.1
-          ∙ ap (rows t) (sym (ap (journal_of j) is ∙ outside plant lines other_fuel j b))
+          ap (told t) (ap (journal_of i) is ∙ outside plant lines fuel i a) ∙ all_told.1
+          ∙ ap (told t) (sym (ap (journal_of j) is ∙ outside plant lines other_fuel j b))
       go (inr (inl below)) =
-          ap (rows t) (inside plant lines fuel i a party below) ∙ rows_at t i.controllers j.controllers party all_rows.0
-          ∙ ap (rows t) (sym (inside plant lines other_fuel j b party below))
-      go (inr (inr above)) = ap (rows t) (nobody plant lines fuel i a party above ∙ sym (nobody plant lines other_fuel j b party above))
+          ap (told t) (inside plant lines fuel i a party below) ∙ told_at t i.controllers j.controllers party all_told.0
+          ∙ ap (told t) (sym (inside plant lines other_fuel j b party below))
+      go (inr (inr above)) = ap (told t) (nobody plant lines fuel i a party above ∙ sym (nobody plant lines other_fuel j b party above))
+
+  -- what is known of a fetched message
+  abbrev Known : Journals → Msg → Type 0
+  Known x m = (m.from.0 ≤ n) × (m.prio.0 ≤ 5) × IsPosted x m
+
+  one_fetch : OneFetch t (Known i) (Known j)
+  one_fetch m k h l e =
+      let from : m.from.0 ≡ k.from.0 = same_sender t m k consistent.controllers_numbered h.0 l.0 e in
+      ap₂ Fetch from
+      (same_priority t m k (journal_of i m.from.0) (journal_of j k.from.0) (journals_told m.from.0 ∙ ap (λ (p : ℕ). told t (journal_of j p)) from)
+      h.2 l.2 (posts_in_time j range k.from.0) h.1 l.1 (same_sent t m k e))
 
   same_did : (party : ℕ) → map event_of (did plant lines fuel i a party) ≡ map event_of (did plant lines other_fuel j b party)
   same_did party =
-      same_events t (did plant lines fuel i a party) (did plant lines other_fuel j b party) consistent.controllers_numbered
-      (tells plant lines fuel i a i_six party) (tells plant lines other_fuel j b j_six party)
-      (same_front (rows t (starts plant lines fuel i a party)) _ _
-      (sym (lines_are plant lines fuel i a party) ∙ journal_rows party ∙ lines_are plant lines other_fuel j b party))
+      same_events t (Known i) (Known j) one_fetch (did plant lines fuel i a party) (did plant lines other_fuel j b party)
+      (happened_with plant lines fuel i a (Known i) party (λ m h. (is_party plant lines fuel i a party m h, i_six party m h, fetched_is_posted plant lines fuel i a party m h)))
+      (happened_with plant lines other_fuel j b (Known j) party (λ m h. (is_party plant lines other_fuel j b party m h, j_six party m h, fetched_is_posted plant lines other_fuel j b party m h)))
+      (same_front (told t (starts plant lines fuel i a party)) _ _
+      (sym (told_is plant lines fuel i a party) ∙ journals_told party ∙ told_is plant lines other_fuel j b party))
 
   merged : (a.lawful.run.merge ≡ b.lawful.run.merge) × (a.lawful.run.end ≡ b.lawful.run.end)
   merged =

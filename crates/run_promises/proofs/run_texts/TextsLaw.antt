@@ -1,4 +1,5 @@
 -- The text of each run tells it, and what it fetches fits.
+use Rattle.std.proofs.Common.{sym}
 use Rattle.chart_behaviour.proofs.Charts.{asks_only}
 use Rattle.bounded_sends.specs.Sends.{is_ranked}
 use Rattle.controller_actors.specs.Plants.{model_of}
@@ -16,10 +17,10 @@ ranked : (plant : Plant) → AsksOnly is_ranked (model_of plant)
 ranked plant = asks_only plant.wiring plant.tables.items is_ranked plant.fits.ranked
 
 pub texts_tell : TextsTellRuns
-texts_tell plant lines consistent named fit fuel j run other_fuel other other_run one_text =
+texts_tell plant lines consistent named fit fuel j run other_fuel other other_run range one_text =
     let asks = ranked plant in
-    one_journal plant lines other_fuel fuel other j other_run run consistent named
-    (at_six plant lines other_fuel other other_run asks fit) (at_six plant lines fuel j run asks fit) one_text
+    sym (one_journal plant lines fuel other_fuel j other run other_run consistent named
+    (at_six plant lines fuel j run asks fit) (at_six plant lines other_fuel other other_run asks fit) range (sym one_text))
 
 pub fetches_fit : RunsFetchWhatFits
 fetches_fit plant lines fit fuel j run c m h = record {

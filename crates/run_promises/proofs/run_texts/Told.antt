@@ -1,21 +1,20 @@
--- The line of an event tells which event it is, and of a fetch from whom and at which priority.
-use Rattle.std.proofs.Common.{◌≡◌, ℕ, ◌≤◌, nat_lt, Bool, true, false, cond, List, [], ◌∷◌, ◌++◌, map, length, refl, sym, ap, ap₂, ◌∙◌, arith}
+-- What the lines of a journal tell of a party's events are these events: of a fetch from whom it is, and, by
+-- the post that it names, at which priority.
+use Rattle.std.proofs.Common.{◌≡◌, ℕ, ◌<◌, ◌≤◌, ◌==◌, nat_lt, if◌then◌else◌, Bool, true, false, cond, List, [], ◌∷◌, ◌++◌, map, length, refl, sym, ap, ap₂, ◌∙◌, subst, eqb-true, eq-eqb, arith, ◌⊎◌, inl, inr}
 use Rattle.std.specs.Prelude.{codes, decimal}
-use Rattle.std.specs.List.{concat}
 use Rattle.std.proofs.lemmas.Bool.{ltb-false}
 use Rattle.std.proofs.lemmas.Fmt.{decimal_injective}
 use Rattle.room_kinds.specs.declared.message.Msg.{Msg}
 use Rattle.room_wiring.specs.declared.tables.Tables.{Tables}
-use Rattle.journal.specs.declared.entry.Did.{Did}
 use Rattle.journal.specs.declared.entry.Entry.{Entry}
 use Rattle.journal.specs.declared.entry.Entry.TheVariants as entry
-use Rattle.journal.specs.Names.{party_text, source_parts, endpoint_parts}
-use Rattle.journal.specs.Lines.{message_parts, signal_parts, did_parts}
+use Rattle.journal.specs.Names.{party_text}
 use Rattle.actor_merge.specs.Mail.{Fetch, event_of}
-use Rattle.journal_reader.specs.journal_lines.Numerals.{upto, past, begins, begins_digit}
+use Rattle.tied_journals.specs.Tied.{posted_at}
+use Rattle.journal_reader.specs.journal_lines.Numerals.{upto, past, begins_digit}
 use Rattle.journal_reader.proofs.journal_lines.Cutting.{upto_at, past_at}
-use Rattle.run_promises.proofs.run_texts.Plain.{number_lacks, number_begins, party_lacks}
-use Rattle.run_promises.proofs.run_texts.Rows.{row}
+use Rattle.run_promises.proofs.run_texts.Plain.{number_begins, party_lacks}
+use Rattle.run_promises.proofs.run_texts.Rows.{Told, Posted, word, told}
 
 -- ---- parties
 
@@ -40,102 +39,136 @@ party_same t a b few p q e = go (nat_lt a (length t.controllers)) refl (nat_lt b
     go false f true g k = absurd (not_environment b (sym k))
     go false f false g k = let last = ltb-false a (length t.controllers) f in let also = ltb-false b (length t.controllers) g in omega arith
 
--- ---- lines of events
+-- whom a word names
+pub same_sender : (t : Tables) (m k : Msg) → length t.controllers ≤ 255 → m.from.0 ≤ length t.controllers → k.from.0 ≤ length t.controllers
+    → word t m ≡ word t k → m.from.0 ≡ k.from.0
+same_sender t m k few a b e =
+    party_same t m.from.0 k.from.0 few a b
+    (sym (upto_at 64 (party_text t m.from.0) (decimal m.stamp.0) (party_lacks 64 t m.from.0 refl refl)) ∙ ap (upto 64) e
+    ∙ upto_at 64 (party_text t k.from.0) (decimal k.stamp.0) (party_lacks 64 t k.from.0 refl refl))
 
--- what a line tells of an entry that happened; of a fetch it is told whose message it is
-abbrev pub CanTell : Tables → Entry → Type 0
-CanTell t (entry.Start who state ns) = ⊥
-CanTell t (entry.Fetch stamp m) = (m.from.0 ≤ length t.controllers) × (m.prio.0 ≤ 5)
-CanTell t (entry.Turn stamp from sent did ns) = Unit {0}
-CanTell t (entry.Post stamp m) = Unit {0}
+-- and which of its posts
+pub same_sent : (t : Tables) (m k : Msg) → word t m ≡ word t k → decimal m.stamp.0 ≡ decimal k.stamp.0
+same_sent t m k e =
+    sym (past_at 64 (party_text t m.from.0) (decimal m.stamp.0) (party_lacks 64 t m.from.0 refl refl)) ∙ ap (past 64) e
+    ∙ past_at 64 (party_text t k.from.0) (decimal k.stamp.0) (party_lacks 64 t k.from.0 refl refl)
 
--- what stands in a fetch's line behind the priority
-abbrev fetch_end : Tables → Msg → List ℕ
-fetch_end t m = concat (source_parts t m.source ++ ((codes " " ∷ []) ++ (endpoint_parts t m.target ++ signal_parts t m)))
+-- ---- posts
 
--- what stands behind the first blank of a line
-abbrev fetch_behind : Tables → Msg → List ℕ
-fetch_behind t m = codes "fetch " ++ (party_text t m.from.0 ++ 64 ∷ (decimal m.stamp.0 ++ 32 ∷ (decimal m.prio.0 ++ 32 ∷ fetch_end t m)))
+abbrev pub Has : {A : Type 0} → A → List A → Type 0
+Has x [] = ⊥
+Has x (y ∷ ys) = (x ≡ y) ⊎ Has x ys
 
-abbrev turn_behind : Tables → ℕ → ℕ → Did → List ℕ
-turn_behind t from sent did = codes "turn " ++ concat (party_text t from ∷ codes "@" ∷ decimal sent ∷ did_parts t did)
+-- what is posted at a stamp is told
+posted_told : (t : Tables) (s : ℕ) (x : Msg) (es : List Entry) → Has x (posted_at s es) → Has (Posted (decimal s) (decimal x.prio.0)) (told t es)
+posted_told t s x [] h = h
+posted_told t s x (entry.Start who state ns ∷ es) h = posted_told t s x es h
+posted_told t s x (entry.Fetch stamp m ∷ es) h = inr (posted_told t s x es h)
+posted_told t s x (entry.Turn stamp from sent did ns ∷ es) h = inr (posted_told t s x es h)
+posted_told t s x (entry.Post stamp m ∷ es) h = go (stamp.0 == s) refl h (λ k. posted_told t s x es k)
+  where
+    go : (b : Bool) → (stamp.0 == s) ≡ b → Has x ((if b then m ∷ [] else []) ++ posted_at s es)
+        → (Has x (posted_at s es) → Has (Posted (decimal s) (decimal x.prio.0)) (told t es))
+        → (Posted (decimal s) (decimal x.prio.0) ≡ Posted (decimal stamp.0) (decimal m.prio.0)) ⊎ Has (Posted (decimal s) (decimal x.prio.0)) (told t es)
+    go true e (inl is) more = inl (ap₂ Posted (ap decimal (sym (eqb-true stamp.0 s e))) (ap (λ (y : Msg). decimal y.prio.0) is))
+    go true e (inr there) more = inr (more there)
+    go false e there more = inr (more there)
 
-abbrev post_behind : Tables → Msg → List ℕ
-post_behind t m = codes "post " ++ concat (decimal m.to.0 ∷ codes " " ∷ message_parts t m)
+-- a post of which a line tells
+record IsPostOf (es : List Entry) (stamp prio : List ℕ) : Type 0 where
+  pub at : ℕ
+  pub message : Msg
+  pub posted : Has message (posted_at at es)
+  pub stamp_is : decimal at ≡ stamp
+  pub priority_is : decimal message.prio.0 ≡ prio
 
-abbrev behind : Tables → Entry → List ℕ
-behind t (entry.Start who state ns) = []
-behind t (entry.Fetch stamp m) = fetch_behind t m
-behind t (entry.Turn stamp from sent did ns) = turn_behind t from.0 sent.0 did
-behind t (entry.Post stamp m) = post_behind t m
+later : (e : Entry) (es : List Entry) (a b : List ℕ) → ((s : ℕ) (x : Msg) → Has x (posted_at s es) → Has x (posted_at s (e ∷ es))) → IsPostOf es a b → IsPostOf (e ∷ es) a b
+later e es a b there p = record { at = p.at; message = p.message; posted = there p.at p.message p.posted; stamp_is = p.stamp_is; priority_is = p.priority_is }
 
-behind_is : (t : Tables) (e : Entry) → CanTell t e → past 32 (row t e) ≡ behind t e
-behind_is t (entry.Start who state ns) h = absurd h
-behind_is t (entry.Fetch stamp m) h = past_at 32 (decimal stamp.0) (fetch_behind t m) (number_lacks 32 stamp.0 refl)
-behind_is t (entry.Turn stamp from sent did ns) h =
-    past_at 32 (decimal stamp.0) (turn_behind t from.0 sent.0 did) (number_lacks 32 stamp.0 refl)
-behind_is t (entry.Post stamp m) h = past_at 32 (decimal stamp.0) (post_behind t m) (number_lacks 32 stamp.0 refl)
+behind_one : (stamp s : ℕ) (m x : Msg) (ms : List Msg) → Has x ms → Has x ((if stamp == s then m ∷ [] else []) ++ ms)
+behind_one stamp s m x ms h = go (stamp == s)
+  where
+    go : (b : Bool) → Has x ((if b then m ∷ [] else []) ++ ms)
+    go true = inr h
+    go false = h
 
-other_words : (c : ℕ) (x y : List ℕ) → begins c x ≡ true → begins c y ≡ false → x ≡ y → ⊥
-other_words c x y h k e = let both : begins c x ≡ begins c y = ap (begins c) e in absurd cc
+told_posted : (t : Tables) (a b : List ℕ) (es : List Entry) → Has (Posted a b) (told t es) → IsPostOf es a b
+told_posted t a b [] h = absurd h
+told_posted t a b (entry.Start who state ns ∷ es) h = later (entry.Start who state ns) es a b (λ s x k. k) (told_posted t a b es h)
+told_posted t a b (entry.Fetch stamp m ∷ es) (inl e) = absurd cc
+told_posted t a b (entry.Fetch stamp m ∷ es) (inr h) = later (entry.Fetch stamp m) es a b (λ s x k. k) (told_posted t a b es h)
+told_posted t a b (entry.Turn stamp from sent did ns ∷ es) (inl e) = absurd cc
+told_posted t a b (entry.Turn stamp from sent did ns ∷ es) (inr h) = later (entry.Turn stamp from sent did ns) es a b (λ s x k. k) (told_posted t a b es h)
+told_posted t a b (entry.Post stamp m ∷ es) (inl e) = record {
+  at = stamp.0;
+  message = m;
+  posted = subst (λ (q : Bool). Has m ((if q then m ∷ [] else []) ++ posted_at stamp.0 es)) (sym (eq-eqb stamp.0 stamp.0 refl)) (inl refl);
+  stamp_is = let same : a ≡ decimal stamp.0 = cc in sym same;
+  priority_is = let same : b ≡ decimal m.prio.0 = cc in sym same;
+}
+told_posted t a b (entry.Post stamp m ∷ es) (inr h) =
+    later (entry.Post stamp m) es a b (λ s x k. behind_one stamp.0 s m x (posted_at s es) k) (told_posted t a b es h)
 
--- whose message a fetch's line tells
-same_fetch : (t : Tables) (m k : Msg) → length t.controllers ≤ 255 → m.from.0 ≤ length t.controllers → m.prio.0 ≤ 5
-    → k.from.0 ≤ length t.controllers → k.prio.0 ≤ 5
-    → fetch_behind t m ≡ fetch_behind t k → (m.from.0 ≡ k.from.0) × (m.prio.0 ≡ k.prio.0)
-same_fetch t m k few a p b q e =
-    let m_end : List ℕ = decimal m.prio.0 ++ 32 ∷ fetch_end t m in
-    let k_end : List ℕ = decimal k.prio.0 ++ 32 ∷ fetch_end t k in
-    let who : party_text t m.from.0 ++ 64 ∷ (decimal m.stamp.0 ++ 32 ∷ m_end) ≡ party_text t k.from.0 ++ 64 ∷ (decimal k.stamp.0 ++ 32 ∷ k_end) = ap (past 32) e in
-    let m_free = party_lacks 64 t m.from.0 refl refl in
-    let k_free = party_lacks 64 t k.from.0 refl refl in
-    let from : party_text t m.from.0 ≡ party_text t k.from.0 =
-    sym (upto_at 64 (party_text t m.from.0) (decimal m.stamp.0 ++ 32 ∷ m_end) m_free) ∙ ap (upto 64) who ∙ upto_at 64 (party_text t k.from.0) (decimal k.stamp.0 ++ 32 ∷ k_end) k_free in
-    let sent : decimal m.stamp.0 ++ 32 ∷ m_end ≡ decimal k.stamp.0 ++ 32 ∷ k_end =
-    sym (past_at 64 (party_text t m.from.0) (decimal m.stamp.0 ++ 32 ∷ m_end) m_free) ∙ ap (past 64) who ∙ past_at 64 (party_text t k.from.0) (decimal k.stamp.0 ++ 32 ∷ k_end) k_free in
-    let rest : m_end ≡ k_end =
-    sym (past_at 32 (decimal m.stamp.0) m_end (number_lacks 32 m.stamp.0 refl)) ∙ ap (past 32) sent ∙ past_at 32 (decimal k.stamp.0) k_end (number_lacks 32 k.stamp.0 refl) in
-    let prio : decimal m.prio.0 ≡ decimal k.prio.0 =
-    sym (upto_at 32 (decimal m.prio.0) (fetch_end t m) (number_lacks 32 m.prio.0 refl)) ∙ ap (upto 32) rest
-    ∙ upto_at 32 (decimal k.prio.0) (fetch_end t k) (number_lacks 32 k.prio.0 refl) in
-    (party_same t m.from.0 k.from.0 few a b from, decimals_same m.prio.0 k.prio.0 (omega arith) (omega arith) prio)
+-- stamps at which something is posted are numbers of 64 bits
+abbrev pub PostsInTime : List Entry → Type 0
+PostsInTime es = (s : ℕ) (x : Msg) → Has x (posted_at s es) → s < 18446744073709551616
 
-same_behind : (t : Tables) (d e : Entry) → length t.controllers ≤ 255 → CanTell t d → CanTell t e → behind t d ≡ behind t e
-    → event_of d ≡ event_of e
-same_behind t (entry.Start who state ns) e few h k is = absurd h
-same_behind t (entry.Fetch stamp m) (entry.Start who state ns) few h k is = absurd k
-same_behind t (entry.Fetch stamp m) (entry.Fetch other y) few h k is =
-    let same = same_fetch t m y few h.0 h.1 k.0 k.1 is in ap₂ Fetch same.0 same.1
-same_behind t (entry.Fetch stamp m) (entry.Turn other from sent did ns) few h k is =
-    absurd (other_words 102 (fetch_behind t m) (turn_behind t from.0 sent.0 did) refl refl is)
-same_behind t (entry.Fetch stamp m) (entry.Post other y) few h k is =
-    absurd (other_words 102 (fetch_behind t m) (post_behind t y) refl refl is)
-same_behind t (entry.Turn stamp from sent did ns) (entry.Start who state others) few h k is = absurd k
-same_behind t (entry.Turn stamp from sent did ns) (entry.Fetch other y) few h k is =
-    absurd (other_words 116 (turn_behind t from.0 sent.0 did) (fetch_behind t y) refl refl is)
-same_behind t (entry.Turn stamp from sent did ns) (entry.Turn other f s d others) few h k is = refl
-same_behind t (entry.Turn stamp from sent did ns) (entry.Post other y) few h k is =
-    absurd (other_words 116 (turn_behind t from.0 sent.0 did) (post_behind t y) refl refl is)
-same_behind t (entry.Post stamp m) (entry.Start who state ns) few h k is = absurd k
-same_behind t (entry.Post stamp m) (entry.Fetch other y) few h k is =
-    absurd (other_words 112 (post_behind t m) (fetch_behind t y) refl refl is)
-same_behind t (entry.Post stamp m) (entry.Turn other from sent did ns) few h k is =
-    absurd (other_words 112 (post_behind t m) (turn_behind t from.0 sent.0 did) refl refl is)
-same_behind t (entry.Post stamp m) (entry.Post other y) few h k is = refl
+only : (x k : Msg) → Has x (k ∷ []) → x ≡ k
+only x k (inl e) = e
+only x k (inr h) = absurd h
 
-abbrev pub AllTell : Tables → List Entry → Type 0
-AllTell t [] = Unit {0}
-AllTell t (e ∷ es) = CanTell t e × AllTell t es
+-- where two journals tell the same posts, the only posts that a word names have one priority
+pub same_priority : (t : Tables) (m k : Msg) (es fs : List Entry) → told t es ≡ told t fs → posted_at m.stamp.0 es ≡ m ∷ [] → posted_at k.stamp.0 fs ≡ k ∷ []
+    → PostsInTime fs → m.prio.0 ≤ 5 → k.prio.0 ≤ 5 → decimal m.stamp.0 ≡ decimal k.stamp.0 → m.prio.0 ≡ k.prio.0
+same_priority t m k es fs same m_posted k_posted timely a b sent =
+    let mine : Has (Posted (decimal m.stamp.0) (decimal m.prio.0)) (told t es) = posted_told t m.stamp.0 m es (subst (Has m) (sym m_posted) (inl refl)) in
+    let there : IsPostOf fs (decimal m.stamp.0) (decimal m.prio.0) = told_posted t (decimal m.stamp.0) (decimal m.prio.0) fs (subst (Has (Posted (decimal m.stamp.0) (decimal m.prio.0))) same mine) in
+    let at : there.at ≡ k.stamp.0 =
+    decimal_injective there.at k.stamp.0 (timely there.at there.message there.posted) (timely k.stamp.0 k (subst (Has k) (sym k_posted) (inl refl))) (there.stamp_is ∙ sent) in
+    let one : there.message ≡ k = only there.message k (subst (Has there.message) (ap (λ (s : ℕ). posted_at s fs) at ∙ k_posted) there.posted) in
+    decimals_same m.prio.0 k.prio.0 (omega arith) (omega arith) (sym there.priority_is ∙ ap (λ (y : Msg). decimal y.prio.0) one)
 
--- entries with the same lines are of the same events
-pub same_events : (t : Tables) (ds es : List Entry) → length t.controllers ≤ 255 → AllTell t ds → AllTell t es
-    → map (row t) ds ≡ map (row t) es → map event_of ds ≡ map event_of es
-same_events t [] [] few h k e = refl
-same_events t [] (y ∷ es) few h k e = absurd cc
-same_events t (x ∷ ds) [] few h k e = absurd cc
-same_events t (x ∷ ds) (y ∷ es) few h k e =
-    let line : row t x ≡ row t y = cc in
-    let lines : map (row t) ds ≡ map (row t) es = cc in
-    let first : event_of x ≡ event_of y = same_behind t x y few h.0 k.0 (sym (behind_is t x h.0) ∙ ap (past 32) line ∙ behind_is t y k.0) in
-    let rest = same_events t ds es few h.1 k.1 lines in
-    λ i. first i ∷ rest i
+-- ---- events
+
+-- what happened, and what is known of each fetched message
+abbrev pub AllHappened : (Msg → Type 0) → List Entry → Type 0
+AllHappened P [] = Unit {0}
+AllHappened P (entry.Start who state ns ∷ es) = ⊥
+AllHappened P (entry.Fetch stamp m ∷ es) = P m × AllHappened P es
+AllHappened P (entry.Turn stamp from sent did ns ∷ es) = AllHappened P es
+AllHappened P (entry.Post stamp m ∷ es) = AllHappened P es
+
+-- two messages of one word are fetched by one event
+abbrev pub OneFetch : Tables → (Msg → Type 0) → (Msg → Type 0) → Type 0
+OneFetch t P Q = (m k : Msg) → P m → Q k → word t m ≡ word t k → Fetch m.from.0 m.prio.0 ≡ Fetch k.from.0 k.prio.0
+
+pub same_events : (t : Tables) (P Q : Msg → Type 0) (one : OneFetch t P Q) (ds es : List Entry) → AllHappened P ds → AllHappened Q es
+    → told t ds ≡ told t es → map event_of ds ≡ map event_of es
+same_events t P Q one [] [] h k e = refl
+same_events t P Q one [] (entry.Start who state ns ∷ es) h k e = absurd k
+same_events t P Q one [] (entry.Fetch stamp m ∷ es) h k e = absurd cc
+same_events t P Q one [] (entry.Turn stamp from sent did ns ∷ es) h k e = absurd cc
+same_events t P Q one [] (entry.Post stamp m ∷ es) h k e = absurd cc
+same_events t P Q one (entry.Start who state ns ∷ ds) es h k e = absurd h
+same_events t P Q one (entry.Fetch stamp m ∷ ds) [] h k e = absurd cc
+same_events t P Q one (entry.Fetch stamp m ∷ ds) (entry.Start who state ns ∷ es) h k e = absurd k
+same_events t P Q one (entry.Fetch stamp m ∷ ds) (entry.Fetch other y ∷ es) h k e =
+    let named : word t m ≡ word t y = cc in
+    let rest : told t ds ≡ told t es = cc in
+    let first = one m y h.0 k.0 named in
+    let more = same_events t P Q one ds es h.1 k.1 rest in
+    λ i. first i ∷ more i
+same_events t P Q one (entry.Fetch stamp m ∷ ds) (entry.Turn other from sent did ns ∷ es) h k e = absurd cc
+same_events t P Q one (entry.Fetch stamp m ∷ ds) (entry.Post other y ∷ es) h k e = absurd cc
+same_events t P Q one (entry.Turn stamp from sent did ns ∷ ds) [] h k e = absurd cc
+same_events t P Q one (entry.Turn stamp from sent did ns ∷ ds) (entry.Start who state others ∷ es) h k e = absurd k
+same_events t P Q one (entry.Turn stamp from sent did ns ∷ ds) (entry.Fetch other y ∷ es) h k e = absurd cc
+same_events t P Q one (entry.Turn stamp from sent did ns ∷ ds) (entry.Turn other f s d others ∷ es) h k e =
+    let rest : told t ds ≡ told t es = cc in let more = same_events t P Q one ds es h k rest in λ i. event_of (entry.Turn stamp from sent did ns) ∷ more i
+same_events t P Q one (entry.Turn stamp from sent did ns ∷ ds) (entry.Post other y ∷ es) h k e = absurd cc
+same_events t P Q one (entry.Post stamp m ∷ ds) [] h k e = absurd cc
+same_events t P Q one (entry.Post stamp m ∷ ds) (entry.Start who state ns ∷ es) h k e = absurd k
+same_events t P Q one (entry.Post stamp m ∷ ds) (entry.Fetch other y ∷ es) h k e = absurd cc
+same_events t P Q one (entry.Post stamp m ∷ ds) (entry.Turn other from sent did ns ∷ es) h k e = absurd cc
+same_events t P Q one (entry.Post stamp m ∷ ds) (entry.Post other y ∷ es) h k e =
+    let rest : told t ds ≡ told t es = cc in let more = same_events t P Q one ds es h k rest in λ i. event_of (entry.Post stamp m) ∷ more i

@@ -1,10 +1,12 @@
-use Rattle.std.proofs.Common.{◌≡◌, ap, ◌∙◌, subst, Option, ℕ}
+use Rattle.std.proofs.Common.{◌≡◌, sym, ap, ◌∙◌, subst, Option, ℕ}
 use Rattle.std.proofs.lemmas.Bool.{both_ways}
 use Rattle.room_wiring.specs.declared.tables.Tables.{Tables}
 use Rattle.journal.specs.Fits.{Fits}
 use Rattle.journal.specs.Text.{text_of}
 use Rattle.journal_reader.specs.journal_lines.Reading.{journals_in}
 use Rattle.journal_reader.specs.Answer.{Differs}
+use Rattle.journal_reader.specs.journal_texts.InRange.{IsInRange}
+use Rattle.journal_reader.proofs.InRangeLaw.{read_in_range}
 use Rattle.journal_reader.proofs.Judging.{read_is, other_text, none_fit}
 use Rattle.journal_reader.proofs.reader.read_first_form.Goals as goal
 
@@ -33,3 +35,10 @@ returns-else-fitting-clause-only c = λ named j fits range text.
     let found_is : found ≡ journals_in t bytes = c.in_ok-journals.ensures ∙ ap (λ (x : Tables). journals_in x bytes) c.requires in
     let unfit : Fits t found → ⊥ = λ h. both_ways c.fits-fitting.result c.if-fitting.false (c.fits-fitting.ensures.fits.1 h) in
     absurd (none_fit t bytes found j found_is c.fits-fitting.ensures.consistent named fits range text unfit)
+
+pub returns-then-fitting-clause-in_range : goal.returns-then-fitting-clause-in_range
+returns-then-fitting-clause-in_range c =
+    let t = c.args.wiring.now in
+    let bytes = c.args.bytes.now in
+    let found_is = c.in_ok-journals.ensures ∙ ap (λ (x : Tables). journals_in x bytes) c.requires in
+    subst IsInRange (sym found_is) (read_in_range t bytes c.fits-fitting.ensures.consistent)

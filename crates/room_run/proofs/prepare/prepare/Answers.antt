@@ -1,7 +1,8 @@
 use Rattle.std.proofs.Common.{◌≡◌, Some, refl, sym, ap, ◌∙◌}
-use Rattle.room_run.specs.Words.{asked_view, files_view}
-use Rattle.room_run.specs.Causes.{of_check, of_tree, of_run, of_made}
-use Rattle.room_run.specs.Outcome.{says_ok, says_tree, says_run}
+use Rattle.run_promises.proofs.run_journals.TiedLaw.{tied}
+use Rattle.room_run.specs.Words.{asked_view, files_view, record_view}
+use Rattle.room_run.specs.Causes.{of_check, of_tree, of_run, of_convert, of_made}
+use Rattle.room_run.specs.Outcome.{says_ok, says_tree, says_run, says_converted}
 use Rattle.room_run.specs.declared.asked.Asked.{Asked}
 use Rattle.room_run.specs.declared.asked.Asked.TheVariants as code
 use Rattle.room_run.proofs.CauseLemmas.{model_sound}
@@ -41,6 +42,20 @@ pub returns-in-Err-run_files-clause-err : goal.returns-in-Err-run_files-clause-e
 returns-in-Err-run_files-clause-err g c =
     let is : c.in-Some-Run.field-0 ≡ code.Run c.in-Some-Run.files c.in-Some-Run.fuel = cc in
     of_run (files_view c.in-Some-Run.files) c.in-Some-Run.fuel (sym c.in-Some-Run.ensures ∙ ap (λ (a : Asked). Some (asked_view a)) is) c.in-Err-run_files.ensures.err
+
+pub returns-in-Ok-run_files-clause-tied : goal.returns-in-Ok-run_files-clause-tied
+returns-in-Ok-run_files-clause-tied g c =
+    let x = c.in-Ok-run_files.ensures.ok in tied x.0 x.1 c.in-Some-Run.fuel c.in-Ok-run_files.finished.journals x.3.run
+
+pub returns-in-Ok-convert-clause-ok : goal.returns-in-Ok-convert-clause-ok
+returns-in-Ok-convert-clause-ok g c =
+    let is : c.in-Some-Convert.field-0 ≡ code.Convert c.in-Some-Convert.files = cc in
+    says_converted (record_view c.in-Some-Convert.files) c.in-Ok-convert.read.wiring c.in-Ok-convert.read.journals (sym c.in-Some-Convert.ensures ∙ ap (λ (a : Asked). Some (asked_view a)) is) c.in-Ok-convert.ensures.ok refl refl
+
+pub returns-in-Err-convert-clause-err : goal.returns-in-Err-convert-clause-err
+returns-in-Err-convert-clause-err g c =
+    let is : c.in-Some-Convert.field-0 ≡ code.Convert c.in-Some-Convert.files = cc in
+    of_convert (record_view c.in-Some-Convert.files) (sym c.in-Some-Convert.ensures ∙ ap (λ (a : Asked). Some (asked_view a)) is) c.in-Err-convert.ensures.err
 
 pub returns-in-Ok-run_made-clause-ok : goal.returns-in-Ok-run_made-clause-ok
 returns-in-Ok-run_made-clause-ok g c =

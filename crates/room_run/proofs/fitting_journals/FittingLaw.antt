@@ -1,0 +1,73 @@
+-- The journals of a run of a plant that fits, over lines that fit.
+use Rattle.std.proofs.Common.{◌≡◌, ℕ, zero, suc, ◌<◌, List, [], ◌∷◌, length, slice_get, Option, Some, None, refl, subst, ap}
+use Rattle.std.specs.Option.{option_map_or}
+use Rattle.room_wiring.specs.Slots.{slot_at}
+use Rattle.room_wiring.specs.declared.slot.Slot.{Slot}
+use Rattle.room_wiring.specs.declared.tables.Tables.{Tables as Wired}
+use Rattle.journal.specs.declared.entry.Journals.{Journals}
+use Rattle.inject_reader.specs.declared.inject_lines.accepted.Line.{Line}
+use Rattle.inject_reader.specs.declared.inject_lines.accepted.What.{What}
+use Rattle.inject_reader.specs.declared.inject_lines.accepted.What.TheVariants as whats
+use Rattle.actor_duties.specs.Words.{owner_of}
+use Rattle.bounded_sends.specs.Sends.{OwnersAreThere, is_ranked}
+use Rattle.chart_behaviour.specs.Asked.{ClassesAsk}
+use Rattle.chart_model.specs.Chart.{Chart}
+use Rattle.chart_run.specs.declared.chart_tables.tables.Tables.{Tables}
+use Rattle.chart_compile.specs.chart_parts.Compiled.{Compiles}
+use Rattle.controller_actors.specs.declared.plant.Plant.{Plant}
+use Rattle.model_laws.proofs.settled_models.Models.{models_ranked}
+use Rattle.model_laws.specs.settled_models.Wirings.{ModelsHaveOwners}
+use Rattle.model_run.specs.run_ends.Runs.{IsRun}
+use Rattle.named_runs.specs.Charts.{ShowsChart, ShowCharts}
+use Rattle.run_promises.specs.run_journals.Outside.{WhatNames, LinesName}
+use Rattle.run_promises.proofs.run_journals.InPlaceLaw.{in_place}
+use Rattle.run_promises.proofs.run_journals.OutsideLaw.{line_names, environment_fits}
+use Rattle.run_promises.proofs.run_journals.ReachingLaw.{reach}
+use Rattle.run_promises.proofs.run_journals.TiedLaw.{tied}
+use Rattle.room_run.specs.fitting_plants.Lines.{WhatFits, LinesFit}
+use Rattle.room_run.specs.fitting_plants.Plants.{PlantFits}
+use Rattle.room_run.specs.fitting_journals.Fitting.{JournalsInPlace, FittingRunsAreInPlace}
+
+-- lines that fit name what the wiring has
+one_names : (t : Wired) (what : What) → WhatFits t what → WhatNames t what
+one_names t whats.Settle h = tt
+one_names t (whats.Message target signal payload prio) h =
+    line_names t target signal (length payload) h.port h.target_fits.slot.slot h.target_fits.slot.slot_is h.target_fits.port_is h.signal_fits prio.0 h.least
+
+lines_name : (t : Wired) (lines : List Line) → LinesFit t lines → LinesName t lines
+lines_name t [] h = tt
+lines_name t (x ∷ lines) h = (one_names t x.what h.0, lines_name t lines h.1)
+
+-- the owner of each slot is a controller
+slots_owned : (t : Wired) → ((s : ℕ) → owner_of t s < length t.controllers) → OwnersAreThere t
+unfolding owner_of
+slots_owned t h s x there = subst (λ (o : Option Slot). option_map_or (λ (x : Slot). x.owner.0) o 0 < length t.controllers) there (h s)
+
+-- the tables of each class are compiled from its chart, which sends at the six priorities
+module _ (plant : Plant) (fits : PlantFits plant) where
+  by_chart : (classes : List (Option Tables)) (charts : List (Option Chart)) → ShowCharts classes charts → (c : ℕ) (v : Tables) → slice_get classes c ≡ Some (Some v)
+      → (chart : Chart) × (slice_get charts c ≡ Some (Some chart)) × Compiles v chart
+  by_chart [] charts shown c v e = absurd cc
+  by_chart (o ∷ os) [] shown c v e = absurd shown
+  by_chart (o ∷ os) (q ∷ qs) shown (suc c) v e = by_chart os qs shown.1 c v e
+  by_chart (o ∷ os) (q ∷ qs) shown zero v e = here q (subst (λ (z : Option Tables). ShowsChart z q) (let same : o ≡ Some v = cc in same) shown.0)
+    where
+      here : (q : Option Chart) → ShowsChart (Some v) q → (chart : Chart) × (slice_get (q ∷ qs) zero ≡ Some (Some chart)) × Compiles v chart
+      here None s = absurd s
+      here (Some chart) s = (chart, refl, s)
+
+  ranked : ClassesAsk is_ranked plant.tables.items
+  ranked c v at =
+      let from = by_chart plant.tables.items fits.charts fits.tables c v at in
+      models_ranked fits.model fits.charts fits.faultless c from.0 v from.1 from.2
+
+pub fitting_in_place : ModelsHaveOwners → FittingRunsAreInPlace
+fitting_in_place owned plant lines fuel j fits fit run =
+    let owners : OwnersAreThere plant.wiring = slots_owned plant.wiring (owned fits.model plant.wiring fits.keeps fits.wired fits.flawless) in
+    let names : LinesName plant.wiring lines = lines_name plant.wiring lines fit in
+    record {
+      tied = tied plant lines fuel j run;
+      in_place = in_place plant lines fuel j run;
+      receivers = reach plant lines owners (ranked plant fits) names fuel j run;
+      environment = environment_fits plant lines owners names fuel j run;
+    }
