@@ -1,5 +1,5 @@
 -- Runs of trails, cut into groups that go on alike.
-use Rattle.std.proofs.Common.{◌≡◌, ◌∙◌, ℕ, zero, suc, ◌+◌, ◌-◌, ◌<◌, ◌≤◌, Bool, true, false, cond, nat_eq, List, [], ◌∷◌, ◌++◌, Option, Some, None, length, map, take, take_all, get_or, append-nil, append_assoc, subst, refl, sym, ap, arith}
+use Rattle.std.proofs.Common.{◌≡◌, ◌∙◌, ℕ, zero, suc, ◌+◌, ◌-◌, ◌<◌, ◌≤◌, Bool, true, false, cond, nat_eq, List, [], ◌∷◌, ◌++◌, Option, Some, None, length, map, take, take_all, get_or, append-nil, refl, sym, ap, arith}
 use Rattle.std.specs.Prelude.{option_and_then, unwrap_or, slice_get}
 use Rattle.std.specs.List.{range_with_len, flat_map}
 use Rattle.std.proofs.lemmas.List.{take_more}
@@ -12,7 +12,7 @@ use Rattle.wiring_slots.specs.declared.slot_tree.names.StepPlan.{StepPlan}
 use Rattle.wiring_slots.specs.declared.slot_tree.owners.Trail.{Trail}
 use Rattle.wiring_slots.specs.declared.slot_tree.runs.Run.{Run}
 use Rattle.wiring_slots.specs.slot_tree.Owners.{next_step, mapped_at, owner_at}
-use Rattle.wiring_slots.specs.slot_tree.Runs.{trail_at, trails_between, trails_of, AreAlike}
+use Rattle.wiring_slots.specs.slot_tree.Runs.{trail_at, trails_between, trails_of}
 use Rattle.wiring_slots.specs.slot_tree.MappingOrders.{EndsAlike, IsGroup}
 
 -- ---- lists of runs

@@ -1,4 +1,4 @@
-use Rattle.std.proofs.Common.{◌≡◌, ◌∙◌, ℕ, List, None, subst, sym, ap, arith}
+use Rattle.std.proofs.Common.{◌≡◌, ◌∙◌, List, None, subst, sym, ap, arith}
 use Rattle.std.proofs.lemmas.Option.{none-some}
 use Rattle.wiring_slots.specs.declared.slot_tree.names.MappingPlan.{MappingPlan}
 use Rattle.wiring_slots.specs.slot_tree.MappingOrders.{EndsAlike}
