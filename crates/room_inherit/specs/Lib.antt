@@ -1,5 +1,7 @@
 pub mod Codes
+pub mod Keys
 pub mod Refining
+pub mod Searching
 pub mod Views
 pub mod Flat
 pub mod Rules

@@ -12,10 +12,13 @@ use Rattle.room_ast.specs.Trees.{ActorTree, actor_view}
 use Rattle.room_ast.specs.declared.actor.ActorClass.{ActorClass}
 use Rattle.room_inherit.specs.Filling.{FillingTree, AllTaken, OneUnknown, TooLarge}
 use Rattle.room_inherit.specs.Refining.{Refining}
+use Rattle.room_inherit.specs.Searching.{NamesTree, SearchTree}
 use Rattle.room_inherit.specs.declared.filling.Filling.{Filling}
 use Rattle.room_inherit.specs.declared.filling.Filling.TheVariants as fillings
 use Rattle.room_inherit.specs.declared.refining.paths.Pending.{Pending}
+use Rattle.room_inherit.specs.declared.rules.names.TransitionNames.{TransitionNames}
 use Rattle.room_inherit.specs.declared.rules.once.Path.{Path}
+use Rattle.room_inherit.specs.declared.rules.search.Search.{Search}
 
 abbrev pub change_view : Change → ChangeTree
 change_view = fold-Change ChangeTree GraphItemTree GraphItemTree StateTree BodyParts change_step item_step refinement_step state_step body_step
@@ -46,6 +49,15 @@ path_view p = path_from p.next p.others.now
 
 abbrev pub path_views : List Path → List (List (List ℕ))
 path_views ps = map path_view ps
+
+abbrev pub transition_names : TransitionNames → NamesTree
+transition_names ts = record { once = ts.once; again = ts.again }
+
+abbrev pub search_view : Search → SearchTree
+search_view s = record { graph = graph_view s.graph.now; sought = refining_views s.sought.items }
+
+abbrev pub search_views : List Search → List SearchTree
+search_views ss = map search_view ss
 
 abbrev pub flat_views : List (Option ActorClass) → List (Option ActorTree)
 flat_views fs = map (λ f. option_map actor_view f) fs
