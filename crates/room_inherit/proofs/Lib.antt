@@ -14,3 +14,5 @@ pub mod Strings
 pub mod NamesLaw
 pub mod KeyLaws
 pub mod Found
+pub mod Groups
+pub mod Depth

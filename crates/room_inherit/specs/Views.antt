@@ -5,16 +5,19 @@ use Rattle.std.specs.Borrow.{Bor}
 use Rattle.std.specs.Global.{Vec}
 use Rattle.room_ast.specs.ChartTree.{GraphItemTree, StateTree, BodyParts, ChangeTree, OfState, SubgraphTree, no_subgraph, subgraph, GraphItems, graph_view, item_step, state_step, body_step, refinement_step, change_step}
 use Rattle.room_ast.specs.declared.chart.Change.{Change}
+use Rattle.room_ast.specs.declared.chart.Code.{Code}
 use Rattle.room_ast.specs.declared.chart.GraphItem.{GraphItem}
 use Rattle.room_ast.specs.declared.chart.StateMachine.{StateMachine}
 use Rattle.room_ast.specs.declared.chart.Change.TheFolds.{fold-Change}
 use Rattle.room_ast.specs.Trees.{ActorTree, actor_view}
 use Rattle.room_ast.specs.declared.actor.ActorClass.{ActorClass}
 use Rattle.room_inherit.specs.Filling.{FillingTree, AllTaken, OneUnknown, TooLarge}
+use Rattle.room_inherit.specs.Grouping.{GroupTree}
 use Rattle.room_inherit.specs.Refining.{Refining}
 use Rattle.room_inherit.specs.Searching.{NamesTree, SearchTree}
 use Rattle.room_inherit.specs.declared.filling.Filling.{Filling}
 use Rattle.room_inherit.specs.declared.filling.Filling.TheVariants as fillings
+use Rattle.room_inherit.specs.declared.refining.grouped.Group.{Group}
 use Rattle.room_inherit.specs.declared.refining.paths.Pending.{Pending}
 use Rattle.room_inherit.specs.declared.rules.names.TransitionNames.{TransitionNames}
 use Rattle.room_inherit.specs.declared.rules.once.Path.{Path}
@@ -36,6 +39,12 @@ refining_view p = record { path = path_from p.next p.others.now; change = change
 
 abbrev pub refining_views : List Pending → List Refining
 refining_views ps = map refining_view ps
+
+abbrev pub group_view : Group → GroupTree
+group_view g = record { inside = refining_views g.inside.items; action = option_map (λ (c : Bor Code). c.now) g.action }
+
+abbrev pub group_views : List Group → List GroupTree
+group_views gs = map group_view gs
 
 abbrev pub subgraph_tree : Option (Vec GraphItem) → SubgraphTree
 subgraph_tree None = no_subgraph

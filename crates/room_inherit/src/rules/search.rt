@@ -3,11 +3,11 @@
 ghost use Rattle.std.specs.Prelude.{◌≡◌, ◌++◌, ◌∷◌, [], Some, None, map, option_map, position, IfOk, OnOk, if◌then◌else◌};
 ghost use Rattle.name_tables.specs.name_numbers.Names.{same};
 ghost use Rattle.room_ast.specs.ChartTree.{graph_view, state_view};
-ghost use Rattle.room_inherit.specs.Refining.{graph_in};
 ghost use Rattle.room_inherit.specs.Searching.{inside, sought_at, sought_in, passed, all_passed, searched, further, next_of, all_succeed, are_named};
 ghost use Rattle.room_inherit.specs.Views.{change_view, refining_view, refining_views, search_view, search_views, transition_names};
 
 use crate::refining::Pending;
+use crate::rules::named::graph_in;
 use crate::rules::names::{TransitionNames, names_of_states, states_in};
 use name_tables::NameIndex;
 use room_ast::{Change, GraphItem, Name, State};
@@ -18,19 +18,6 @@ use std::alloc::{AllocError, Global};
 struct Search<'a> {
     graph: &'a [GraphItem],
     sought: Vec<Pending<'a>>,
-}
-
-/// The graph of a state; it is empty where the state has no subgraph.
-fn graph_in<'a>(state: &'a State) -> &'a [GraphItem]
-    ensures { graph_view result.now ≡ graph_in (state_view state.entry.now) }
-{
-    let Some(body) = &state.body else {
-        return &[];
-    };
-    match &body.subgraph {
-        Some(items) => items.as_slice(),
-        None => &[],
-    }
 }
 
 /// The graphs of states, in which nothing is looked for yet.
