@@ -38,26 +38,26 @@ none_marked bases order placed none sized = record {
 
 one_of : (p : ℕ → Bool) (xs : List ℕ) (j : ℕ) → list_all p xs ≡ true → list_any (nat_eq j) xs ≡ true → p j ≡ true
 one_of p [] j all any = absurd (never any)
-one_of p (x ∷ xs) j all any = go (p x) refl (nat_eq j x) refl
+one_of p (x ∷ xs) j all any = go (p x) refl (nat_eq j x) refl (one_of p xs j)
   where
-    go : (t : Bool) → p x ≡ t → (s : Bool) → nat_eq j x ≡ s → p j ≡ true
-    go false e s f = absurd (never (sym (ap (λ b. b && list_all p xs) e) ∙ all))
-    go true e true f = ap p (eqb-true j x f) ∙ e
-    go true e false f = one_of p xs j (sym (ap (λ b. b && list_all p xs) e) ∙ all) (sym (ap (λ b. b || list_any (nat_eq j) xs) f) ∙ any)
+    go : (t : Bool) → p x ≡ t → (s : Bool) → nat_eq j x ≡ s → (list_all p xs ≡ true → list_any (nat_eq j) xs ≡ true → p j ≡ true) → p j ≡ true
+    go false e s f again = absurd (never (sym (ap (λ b. b && list_all p xs) e) ∙ all))
+    go true e true f again = ap p (eqb-true j x f) ∙ e
+    go true e false f again = again (sym (ap (λ b. b && list_all p xs) e) ∙ all) (sym (ap (λ b. b || list_any (nat_eq j) xs) f) ∙ any)
 
 pub one_marked : (bases : List (List ℕ)) (order : List ℕ) (n c : ℕ) (placed : List Bool) (parts : List ℕ) → IsMarked bases order n placed → c ≡ slice_index order n → parts ≡ parts_of bases c → list_all (is_placed placed) parts ≡ true → IsMarked bases order (n + 1) (slice_set placed c true)
 one_marked bases order n c placed parts marked here its all = record {
   sized = set_length placed c true ∙ marked.sized;
   stands = λ i lt is. elim (cases_eq i c) [
-    | inl same ↦ (n, (omega arith, sym here ∙ sym same))
-    | inr ne ↦ let s = marked.stands i lt (sym (still_placed placed c i ne) ∙ is) in (s.0, (omega (arith, s.1.0), s.1.1))
+    | inl same ↦ (n, omega arith, sym here ∙ sym same)
+    | inr ne ↦ let s = marked.stands i lt (sym (still_placed placed c i ne) ∙ is) in (s.0, omega (arith, s.1), s.2)
   ];
   sorted = λ k j lt part within. elim (cases_eq k n) [
     | inl same ↦
         let mine : has_part bases c j ≡ true = subst (λ x. has_part bases x j ≡ true) (ap (slice_index order) same ∙ sym here) part in
         let is : is_placed placed j ≡ true = one_of (is_placed placed) (parts_of bases c) j (subst (λ xs. list_all (is_placed placed) xs ≡ true) its all) mine in
         let s = marked.stands j within is in
-        (s.0, (omega (arith, s.1.0, same), s.1.1))
+        (s.0, omega (arith, s.1, same), s.2)
     | inr ne ↦ marked.sorted k j (omega (arith, lt, ne)) part within
   ];
 }
@@ -70,7 +70,7 @@ all_true (true ∷ xs) (suc i) all = all_true xs i all
 
 pub all_marked : (bases : List (List ℕ)) (order : List ℕ) (n : ℕ) (placed : List Bool) → IsMarked bases order n placed → n ≡ length order → list_all (λ b. b) placed ≡ true → length order ≤ length bases → IsContainmentOrder bases order
 all_marked bases order n placed marked done all short = record {
-  whole = λ i lt. let s = marked.stands i lt (all_true placed i all) in (s.0, (omega (arith, s.1.0, done), s.1.1));
+  whole = λ i lt. let s = marked.stands i lt (all_true placed i all) in (s.0, omega (arith, s.1, done), s.2);
   sorted = λ k j lt part within. marked.sorted k j (omega (arith, lt, done)) part within;
   short = short;
 }

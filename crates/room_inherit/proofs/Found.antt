@@ -1,31 +1,39 @@
 -- Refinements that are looked for in graphs are found where graphs have what they name.
-use Rattle.std.proofs.Common.{◌≡◌, ◌⊎◌, inl, inr, ℕ, zero, suc, ◌+◌, ◌<◌, ◌≤◌, Bool, true, false, cond, not, nat_eq, nat_lt, List, [], ◌∷◌, ◌++◌, length, map, get_or, Option, Some, None, refl, sym, ap, ◌∙◌, subst, arith}
+use Rattle.std.proofs.Common.{◌≡◌, ◌⊎◌, inl, inr, ℕ, zero, suc, ◌+◌, ◌<◌, ◌≤◌, Bool, true, false, cond, not, nat_eq, nat_lt, List, [], ◌∷◌, ◌++◌, length, map, get_or, Option, Some, None, Bor, refl, sym, ap, ◌∙◌, subst, arith}
 use Rattle.std.specs.Prelude.{◌&&◌, ◌||◌, position, option_map, slice_get, slice_set, if◌then◌else◌}
+use Rattle.std.specs.Global.{Vec}
 use Rattle.std.specs.List.{list_all, cons_option, position_or_len}
 use Rattle.std.specs.Option.{option_and_then, option_map_or}
 use Rattle.std.proofs.lemmas.Bool.Decides.{nat_tests}
+use Rattle.std.proofs.lemmas.List.{map-append}
 use Rattle.std.proofs.lemmas.List.Folds.{list_all-append}
-use lib.Pointwise.{bytes_decides}
 use Rattle.name_tables.specs.name_numbers.Names.{same, is_among}
-use Rattle.room_ast.specs.ChartTree.{GraphItemTree, AState, AChoice, APoint, ATransition, ARefinement, ChangeTree, OfState, OfTransition, StateTree, StateOf, GraphItems, no_items, item}
+use Rattle.room_ast.specs.ChartTree.{GraphItemTree, AState, AChoice, APoint, ATransition, ARefinement, ChangeTree, OfState, OfTransition, StateTree, StateOf, GraphItems, no_items, item, state_view, graph_view}
+use Rattle.room_ast.specs.declared.chart.GraphItem.{GraphItem}
+use Rattle.room_ast.specs.declared.chart.State.{State}
 use Rattle.room_inherit.specs.Refining.{Refining, as_state, first_state, found_or, graph_in, is_called, is_named, transitions_named, with_name}
 use Rattle.room_inherit.specs.Searching.{any_state, states_in, name_of, NamesTree, note, note_item, note_items, no_names, stands_once, SearchTree, are_named, all_succeed, inside, sought_at, sought_in, passed, all_passed, searched, further, next_of, names_sought, effort, toil}
 use Rattle.room_inherit.specs.Views.{refining_view, refining_views, search_view, search_views}
 use Rattle.room_inherit.specs.declared.refining.paths.Pending.{Pending}
 use Rattle.room_inherit.specs.declared.rules.search.Search.{Search}
 use Rattle.room_inherit.proofs.Places.{mapped_length}
-use Rattle.room_inherit.proofs.Seen.{same_is, among_push, among_with}
+use Rattle.room_inherit.proofs.Seen.{same_is, same_own, among_push, among_with}
 
 -- ---- what the code does to searches
+
+abbrev search_of : GraphItems → List Refining → SearchTree
+search_of g rs = record { graph = g; sought = rs }
+
+sought_one : (x t : Search) (p : Pending) → t.graph ≡ x.graph → t.sought.items ≡ x.sought.items ++ p ∷ [] → search_view t ≡ search_of (graph_view x.graph.now) (refining_views x.sought.items ++ refining_view p ∷ [])
+sought_one x t p graph sought =
+    ap (λ (g : Bor (List GraphItem)). search_of (graph_view g.now) (refining_views t.sought.items)) graph ∙ ap (λ (ps : List Pending). search_of (graph_view x.graph.now) (refining_views ps)) sought
+    ∙ ap (search_of (graph_view x.graph.now)) (map-append refining_view x.sought.items (p ∷ []))
 
 pub sought_set : (ss : List Search) (k : ℕ) (s t : Search) (p : Pending) → k < length ss → s ≡ get_or ss k s → t.graph ≡ s.graph → t.sought.items ≡ s.sought.items ++ p ∷ []
     → search_views (slice_set ss k t) ≡ sought_at (search_views ss) k (refining_view p)
 sought_set [] k s t p lt here graph sought = absurd (omega arith)
 sought_set (x ∷ xs) zero s t p lt here graph sought =
     ap (λ (u : SearchTree). u ∷ search_views xs) (sought_one x t p (graph ∙ ap (λ (u : Search). u.graph) here) (sought ∙ ap (λ (u : Search). u.sought.items ++ p ∷ []) here))
-  where
-    sought_one : (x t : Search) (p : Pending) → t.graph ≡ x.graph → t.sought.items ≡ x.sought.items ++ p ∷ [] → search_view t ≡ record (search_view x) { sought = (search_view x).sought ++ refining_view p ∷ [] }
-    sought_one x t p graph sought = rw (graph, sought, map-append refining_view x.sought.items (p ∷ [])) refl
 sought_set (x ∷ xs) (suc k) s t p lt here graph sought = ap (λ us. search_view x ∷ us) (sought_set xs k s t p (omega (arith, lt)) here graph sought)
 
 pub sought_past : (ss : List Search) (k : ℕ) (r : Refining) → length ss ≤ k → sought_at (search_views ss) k r ≡ search_views ss
@@ -62,9 +70,6 @@ and_comm : (a b : Bool) → (a && b) ≡ (b && a)
 and_comm true b = sym (and_true b)
 and_comm false b = sym (and_false b)
 
-same_own : (a : List ℕ) → same a a ≡ true
-same_own a = (bytes_decides a a).1 refl
-
 same_turned : (a b : List ℕ) → same a b ≡ same b a
 same_turned a b = go (same a b) (same b a) refl refl
   where
@@ -82,28 +87,37 @@ first_named name (s ∷ ss) = if same (name_of s) name then Some s else first_na
 
 first_is : (name : List ℕ) (g : GraphItems) → first_state name g ≡ first_named name (states_in g)
 first_is name no_items = refl
-first_is name (item (AState (StateOf n b)) is) = go (same n name)
+first_is name (item (AState (StateOf n b)) is) = go (same n name) (first_is name is)
   where
-    go : (t : Bool) → found_or (if t then Some (StateOf n b) else None) (first_state name is) ≡ (if t then Some (StateOf n b) else first_named name (states_in is))
-    go true = refl
-    go false = first_is name is
+    go : (t : Bool) → first_state name is ≡ first_named name (states_in is) → found_or (if t then Some (StateOf n b) else None) (first_state name is) ≡ (if t then Some (StateOf n b) else first_named name (states_in is))
+    go true same_first = refl
+    go false same_first = same_first
 first_is name (item (AChoice c) is) = first_is name is
 first_is name (item (APoint p) is) = first_is name is
 first_is name (item (ATransition t) is) = first_is name is
 first_is name (item (ARefinement path change) is) = first_is name is
 
+one_up : (n : ℕ) → 1 + n ≡ suc n
+one_up n = omega arith
+
+less_first : (n : ℕ) → nat_lt 0 (suc n) ≡ true
+less_first n = grind (arith, nat_tests)
+
+next_less : (n most : ℕ) (rest : Bool) → nat_lt n most ≡ rest → nat_lt (1 + n) (suc most) ≡ rest
+next_less n most rest h = grind (arith, nat_tests)
+
 next_place : (n most : ℕ) → cond (nat_lt (1 + n) (suc most)) (Some (1 + n)) None ≡ option_map suc (cond (nat_lt n most) (Some n) None)
-next_place n most = go (nat_lt n most) refl
+next_place n most = ap (λ t. cond t (Some (1 + n)) None) (next_less n most (nat_lt n most) refl) ∙ go (nat_lt n most)
   where
-    go : (t : Bool) → nat_lt n most ≡ t → cond (nat_lt (1 + n) (suc most)) (Some (1 + n)) None ≡ option_map suc (cond t (Some n) None)
-    go true e = let more : nat_lt (1 + n) (suc most) ≡ true = grind (arith, nat_tests, e) in ap (λ t. cond t (Some (1 + n)) None) more
-    go false e = let more : nat_lt (1 + n) (suc most) ≡ false = grind (arith, nat_tests, e) in ap (λ t. cond t (Some (1 + n)) None) more
+    go : (t : Bool) → cond t (Some (1 + n)) None ≡ option_map suc (cond t (Some n) None)
+    go true = ap Some (one_up n)
+    go false = refl
 
 position_first : {X : Type 0} (p : X → Bool) (x : X) (xs : List X) → position p (x ∷ xs) ≡ (if p x then Some 0 else option_map suc (position p xs))
 position_first p x xs = go (p x)
   where
     go : (t : Bool) → cond (nat_lt (cond (not t) (1 + position_or_len p xs) 0) (suc (length xs))) (Some (cond (not t) (1 + position_or_len p xs) 0)) None ≡ (if t then Some 0 else option_map suc (position p xs))
-    go true = refl
+    go true = ap (λ t. cond t (Some 0) None) (less_first (length xs))
     go false = next_place (position_or_len p xs) (length xs)
 
 -- What stands at the place of a name: the first state that has it.
@@ -113,7 +127,7 @@ StandsAt name ss (Some k) = (s : StateTree) × ((slice_get ss k ≡ Some s) × (
 
 stands_at : (name : List ℕ) (ss : List StateTree) → StandsAt name ss (position (same name) (map name_of ss))
 stands_at name [] = refl
-stands_at name (s ∷ ss) = subst (StandsAt name (s ∷ ss)) (sym (position_first (same name) (name_of s) (map name_of ss))) (go (same name (name_of s)) refl)
+stands_at name (s ∷ ss) = subst (StandsAt name (s ∷ ss)) (sym (position_first (same name) (name_of s) (map name_of ss))) (go (same name (name_of s)) refl (stands_at name ss))
   where
     first : (t : Bool) → same name (name_of s) ≡ t → first_named name (s ∷ ss) ≡ (if t then Some s else first_named name ss)
     first t e = ap (λ u. if u then Some s else first_named name ss) (same_turned (name_of s) name ∙ e)
@@ -122,9 +136,9 @@ stands_at name (s ∷ ss) = subst (StandsAt name (s ∷ ss)) (sym (position_firs
     behind e None at = first false e ∙ at
     behind e (Some k) (x, (here, is)) = (x, (here, first false e ∙ is))
 
-    go : (t : Bool) → same name (name_of s) ≡ t → StandsAt name (s ∷ ss) (if t then Some 0 else option_map suc (position (same name) (map name_of ss)))
-    go true e = (s, (refl, first true e))
-    go false e = behind e (position (same name) (map name_of ss)) (stands_at name ss)
+    go : (t : Bool) → same name (name_of s) ≡ t → StandsAt name ss (position (same name) (map name_of ss)) → StandsAt name (s ∷ ss) (if t then Some 0 else option_map suc (position (same name) (map name_of ss)))
+    go true e at = (s, (refl, first true e))
+    go false e at = behind e (position (same name) (map name_of ss)) at
 
 -- ---- the names of transitions
 
@@ -151,13 +165,17 @@ newer more false true e = refl
 newer more false false e = grind (arith, nat_tests)
 newer more true a e = absurd cc
 
+-- the names with one more, where it is among them or not
+abbrev noted : List ℕ → NamesTree → Bool → NamesTree
+noted name ts t = if t then record ts { again = with_name name ts.again } else record ts { once = ts.once ++ name ∷ [] }
+
+abbrev noted_if : NamesTree → Option (List ℕ) → NamesTree
+noted_if ts name = option_map_or (λ n. note n ts) name ts
+
 one_with : (name q : List ℕ) (ts : NamesTree) (more : ℕ) → one_of (is_among (note name ts).once q) (is_among (note name ts).again q) more ≡ one_of (is_among ts.once q) (is_among ts.again q) (if same name q then 1 + more else more)
 one_with name q ts more = go (same name q) refl
   where
-    abbrev noted : Bool → NamesTree
-    noted t = if t then record ts { again = with_name name ts.again } else record ts { once = ts.once ++ name ∷ [] }
-
-    named : (t : Bool) → is_among ts.once name ≡ t → same q name ≡ true → one_of (is_among (noted t).once q) (is_among (noted t).again q) more ≡ one_of (is_among ts.once q) (is_among ts.again q) (1 + more)
+    named : (t : Bool) → is_among ts.once name ≡ t → same q name ≡ true → one_of (is_among (noted name ts t).once q) (is_among (noted name ts t).again q) more ≡ one_of (is_among ts.once q) (is_among ts.again q) (1 + more)
     named true e here =
         let there : is_among ts.once q ≡ true = subst (λ x. is_among ts.once x ≡ true) (sym (same_is q name here)) e in
         ap (λ a. one_of (is_among ts.once q) a more) (among_with ts.again name q ∙ ap (λ t. t || is_among ts.again q) here) ∙ older more (is_among ts.once q) (is_among ts.again q) there
@@ -166,7 +184,7 @@ one_with name q ts more = go (same name q) refl
         ap (λ o. one_of o (is_among ts.again q) more) (among_push ts.once name q ∙ ap (λ t. is_among ts.once q || t) here ∙ or_true (is_among ts.once q))
         ∙ newer more (is_among ts.once q) (is_among ts.again q) gone
 
-    other : (t : Bool) → same q name ≡ false → one_of (is_among (noted t).once q) (is_among (noted t).again q) more ≡ one_of (is_among ts.once q) (is_among ts.again q) more
+    other : (t : Bool) → same q name ≡ false → one_of (is_among (noted name ts t).once q) (is_among (noted name ts t).again q) more ≡ one_of (is_among ts.once q) (is_among ts.again q) more
     other true miss = ap (λ a. one_of (is_among ts.once q) a more) (among_with ts.again name q ∙ ap (λ t. t || is_among ts.again q) miss)
     other false miss = ap (λ o. one_of o (is_among ts.again q) more) (among_push ts.once name q ∙ ap (λ t. is_among ts.once q || t) miss ∙ or_false (is_among ts.once q))
 
@@ -188,10 +206,7 @@ once_counted q (item (APoint p) is) ts = once_counted q is ts
 once_counted q (item (ARefinement path change) is) ts = once_counted q is ts
 once_counted q (item (ATransition t) is) ts = once_counted q is (note_item (ATransition t) ts) ∙ go t.name
   where
-    abbrev after : Option (List ℕ) → NamesTree
-    after name = option_map_or (λ n. note n ts) name ts
-
-    go : (name : Option (List ℕ)) → one_of (is_among (after name).once q) (is_among (after name).again q) (transitions_named q is)
+    go : (name : Option (List ℕ)) → one_of (is_among (noted_if ts name).once q) (is_among (noted_if ts name).again q) (transitions_named q is)
         ≡ one_of (is_among ts.once q) (is_among ts.again q) (if option_map_or (λ n. same n q) name false then 1 + transitions_named q is else transitions_named q is)
     go None = refl
     go (Some n) = one_with n q ts (transitions_named q is)
@@ -239,32 +254,32 @@ abbrev Passes : List SearchTree → ℕ → Bool → Option (List SearchTree) �
 Passes ss most named None = named ≡ false
 Passes ss most named (Some more) = ((named && all_succeed ss) ≡ all_succeed more) × (graphs more ≡ graphs ss) × (effort more ≤ most)
 
-in_state : (g : GraphItems) (n : List ℕ) (r : Refining) (ss : List SearchTree) (named : Bool) → graphs ss ≡ map graph_in (states_in g) → named ≡ option_map_or (λ s. is_named (graph_in s) r.path r.change) (first_state n g) false
-    → Passes ss (effort ss + (1 + length r.path)) named (sought_in (position (same n) (map name_of (states_in g))) r ss)
-in_state g n r ss named same_graphs is = go (position (same n) (map name_of (states_in g))) (stands_at n (states_in g))
+in_state : (g : GraphItems) (n : List ℕ) (r : Refining) (ss : List SearchTree) (most : ℕ) (named : Bool) → effort ss + (1 + length r.path) ≤ most → graphs ss ≡ map graph_in (states_in g) → named ≡ option_map_or (λ s. is_named (graph_in s) r.path r.change) (first_state n g) false
+    → Passes ss most named (sought_in (position (same n) (map name_of (states_in g))) r ss)
+in_state g n r ss most named few same_graphs is = go (position (same n) (map name_of (states_in g))) (stands_at n (states_in g))
   where
     told : (o : Option StateTree) → first_named n (states_in g) ≡ o → named ≡ option_map_or (λ s. is_named (graph_in s) r.path r.change) o false
     told o e = is ∙ ap (λ x. option_map_or (λ s. is_named (graph_in s) r.path r.change) x false) (first_is n g ∙ e)
 
-    go : (o : Option ℕ) → StandsAt n (states_in g) o → Passes ss (effort ss + (1 + length r.path)) named (sought_in o r ss)
+    go : (o : Option ℕ) → StandsAt n (states_in g) o → Passes ss most named (sought_in o r ss)
     go None none = told None none
     go (Some k) (s, (here, first)) =
         let there : slice_get (graphs ss) k ≡ Some (graph_in s) = ap (λ gs. slice_get gs k) same_graphs ∙ got_mapped graph_in (states_in g) k ∙ ap (option_map graph_in) here in
-        (ap (λ b. b && all_succeed ss) (told (Some s) first ∙ sym (ap (in_graph r) there)) ∙ sym (succeed_at ss k r), (graphs_at ss k r, effort_at ss k r))
+        (ap (λ b. b && all_succeed ss) (told (Some s) first ∙ sym (ap (in_graph r) there)) ∙ sym (succeed_at ss k r), graphs_at ss k r, omega (arith, few, effort_at ss k r))
 
 one_passed : (g : GraphItems) (path : List (List ℕ)) (change : ChangeTree) (ss : List SearchTree) → graphs ss ≡ map graph_in (states_in g)
     → Passes ss (effort ss + length path) (is_named g path change) (passed (map name_of (states_in g)) (note_items g no_names) path change ss)
-one_passed g [] (OfState entry exit sub) ss same_graphs = (refl, (refl, omega arith))
+one_passed g [] (OfState entry exit sub) ss same_graphs = (refl, refl, omega arith)
 one_passed g [] (OfTransition c) ss same_graphs = refl
 one_passed g (n ∷ []) (OfTransition c) ss same_graphs = go (stands_once (note_items g no_names) n) refl
   where
     go : (t : Bool) → stands_once (note_items g no_names) n ≡ t → Passes ss (effort ss + 1) (nat_eq (transitions_named n g) 1) (if t then Some ss else None)
-    go true e = (ap (λ b. b && all_succeed ss) (sym (named_once n g) ∙ e), (refl, omega arith))
+    go true e = (ap (λ b. b && all_succeed ss) (sym (named_once n g) ∙ e), refl, omega arith)
     go false e = sym (named_once n g) ∙ e
-one_passed g (n ∷ []) (OfState entry exit sub) ss same_graphs = in_state g n (record { path = []; change = OfState entry exit sub }) ss (is_named g (n ∷ []) (OfState entry exit sub)) same_graphs refl
+one_passed g (n ∷ []) (OfState entry exit sub) ss same_graphs = in_state g n (record { path = []; change = OfState entry exit sub }) ss (effort ss + length (n ∷ [])) (is_named g (n ∷ []) (OfState entry exit sub)) (omega arith) same_graphs refl
 one_passed g (n ∷ m ∷ others) (OfState entry exit sub) ss same_graphs =
-    in_state g n (record { path = m ∷ others; change = OfState entry exit sub }) ss (is_named g (n ∷ m ∷ others) (OfState entry exit sub)) same_graphs refl
-one_passed g (n ∷ m ∷ others) (OfTransition c) ss same_graphs = in_state g n (record { path = m ∷ others; change = OfTransition c }) ss (is_named g (n ∷ m ∷ others) (OfTransition c)) same_graphs refl
+    in_state g n (record { path = m ∷ others; change = OfState entry exit sub }) ss (effort ss + length (n ∷ m ∷ others)) (is_named g (n ∷ m ∷ others) (OfState entry exit sub)) (omega arith) same_graphs refl
+one_passed g (n ∷ m ∷ others) (OfTransition c) ss same_graphs = in_state g n (record { path = m ∷ others; change = OfTransition c }) ss (effort ss + length (n ∷ m ∷ others)) (is_named g (n ∷ m ∷ others) (OfTransition c)) (omega arith) same_graphs refl
 
 -- ---- all that is looked for in a graph
 
@@ -275,11 +290,8 @@ Passed ss most rs named (Some more) = ((named && all_succeed ss) ≡ all_succeed
 passes_all : (g : GraphItems) (rs : List Refining) (ss : List SearchTree) → graphs ss ≡ map graph_in (states_in g)
     → Passed ss (effort ss + names_sought rs) rs (are_named g rs) (all_passed (map name_of (states_in g)) (note_items g no_names) rs ss)
 passes_all g [] ss same_graphs = (refl, omega arith)
-passes_all g (r ∷ rs) ss same_graphs = first (passed (map name_of (states_in g)) (note_items g no_names) r.path r.change ss) (one_passed g r.path r.change ss same_graphs)
+passes_all g (r ∷ rs) ss same_graphs = first (passed (map name_of (states_in g)) (note_items g no_names) r.path r.change ss) (one_passed g r.path r.change ss same_graphs) (λ more kept. passes_all g rs more (kept ∙ same_graphs))
   where
-    named : Bool
-    named = is_named g r.path r.change
-
     rest : (more : List SearchTree) → (is_named g r.path r.change && all_succeed ss) ≡ all_succeed more → effort more ≤ effort ss + length r.path → (o : Option (List SearchTree)) → Passed more (effort more + names_sought rs) rs (are_named g rs) o
         → Passed ss (effort ss + names_sought (r ∷ rs)) (r ∷ rs) (are_named g (r ∷ rs)) o
     rest more all less None none = ap (λ b. is_named g r.path r.change && b) none ∙ and_false (is_named g r.path r.change)
@@ -287,9 +299,10 @@ passes_all g (r ∷ rs) ss same_graphs = first (passed (map name_of (states_in g
         (and_group (is_named g r.path r.change) (are_named g rs) (all_succeed ss) ∙ and_swap (is_named g r.path r.change) (are_named g rs) (all_succeed ss) ∙ ap (λ b. are_named g rs && b) all ∙ is, omega (arith, less, few))
 
     first : (o : Option (List SearchTree)) → Passes ss (effort ss + length r.path) (is_named g r.path r.change) o
+        → ((more : List SearchTree) → graphs more ≡ graphs ss → Passed more (effort more + names_sought rs) rs (are_named g rs) (all_passed (map name_of (states_in g)) (note_items g no_names) rs more))
         → Passed ss (effort ss + names_sought (r ∷ rs)) (r ∷ rs) (are_named g (r ∷ rs)) (option_and_then (all_passed (map name_of (states_in g)) (note_items g no_names) rs) o)
-    first None none = ap (λ b. b && are_named g rs) none
-    first (Some more) (all, (kept, less)) = rest more all less (all_passed (map name_of (states_in g)) (note_items g no_names) rs more) (passes_all g rs more (kept ∙ same_graphs))
+    first None none again = ap (λ b. b && are_named g rs) none
+    first (Some more) (all, kept, less) again = rest more all less (all_passed (map name_of (states_in g)) (note_items g no_names) rs more) (again more kept)
 
 nothing_yet : (ss : List StateTree) → all_succeed (map inside ss) ≡ true
 nothing_yet [] = refl
@@ -297,7 +310,7 @@ nothing_yet (s ∷ ss) = nothing_yet ss
 
 no_effort : (ss : List StateTree) → effort (map inside ss) ≡ 0
 no_effort [] = refl
-no_effort (s ∷ ss) = no_effort ss
+no_effort (s ∷ ss) = let none : effort (map inside ss) ≡ 0 = no_effort ss in omega (arith, none)
 
 their_graphs : (ss : List StateTree) → graphs (map inside ss) ≡ map graph_in ss
 their_graphs [] = refl
@@ -324,13 +337,16 @@ effort_both (s ∷ ss) ts = let both : effort (ss ++ ts) ≡ effort ss + effort 
 both_succeed : (ss ts : List SearchTree) → all_succeed (ss ++ ts) ≡ (all_succeed ss && all_succeed ts)
 both_succeed ss ts = list_all-append (λ (s : SearchTree). are_named s.graph s.sought) ss ts
 
+some_is_not_none : (n : ℕ) → nat_eq (suc n) 0 ≡ false
+some_is_not_none n = grind (arith, nat_tests)
+
 abbrev Rounds : List SearchTree → List SearchTree → Option (List SearchTree) → Type 0
 Rounds ss next None = all_succeed ss ≡ false
 Rounds ss next (Some last) = ((all_succeed next && all_succeed ss) ≡ all_succeed last) × ((last ≡ next) ⊎ (effort last < effort next + effort ss))
 
 rounds : (ss next : List SearchTree) → Rounds ss next (next_of ss next)
 rounds [] next = (and_true (all_succeed next), inl refl)
-rounds (s ∷ ss) next = go s.sought refl
+rounds (s ∷ ss) next = go s.sought refl (λ more. rounds ss more)
   where
     -- a search in which nothing is looked for
     idle : are_named s.graph s.sought ≡ true → names_sought s.sought ≡ 0 → (o : Option (List SearchTree)) → Rounds ss next o → Rounds (s ∷ ss) next o
@@ -347,17 +363,18 @@ rounds (s ∷ ss) next = go s.sought refl
         fewer (inl e) = let is_both : effort last ≡ effort next + effort more = ap effort e ∙ effort_both next more in omega (arith, is_both, less)
         fewer (inr below) = let both : effort (next ++ more) ≡ effort next + effort more = effort_both next more in omega (arith, below, both, less)
 
-    sought_any : (o : Option (List SearchTree)) → Searched s.sought (are_named s.graph s.sought) o → (length s.sought ≡ 0 → ⊥) → Rounds (s ∷ ss) next (option_and_then (next_of ss) (option_map (λ more. next ++ more) o))
-    sought_any None none some = ap (λ b. b && all_succeed ss) none
-    sought_any (Some more) (all, few) some = busy more all (omega (arith, few, some)) (next_of ss (next ++ more)) (rounds ss (next ++ more))
+    sought_any : (o : Option (List SearchTree)) → Searched s.sought (are_named s.graph s.sought) o → 0 < length s.sought → ((more : List SearchTree) → Rounds ss more (next_of ss more)) → Rounds (s ∷ ss) next (option_and_then (next_of ss) (option_map (λ more. next ++ more) o))
+    sought_any None none some again = ap (λ b. b && all_succeed ss) none
+    sought_any (Some more) (all, few) some again = busy more all (omega (arith, few, some)) (next_of ss (next ++ more)) (again (next ++ more))
 
-    go : (rs : List Refining) → s.sought ≡ rs → Rounds (s ∷ ss) next (next_of (s ∷ ss) next)
-    go [] e =
-        let P : List Refining → Type 0 = λ xs. Rounds (s ∷ ss) next (option_and_then (next_of ss) (if nat_eq (length xs) 0 then Some next else option_map (λ more. next ++ more) (searched s.graph s.sought))) in
-        subst P (sym e) (idle (ap (are_named s.graph) e) (ap names_sought e) (next_of ss next) (rounds ss next))
-    go (r ∷ rs) e =
-        let P : List Refining → Type 0 = λ xs. Rounds (s ∷ ss) next (option_and_then (next_of ss) (if nat_eq (length xs) 0 then Some next else option_map (λ more. next ++ more) (searched s.graph s.sought))) in
-        subst P (sym e) (sought_any (searched s.graph s.sought) (searches_all s.graph s.sought) (λ z. let long : length s.sought ≡ suc (length rs) = ap length e in absurd (omega (arith, z, long))))
+    sought_or : (t : Bool) → nat_eq (length s.sought) 0 ≡ t → Rounds (s ∷ ss) next (option_and_then (next_of ss) (if t then Some next else option_map (λ more. next ++ more) (searched s.graph s.sought))) → Rounds (s ∷ ss) next (next_of (s ∷ ss) next)
+    sought_or t e = subst (λ (u : Bool). Rounds (s ∷ ss) next (option_and_then (next_of ss) (if u then Some next else option_map (λ more. next ++ more) (searched s.graph s.sought)))) (sym e)
+
+    go : (rs : List Refining) → s.sought ≡ rs → ((more : List SearchTree) → Rounds ss more (next_of ss more)) → Rounds (s ∷ ss) next (next_of (s ∷ ss) next)
+    go [] e again = sought_or true (ap (λ xs. nat_eq (length xs) 0) e) (idle (ap (are_named s.graph) e) (ap names_sought e) (next_of ss next) (again next))
+    go (r ∷ rs) e again =
+        let long : length s.sought ≡ suc (length rs) = ap length e in
+        sought_or false (ap (λ n. nat_eq n 0) long ∙ some_is_not_none (length rs)) (sought_any (searched s.graph s.sought) (searches_all s.graph s.sought) (omega (arith, long)) again)
 
 pub no_more : (ss : List SearchTree) → next_of ss [] ≡ None → all_succeed ss ≡ false
 no_more ss e = subst (Rounds ss []) e (rounds ss [])
@@ -367,11 +384,8 @@ one_more ss next e = let P : Option (List SearchTree) → Type 0 = Rounds ss [] 
 
 pub less_left : (ss next : List SearchTree) → next_of ss [] ≡ Some next → (length ss ≡ 0 → ⊥) → toil next < toil ss
 less_left [] next e some = absurd (some refl)
-less_left (s ∷ ss) next e some = go (subst P e (rounds (s ∷ ss) [])).1
+less_left (s ∷ ss) next e some = let P : Option (List SearchTree) → Type 0 = Rounds (s ∷ ss) [] in go (subst P e (rounds (s ∷ ss) [])).1
   where
-    abbrev P : Option (List SearchTree) → Type 0
-    P o = Rounds (s ∷ ss) [] o
-
     short : (ts : List SearchTree) → toil ts ≤ 1 + effort ts
     short [] = omega arith
     short (t ∷ ts) = omega arith
@@ -379,3 +393,18 @@ less_left (s ∷ ss) next e some = go (subst P e (rounds (s ∷ ss) [])).1
     go : ((next ≡ []) ⊎ (effort next < effort [] + effort (s ∷ ss))) → toil next < toil (s ∷ ss)
     go (inl none) = let idle : toil next ≡ 0 = ap toil none in omega (arith, idle)
     go (inr less) = omega (arith, less, short next)
+
+-- ---- what the code finds
+
+abbrev state_now : Bor State → StateTree
+state_now s = state_view s.now
+
+pub searched_is : (g : GraphItems) (rs : List Refining) (refs seen again : List (Bor State)) (names : List (List ℕ)) (ts : NamesTree) (ss : List SearchTree) → map state_now refs ≡ states_in g → seen ≡ refs → again ≡ refs → names ≡ map name_of (map state_now seen) → ts ≡ note_items g no_names
+    → ss ≡ map inside (map state_now again) → all_passed names ts rs ss ≡ searched g rs
+searched_is g rs refs seen again names ts ss are same_refs same_again names_are ts_are ss_are =
+    ap (λ ns. all_passed ns ts rs ss) (names_are ∙ ap (λ xs. map name_of (map state_now xs)) same_refs ∙ ap (map name_of) are) ∙ ap (λ t. all_passed (map name_of (states_in g)) t rs ss) ts_are
+    ∙ ap (all_passed (map name_of (states_in g)) (note_items g no_names) rs) (ss_are ∙ ap (λ xs. map inside (map state_now xs)) same_again ∙ ap (map inside) are)
+
+pub less_toil : (ss seen : List Search) (found : Option (Vec Search)) (next : Vec Search) → option_map (λ (v : Vec Search). search_views v.items) found ≡ next_of (search_views seen) [] → seen ≡ ss → found ≡ Some next → (length ss ≡ 0 → ⊥) → toil (search_views next.items) < toil (search_views ss)
+less_toil ss seen found next told same_seen is some =
+    less_left (search_views ss) (search_views next.items) (sym (ap (λ xs. next_of (search_views xs) []) same_seen) ∙ sym told ∙ ap (option_map (λ (v : Vec Search). search_views v.items)) is) (λ none. some (sym (mapped_length search_view ss) ∙ none))

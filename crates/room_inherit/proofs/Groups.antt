@@ -1,22 +1,22 @@
 -- Refinements in groups: each group has those that begin with its name.
-use Rattle.std.proofs.Common.{◌≡◌, ℕ, zero, suc, ◌<◌, ◌≤◌, Bool, true, false, List, [], ◌∷◌, ◌++◌, length, map, get_or, Option, Some, None, refl, sym, ap, ◌∙◌, subst, append_assoc, arith}
+use Rattle.std.proofs.Common.{◌≡◌, ℕ, zero, suc, ◌+◌, ◌<◌, ◌≤◌, Bool, true, false, List, [], ◌∷◌, ◌++◌, length, map, take, get_or, Option, Some, None, Bor, refl, sym, ap, ◌∙◌, subst, append_assoc, arith}
 use Rattle.std.specs.Prelude.{◌||◌, is_some, position, option_map, slice_get, slice_set, if◌then◌else◌}
 use Rattle.std.specs.List.{cons_option}
 use Rattle.std.specs.Option.{option_and_then, option_map_or, option_to_list}
-use Rattle.std.proofs.lemmas.List.{append-nil}
+use Rattle.std.proofs.lemmas.List.{append-nil, map_push, map_more}
 use Rattle.std.proofs.lemmas.List.Quantifiers.{position-Some}
-use lib.Pointwise.{bytes_decides}
-use Rattle.name_tables.specs.name_numbers.Names.{same, is_among}
+use Rattle.name_tables.specs.name_numbers.Names.{same, is_among, names_of}
 use Rattle.name_tables.proofs.name_index.Lists.{some_place}
 use Rattle.room_ast.specs.ChartTree.{ChangeTree, OfState, OfTransition}
 use Rattle.room_ast.specs.declared.chart.Code.{Code}
 use Rattle.room_inherit.specs.Grouping.{GroupTree, no_group, first_of, first_names, code_of, gathered, gathered_at, gather, gather_all, group_of, inside_of, action_of}
 use Rattle.room_inherit.specs.Refining.{Refining, found_or, step_into, below, action_or, added_action}
-use Rattle.room_inherit.specs.Views.{refining_view, group_view, group_views}
+use Rattle.room_inherit.specs.Views.{IsGrouped, refining_view, refining_views, group_view, group_views}
 use Rattle.room_inherit.specs.declared.refining.grouped.Group.{Group}
+use Rattle.room_inherit.specs.declared.refining.grouped.Grouped.{Grouped}
 use Rattle.room_inherit.specs.declared.refining.paths.Pending.{Pending}
 use Rattle.room_inherit.proofs.Places.{none_some, some_same, got_within, none_past, mapped_length}
-use Rattle.room_inherit.proofs.Seen.{same_is}
+use Rattle.room_inherit.proofs.Seen.{same_is, same_own}
 
 -- ---- what the code does to groups
 
@@ -49,14 +49,11 @@ length_at [] k r = refl
 length_at (g ∷ gs) zero r = refl
 length_at (g ∷ gs) (suc k) r = ap suc (length_at gs k r)
 
-same_own : (a : List ℕ) → same a a ≡ true
-same_own a = (bytes_decides a a).1 refl
-
 -- two names at one place are the same
 same_place : (names : List (List ℕ)) (n m : List ℕ) (k : ℕ) → position (same n) names ≡ Some k → position (same m) names ≡ Some k → same n m ≡ true
 same_place names n m k e f =
-    let one : n ≡ get_or names k [] = same_is n (get_or names k []) (position-Some (same n) names k [] e).1.0 in
-    let two : m ≡ get_or names k [] = same_is m (get_or names k []) (position-Some (same m) names k [] f).1.0 in
+    let one : n ≡ get_or names k [] = same_is n (get_or names k []) (position-Some (same n) names k [] e).1 in
+    let two : m ≡ get_or names k [] = same_is m (get_or names k []) (position-Some (same m) names k [] f).1 in
     subst (λ x. same n x ≡ true) (one ∙ sym two) (same_own n)
 
 there : (gs : List GroupTree) (k : ℕ) → k < length gs → (g : GroupTree) × (slice_get gs k ≡ Some g)
@@ -251,38 +248,55 @@ group_got [] k = refl
 group_got (g ∷ gs) zero = refl
 group_got (g ∷ gs) (suc k) = group_got gs k
 
-pub name_got : (names : List (List ℕ)) (name : List ℕ) (k : ℕ) (x : List ℕ) → position (same name) names ≡ Some k → slice_get names k ≡ Some x → x ≡ name
-name_got names name k x at got = sym (same_is name x (subst (λ y. same name y ≡ true) (is_got names k x got) (position-Some (same name) names k x at).1.0))
+name_got : (names : List (List ℕ)) (name : List ℕ) (k : ℕ) (x : List ℕ) → position (same name) names ≡ Some k → slice_get names k ≡ Some x → x ≡ name
+name_got names name k x at got = sym (same_is name x (subst (λ y. same name y ≡ true) (is_got names k x got) (position-Some (same name) names k x at).1))
   where
     is_got : (ns : List (List ℕ)) (k : ℕ) (x : List ℕ) → slice_get ns k ≡ Some x → get_or ns k x ≡ x
     is_got [] k x e = none_some x e
     is_got (n ∷ ns) zero x e = some_same n x e
     is_got (n ∷ ns) (suc k) x e = is_got ns k x e
 
-pub name_gone : {A : Type 0} (names : List (List ℕ)) (name : List ℕ) (k : ℕ) → position (same name) names ≡ Some k → slice_get names k ≡ None → A
-name_gone names name k at gone = let within : k < length names = (position-Some (same name) names k [] at).0 in absurd (omega (arith, within, none_past names k gone))
+is_now : {X : Type 0} (xs : List X) (k : ℕ) (got : Option (Bor X)) (x : Bor X) → option_map (λ (b : Bor X). b.now) got ≡ slice_get xs k → got ≡ Some x → slice_get xs k ≡ Some x.now
+is_now xs k got x told is = sym told ∙ ap (option_map (λ (b : Bor X). b.now)) is
 
--- where a name has this place, the group there is its own
-pub inside_there : (names : List (List ℕ)) (gs : List Group) (name : List ℕ) (at : Option ℕ) (bs : List Refining) → at ≡ position (same name) names → inside_of names (group_views gs) name ≡ bs
-    → option_map_or (λ (g : Group). (group_view g).inside) (option_and_then (slice_get gs) at) [] ≡ bs
-inside_there names gs name at bs e is = sym (ap (λ o. option_map_or (λ (g : GroupTree). g.inside) o []) (ap (option_and_then (slice_get (group_views gs))) (sym e) ∙ go at) ∙ mapped (option_and_then (slice_get gs) at)) ∙ is
+-- the name that stands at the place of a name is the same
+pub name_found : (refs : List (Bor (List ℕ))) (names : List (List ℕ)) (name : List ℕ) (at : Option ℕ) (k : ℕ) (got : Option (Bor (Bor (List ℕ)))) (first : Bor (Bor (List ℕ))) → names_of refs ≡ names → at ≡ position (same name) names → at ≡ Some k
+    → option_map (λ (b : Bor (Bor (List ℕ))). b.now) got ≡ slice_get refs k → got ≡ Some first → first.now.now ≡ name
+name_found refs names name at k got first are place is told found =
+    name_got names name k first.now.now (sym place ∙ is) (sym (ap (λ ns. slice_get ns k) are) ∙ mapped refs k ∙ ap (option_map (λ (b : Bor (List ℕ)). b.now)) (is_now refs k got first told found))
   where
-    go : (o : Option ℕ) → option_and_then (slice_get (group_views gs)) o ≡ option_map group_view (option_and_then (slice_get gs) o)
-    go None = refl
-    go (Some k) = group_got gs k
+    mapped : (rs : List (Bor (List ℕ))) (k : ℕ) → slice_get (names_of rs) k ≡ option_map (λ (b : Bor (List ℕ)). b.now) (slice_get rs k)
+    mapped [] k = refl
+    mapped (r ∷ rs) zero = refl
+    mapped (r ∷ rs) (suc k) = mapped rs k
 
-    mapped : (o : Option Group) → option_map_or (λ (g : GroupTree). g.inside) (option_map group_view o) [] ≡ option_map_or (λ (g : Group). (group_view g).inside) o []
-    mapped None = refl
-    mapped (Some g) = refl
+-- the group at the place of a name is its own
+pub inside_found : (g : Grouped) (name : List ℕ) (at : Option ℕ) (k : ℕ) (groups : List Group) (got : Option (Bor Group)) (group : Bor Group) (seen : List Pending) → IsGrouped g → groups ≡ g.groups.items → at ≡ position (same name) g.names → at ≡ Some k
+    → option_map (λ (b : Bor Group). b.now) got ≡ slice_get groups k → got ≡ Some group → seen ≡ group.now.inside.items → refining_views seen ≡ below name (refining_views g.pending.now)
+inside_found g name at k groups got group seen grouped are place is told found same_inside =
+    let there : slice_get (group_views g.groups.items) k ≡ Some (group_view group.now) =
+        group_got g.groups.items k ∙ ap (option_map group_view) (sym (ap (λ gs. slice_get gs k) are) ∙ is_now groups k got group told found) in
+    ap refining_views same_inside ∙ sym (ap (λ o. option_map_or (λ (x : GroupTree). x.inside) o []) (ap (option_and_then (slice_get (group_views g.groups.items))) (sym place ∙ is) ∙ there)) ∙ grouped.inside name
 
-pub action_there : (names : List (List ℕ)) (gs : List Group) (name : List ℕ) (at : Option ℕ) (c : Option Code) → at ≡ position (same name) names → action_of names (group_views gs) name ≡ c
-    → option_and_then (λ (g : Group). (group_view g).action) (option_and_then (slice_get gs) at) ≡ c
-action_there names gs name at c e is = sym (ap (option_and_then (λ (g : GroupTree). g.action)) (ap (option_and_then (slice_get (group_views gs))) (sym e) ∙ go at) ∙ mapped (option_and_then (slice_get gs) at)) ∙ is
+-- ---- groups that are made
+
+pub empty_group : (g : Group) → g.inside.items ≡ [] → g.action ≡ None → group_view g ≡ no_group
+empty_group g none nothing = ap (λ (ps : List Pending). group_with_parts (refining_views ps) g.action) none ∙ ap (λ (c : Option (Bor Code)). group_with_parts [] c) nothing
   where
-    go : (o : Option ℕ) → option_and_then (slice_get (group_views gs)) o ≡ option_map group_view (option_and_then (slice_get gs) o)
-    go None = refl
-    go (Some k) = group_got gs k
+    abbrev group_with_parts : List Refining → Option (Bor Code) → GroupTree
+    group_with_parts rs c = record { inside = rs; action = option_map (λ (x : Bor Code). x.now) c }
 
-    mapped : (o : Option Group) → option_and_then (λ (g : GroupTree). g.action) (option_map group_view o) ≡ option_and_then (λ (g : Group). (group_view g).action) o
-    mapped None = refl
-    mapped (Some g) = refl
+pub one_group_more : {A : Type 0} (names : List A) (d : A) (i : ℕ) (gs hs : List Group) (g : Group) → i < length names → group_views gs ≡ map (λ n. no_group) (take i names) → hs ≡ gs ++ g ∷ [] → group_view g ≡ no_group → group_views hs ≡ map (λ n. no_group) (take (i + 1) names)
+one_group_more names d i gs hs g lt before pushed none =
+    ap group_views pushed ∙ map_push group_view gs g ∙ ap (λ vs. vs ++ group_view g ∷ []) before ∙ ap (λ v. map (λ n. no_group) (take i names) ++ v ∷ []) none ∙ sym (map_more (λ n. no_group) names i d lt)
+
+none_of_refs : (refs : List (Bor (List ℕ))) → map (λ n. no_group) refs ≡ map (λ n. no_group) (names_of refs)
+none_of_refs [] = refl
+none_of_refs (r ∷ rs) = ap (λ gs. no_group ∷ gs) (none_of_refs rs)
+
+pub all_grouped : (refs seen : List (Bor (List ℕ))) (names : List (List ℕ)) (rs : List Refining) (starts gs : List GroupTree) → names ≡ names_of refs → names_of refs ≡ first_names rs → seen ≡ refs → starts ≡ map (λ n. no_group) seen → gs ≡ gather_all names rs starts
+    → ((name : List ℕ) → inside_of names gs name ≡ below name rs) × ((name : List ℕ) → action_of names gs name ≡ added_action name rs)
+all_grouped refs seen names rs starts gs are firsts same_refs none made = (inside_told names rs gs (are ∙ firsts) all, actions_told names rs gs (are ∙ firsts) all)
+  where
+    all : gs ≡ gather_all names rs (map (λ n. no_group) names)
+    all = made ∙ ap (gather_all names rs) (none ∙ ap (map (λ n. no_group)) same_refs ∙ none_of_refs refs ∙ sym (ap (map (λ n. no_group)) are))

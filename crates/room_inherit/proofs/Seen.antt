@@ -12,6 +12,9 @@ use Rattle.room_inherit.specs.declared.refining.paths.Pending.{Pending}
 pub same_is : (a b : List ℕ) → same a b ≡ true → a ≡ b
 same_is a b e = (bytes_decides a b).0 e
 
+pub same_own : (a : List ℕ) → same a a ≡ true
+same_own a = (bytes_decides a a).1 refl
+
 or_swap : (a b : Bool) → (a || b) ≡ (b || a)
 or_swap true true = refl
 or_swap true false = refl

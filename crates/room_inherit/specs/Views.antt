@@ -1,5 +1,5 @@
 -- What the code's refinements stand for.
-use Rattle.std.specs.Prelude.{ℕ, List, [], ◌∷◌, map, Option, Some, None}
+use Rattle.std.specs.Prelude.{◌≡◌, ℕ, List, [], ◌∷◌, map, Option, Some, None}
 use Rattle.std.specs.Prelude.{option_map}
 use Rattle.std.specs.Borrow.{Bor}
 use Rattle.std.specs.Global.{Vec}
@@ -12,12 +12,13 @@ use Rattle.room_ast.specs.declared.chart.Change.TheFolds.{fold-Change}
 use Rattle.room_ast.specs.Trees.{ActorTree, actor_view}
 use Rattle.room_ast.specs.declared.actor.ActorClass.{ActorClass}
 use Rattle.room_inherit.specs.Filling.{FillingTree, AllTaken, OneUnknown, TooLarge}
-use Rattle.room_inherit.specs.Grouping.{GroupTree}
-use Rattle.room_inherit.specs.Refining.{Refining}
+use Rattle.room_inherit.specs.Grouping.{GroupTree, inside_of, action_of}
+use Rattle.room_inherit.specs.Refining.{Refining, below, added_action}
 use Rattle.room_inherit.specs.Searching.{NamesTree, SearchTree}
 use Rattle.room_inherit.specs.declared.filling.Filling.{Filling}
 use Rattle.room_inherit.specs.declared.filling.Filling.TheVariants as fillings
 use Rattle.room_inherit.specs.declared.refining.grouped.Group.{Group}
+use Rattle.room_inherit.specs.declared.refining.grouped.Grouped.{Grouped}
 use Rattle.room_inherit.specs.declared.refining.paths.Pending.{Pending}
 use Rattle.room_inherit.specs.declared.rules.names.TransitionNames.{TransitionNames}
 use Rattle.room_inherit.specs.declared.rules.once.Path.{Path}
@@ -45,6 +46,11 @@ group_view g = record { inside = refining_views g.inside.items; action = option_
 
 abbrev pub group_views : List Group → List GroupTree
 group_views gs = map group_view gs
+
+-- Whether each group has the refinements that begin with its name.
+pub record IsGrouped (g : Grouped) : Type 0 where
+  pub inside : (name : List ℕ) → inside_of g.names (group_views g.groups.items) name ≡ below name (refining_views g.pending.now)
+  pub action : (name : List ℕ) → action_of g.names (group_views g.groups.items) name ≡ added_action name (refining_views g.pending.now)
 
 abbrev pub subgraph_tree : Option (Vec GraphItem) → SubgraphTree
 subgraph_tree None = no_subgraph

@@ -63,9 +63,9 @@ fn sizes_of(
 
 /// Adds a class to those that extend one. The largest of them stands first.
 fn add_heir(heirs: &mut Vec<usize>, class: usize, sizes: &[usize]) -> Result<(), AllocError> {
-    let first = match heirs.first() {
-        Some(first) => *first,
-        None => class,
+    let Some(first) = heirs.first().copied() else {
+        heirs.push(class)?;
+        return Ok(());
     };
     if size_at(sizes, first) < size_at(sizes, class) {
         heirs[0] = class;

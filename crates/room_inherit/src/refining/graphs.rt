@@ -2,7 +2,7 @@
 ghost use Rattle.std.specs.Prelude.{◌≡◌, IfOk, OnOk, option_map};
 ghost use Rattle.room_ast.specs.ChartTree.{AState, body_of, body_view, item_view, state_view, graph_view};
 ghost use Rattle.room_inherit.specs.Refining.{GivesTheSame, refined, refined_item, refined_state, refined_body, refined_subgraph, widened, with_state, own_change};
-ghost use Rattle.room_inherit.specs.Views.{refining_views};
+ghost use Rattle.room_inherit.specs.Views.{IsGrouped, refining_views};
 
 use crate::refining::grouped::Grouped;
 use crate::refining::paths::{Pending, meant_for, own_change};
@@ -33,6 +33,7 @@ fn refine_item<'p, 'a>(
     grouped: &Grouped<'p, 'a>,
     seen: &mut Numbers<'a>,
 ) -> Result<(), AllocError>
+    requires { IsGrouped grouped.now }
     ensures item { OnOk result (item_view item.new ≡ refined_item (item_view item.old) seen.old (refining_views grouped.now.pending.now)) }
     ensures names { OnOk result (GivesTheSame (refining_views grouped.now.pending.now) seen.new (with_state (item_view item.old) seen.old)) }
 {
@@ -53,6 +54,7 @@ fn refine_state<'p, 'a>(
     grouped: &Grouped<'p, 'a>,
     seen: &mut Numbers<'a>,
 ) -> Result<(), AllocError>
+    requires { IsGrouped grouped.now }
     ensures state { OnOk result (state_view state.new ≡ refined_state (state_view state.old) seen.old (refining_views grouped.now.pending.now)) }
     ensures names { OnOk result (GivesTheSame (refining_views grouped.now.pending.now) seen.new (with_state (AState (state_view state.old)) seen.old)) }
 {

@@ -1,11 +1,11 @@
 //! The refinements that a graph sees, in groups by the first of their names, so that those of a state or
 //! of a transition are found without a search.
-ghost use Rattle.std.specs.Prelude.{◌≡◌, ◌++◌, ◌∷◌, [], List, ℕ, IfOk, IfSome, IfNone, OnOk, map, option_map};
+ghost use Rattle.std.specs.Prelude.{◌≡◌, ◌++◌, ◌∷◌, [], IfOk, IfSome, IfNone, OnOk, map, option_map};
 ghost use Rattle.std.specs.Option.{option_to_list};
 ghost use Rattle.name_tables.specs.name_numbers.Names.{names_of};
-ghost use Rattle.room_inherit.specs.Grouping.{action_of, code_of, first_names, first_of, gather, gather_all, gathered, gathered_at, inside_of, no_group};
+ghost use Rattle.room_inherit.specs.Grouping.{code_of, first_names, gather, gather_all, gathered, gathered_at, no_group};
 ghost use Rattle.room_inherit.specs.Refining.{added_action, below};
-ghost use Rattle.room_inherit.specs.Views.{group_view, group_views, refining_view, refining_views};
+ghost use Rattle.room_inherit.specs.Views.{IsGrouped, group_view, group_views, refining_view, refining_views};
 
 use crate::refining::paths::{Pending, behind};
 use name_tables::NameIndex;
@@ -26,8 +26,6 @@ pub(super) struct Grouped<'p, 'a> {
     pub(super) pending: &'p [Pending<'a>],
     names: NameIndex<'a>,
     groups: Vec<Group<'a>>,
-    ghost inside_are: { (name : List ℕ) → inside_of names (group_views groups.items) name ≡ below name (refining_views pending.now) },
-    ghost actions_are: { (name : List ℕ) → action_of names (group_views groups.items) name ≡ added_action name (refining_views pending.now) },
 }
 
 fn push_if<'a>(names: &mut Vec<&'a [u8]>, name: Option<&'a Name>) -> Result<(), AllocError>
@@ -77,7 +75,7 @@ fn code_of<'a>(one: &Pending<'a>) -> Option<&'a Code>
 
 /// Adds a refinement to a group.
 fn gather_in<'a>(group: &mut Group<'a>, one: Pending<'a>) -> Result<(), AllocError>
-    ensures { OnOk result (group_view group.new ≡ gathered (group_view group.old) (refining_view one)) }
+    ensures { OnOk result (group_view group.new ≡ gathered (group_view group.old) (refining_view one.entry)) }
 {
     if group.action.is_none() {
         group.action = code_of(&one);
@@ -92,7 +90,7 @@ fn gather_at<'a>(
     place: usize,
     one: Pending<'a>,
 ) -> Result<(), AllocError>
-    ensures { OnOk result (group_views groups.new.items ≡ gathered_at (group_views groups.old.items) place (refining_view one)) }
+    ensures { OnOk result (group_views groups.new.items ≡ gathered_at (group_views groups.old.items) place (refining_view one.entry)) }
 {
     if place < groups.len() {
         gather_in(&mut groups[place], one)?;
@@ -122,7 +120,7 @@ fn gather_all<'a>(
     pending: &[Pending<'a>],
     groups: Vec<Group<'a>>,
 ) -> Result<Vec<Group<'a>>, AllocError>
-    ensures { IfOk result (λ v. group_views v.items ≡ gather_all names.now (refining_views pending.now) (group_views groups.items)) }
+    ensures { IfOk result (λ v. group_views v.items ≡ gather_all names.now (refining_views pending.now) (group_views groups.entry.items)) }
 {
     let mut groups = groups;
     for one in pending {
@@ -137,7 +135,8 @@ impl<'p, 'a> Grouped<'p, 'a> {
         alloc: Global,
         pending: &'p [Pending<'a>],
     ) -> Result<Grouped<'p, 'a>, AllocError>
-        ensures { IfOk result (λ g. g.pending.now ≡ pending.entry.now) }
+        ensures pending { IfOk result (λ g. g.pending.now ≡ pending.entry.now) }
+        ensures grouped { IfOk result (λ g. IsGrouped g) }
     {
         let names = first_names(alloc, pending)?;
         let groups = no_groups(alloc, names.as_slice())?;
@@ -153,6 +152,7 @@ impl<'p, 'a> Grouped<'p, 'a> {
     /// The refinements that lead to the state of this name or into it, as that sees them, and the name as
     /// they have it; none where none does.
     pub(super) fn inside(&self, name: &[u8]) -> Option<(&'a [u8], &[Pending<'a>])>
+        requires { IsGrouped self.now }
         ensures same { IfSome result (λ found. found.0.now ≡ name.now) }
         ensures inside { IfSome result (λ found. refining_views found.1.now ≡ below name.now (refining_views self.now.pending.now)) }
         ensures other { IfNone result (below name.now (refining_views self.now.pending.now) ≡ []) }
@@ -171,6 +171,7 @@ impl<'p, 'a> Grouped<'p, 'a> {
 
     /// What is added to the action of a transition of this name, if anything is.
     pub(super) fn added_action(&self, name: &[u8]) -> Option<&'a Code>
+        requires { IsGrouped self.now }
         ensures { option_map (λ c. c.now) result ≡ added_action name.now (refining_views self.now.pending.now) }
     {
         let Some(place) = self.names.place_of(name) else {

@@ -3,7 +3,7 @@ ghost use Rattle.std.specs.Prelude.{◌≡◌, ◌++◌, IfOk, OnOk, Option, opt
 ghost use Rattle.std.specs.Option.{option_to_list};
 ghost use Rattle.room_ast.specs.ChartTree.{ChangeTree, body_view, item_view, graph_view};
 ghost use Rattle.room_inherit.specs.Refining.{GivesTheSame, found_or, own_or, own_change, meant_for, with_name, as_refining, refinements};
-ghost use Rattle.room_inherit.specs.Views.{of_state, refining_view, refining_views};
+ghost use Rattle.room_inherit.specs.Views.{IsGrouped, of_state, refining_view, refining_views};
 
 use crate::refining::grouped::Grouped;
 use name_tables::Numbers;
@@ -97,6 +97,7 @@ pub(super) fn meant_for<'p, 'a>(
     name: &[u8],
     grouped: &Grouped<'p, 'a>,
 ) -> Result<Vec<Pending<'a>>, AllocError>
+    requires { IsGrouped grouped.now }
     ensures meant { IfOk result (λ v. refining_views v.items ≡ meant_for seen.old name.now (refining_views grouped.now.pending.now)) }
     ensures names { OnOk result (GivesTheSame (refining_views grouped.now.pending.now) seen.new (with_name name.now seen.old)) }
 {

@@ -3,7 +3,7 @@ ghost use Rattle.std.specs.Prelude.{◌≡◌, ◌++◌, Some, IfOk, OnOk, map, 
 ghost use Rattle.room_ast.specs.ChartTree.{body_of, body_view, item_view};
 ghost use Rattle.room_inherit.specs.Codes.{texts_of, joined, joined_if};
 ghost use Rattle.room_inherit.specs.Refining.{acting_also, action_for, joined_subgraph, new_body, refined_transition, widened};
-ghost use Rattle.room_inherit.specs.Views.{of_state, refining_views, subgraph_tree};
+ghost use Rattle.room_inherit.specs.Views.{IsGrouped, of_state, refining_views, subgraph_tree};
 
 use crate::copies::{copy_body, copy_code, copy_item, copy_text};
 use crate::refining::grouped::Grouped;
@@ -211,6 +211,7 @@ fn acting_also(
 }
 
 fn action_for<'p, 'a>(name: &Option<Name>, grouped: &Grouped<'p, 'a>) -> Option<&'a Code>
+    requires { IsGrouped grouped.now }
     ensures { option_map (λ c. c.now) result ≡ action_for name.now (refining_views grouped.now.pending.now) }
 {
     match name {
@@ -225,6 +226,7 @@ pub(super) fn refine_transition<'p, 'a>(
     transition: &mut Transition,
     grouped: &Grouped<'p, 'a>,
 ) -> Result<(), AllocError>
+    requires { IsGrouped grouped.now }
     ensures { OnOk result (transition.new ≡ refined_transition (refining_views grouped.now.pending.now) transition.old) }
 {
     let Some(code) = action_for(&transition.name, grouped) else {

@@ -37,7 +37,7 @@ fn graphs_inside<'a>(alloc: Global, states: &[&'a State]) -> Result<Vec<Search<'
 /// Looks for a refinement in a graph.
 fn seek<'a>(search: &mut Search<'a>, one: Pending<'a>) -> Result<(), AllocError>
     ensures graph { OnOk result (search.new.graph ≡ search.old.graph) }
-    ensures sought { OnOk result (search.new.sought.items ≡ search.old.sought.items ++ one ∷ []) }
+    ensures sought { OnOk result (search.new.sought.items ≡ search.old.sought.items ++ one.entry ∷ []) }
 {
     search.sought.push(one)?;
     Ok(())
@@ -50,7 +50,7 @@ fn seek_at<'a>(
     place: usize,
     one: Pending<'a>,
 ) -> Result<(), AllocError>
-    ensures { OnOk result (search_views searches.new.items ≡ sought_at (search_views searches.old.items) place (refining_view one)) }
+    ensures { OnOk result (search_views searches.new.items ≡ sought_at (search_views searches.old.items) place (refining_view one.entry)) }
 {
     if place < searches.len() {
         seek(&mut searches[place], one)?;
@@ -65,7 +65,7 @@ fn seek_in<'a>(
     one: Pending<'a>,
     searches: &mut Vec<Search<'a>>,
 ) -> Result<bool, AllocError>
-    ensures { IfOk result (λ found. (if found then Some (search_views searches.new.items) else None) ≡ sought_in (position (same name.now) states.now) (refining_view one) (search_views searches.old.items)) }
+    ensures { IfOk result (λ found. (if found then Some (search_views searches.new.items) else None) ≡ sought_in (position (same name.now) states.now) (refining_view one.entry) (search_views searches.old.items)) }
 {
     match states.place_of(name.as_bytes()) {
         Some(place) => {
@@ -132,7 +132,7 @@ fn pass_all<'a>(
     sought: &[Pending<'a>],
     inside: Vec<Search<'a>>,
 ) -> Result<Option<Vec<Search<'a>>>, AllocError>
-    ensures { IfOk result (λ found. option_map (λ v. search_views v.items) found ≡ all_passed states.now (transition_names transitions.now) (refining_views sought.now) (search_views inside.items)) }
+    ensures { IfOk result (λ found. option_map (λ v. search_views v.items) found ≡ all_passed states.now (transition_names transitions.now) (refining_views sought.now) (search_views inside.entry.items)) }
 {
     let mut searches = inside;
     for one in sought {
@@ -200,7 +200,7 @@ fn next_round<'a>(
 /// Whether each graph has what is looked for in it.
 #[tactic(auto, using(crate::proofs::Found::no_more, crate::proofs::Found::one_more))]
 fn all_succeed<'a>(alloc: Global, searches: Vec<Search<'a>>) -> Result<bool, AllocError>
-    ensures { IfOk result (λ b. b ≡ all_succeed (search_views searches.items)) }
+    ensures { IfOk result (λ b. b ≡ all_succeed (search_views searches.entry.items)) }
 {
     let mut searches = searches;
     while !searches.is_empty() {
@@ -219,7 +219,7 @@ pub(super) fn are_named<'a>(
     graph: &'a [GraphItem],
     sought: Vec<Pending<'a>>,
 ) -> Result<bool, AllocError>
-    ensures { IfOk result (λ b. b ≡ are_named (graph_view graph.entry.now) (refining_views sought.items)) }
+    ensures { IfOk result (λ b. b ≡ are_named (graph_view graph.entry.now) (refining_views sought.entry.items)) }
 {
     let mut searches = Vec::new(alloc);
     searches.push(Search { graph, sought })?;

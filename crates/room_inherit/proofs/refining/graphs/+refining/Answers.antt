@@ -11,7 +11,7 @@ use Rattle.room_inherit.proofs.refining.graphs.+refining.Goals as goal
 pub refine_items-loop-place-preserved : goal.refine_items-loop-place-preserved
 refine_items-loop-place-preserved t c = record {
   same_length = search rules;
-  same_graph = refined_next (refining_views c.args.pending.now) (refining_views c.in_ok-grouped.grouped.pending.now) (ap refining_views (sym c.in_ok-grouped.ensures)) _ c.loop-place.place c.loop-place.items.items c.index_mut.result.now c.refine_item.new.item c.loop-place.seen c.refine_item.new.seen c.loop-place.invariant.same_graph (search rules) c.index_mut.ensures.value c.in_ok-refine_item.ensures.item c.in_ok-refine_item.ensures.names;
+  same_graph = refined_next (refining_views c.args.pending.now) (refining_views c.in_ok-grouped.grouped.pending.now) (ap refining_views (sym c.in_ok-grouped.ensures.pending)) _ c.loop-place.place c.loop-place.items.items c.index_mut.result.now c.refine_item.new.item c.loop-place.seen c.refine_item.new.seen c.loop-place.invariant.same_graph (search rules) c.index_mut.ensures.value c.in_ok-refine_item.ensures.item c.in_ok-refine_item.ensures.names;
 }
 
 pub refine_state-returns-then-is_empty-clause-state :
