@@ -1,7 +1,7 @@
 -- Refinements in groups: each group has those that begin with its name.
 use Rattle.std.proofs.Common.{◌≡◌, ℕ, zero, suc, ◌+◌, ◌<◌, ◌≤◌, Bool, true, false, List, [], ◌∷◌, ◌++◌, length, map, take, get_or, Option, Some, None, Bor, refl, sym, ap, ◌∙◌, subst, append_assoc, arith}
 use Rattle.std.specs.Prelude.{◌||◌, is_some, position, option_map, slice_get, slice_set, if◌then◌else◌}
-use Rattle.std.specs.List.{cons_option}
+use Rattle.std.specs.List.{cons_option, slice_index_or}
 use Rattle.std.specs.Option.{option_and_then, option_map_or, option_to_list}
 use Rattle.std.proofs.lemmas.List.{append-nil, map_push, map_more}
 use Rattle.std.proofs.lemmas.List.Quantifiers.{position-Some}
@@ -63,8 +63,8 @@ there (g ∷ gs) (suc k) lt = there gs k (omega (arith, lt))
 
 module _ (names : List (List ℕ)) (gs : List GroupTree) (n : List ℕ) (k : ℕ) (r : Refining) (at : position (same n) names ≡ Some k) (within : k < length gs) where
   -- the group of a name, with one more refinement or not
-  group_with : (name : List ℕ) → group_of names (gathered_at gs k r) name ≡ (if same n name then option_map (λ g. gathered g r) (group_of names gs name) else group_of names gs name)
-  group_with name = go (same n name) refl
+  group_then : (name : List ℕ) → group_of names (gathered_at gs k r) name ≡ (if same n name then option_map (λ g. gathered g r) (group_of names gs name) else group_of names gs name)
+  group_then name = go (same n name) refl
     where
       kept : (o : Option ℕ) → position (same name) names ≡ o → same n name ≡ false → option_and_then (slice_get (gathered_at gs k r)) o ≡ option_and_then (slice_get gs) o
       kept None e miss = refl
@@ -80,7 +80,7 @@ module _ (names : List (List ℕ)) (gs : List GroupTree) (n : List ℕ) (k : ℕ
       go false e = kept (position (same name) names) refl e
 
   inside_with : (name : List ℕ) → inside_of names (gathered_at gs k r) name ≡ inside_of names gs name ++ option_to_list (if same n name then Some r else None)
-  inside_with name = ap (λ o. option_map_or (λ (g : GroupTree). g.inside) o []) (group_with name) ∙ go (same n name) refl
+  inside_with name = ap (λ o. option_map_or (λ (g : GroupTree). g.inside) o []) (group_then name) ∙ go (same n name) refl
     where
       go : (t : Bool) → same n name ≡ t → option_map_or (λ (g : GroupTree). g.inside) (if t then option_map (λ g. gathered g r) (group_of names gs name) else group_of names gs name) [] ≡ inside_of names gs name ++ option_to_list (if t then Some r else None)
       go true e =
@@ -89,7 +89,7 @@ module _ (names : List (List ℕ)) (gs : List GroupTree) (n : List ℕ) (k : ℕ
       go false e = sym (append-nil (inside_of names gs name))
 
   action_with : (name : List ℕ) → action_of names (gathered_at gs k r) name ≡ found_or (action_of names gs name) (if same n name then code_of r.path r.change else None)
-  action_with name = ap (option_and_then (λ (g : GroupTree). g.action)) (group_with name) ∙ go (same n name) refl
+  action_with name = ap (option_and_then (λ (g : GroupTree). g.action)) (group_then name) ∙ go (same n name) refl
     where
       or_none : (o : Option Code) → o ≡ found_or o None
       or_none None = refl
@@ -256,14 +256,15 @@ name_got names name k x at got = sym (same_is name x (subst (λ y. same name y �
     is_got (n ∷ ns) zero x e = some_same n x e
     is_got (n ∷ ns) (suc k) x e = is_got ns k x e
 
-is_now : {X : Type 0} (xs : List X) (k : ℕ) (got : Option (Bor X)) (x : Bor X) → option_map (λ (b : Bor X). b.now) got ≡ slice_get xs k → got ≡ Some x → slice_get xs k ≡ Some x.now
-is_now xs k got x told is = sym told ∙ ap (option_map (λ (b : Bor X). b.now)) is
+got_at : {X : Type 0} (xs : List X) (k : ℕ) (x : X) → x ≡ slice_index_or xs k x → k < length xs → slice_get xs k ≡ Some x
+got_at [] k x is lt = absurd (omega arith)
+got_at (y ∷ ys) zero x is lt = ap Some (sym is)
+got_at (y ∷ ys) (suc k) x is lt = got_at ys k x is (omega (arith, lt))
 
 -- the name that stands at the place of a name is the same
-pub name_found : (refs : List (Bor (List ℕ))) (names : List (List ℕ)) (name : List ℕ) (at : Option ℕ) (k : ℕ) (got : Option (Bor (Bor (List ℕ)))) (first : Bor (Bor (List ℕ))) → names_of refs ≡ names → at ≡ position (same name) names → at ≡ Some k
-    → option_map (λ (b : Bor (Bor (List ℕ))). b.now) got ≡ slice_get refs k → got ≡ Some first → first.now.now ≡ name
-name_found refs names name at k got first are place is told found =
-    name_got names name k first.now.now (sym place ∙ is) (sym (ap (λ ns. slice_get ns k) are) ∙ mapped refs k ∙ ap (option_map (λ (b : Bor (List ℕ)). b.now)) (is_now refs k got first told found))
+pub name_found : (refs : List (Bor (List ℕ))) (names : List (List ℕ)) (name : List ℕ) (at : Option ℕ) (k : ℕ) (first : Bor (List ℕ)) → names_of refs ≡ names → at ≡ position (same name) names → at ≡ Some k → first ≡ slice_index_or refs k first → k < length refs → first.now ≡ name
+name_found refs names name at k first are place is told within =
+    name_got names name k first.now (sym place ∙ is) (sym (ap (λ ns. slice_get ns k) are) ∙ mapped refs k ∙ ap (option_map (λ (b : Bor (List ℕ)). b.now)) (got_at refs k first told within))
   where
     mapped : (rs : List (Bor (List ℕ))) (k : ℕ) → slice_get (names_of rs) k ≡ option_map (λ (b : Bor (List ℕ)). b.now) (slice_get rs k)
     mapped [] k = refl
@@ -271,20 +272,20 @@ name_found refs names name at k got first are place is told found =
     mapped (r ∷ rs) (suc k) = mapped rs k
 
 -- the group at the place of a name is its own
-pub inside_found : (g : Grouped) (name : List ℕ) (at : Option ℕ) (k : ℕ) (groups : List Group) (got : Option (Bor Group)) (group : Bor Group) (seen : List Pending) → IsGrouped g → groups ≡ g.groups.items → at ≡ position (same name) g.names → at ≡ Some k
-    → option_map (λ (b : Bor Group). b.now) got ≡ slice_get groups k → got ≡ Some group → seen ≡ group.now.inside.items → refining_views seen ≡ below name (refining_views g.pending.now)
-inside_found g name at k groups got group seen grouped are place is told found same_inside =
-    let there : slice_get (group_views g.groups.items) k ≡ Some (group_view group.now) =
-        group_got g.groups.items k ∙ ap (option_map group_view) (sym (ap (λ gs. slice_get gs k) are) ∙ is_now groups k got group told found) in
+pub inside_found : (g : Grouped) (name : List ℕ) (at : Option ℕ) (k : ℕ) (groups : List Group) (group : Group) (seen : List Pending) → IsGrouped g → groups ≡ g.groups.items → at ≡ position (same name) g.names → at ≡ Some k → group ≡ slice_index_or groups k group → k < length groups
+    → seen ≡ group.inside.items → refining_views seen ≡ below name (refining_views g.pending.now)
+inside_found g name at k groups group seen grouped are place is told within same_inside =
+    let there : slice_get (group_views g.groups.items) k ≡ Some (group_view group) =
+        group_got g.groups.items k ∙ ap (option_map group_view) (sym (ap (λ gs. slice_get gs k) are) ∙ got_at groups k group told within) in
     ap refining_views same_inside ∙ sym (ap (λ o. option_map_or (λ (x : GroupTree). x.inside) o []) (ap (option_and_then (slice_get (group_views g.groups.items))) (sym place ∙ is) ∙ there)) ∙ grouped.inside name
 
 -- ---- groups that are made
 
+abbrev group_with : List Refining → Option (Bor Code) → GroupTree
+group_with rs c = record { inside = rs; action = option_map (λ (x : Bor Code). x.now) c }
+
 pub empty_group : (g : Group) → g.inside.items ≡ [] → g.action ≡ None → group_view g ≡ no_group
-empty_group g none nothing = ap (λ (ps : List Pending). group_with_parts (refining_views ps) g.action) none ∙ ap (λ (c : Option (Bor Code)). group_with_parts [] c) nothing
-  where
-    abbrev group_with_parts : List Refining → Option (Bor Code) → GroupTree
-    group_with_parts rs c = record { inside = rs; action = option_map (λ (x : Bor Code). x.now) c }
+empty_group g none nothing = ap (λ (ps : List Pending). group_with (refining_views ps) g.action) none ∙ ap (λ (c : Option (Bor Code)). group_with [] c) nothing
 
 pub one_group_more : {A : Type 0} (names : List A) (d : A) (i : ℕ) (gs hs : List Group) (g : Group) → i < length names → group_views gs ≡ map (λ n. no_group) (take i names) → hs ≡ gs ++ g ∷ [] → group_view g ≡ no_group → group_views hs ≡ map (λ n. no_group) (take (i + 1) names)
 one_group_more names d i gs hs g lt before pushed none =

@@ -1,4 +1,5 @@
-use Rattle.std.proofs.Common.{◌≡◌, List, Option, IfOk, Vec, option_map, subst}
+use Rattle.std.proofs.Common.{◌≡◌, List, Option, IfOk, option_map, subst}
+use Rattle.std.specs.Global.{Vec}
 use Rattle.room_ast.specs.ChartTree.{graph_view}
 use Rattle.room_inherit.specs.Searching.{SearchTree}
 use Rattle.room_inherit.specs.Views.{refining_views, search_views}
