@@ -276,7 +276,7 @@ pub inside_found : (g : Grouped) (name : List ℕ) (at : Option ℕ) (k : ℕ) (
     → seen ≡ group.inside.items → refining_views seen ≡ below name (refining_views g.pending.now)
 inside_found g name at k groups group seen grouped are place is told within same_inside =
     let there : slice_get (group_views g.groups.items) k ≡ Some (group_view group) =
-        group_got g.groups.items k ∙ ap (option_map group_view) (sym (ap (λ gs. slice_get gs k) are) ∙ got_at groups k group told within) in
+    group_got g.groups.items k ∙ ap (option_map group_view) (sym (ap (λ gs. slice_get gs k) are) ∙ got_at groups k group told within) in
     ap refining_views same_inside ∙ sym (ap (λ o. option_map_or (λ (x : GroupTree). x.inside) o []) (ap (option_and_then (slice_get (group_views g.groups.items))) (sym place ∙ is) ∙ there)) ∙ grouped.inside name
 
 -- ---- groups that are made
@@ -284,12 +284,15 @@ inside_found g name at k groups group seen grouped are place is told within same
 abbrev group_with : List Refining → Option (Bor Code) → GroupTree
 group_with rs c = record { inside = rs; action = option_map (λ (x : Bor Code). x.now) c }
 
-pub empty_group : (g : Group) → g.inside.items ≡ [] → g.action ≡ None → group_view g ≡ no_group
+empty_group : (g : Group) → g.inside.items ≡ [] → g.action ≡ None → group_view g ≡ no_group
 empty_group g none nothing = ap (λ (ps : List Pending). group_with (refining_views ps) g.action) none ∙ ap (λ (c : Option (Bor Code)). group_with [] c) nothing
 
-pub one_group_more : {A : Type 0} (names : List A) (d : A) (i : ℕ) (gs hs : List Group) (g : Group) → i < length names → group_views gs ≡ map (λ n. no_group) (take i names) → hs ≡ gs ++ g ∷ [] → group_view g ≡ no_group → group_views hs ≡ map (λ n. no_group) (take (i + 1) names)
+one_group_more : {A : Type 0} (names : List A) (d : A) (i : ℕ) (gs hs : List Group) (g : Group) → i < length names → group_views gs ≡ map (λ n. no_group) (take i names) → hs ≡ gs ++ g ∷ [] → group_view g ≡ no_group → group_views hs ≡ map (λ n. no_group) (take (i + 1) names)
 one_group_more names d i gs hs g lt before pushed none =
     ap group_views pushed ∙ map_push group_view gs g ∙ ap (λ vs. vs ++ group_view g ∷ []) before ∙ ap (λ v. map (λ n. no_group) (take i names) ++ v ∷ []) none ∙ sym (map_more (λ n. no_group) names i d lt)
+
+pub one_empty_more : {A : Type 0} (names : List A) (d : A) (i : ℕ) (gs hs : List Group) (g : Group) → i < length names → group_views gs ≡ map (λ n. no_group) (take i names) → hs ≡ gs ++ g ∷ [] → g.inside.items ≡ [] → g.action ≡ None → group_views hs ≡ map (λ n. no_group) (take (i + 1) names)
+one_empty_more names d i gs hs g lt before pushed none nothing = one_group_more names d i gs hs g lt before pushed (empty_group g none nothing)
 
 none_of_refs : (refs : List (Bor (List ℕ))) → map (λ n. no_group) refs ≡ map (λ n. no_group) (names_of refs)
 none_of_refs [] = refl

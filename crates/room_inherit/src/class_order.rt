@@ -190,11 +190,7 @@ fn mark(placed: &mut Vec<bool>, class: usize)
 
 /// Whether these are all classes, each behind its base.
 #[tactic(auto, using(crate::proofs::Depth::none_marked, crate::proofs::Depth::one_marked, crate::proofs::Depth::all_marked))]
-fn is_order(
-    alloc: Global,
-    bases: &[Sequence<usize>],
-    order: &[usize],
-) -> Result<bool, AllocError>
+fn is_order(alloc: Global, bases: &[Sequence<usize>], order: &[usize]) -> Result<bool, AllocError>
     ensures { IfOk result (λ b. b ≡ true → IsContainmentOrder bases.now order.now) }
 {
     if bases.len() < order.len() {

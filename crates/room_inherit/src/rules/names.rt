@@ -31,10 +31,7 @@ fn note<'a>(names: &mut TransitionNames<'a>, name: &'a Name) -> Result<(), Alloc
     Ok(())
 }
 
-fn note_if<'a>(
-    names: &mut TransitionNames<'a>,
-    name: &'a Option<Name>,
-) -> Result<(), AllocError>
+fn note_if<'a>(names: &mut TransitionNames<'a>, name: &'a Option<Name>) -> Result<(), AllocError>
     ensures { OnOk result (transition_names names.new ≡ option_map_or (λ n. note n (transition_names names.old)) name.now (transition_names names.old)) }
 {
     match name {
