@@ -2,7 +2,7 @@
 
 # All kinds. `long_` stands for names and paths of 200 letters and more, `chain` for mappings nested as
 # deep as the text goes, each in an actor inside the one before.
-all_kinds="references mappings nested_mappings chain bindings layers ports classes derived messages states
+all_kinds="references mappings nested_mappings chain bindings layers ports classes derived refinements messages states
 transitions choices branches points subgraphs composites attributes data_classes services long_bindings
 long_mappings long_chain long_classes long_states long_services injections journals read_journals"
 
@@ -62,6 +62,10 @@ text_of() {
     ports) fill "$most" "${head}${top_class}ActorClass A { Structure {\n" 'Port p#: P\n' '} }\n}' 60000 ;;
     classes) fill "$most" "${head}${top_class}ActorClass A { }\n" 'ActorClass C# { Interface { Port p: P } Structure { external Port p ActorRef a: A } }\n' '}' 59000 ;;
     derived) fill "$most" "${head}${top_class}ActorClass A { }\nActorClass B { Interface { Port p: P } Structure { external Port p } }\n" 'ActorClass C# extends B { Structure { ActorRef a: A } }\n' '}' 59000 ;;
+    refinements)
+        fill "$((most / 2))" "${head}${top_class}ActorClass B { Interface { Port p: P } Structure { external Port p } Behavior { StateMachine {\nTransition b: initial -> S\nState S\n" 'State S# Transition t#: S# -> S# { triggers { <go: p> } }\n' '} } }\n'
+        fill "$((most / 2))" 'ActorClass A extends B { Behavior { StateMachine {\n' 'RefinedState S# { entry ";" } RefinedTransition t# { action ";" }\n' "$chart_end"
+        ;;
     messages) fill "$most" "${head}${top_class}ActorClass A { }\nProtocolClass Q { incoming {\n" 'Message m#(int8)\n' '} } }' 60000 ;;
     states) fill "$most" "$chart" 'State S#\n' "$chart_end" 59999 ;;
     transitions) fill "$most" "$chart" 'State S# Transition t#: S# -> S# { triggers { <go: p> } }\n' "$chart_end" ;;

@@ -12,3 +12,7 @@ pub mod Orders
 pub mod Plain
 pub mod Strings
 pub mod NamesLaw
+pub mod KeyLaws
+pub mod Found
+pub mod Groups
+pub mod Depth

@@ -1,5 +1,5 @@
 -- Graphs that are refined up to a place.
-use Rattle.std.proofs.Common.{◌≡◌, ℕ, zero, suc, ◌+◌, ◌<◌, ◌≤◌, ◌∙◌, List, [], ◌∷◌, length, get_or, refl, ap, subst, add-one, arith}
+use Rattle.std.proofs.Common.{◌≡◌, ℕ, zero, suc, ◌+◌, ◌<◌, ◌≤◌, ◌∙◌, List, [], ◌∷◌, length, get_or, refl, sym, ap, subst, add-one, arith}
 use Rattle.std.specs.Prelude.{slice_set}
 use Rattle.room_ast.specs.ChartTree.{GraphItems, no_items, item, item_view, graph_view}
 use Rattle.room_ast.specs.declared.chart.GraphItem.{GraphItem}
@@ -26,9 +26,9 @@ one_refined rs zero (x ∷ xs) d y es fs lt made seen =
 one_refined rs (suc n) (x ∷ xs) d y es fs lt made seen = ap (item (item_view x)) (one_refined rs n xs d y es fs (omega arith) made seen)
 
 -- one more item is refined
-pub refined_next : (rs : List Refining) (whole : GraphItems) (n : ℕ) (xs : List GraphItem) (x y : GraphItem) (es fs : List (List ℕ)) → mixed n xs es rs ≡ whole → n < length xs → x ≡ get_or xs n x → item_view y ≡ refined_item (item_view x) es rs → GivesTheSame rs fs (with_state (item_view x) es)
-    → mixed (n + 1) (slice_set xs n y) fs rs ≡ whole
-refined_next rs whole n xs x y es fs before lt here made seen =
+pub refined_next : (rs grouped : List Refining) → rs ≡ grouped → (whole : GraphItems) (n : ℕ) (xs : List GraphItem) (x y : GraphItem) (es fs : List (List ℕ)) → mixed n xs es rs ≡ whole → n < length xs → x ≡ get_or xs n x → item_view y ≡ refined_item (item_view x) es grouped
+    → GivesTheSame grouped fs (with_state (item_view x) es) → mixed (n + 1) (slice_set xs n y) fs rs ≡ whole
+refined_next rs grouped are whole n xs x y es fs before lt here made seen =
     ap (λ k. mixed k (slice_set xs n y) fs rs) (add-one n)
-    ∙ one_refined rs n xs x y es fs lt (subst (λ z. item_view y ≡ refined_item (item_view z) es rs) here made) (subst (λ z. GivesTheSame rs fs (with_state (item_view z) es)) here seen)
+    ∙ one_refined rs n xs x y es fs lt (subst (λ z. item_view y ≡ refined_item (item_view z) es rs) here (made ∙ ap (refined_item (item_view x) es) (sym are))) (subst (λ z. GivesTheSame rs fs (with_state (item_view z) es)) here (subst (λ qs. GivesTheSame qs fs (with_state (item_view x) es)) (sym are) seen))
     ∙ before

@@ -9,8 +9,11 @@ use Rattle.room_inherit.specs.Refining.{Refining, GivesTheSame, below, step_into
 use Rattle.room_inherit.specs.Views.{refining_views}
 use Rattle.room_inherit.specs.declared.refining.paths.Pending.{Pending}
 
-same_is : (a b : List ℕ) → same a b ≡ true → a ≡ b
+pub same_is : (a b : List ℕ) → same a b ≡ true → a ≡ b
 same_is a b e = (bytes_decides a b).0 e
+
+pub same_own : (a : List ℕ) → same a a ≡ true
+same_own a = (bytes_decides a a).1 refl
 
 or_swap : (a b : Bool) → (a || b) ≡ (b || a)
 or_swap true true = refl
@@ -22,12 +25,12 @@ or_group : (a b c : Bool) → (a || (b || c)) ≡ ((a || b) || c)
 or_group true b c = refl
 or_group false b c = refl
 
-among_push : (es : List (List ℕ)) (n m : List ℕ) → is_among (es ++ n ∷ []) m ≡ (is_among es m || same m n)
+pub among_push : (es : List (List ℕ)) (n m : List ℕ) → is_among (es ++ n ∷ []) m ≡ (is_among es m || same m n)
 among_push [] n m = or_swap (same m n) false
 among_push (e ∷ es) n m = ap (λ b. same m e || b) (among_push es n m) ∙ or_group (same m e) (is_among es m) (same m n)
 
 -- a name is among the names with one more
-among_with : (es : List (List ℕ)) (n m : List ℕ) → is_among (with_name n es) m ≡ (same m n || is_among es m)
+pub among_with : (es : List (List ℕ)) (n m : List ℕ) → is_among (with_name n es) m ≡ (same m n || is_among es m)
 among_with es n m = go (is_among es n) refl (same m n) refl
   where
     go : (b : Bool) → is_among es n ≡ b → (s : Bool) → same m n ≡ s → is_among (if b then es else (es ++ n ∷ [])) m ≡ (s || is_among es m)

@@ -1,9 +1,13 @@
 pub mod Codes
+pub mod Keys
 pub mod Refining
+pub mod Grouping
+pub mod Searching
 pub mod Views
 pub mod Flat
 pub mod Rules
 pub mod Filling
+pub mod Ordering
 pub mod Judging
 pub mod Flattening
 pub mod Names

@@ -8,6 +8,7 @@ ghost use Rattle.room_inherit.specs.Flattening.{IsFlattened, IsFlat, AreFlat, Or
 ghost use Rattle.room_inherit.specs.Rules.{extended, extends_nothing, bases_are_known, refinements_are_known};
 ghost use Rattle.room_inherit.specs.Views.{flat_views};
 
+use crate::class_order::depth_order;
 use crate::counting::is_small;
 use crate::fault::InheritFault;
 use crate::filling::{Filling, filled, put_flats};
@@ -17,7 +18,6 @@ use crate::rules::{
     refinements_stand_right,
 };
 use name_tables::NameIndex;
-use number_graphs::containment_order;
 use room_ast::{ActorClass, Model};
 use room_kinds::Sequence;
 use std::alloc::{AllocError, Global};
@@ -42,7 +42,7 @@ fn order_of_bases(
     ensures { IfOk result (λ order. OrdersBases (model_view model.now) order) }
 {
     let extended = extended_classes(alloc, model.classes.as_slice(), names)?;
-    let order = containment_order(alloc, extended.as_slice())?;
+    let order = depth_order(alloc, extended.as_slice())?;
     Ok(order)
 }
 

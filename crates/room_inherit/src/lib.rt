@@ -8,6 +8,7 @@
 
 ghost use Rattle.room_inherit.specs.Names.{FlatKeepsNames};
 
+mod class_order;
 mod copies;
 mod counting;
 mod derived_class;

@@ -2,8 +2,9 @@
 ghost use Rattle.std.specs.Prelude.{◌≡◌, IfOk, OnOk, option_map};
 ghost use Rattle.room_ast.specs.ChartTree.{AState, body_of, body_view, item_view, state_view, graph_view};
 ghost use Rattle.room_inherit.specs.Refining.{GivesTheSame, refined, refined_item, refined_state, refined_body, refined_subgraph, widened, with_state, own_change};
-ghost use Rattle.room_inherit.specs.Views.{refining_views};
+ghost use Rattle.room_inherit.specs.Views.{IsGrouped, refining_views};
 
+use crate::refining::grouped::Grouped;
 use crate::refining::paths::{Pending, meant_for, own_change};
 use crate::refining::widening::{refine_transition, widened};
 use name_tables::Numbers;
@@ -26,18 +27,19 @@ fn with_own_change<'a>(
 
 /// Refines an item of a graph. `seen` has the names of the states before it that refinements lead to.
 #[cycle(refining)]
-fn refine_item<'a>(
+fn refine_item<'p, 'a>(
     alloc: Global,
     item: &mut GraphItem,
-    pending: &[Pending<'a>],
+    grouped: &Grouped<'p, 'a>,
     seen: &mut Numbers<'a>,
 ) -> Result<(), AllocError>
-    ensures item { OnOk result (item_view item.new ≡ refined_item (item_view item.old) seen.old (refining_views pending.now)) }
-    ensures names { OnOk result (GivesTheSame (refining_views pending.now) seen.new (with_state (item_view item.old) seen.old)) }
+    requires { IsGrouped grouped.now }
+    ensures item { OnOk result (item_view item.new ≡ refined_item (item_view item.old) seen.old (refining_views grouped.now.pending.now)) }
+    ensures names { OnOk result (GivesTheSame (refining_views grouped.now.pending.now) seen.new (with_state (item_view item.old) seen.old)) }
 {
     match item {
-        GraphItem::State(state) => refine_state(alloc, state, pending, seen),
-        GraphItem::Transition(transition) => refine_transition(alloc, transition, pending),
+        GraphItem::State(state) => refine_state(alloc, state, grouped, seen),
+        GraphItem::Transition(transition) => refine_transition(alloc, transition, grouped),
         GraphItem::Choice(_) => Ok(()),
         GraphItem::Point(_) => Ok(()),
         GraphItem::Refinement(_) => Ok(()),
@@ -46,16 +48,17 @@ fn refine_item<'a>(
 
 /// Refines a state, if it is the first of its name and a refinement leads to it or into it.
 #[cycle(refining)]
-fn refine_state<'a>(
+fn refine_state<'p, 'a>(
     alloc: Global,
     state: &mut State,
-    pending: &[Pending<'a>],
+    grouped: &Grouped<'p, 'a>,
     seen: &mut Numbers<'a>,
 ) -> Result<(), AllocError>
-    ensures state { OnOk result (state_view state.new ≡ refined_state (state_view state.old) seen.old (refining_views pending.now)) }
-    ensures names { OnOk result (GivesTheSame (refining_views pending.now) seen.new (with_state (AState (state_view state.old)) seen.old)) }
+    requires { IsGrouped grouped.now }
+    ensures state { OnOk result (state_view state.new ≡ refined_state (state_view state.old) seen.old (refining_views grouped.now.pending.now)) }
+    ensures names { OnOk result (GivesTheSame (refining_views grouped.now.pending.now) seen.new (with_state (AState (state_view state.old)) seen.old)) }
 {
-    let changes = meant_for(alloc, seen, state.name.as_bytes(), pending)?;
+    let changes = meant_for(alloc, seen, state.name.as_bytes(), grouped)?;
     if changes.is_empty() {
         return Ok(());
     }
@@ -126,9 +129,10 @@ pub(crate) fn refine_items<'a>(
     if pending.is_empty() {
         return Ok(());
     }
+    let grouped = Grouped::of(alloc, pending)?;
     let mut seen = Numbers::new(alloc);
     for place in 0..items.len() {
-        refine_item(alloc, &mut items[place], pending, &mut seen)?;
+        refine_item(alloc, &mut items[place], &grouped, &mut seen)?;
     }
     Ok(())
 }

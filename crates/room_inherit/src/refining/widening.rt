@@ -3,10 +3,10 @@ ghost use Rattle.std.specs.Prelude.{◌≡◌, ◌++◌, Some, IfOk, OnOk, map, 
 ghost use Rattle.room_ast.specs.ChartTree.{body_of, body_view, item_view};
 ghost use Rattle.room_inherit.specs.Codes.{texts_of, joined, joined_if};
 ghost use Rattle.room_inherit.specs.Refining.{acting_also, action_for, joined_subgraph, new_body, refined_transition, widened};
-ghost use Rattle.room_inherit.specs.Views.{of_state, refining_views, subgraph_tree};
+ghost use Rattle.room_inherit.specs.Views.{IsGrouped, of_state, refining_views, subgraph_tree};
 
 use crate::copies::{copy_body, copy_code, copy_item, copy_text};
-use crate::refining::paths::{Pending, added_action};
+use crate::refining::grouped::Grouped;
 use room_ast::{Code, CodeText, GraphItem, Name, StateBody, Transition, TransitionBody};
 use room_kinds::Sequence;
 use std::alloc::{AllocError, Global};
@@ -210,24 +210,26 @@ fn acting_also(
     })
 }
 
-fn action_for<'a>(name: &Option<Name>, pending: &[Pending<'a>]) -> Option<&'a Code>
-    ensures { option_map (λ c. c.now) result ≡ action_for name.now (refining_views pending.now) }
+fn action_for<'p, 'a>(name: &Option<Name>, grouped: &Grouped<'p, 'a>) -> Option<&'a Code>
+    requires { IsGrouped grouped.now }
+    ensures { option_map (λ c. c.now) result ≡ action_for name.now (refining_views grouped.now.pending.now) }
 {
     match name {
-        Some(name) => added_action(name.as_bytes(), pending),
+        Some(name) => grouped.added_action(name.as_bytes()),
         None => None,
     }
 }
 
 /// Adds to the action of a transition what refinements add.
-pub(super) fn refine_transition<'a>(
+pub(super) fn refine_transition<'p, 'a>(
     alloc: Global,
     transition: &mut Transition,
-    pending: &[Pending<'a>],
+    grouped: &Grouped<'p, 'a>,
 ) -> Result<(), AllocError>
-    ensures { OnOk result (transition.new ≡ refined_transition (refining_views pending.now) transition.old) }
+    requires { IsGrouped grouped.now }
+    ensures { OnOk result (transition.new ≡ refined_transition (refining_views grouped.now.pending.now) transition.old) }
 {
-    let Some(code) = action_for(&transition.name, pending) else {
+    let Some(code) = action_for(&transition.name, grouped) else {
         return Ok(());
     };
     let body = transition.body.take();

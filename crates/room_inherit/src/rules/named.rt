@@ -9,6 +9,7 @@ ghost use Rattle.room_inherit.specs.Views.{refining_view, refining_views};
 
 use crate::machine_of;
 use crate::refining::{Pending, refinements};
+use crate::rules::search::are_named;
 use room_ast::{ActorClass, Change, GraphItem, Name, State};
 use std::alloc::{AllocError, Global};
 
@@ -44,7 +45,7 @@ fn first_state<'a>(items: &'a [GraphItem], name: &[u8]) -> Option<&'a State>
 }
 
 /// The graph of a state; it is empty where the state has no subgraph.
-fn graph_in<'a>(state: &'a State) -> &'a [GraphItem]
+pub(super) fn graph_in<'a>(state: &'a State) -> &'a [GraphItem]
     ensures { graph_view result.now ≡ graph_in (state_view state.entry.now) }
 {
     let Some(body) = &state.body else {
@@ -134,16 +135,7 @@ fn is_named<'a>(items: &'a [GraphItem], one: &Pending) -> bool
     }
 }
 
-/// The graph of a class; it is empty where the class has no state machine.
-fn graph_of<'a>(class: &'a ActorClass) -> &'a [GraphItem]
-    ensures { graph_view result.now ≡ graph_of (actor_view class.entry.now) }
-{
-    match machine_of(class) {
-        Some(machine) => machine.items.as_slice(),
-        None => &[],
-    }
-}
-
+/// Whether a graph has what each of these refinements names, each sought by itself.
 fn all_are_named<'a>(items: &'a [GraphItem], pending: &[Pending]) -> bool
     ensures { result ≡ list_all (λ (r : Refining). is_named (graph_view items.entry.now) r.path r.change) (refining_views pending.now) }
 {
@@ -153,6 +145,16 @@ fn all_are_named<'a>(items: &'a [GraphItem], pending: &[Pending]) -> bool
         }
     }
     true
+}
+
+/// The graph of a class; it is empty where the class has no state machine.
+fn graph_of<'a>(class: &'a ActorClass) -> &'a [GraphItem]
+    ensures { graph_view result.now ≡ graph_of (actor_view class.entry.now) }
+{
+    match machine_of(class) {
+        Some(machine) => machine.items.as_slice(),
+        None => &[],
+    }
 }
 
 /// The refinements of a class's top graph.
@@ -168,16 +170,24 @@ pub(crate) fn refinements_of<'a>(
     }
 }
 
-/// Whether each refinement of a class names what this chart has.
+/// Of how many refinements each is sought by itself. For more of them tables of the graph's names are
+/// made, which take longer than a few searches.
+const FEW: usize = 4;
+
+/// Whether each refinement of a class names what this chart has. It takes time in proportion to the chart
+/// and to the names of the refinements.
 pub(crate) fn chart_is_known<'a>(
     alloc: Global,
     chart: &'a [GraphItem],
-    own: &ActorClass,
+    own: &'a ActorClass,
 ) -> Result<bool, AllocError>
-    ensures { IfOk result (λ b. b ≡ chart_is_known (graph_view chart.entry.now) (actor_view own.now)) }
+    ensures { IfOk result (λ b. b ≡ chart_is_known (graph_view chart.entry.now) (actor_view own.entry.now)) }
 {
-    let pending = refinements_of(alloc, own)?;
-    Ok(all_are_named(chart, pending.as_slice()))
+    let sought = refinements_of(alloc, own)?;
+    if sought.len() <= FEW {
+        return Ok(all_are_named(chart, sought.as_slice()));
+    }
+    are_named(alloc, chart, sought)
 }
 
 /// Whether each refinement of a class names what the chart of its flat base has.

@@ -1,15 +1,19 @@
 //! Whether something is refined twice.
 ghost use Rattle.std.specs.Prelude.{◌≡◌, ◌++◌, IfOk, OnOk, map, option_map};
-ghost use Rattle.std.specs.List.{filter_map, list_all, list_any};
+ghost use Rattle.std.specs.List.{filter_map, list_all};
 ghost use Rattle.std.specs.Option.{option_to_list};
-ghost use Rattle.room_ast.specs.Found.{same_path};
+ghost use Rattle.name_tables.specs.name_numbers.Names.{names_of};
 ghost use Rattle.room_ast.specs.Trees.{actor_view, class_view, model_view};
+ghost use Rattle.room_inherit.specs.Keys.{codes};
 ghost use Rattle.room_inherit.specs.Rules.{of_actor, once_of, paths_differ, refines_once, refinements_differ, state_path, transition_path};
 ghost use Rattle.room_inherit.specs.Views.{path_view, path_views, refining_view, refining_views};
 
 use crate::refining::Pending;
+use crate::rules::keys::{put_name, put_names};
 use crate::rules::named::refinements_of;
+use name_tables::are_distinct;
 use room_ast::{ActorClass, Change, Class, Model, Name};
+use room_kinds::Sequence;
 use std::alloc::{AllocError, Global};
 
 /// The names of a path, as they are written.
@@ -19,58 +23,47 @@ struct Path<'a> {
     others: &'a [Name],
 }
 
-fn same_names(a: &[Name], b: &[Name]) -> bool
-    ensures { result ≡ same_path a.now b.now }
+/// The key of a path: two paths have the same key where they have the same names.
+#[tactic(auto, using(crate::proofs::KeyLaws::codes_none, crate::proofs::KeyLaws::codes_one))]
+fn key_of(alloc: Global, path: &Path) -> Result<Sequence<u8>, AllocError>
+    ensures { IfOk result (λ key. key ≡ codes (path_view path.now)) }
 {
-    let (mut a, mut b) = (a, b);
-    while let [first, a_rest @ ..] = a {
-        let [second, b_rest @ ..] = b else {
-            return false;
-        };
-        if !first.is(second.as_bytes()) {
-            return false;
-        }
-        a = a_rest;
-        b = b_rest;
+    let mut key = Vec::new(alloc);
+    if let Some(first) = path.next {
+        put_name(&mut key, first.as_bytes())?;
+        put_names(&mut key, path.others)?;
     }
-    b.is_empty()
+    Ok(Sequence::from(key))
 }
 
-fn same_path(a: &Path, b: &Path) -> bool
-    ensures { result ≡ same_path (path_view a.now) (path_view b.now) }
+fn path_keys(alloc: Global, paths: &[Path]) -> Result<Vec<Sequence<u8>>, AllocError>
+    ensures { IfOk result (λ keys. keys.items ≡ map codes (path_views paths.now)) }
 {
-    match (a.next, b.next) {
-        (Some(first), Some(second)) => {
-            first.is(second.as_bytes()) && same_names(a.others, b.others)
-        }
-        (None, None) => true,
-        _ => false,
+    let mut keys = Vec::new(alloc);
+    for path in paths {
+        keys.push(key_of(alloc, path)?)?;
     }
+    Ok(keys)
 }
 
-fn is_among(paths: &[Path], path: &Path) -> bool
-    ensures { result ≡ list_any (same_path (path_view path.now)) (path_views paths.now) }
+fn key_names<'a>(alloc: Global, keys: &'a [Sequence<u8>]) -> Result<Vec<&'a [u8]>, AllocError>
+    ensures { IfOk result (λ names. names_of names.items ≡ keys.entry.now) }
 {
-    for other in paths {
-        if same_path(path, other) {
-            return true;
-        }
+    let mut names = Vec::new(alloc);
+    for key in keys {
+        names.push(key.as_slice())?;
     }
-    false
+    Ok(names)
 }
 
-/// Whether no two of the paths are the same.
-fn paths_differ(paths: &[Path]) -> bool
-    ensures { result ≡ paths_differ (path_views paths.now) }
+/// Whether no two of the paths are the same. It takes time in proportion to their names.
+#[tactic(auto, using(crate::proofs::KeyLaws::keys_differ))]
+fn paths_differ(alloc: Global, paths: &[Path]) -> Result<bool, AllocError>
+    ensures { IfOk result (λ b. b ≡ paths_differ (path_views paths.now)) }
 {
-    let mut paths = paths;
-    while let [first, rest @ ..] = paths {
-        if is_among(rest, first) {
-            return false;
-        }
-        paths = rest;
-    }
-    true
+    let keys = path_keys(alloc, paths)?;
+    let names = key_names(alloc, keys.as_slice())?;
+    are_distinct(alloc, names.as_slice())
 }
 
 fn push_if<'a>(paths: &mut Vec<Path<'a>>, path: Option<Path<'a>>) -> Result<(), AllocError>
@@ -133,10 +126,10 @@ fn once_of<'a>(alloc: Global, pending: &[Pending<'a>]) -> Result<bool, AllocErro
 {
     let states = state_paths(alloc, pending)?;
     let transitions = transition_paths(alloc, pending)?;
-    if !paths_differ(states.as_slice()) {
+    if !paths_differ(alloc, states.as_slice())? {
         return Ok(false);
     }
-    Ok(paths_differ(transitions.as_slice()))
+    paths_differ(alloc, transitions.as_slice())
 }
 
 fn refines_once(alloc: Global, class: &ActorClass) -> Result<bool, AllocError>

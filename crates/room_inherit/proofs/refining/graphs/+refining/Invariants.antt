@@ -23,7 +23,7 @@ abbrev pub decreases-refine_items : goal.decreases-refine_items
 decreases-refine_items l = 5 * names_left (refining_views l.pending.now) + 2
 
 abbrev pub decreases-refine_item : goal.decreases-refine_item
-decreases-refine_item l = 5 * names_left (refining_views l.pending.now) + 1
+decreases-refine_item l = 5 * names_left (refining_views l.grouped.now.pending.now) + 1
 
 abbrev pub decreases-refine_state : goal.decreases-refine_state
-decreases-refine_state l = 5 * names_left (refining_views l.pending.now)
+decreases-refine_state l = 5 * names_left (refining_views l.grouped.now.pending.now)
