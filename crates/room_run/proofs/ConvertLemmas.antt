@@ -1,5 +1,5 @@
 -- From texts of journals to what is written of them, and why they are refused.
-use Rattle.std.proofs.Common.{◌≡◌, ℕ, ◌≤◌, List, length, Option, Some, None, IfSome, refl, subst}
+use Rattle.std.proofs.Common.{◌≡◌, ℕ, ◌≤◌, List, length, IfSome}
 use Rattle.room_outside.specs.Shown.{Shown, Keeps}
 use Rattle.room_outside.proofs.ShelfLemmas.{IfSome-before, Rose-before}
 use Rattle.room_wiring.specs.declared.tables.Tables.{Tables}
@@ -12,7 +12,7 @@ use Rattle.journal_reader.specs.declared.fault.ReadFaultOf.{ReadFaultOf}
 use Rattle.journal_reader.specs.declared.fault.ReadFaultOf.TheVariants as journal_faults
 use Rattle.room_run.specs.Words.{Record}
 use Rattle.room_run.specs.Models.{IsSound}
-use Rattle.room_run.specs.Conversions.{most_journal_bytes, HasJournals, HasTiedJournals, HasNoJournals}
+use Rattle.room_run.specs.Conversions.{most_journal_bytes, HasTiedJournals}
 use Rattle.room_run.specs.Causes.{TextIs, RecordedCauses, malformed, no_memory_for_journals, refusal_of_journals, JournalsCauses, journals_unread, journals_long, journals_refused, journals_no_memory, ConvertCauses, of_journals}
 use Rattle.room_run.specs.Outcome.{AreRecorded}
 use Rattle.room_run.specs.declared.refusal.Refusal.{Refusal}

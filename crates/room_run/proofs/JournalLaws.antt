@@ -11,16 +11,16 @@ use Rattle.journal.specs.Fits.{Fits}
 use Rattle.journal.specs.declared.entry.Entry.{Entry}
 use Rattle.journal.specs.declared.entry.Entry.TheVariants as entries
 use Rattle.journal.specs.declared.entry.Journals.{Journals}
-use Rattle.tied_journals.specs.Tied.{journal_of, fetched_at, IsTiedFetch, IsTiedEntry, AreTied, Tied}
+use Rattle.tied_journals.specs.Tied.{journal_of, fetched_at, IsTiedEntry, AreTied, Tied}
 use Rattle.tied_journals.specs.Text.{tied_text_of}
 use Rattle.tied_journals.specs.Untied.{last_fetched, IsUntied, IsFirstUntiedIn, party_number, IsFirstUntied}
-use Rattle.journal_reader.specs.Answer.{IsTiedText, IsTextOf}
+use Rattle.journal_reader.specs.Answer.{IsTextOf}
 use Rattle.journal_reader.specs.journal_texts.InRange.{IsInRange}
 use Rattle.journal_reader.proofs.journal_texts.JournalsBack.{texts_differ}
 use Rattle.journal_reader.proofs.journal_texts.FormsApart.{tied_texts_differ, forms_differ}
 use Rattle.model_laws.proofs.settled_models.Wired.{wiring_consistent}
 use Rattle.model_laws.proofs.wiring_laws.chart_state_names.Models.{sound_well_named}
-use Rattle.room_run.specs.Conversions.{HasJournals, HasTiedJournals, ConversionsKeepJournals}
+use Rattle.room_run.specs.Conversions.{ConversionsKeepJournals}
 use Rattle.room_run.specs.Models.{IsSound, IsSoundText}
 use Rattle.room_run.proofs.Names.{names_read}
 use Rattle.chart_model.specs.Chart.{Chart}

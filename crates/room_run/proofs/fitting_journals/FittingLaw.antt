@@ -1,10 +1,8 @@
 -- The journals of a run of a plant that fits, over lines that fit.
-use Rattle.std.proofs.Common.{◌≡◌, ℕ, zero, suc, ◌<◌, List, [], ◌∷◌, length, slice_get, Option, Some, None, refl, subst, ap}
+use Rattle.std.proofs.Common.{◌≡◌, ℕ, zero, suc, ◌<◌, List, [], ◌∷◌, length, slice_get, Option, Some, None, refl, subst}
 use Rattle.std.specs.Option.{option_map_or}
-use Rattle.room_wiring.specs.Slots.{slot_at}
 use Rattle.room_wiring.specs.declared.slot.Slot.{Slot}
 use Rattle.room_wiring.specs.declared.tables.Tables.{Tables as Wired}
-use Rattle.journal.specs.declared.entry.Journals.{Journals}
 use Rattle.inject_reader.specs.declared.inject_lines.accepted.Line.{Line}
 use Rattle.inject_reader.specs.declared.inject_lines.accepted.What.{What}
 use Rattle.inject_reader.specs.declared.inject_lines.accepted.What.TheVariants as whats
@@ -17,7 +15,6 @@ use Rattle.chart_compile.specs.chart_parts.Compiled.{Compiles}
 use Rattle.controller_actors.specs.declared.plant.Plant.{Plant}
 use Rattle.model_laws.proofs.settled_models.Models.{models_ranked}
 use Rattle.model_laws.specs.settled_models.Wirings.{ModelsHaveOwners}
-use Rattle.model_run.specs.run_ends.Runs.{IsRun}
 use Rattle.named_runs.specs.Charts.{ShowsChart, ShowCharts}
 use Rattle.run_promises.specs.run_journals.Outside.{WhatNames, LinesName}
 use Rattle.run_promises.proofs.run_journals.InPlaceLaw.{in_place}
@@ -26,7 +23,7 @@ use Rattle.run_promises.proofs.run_journals.ReachingLaw.{reach}
 use Rattle.run_promises.proofs.run_journals.TiedLaw.{tied}
 use Rattle.room_run.specs.fitting_plants.Lines.{WhatFits, LinesFit}
 use Rattle.room_run.specs.fitting_plants.Plants.{PlantFits}
-use Rattle.room_run.specs.fitting_journals.Fitting.{JournalsInPlace, FittingRunsAreInPlace}
+use Rattle.room_run.specs.fitting_journals.Fitting.{FittingRunsAreInPlace}
 
 -- lines that fit name what the wiring has
 one_names : (t : Wired) (what : What) → WhatFits t what → WhatNames t what

@@ -1,12 +1,11 @@
 -- Journals of a run fit the wiring where what controllers name is there.
-use Rattle.std.proofs.Common.{◌≡◌, ℕ, zero, suc, ◌+◌, ◌<◌, ◌≤◌, ◌==◌, Bool, true, false, not, if◌then◌else◌, List, [], ◌∷◌, ◌++◌, length, map, slice_get, slice_index_or, Option, Some, None, refl, sym, ap, ◌∙◌, subst, lt-ltb, arith, ◌⊎◌, inl, inr, ⊎_elim}
+use Rattle.std.proofs.Common.{◌≡◌, ℕ, zero, suc, ◌<◌, Bool, true, false, not, if◌then◌else◌, List, [], ◌∷◌, ◌++◌, length, map, slice_get, slice_index_or, Option, Some, None, refl, sym, ap, ◌∙◌, subst, arith, ◌⊎◌, inl, inr}
 use Rattle.std.specs.List.{AllByRecursion as Each, All, Contains, flat_map, range_with_len}
 use Rattle.std.proofs.lemmas.Bool.{cases_order}
-use Rattle.std.proofs.lemmas.Option.{slice_get_within}
 use Rattle.std.proofs.lemmas.List.Elements.{All-from_recursion, recursion_from_All, All-contains}
 use Rattle.room_kinds.specs.declared.message.Msg.{Msg}
 use Rattle.room_wiring.specs.declared.tables.Tables.{Tables}
-use Rattle.journal.specs.Fits.{IsParty, FitsMessage, FitsPost, FitsEntry, FitsEnvironment, FitsLeft, Fits}
+use Rattle.journal.specs.Fits.{FitsMessage, FitsEntry, FitsEnvironment, FitsLeft, Fits}
 use Rattle.journal.specs.declared.entry.Entry.{Entry}
 use Rattle.journal.specs.declared.entry.Entry.TheVariants as entry
 use Rattle.journal.specs.declared.entry.Journals.{Journals}
@@ -26,7 +25,7 @@ use Rattle.run_promises.specs.Mail.{posted}
 use Rattle.run_promises.proofs.Party.{fetched_is, posted_is}
 use Rattle.run_promises.proofs.PromisesLaw.{promises}
 use Rattle.run_promises.proofs.run_texts.Party.{did, nobody, outside}
-use Rattle.run_promises.specs.run_journals.InPlace.{IsFetchedBy, IsPostedBy, ComesFromParty, IsLeftInPlace, AreInPlace}
+use Rattle.run_promises.specs.run_journals.InPlace.{IsFetchedBy, IsPostedBy, ComesFromParty, IsLeftInPlace}
 use Rattle.run_promises.specs.run_journals.Reaching.{NamesReceiver}
 use Rattle.run_promises.proofs.run_journals.Entries.{each_fetched}
 use Rattle.run_promises.proofs.run_journals.InPlaceLaw.{adds, journal_is, each_flat, each_map, each_append, below_end}
@@ -36,7 +35,7 @@ use Rattle.run_promises.proofs.run_journals.Waiting.{all_counted, each_behind, e
 use Rattle.room_run.specs.fitting_plants.Lines.{LinesFit}
 use Rattle.room_run.specs.fitting_plants.Plants.{PlantFits}
 use Rattle.room_run.specs.fitting_journals.Fitting.{JournalsInPlace}
-use Rattle.room_run.specs.fitting_journals.Naming.{NamesPlaces, NamesWhatIsThere, ControllersName, NamedJournalsFit}
+use Rattle.room_run.specs.fitting_journals.Naming.{NamesWhatIsThere, ControllersName, NamedJournalsFit}
 use Rattle.room_run.proofs.fitting_journals.FittingLaw.{fitting_in_place}
 use Rattle.room_run.proofs.fitting_journals.Testing.{passes, passed, is_fit, none_counted_at}
 
