@@ -2,10 +2,9 @@
 //! queues, whether all is quiet while the environment posts, and the mailboxes, alone and among threads.
 #![tactic(auto)]
 
-pub mod mail_tests;
-
 #[cfg(test)]
 mod deferred_tests;
+pub mod mail_tests;
 #[cfg(test)]
 mod quiet_tests;
 #[cfg(test)]
