@@ -1,6 +1,6 @@
 //! Laws that say definitions which go along a list or a tree again, in the words of their subject: which
 //! program a text has, which places a binding pairs, who owns what stands at the end of a way, and which ports an
-//! imported slot has.
+//! imported slot has. `message_forms` says which forms system messages have on their way.
 //!
 //! No code: the laws.
 #![tactic(auto)]
@@ -34,3 +34,5 @@ pub fn owners_have_the_longest_mapping()
 pub fn imported_slots_have_end_ports()
     ensures { ImportedSlotsHaveEndPorts }
 {}
+
+pub mod message_forms;

@@ -26,8 +26,8 @@ use Rattle.world_agreement.proofs.Duties.{request_parts, by_plainly, by_number, 
 use Rattle.world_agreement.proofs.Below.{made_itself}
 use Rattle.world_agreement.proofs.Telling.{own_owner, other_owner}
 use Rattle.world_agreement.proofs.Routing.{part_of_at}
-use Rattle.message_forms.specs.Forms.{AreFrames, IsRequest, IsAnswer, TellsLife}
-use Rattle.message_forms.proofs.Inner.{Inner, InnerOf, IsSent, AllSent, open_sent, sent_as, sent_if, done_sent_if, form_as}
+use Rattle.definition_laws.specs.message_forms.Forms.{AreFrames, IsRequest, IsAnswer, TellsLife}
+use Rattle.definition_laws.proofs.message_forms.Inner.{Inner, InnerOf, IsSent, AllSent, open_sent, sent_as, sent_if, done_sent_if, form_as}
 
 -- what closes a duty has its form
 abbrev pub LastSent : Tables → ℕ → Option Msg → Type 0

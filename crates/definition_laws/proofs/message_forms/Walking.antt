@@ -24,9 +24,9 @@ use Rattle.actor_world.specs.Directories.{SendsOpenly, IsOpen}
 use Rattle.actor_world.proofs.LifeSteps.{IsSound}
 use Rattle.world_agreement.proofs.Lists.{all_append, all_passed}
 use Rattle.world_agreement.proofs.Walking.{IsHere, frame_duty_makes}
-use Rattle.message_forms.proofs.Inner.{Inner, IsSent, AllSent}
-use Rattle.message_forms.proofs.Beside.{name_sent, ended_sent, links_sent, table_sent, content_sent, broadcast_sent}
-use Rattle.message_forms.proofs.Serving.{LastSent, DutySent, duty_sent, request_sent}
+use Rattle.definition_laws.proofs.message_forms.Inner.{Inner, IsSent, AllSent}
+use Rattle.definition_laws.proofs.message_forms.Beside.{name_sent, ended_sent, links_sent, table_sent, content_sent, broadcast_sent}
+use Rattle.definition_laws.proofs.message_forms.Serving.{LastSent, DutySent, duty_sent, request_sent}
 
 -- an actor of a slot of this controller
 abbrev IsOwn : Tables → ℕ → Incarnation → Type 0

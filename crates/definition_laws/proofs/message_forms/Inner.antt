@@ -12,7 +12,7 @@ use Rattle.actor_duties.specs.Messages.{system, coded, Occupied, NotHere, StaleI
 use Rattle.actor_duties.specs.State.{Done}
 use Rattle.actor_duties.specs.Frame.{is_announced, is_part_told}
 use Rattle.actor_world.specs.Turns.{all_kinds}
-use Rattle.message_forms.specs.Forms.{AreFrames, IsRequest, IsAnswer, IsMade, TellsEnd, TellsLife, TellsOne, TellsReply}
+use Rattle.definition_laws.specs.message_forms.Forms.{AreFrames, IsRequest, IsAnswer, IsMade, TellsEnd, TellsLife, TellsOne, TellsReply}
 
 -- the form of a kind, but for the addresses of messages on imports and names
 abbrev pub InnerOf : Tables → ℕ → ℕ → SysKind → Endpoint → Endpoint → List ℤ → Type 0

@@ -33,10 +33,10 @@ use Rattle.world_agreement.proofs.Agreeing.{IsForetold, put_own, first_carries, 
 use Rattle.world_agreement.proofs.Lending.{runs_route}
 use Rattle.name_agreement.specs.Created.{NamesTheCreated, last_at}
 use Rattle.name_agreement.proofs.CreatedRuns.{runs_named, each_named}
-use Rattle.message_forms.specs.Forms.{FormOf, HasForm, StandOnTrails}
-use Rattle.message_forms.proofs.Inner.{InnerOf, Inner, AllSent}
-use Rattle.message_forms.proofs.OnTrails.{LanesAreRanked, after_ranked, stand}
-use Rattle.message_forms.proofs.Walking.{treat_sent, start_sent}
+use Rattle.definition_laws.specs.message_forms.Forms.{FormOf, HasForm, StandOnTrails}
+use Rattle.definition_laws.proofs.message_forms.Inner.{InnerOf, Inner, AllSent}
+use Rattle.definition_laws.proofs.message_forms.OnTrails.{LanesAreRanked, after_ranked, stand}
+use Rattle.definition_laws.proofs.message_forms.Walking.{treat_sent, start_sent}
 
 -- a system message of its inner form, from controller a to controller b
 pub record IsOnTrail (t : Tables) (a b : ℕ) (m : Msg) : Type 0 where

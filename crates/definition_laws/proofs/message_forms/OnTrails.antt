@@ -13,7 +13,7 @@ use Rattle.actor_world.specs.Body.{Body}
 use Rattle.world_agreement.specs.Trails.{contents, from_a, system_to, is_from, is_system_to, trail}
 use Rattle.world_agreement.proofs.Lists.{all_append}
 use Rattle.world_agreement.proofs.Moving.{Ranked, IsSorted}
-use Rattle.message_forms.specs.Forms.{StandOnTrails}
+use Rattle.definition_laws.specs.message_forms.Forms.{StandOnTrails}
 
 -- each lane holds messages of its priority
 abbrev pub LanesAreRanked : (Lane → List Msg) → Type 0

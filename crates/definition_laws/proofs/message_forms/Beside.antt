@@ -22,8 +22,8 @@ use Rattle.actor_duties.specs.Commands.{Content, send, send_to, send_each, broad
 use Rattle.actor_world.specs.Turns.{all_kinds}
 use Rattle.world_agreement.proofs.Lists.{all_append, all_map}
 use Rattle.name_agreement.proofs.Standing.{self_endpoint}
-use Rattle.message_forms.specs.Forms.{TellsReply}
-use Rattle.message_forms.proofs.Inner.{Inner, IsSent, AllSent}
+use Rattle.definition_laws.specs.message_forms.Forms.{TellsReply}
+use Rattle.definition_laws.proofs.message_forms.Inner.{Inner, IsSent, AllSent}
 
 -- whether a message of a kind is the layer service's, and has its numbers
 abbrev beside_by : Option SysKind → Option Endpoint → Endpoint → List ℤ → Bool

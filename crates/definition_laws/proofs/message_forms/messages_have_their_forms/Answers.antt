@@ -1,5 +1,5 @@
-use Rattle.message_forms.proofs.Runs.{runs_form, runs_stand}
-use Rattle.message_forms.proofs.messages_have_their_forms.Goals as goal
+use Rattle.definition_laws.proofs.message_forms.Runs.{runs_form, runs_stand}
+use Rattle.definition_laws.proofs.message_forms.messages_have_their_forms.Goals as goal
 
 pub returns : goal.returns
 returns g c =

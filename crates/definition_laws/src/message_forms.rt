@@ -1,9 +1,8 @@
 //! The forms of system messages: what is on its way from one controller to another, in every run.
 //!
 //! No code: the law, as a function without a body; it holds over any kind `M` of machine and any tables.
-#![tactic(auto)]
 
-ghost use Rattle.message_forms.specs.Forms.{RunsSendForms, RunsStandOnTrails};
+ghost use Rattle.definition_laws.specs.message_forms.Forms.{RunsSendForms, RunsStandOnTrails};
 
 /// What is sent at the system's priority, at every moment. `forms`: each message on its way from one controller
 /// to another is of one of the nineteen kinds and has the form of its kind: from whom to whom it goes, that
