@@ -10,6 +10,8 @@ ghost use Rattle.definition_laws.specs.Imported.{ImportedSlotsHaveEndPorts};
 ghost use Rattle.definition_laws.specs.Owners.{OwnersHaveTheLongestMapping, SlotsAreOwned};
 ghost use Rattle.definition_laws.specs.Places.{BindingsTakeFreePlaces};
 
+pub mod message_forms;
+
 /// The program of a code is the one whose tokens are those of its text, within the limits of the language; there
 /// is none exactly where the text has none. So it is of conditions.
 pub fn codes_have_one_program()
