@@ -1,5 +1,5 @@
 -- An actor class over its base: the class that comes of both, and the rules on what it refines.
-use Rattle.std.specs.Prelude.{ℕ, ◌&&◌, Bool, not, List, [], ◌∷◌, ◌++◌, Option, Some, None}
+use Rattle.std.specs.Prelude.{ℕ, ◌&&◌, Bool, true, not, List, [], ◌∷◌, ◌++◌, Option, Some, None}
 use Rattle.std.specs.List.{list_all, list_any, filter_map}
 use Rattle.std.specs.Option.{option_map_or}
 use Rattle.room_ast.specs.ChartTree.{ChangeTree, OfState, OfTransition, GraphItems, no_items}
