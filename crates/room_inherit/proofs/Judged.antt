@@ -11,14 +11,16 @@ use Rattle.room_ast.specs.Trees.{ClassTree, AnActor, ActorTree, BehaviorTree}
 use Rattle.room_ast.specs.declared.chart.GraphItem.{GraphItem}
 use Rattle.room_ast.specs.model_parts.Classes.{class_name}
 use Rattle.room_inherit.specs.Filling.{there_at, base_there, none_taken}
-use Rattle.room_inherit.specs.Flat.{base_number, actor_at, base_in, derived_machine, derived_behavior, over_base, flat_actor}
-use Rattle.room_inherit.specs.Judging.{above, above_at, HasLastUses, noted, is_needed_later, chart_over, let_go, keep, known_there, with_chart_of, with_chart, judged}
-use Rattle.room_inherit.specs.Refining.{followed_by, other_items, refined, refinements}
-use Rattle.room_inherit.specs.Rules.{extended, of_actor, graph_of, chart_is_known, names_known}
+use Rattle.derived_classes.specs.Derived.{derived_machine, derived_behavior, chart_over, graph_of, chart_is_known}
+use Rattle.room_inherit.specs.Flat.{base_number, actor_at, base_in, over_base, flat_actor}
+use Rattle.room_inherit.specs.Judging.{above, above_at, HasLastUses, noted, is_needed_later, let_go, keep, known_there, with_chart_of, with_chart, judged}
+use Rattle.derived_classes.specs.Refining.{followed_by, other_items, refined, refinements}
+use Rattle.room_inherit.specs.Rules.{extended, of_actor, names_known}
 use Rattle.room_inherit.specs.Views.{charts_view}
-use Rattle.room_inherit.proofs.Graphs.{followed_none}
-use Rattle.room_inherit.proofs.Nothing.{unrefined}
-use Rattle.room_inherit.proofs.Places.{none_some, some_same, actor_is, actor_within, got_past, set_length, there_same, there_other, unfolds, Way, Taken, Next, no_actor, one_actor, begun, base_is, passes_is, IsRest, whole_rest, next_rest, rest_within, rest_first, one_fails, all_passed}
+use Rattle.derived_classes.proofs.Graphs.{followed_none}
+use Rattle.derived_classes.proofs.Nothing.{unrefined}
+use Rattle.derived_classes.proofs.Lists.{none_some, some_same, got_past}
+use Rattle.room_inherit.proofs.Places.{actor_is, actor_within, set_length, there_same, there_other, unfolds, Way, Taken, Next, no_actor, one_actor, begun, base_is, passes_is, IsRest, whole_rest, next_rest, rest_within, rest_first, one_fails, all_passed}
 
 -- ---- lists
 

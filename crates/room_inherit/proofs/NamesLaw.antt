@@ -22,9 +22,10 @@ use Rattle.room_ast.specs.declared.model.Dotted.{Dotted}
 use Rattle.room_ast.specs.model_parts.Classes.{as_actor}
 use Rattle.token_reading.specs.token_names.Names.{HasNames}
 use Rattle.token_reading.proofs.token_names.Parts.{HasNames-append as split}
-use Rattle.room_inherit.specs.Codes.{joined_if}
-use Rattle.room_inherit.specs.Flat.{joined_items, derived_machine, derived_behavior, derived, base_number, base_in, over_base, flat_with, flat_actor, flat_class, flat}
-use Rattle.room_inherit.specs.Refining.{Refining, refinements, other_items, followed_by, step_into, below, meant_for, own_or, own_change, joined_subgraph, new_body, widened, acting_also, action_for, refined_transition, with_state, refined_items, refined_item, refined_state, refined_body, refined_subgraph, refined}
+use Rattle.derived_classes.specs.Codes.{joined_if}
+use Rattle.derived_classes.specs.Derived.{joined_items, derived_machine, derived_behavior, derived}
+use Rattle.room_inherit.specs.Flat.{base_number, base_in, over_base, flat_with, flat_actor, flat_class, flat}
+use Rattle.derived_classes.specs.Refining.{Refining, refinements, other_items, followed_by, step_into, below, meant_for, own_or, own_change, joined_subgraph, new_body, widened, acting_also, action_for, refined_transition, with_state, refined_items, refined_item, refined_state, refined_body, refined_subgraph, refined}
 
 -- ---- lists of tokens
 

@@ -7,17 +7,12 @@ use Rattle.std.proofs.lemmas.Bool.{cases_eq, cases_lt, eq-eqb}
 use Rattle.number_graphs.specs.class_containment.Containment.{has_part, IsContainmentOrder}
 use Rattle.room_ast.specs.Trees.{ClassTree, ASystem, ASubsystem, AnActor, AProtocol, AData, ActorTree}
 use Rattle.room_ast.specs.model_parts.Classes.{as_actor, class_name}
+use Rattle.derived_classes.proofs.Lists.{none_some, some_same, mapped_length, got_within, got_past, none_past}
 use Rattle.room_inherit.specs.Filling.{there_at, base_there, none_taken}
 use Rattle.room_inherit.specs.Flat.{base_number, actor_at, base_in, over_base, flat_with, flat_actor}
 use Rattle.room_inherit.specs.Rules.{extended, of_actor}
 
 -- ---- classes by number
-
-pub none_some : {A B : Type 0} (x : A) → ◌≡◌ {A = Option A} None (Some x) → B
-none_some x e = cc
-
-pub some_same : {A : Type 0} (x y : A) → Some x ≡ Some y → x ≡ y
-some_same x y e = cc
 
 pub actor_is : (o : Option ClassTree) (a : ActorTree) → option_and_then as_actor o ≡ Some a → o ≡ Some (AnActor a)
 actor_is None a e = none_some a e
@@ -31,25 +26,6 @@ mapped_at : (f : ClassTree → List ℕ) (cs : List ClassTree) (i : ℕ) (c : Cl
 mapped_at f [] i c e = none_some c e
 mapped_at f (x ∷ xs) zero c e = ap f (some_same x c e)
 mapped_at f (x ∷ xs) (suc i) c e = mapped_at f xs i c e
-
-pub mapped_length : {A B : Type 0} (f : A → B) (xs : List A) → length (map f xs) ≡ length xs
-mapped_length f [] = refl
-mapped_length f (x ∷ xs) = ap suc (mapped_length f xs)
-
-pub got_within : {A : Type 0} (xs : List A) (i : ℕ) (x : A) → slice_get xs i ≡ Some x → i < length xs
-got_within [] i x e = none_some x e
-got_within (y ∷ ys) zero x e = omega arith
-got_within (y ∷ ys) (suc i) x e = let less : i < length ys = got_within ys i x e in omega (arith, less)
-
-pub got_past : {A : Type 0} (xs : List A) (i : ℕ) → length xs ≤ i → slice_get xs i ≡ None
-got_past [] i le = refl
-got_past (y ∷ ys) zero le = absurd (omega arith)
-got_past (y ∷ ys) (suc i) le = got_past ys i (omega arith)
-
-pub none_past : {A : Type 0} (xs : List A) (i : ℕ) → slice_get xs i ≡ None → length xs ≤ i
-none_past [] i e = omega arith
-none_past (y ∷ ys) zero e = none_some y (sym e)
-none_past (y ∷ ys) (suc i) e = let rest : length ys ≤ i = none_past ys i e in omega (arith, rest)
 
 -- where the class of a number is an actor class, the number is that of a class
 pub actor_within : (cs : List ClassTree) (i : ℕ) (a : ActorTree) → actor_at cs i ≡ Some a → i < length cs

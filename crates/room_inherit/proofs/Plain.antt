@@ -10,7 +10,7 @@ use Rattle.room_ast.specs.model_parts.Charts.{chart_of}
 use Rattle.room_ast.specs.model_parts.Classes.{class_name, number_in}
 use Rattle.room_inherit.specs.Flat.{actor_at, base_in, over_base, flat_with, flat_actor, flat_class, flat}
 use Rattle.room_inherit.specs.Flattening.{size_rule}
-use Rattle.room_inherit.specs.Refining.{refinements}
+use Rattle.derived_classes.specs.Refining.{refinements}
 use Rattle.room_inherit.specs.Rules as rules
 
 and_both : (a b : Bool) → (a && b) ≡ true → (a ≡ true) × (b ≡ true)

@@ -9,8 +9,10 @@ use Rattle.room_ast.specs.Trees.{ClassTree, ASystem, ASubsystem, AnActor, AProto
 use Rattle.room_ast.specs.model_parts.Classes.{as_actor, class_name}
 use Rattle.room_inherit.specs.Filling.{there_at, base_there, is_vacant, put_new, taken_over, with_actor, with_class, left_beside, FillingTree, AllTaken, OneUnknown, TooLarge, filled_on, filled, none_taken, replaced_by, replaced}
 use Rattle.room_inherit.specs.Flat.{base_number, actor_at, over_base, flat_actor, flat_class}
-use Rattle.room_inherit.specs.Rules.{extended, of_actor, refines_known, names_known}
-use Rattle.room_inherit.proofs.Places.{some_same, actor_is, actor_within, got_past, none_past, set_length, there_same, there_other, unfolds, Way, Taken, Next, no_actor, one_actor, begun, base_is, passes_is, IsRest, whole_rest, next_rest, rest_within, rest_first, one_fails, place_of, all_passed}
+use Rattle.derived_classes.specs.Derived.{refines_known}
+use Rattle.room_inherit.specs.Rules.{extended, of_actor, names_known}
+use Rattle.derived_classes.proofs.Lists.{some_same, got_past, none_past}
+use Rattle.room_inherit.proofs.Places.{actor_is, actor_within, set_length, there_same, there_other, unfolds, Way, Taken, Next, no_actor, one_actor, begun, base_is, passes_is, IsRest, whole_rest, next_rest, rest_within, rest_first, one_fails, place_of, all_passed}
 
 -- the flat class of each class, which is there from then on
 abbrev flats_way : List ClassTree → Way ActorTree

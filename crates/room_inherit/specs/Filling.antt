@@ -4,8 +4,8 @@ use Rattle.std.specs.Option.{option_and_then}
 use Rattle.room_ast.specs.Trees.{ClassTree, AnActor, ActorTree}
 use Rattle.room_ast.specs.Tokens.{actor_class}
 use Rattle.room_ast.specs.model_parts.Classes.{number_in}
-use Rattle.room_inherit.specs.Flat.{actor_at, derived}
-use Rattle.room_inherit.specs.Rules.{refines_known}
+use Rattle.derived_classes.specs.Derived.{derived, refines_known}
+use Rattle.room_inherit.specs.Flat.{actor_at}
 
 -- What stands for a number, if anything does.
 abbrev pub there_at : {T : Type 0} → List (Option T) → ℕ → Option T

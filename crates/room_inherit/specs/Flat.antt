@@ -1,45 +1,10 @@
 -- Actor classes and models without bases.
-use Rattle.std.specs.Prelude.{ℕ, zero, suc, List, ◌++◌, length, map, Option, Some, None, slice_get}
+use Rattle.std.specs.Prelude.{ℕ, zero, suc, List, length, map, Option, Some, None, slice_get}
 use Rattle.std.specs.Prelude.{option_map}
 use Rattle.std.specs.Option.{option_and_then}
-use Rattle.room_ast.specs.ChartTree.{GraphItems}
-use Rattle.room_ast.specs.Trees.{ModelTree, ClassTree, ASystem, ASubsystem, AnActor, AProtocol, AData, ActorTree, BehaviorTree}
+use Rattle.room_ast.specs.Trees.{ModelTree, ClassTree, ASystem, ASubsystem, AnActor, AProtocol, AData, ActorTree}
 use Rattle.room_ast.specs.model_parts.Classes.{as_actor, class_name, number_in}
-use Rattle.room_inherit.specs.Refining.{refinements, other_items, followed_by, refined}
-
--- ---- a class over its base, which is flat
-
--- Items, and then others, where either may be missing.
-abbrev pub joined_items : {A : Type 0} → Option (List A) → Option (List A) → Option (List A)
-joined_items None ys = ys
-joined_items (Some xs) None = Some xs
-joined_items (Some xs) (Some ys) = Some (xs ++ ys)
-
--- The graph of the base with the refinements of a class's top graph, and then the other items of that. A class without a state machine adds nothing; where neither has one there is none.
-abbrev pub derived_machine : Option GraphItems → Option GraphItems → Option GraphItems
-derived_machine None None = None
-derived_machine None (Some own) = Some (other_items own)
-derived_machine (Some base) None = Some base
-derived_machine (Some base) (Some own) = Some (followed_by (refined (refinements own) base) (other_items own))
-
-abbrev pub derived_behavior : Option BehaviorTree → Option BehaviorTree → Option BehaviorTree
-derived_behavior None None = None
-derived_behavior None (Some own) = Some (record { machine = derived_machine None own.machine })
-derived_behavior (Some base) None = Some base
-derived_behavior (Some base) (Some own) = Some (record { machine = derived_machine base.machine own.machine })
-
--- The flat class of a class whose base is this flat class.
-abbrev pub derived : ActorTree → ActorTree → ActorTree
-derived base own = record {
-  event_driven = own.event_driven;
-  name = own.name;
-  base = None;
-  interface = joined_items base.interface own.interface;
-  structure = joined_items base.structure own.structure;
-  behavior = derived_behavior base.behavior own.behavior;
-}
-
--- ---- the classes of a model
+use Rattle.derived_classes.specs.Derived.{derived}
 
 -- The number, among all classes, of the class that a class extends: the first of that name.
 abbrev pub base_number : List ClassTree → ActorTree → Option ℕ

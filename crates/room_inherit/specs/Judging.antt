@@ -6,8 +6,7 @@ use Rattle.room_ast.specs.Trees.{ClassTree, ActorTree}
 use Rattle.room_ast.specs.model_parts.Classes.{number_in}
 use Rattle.room_inherit.specs.Filling.{base_there}
 use Rattle.room_inherit.specs.Flat.{actor_at}
-use Rattle.room_inherit.specs.Refining.{followed_by, other_items, refined}
-use Rattle.room_inherit.specs.Rules.{graph_of, refinements_of, chart_is_known}
+use Rattle.derived_classes.specs.Derived.{chart_over, graph_of, refinements_of, chart_is_known}
 
 -- The number of the class that an actor class extends.
 abbrev pub above : List (List ℕ) → ActorTree → Option ℕ
@@ -30,11 +29,6 @@ noted last place (Some b) = slice_set last b place
 -- Whether what was taken of a class is still needed behind a place.
 abbrev pub is_needed_later : List ℕ → ℕ → ℕ → Bool
 is_needed_later last place k = nat_lt place (slice_index last k)
-
--- The chart of a class over that of its base.
-abbrev pub chart_over : ActorTree → Option GraphItems → GraphItems
-chart_over own None = graph_of own
-chart_over own (Some chart) = followed_by (refined (refinements_of own) chart) (other_items (graph_of own))
 
 -- The charts without that of a class, unless it is needed later.
 abbrev pub let_go : List ℕ → ℕ → Option ℕ → List (Option GraphItems) → List (Option GraphItems)

@@ -1,8 +1,3 @@
-pub mod Codes
-pub mod Keys
-pub mod Refining
-pub mod Grouping
-pub mod Searching
 pub mod Views
 pub mod Flat
 pub mod Rules

@@ -1,16 +1,15 @@
 -- The rules on classes that extend others.
 use Rattle.std.specs.Prelude.{ℕ, ◌&&◌, Bool, true, false, not, nat_le, List, [], ◌∷◌, length, map, Option, Some, None, is_some, if◌then◌else◌}
-use Rattle.std.specs.List.{list_all, list_any, filter_map}
+use Rattle.std.specs.List.{list_all}
 use Rattle.std.specs.Option.{option_map_or, option_to_list}
 use Rattle.number_graphs.specs.class_containment.Containment.{contains_itself}
 use Rattle.room_ast.specs.ChartTree.{GraphItemTree, AState, AChoice, APoint, ATransition, ARefinement, ChangeTree, OfState, OfTransition, StateTree, StateOf, BodyTree, no_body, body, SubgraphTree, no_subgraph, subgraph, GraphItems, no_items, item}
-use Rattle.room_ast.specs.Found.{same_path}
 use Rattle.room_ast.specs.Tokens.{model_tokens}
 use Rattle.room_ast.specs.Trees.{ModelTree, ClassTree, ActorTree}
 use Rattle.room_ast.specs.model_parts.Charts.{chart_of}
 use Rattle.room_ast.specs.model_parts.Classes.{as_actor}
 use Rattle.room_inherit.specs.Flat.{number_above, base_in, flat_actor, flat}
-use Rattle.room_inherit.specs.Refining.{Refining, refinements, is_named}
+use Rattle.derived_classes.specs.Derived.{refines_known, refines_once}
 
 -- Whether a class, if it is an actor class, passes.
 abbrev pub of_actor : (ActorTree → Bool) → ClassTree → Bool
@@ -83,22 +82,6 @@ refinements_stand_right m = list_all (of_actor refines_rightly) m.classes
 
 -- ---- what refinements name
 
--- The refinements of a class's top graph.
-abbrev pub refinements_of : ActorTree → List Refining
-refinements_of a = option_map_or refinements (chart_of a) []
-
--- The graph of a class; it is empty where the class has no state machine.
-abbrev pub graph_of : ActorTree → GraphItems
-graph_of a = option_map_or (λ g. g) (chart_of a) no_items
-
--- Whether each refinement of a class names what this chart has.
-abbrev pub chart_is_known : GraphItems → ActorTree → Bool
-chart_is_known chart a = list_all (λ (r : Refining). is_named chart r.path r.change) (refinements_of a)
-
--- Whether each refinement of a class names what the chart of this flat base has.
-abbrev pub refines_known : ActorTree → ActorTree → Bool
-refines_known base a = chart_is_known (graph_of base) a
-
 -- Whether each refinement of a class names what the flat chart of its base has.
 abbrev pub names_known : List ClassTree → ActorTree → Bool
 names_known classes a = option_map_or (λ b. refines_known (flat_actor classes b) a) (base_in classes a) true
@@ -106,26 +89,6 @@ names_known classes a = option_map_or (λ b. refines_known (flat_actor classes b
 -- Rule 29. A RefinedState names a path of states in the base's flat chart. A RefinedTransition names such a path, which may be empty, and then a name that exactly one transition of that graph has.
 unfoldable pub refinements_are_known : ModelTree → Bool
 refinements_are_known m = list_all (of_actor (names_known m.classes)) m.classes
-
-abbrev pub state_path : List (List ℕ) → ChangeTree → Option (List (List ℕ))
-state_path path (OfState entry exit sub) = Some path
-state_path path (OfTransition c) = None
-
-abbrev pub transition_path : List (List ℕ) → ChangeTree → Option (List (List ℕ))
-transition_path path (OfState entry exit sub) = None
-transition_path path (OfTransition c) = Some path
-
--- Whether no two of these paths are the same, as they are written.
-abbrev pub paths_differ : List (List (List ℕ)) → Bool
-paths_differ [] = true
-paths_differ (path ∷ paths) = not (list_any (same_path path) paths) && paths_differ paths
-
--- Whether no two of these refinements are of one state or of one transition.
-unfoldable pub once_of : List Refining → Bool
-once_of rs = paths_differ (filter_map (λ (r : Refining). state_path r.path r.change) rs) && paths_differ (filter_map (λ (r : Refining). transition_path r.path r.change) rs)
-
-abbrev pub refines_once : ActorTree → Bool
-refines_once a = once_of (refinements_of a)
 
 -- Rule 30. No class refines one state or one transition twice.
 unfoldable pub refinements_differ : ModelTree → Bool

@@ -6,8 +6,8 @@ ghost use Rattle.room_inherit.specs.Filling.{there_at, is_vacant, put_new, with_
 ghost use Rattle.room_inherit.specs.Views.{flat_views, filling_view};
 
 use crate::counting::{TOO_MANY, less_actor};
-use crate::derived_class::{copy_actor, derived};
-use crate::rules::{actor_at, base_of, refines_known};
+use crate::rules::{actor_at, base_of};
+use derived_classes::{copy_actor, derived, refines_known};
 use name_tables::NameIndex;
 use room_ast::{ActorClass, Class};
 use std::alloc::{AllocError, Global};

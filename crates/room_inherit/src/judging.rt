@@ -6,16 +6,12 @@ ghost use Rattle.std.specs.Option.{option_and_then};
 ghost use Rattle.room_ast.specs.ChartTree.{graph_view};
 ghost use Rattle.room_ast.specs.Trees.{actor_view, class_view};
 ghost use Rattle.room_inherit.specs.Filling.{there_at, none_taken};
-ghost use Rattle.room_inherit.specs.Judging.{HasLastUses, above_at, chart_over, is_needed_later, judged, keep, known_there, let_go, noted, with_chart};
-ghost use Rattle.room_inherit.specs.Refining.{followed_by, other_items};
-ghost use Rattle.room_inherit.specs.Rules.{graph_of};
+ghost use Rattle.derived_classes.specs.Derived.{chart_over};
+ghost use Rattle.room_inherit.specs.Judging.{HasLastUses, above_at, is_needed_later, judged, keep, known_there, let_go, noted, with_chart};
 ghost use Rattle.room_inherit.specs.Views.{charts_view};
 
-use crate::copies::copy_items;
-use crate::derived_class::add_others;
-use crate::machine_of;
-use crate::refining::refine_items;
-use crate::rules::{actor_at, base_of, chart_is_known, refinements_of};
+use crate::rules::{actor_at, base_of};
+use derived_classes::{chart_is_known, chart_over, copy_items};
 use name_tables::NameIndex;
 use room_ast::{ActorClass, Class, GraphItem};
 use std::alloc::{AllocError, Global};
@@ -151,46 +147,6 @@ fn base_chart(
         Some(chart) => Ok(Some(copy_items(alloc, chart)?)),
         None => Ok(None),
     }
-}
-
-// ---- the chart of a class
-
-/// A copy of the graph of a class; it is empty where the class has no state machine.
-fn own_chart(alloc: Global, own: &ActorClass) -> Result<Vec<GraphItem>, AllocError>
-    ensures { IfOk result (λ v. graph_view v.items ≡ graph_of (actor_view own.now)) }
-{
-    match machine_of(own) {
-        Some(machine) => copy_items(alloc, &machine.items),
-        None => Ok(Vec::new(alloc)),
-    }
-}
-
-/// Adds copies of the items of a class's graph that are no refinements.
-#[tactic(auto, using(crate::proofs::Graphs::followed_none))]
-fn add_own(alloc: Global, chart: &mut Vec<GraphItem>, own: &ActorClass) -> Result<(), AllocError>
-    ensures { OnOk result (graph_view chart.new.items ≡ followed_by (graph_view chart.old.items) (other_items (graph_of (actor_view own.now)))) }
-{
-    match machine_of(own) {
-        Some(machine) => add_others(alloc, chart, &machine.items),
-        None => Ok(()),
-    }
-}
-
-/// The chart of a class over that of its base, which it takes for its own.
-fn chart_over(
-    alloc: Global,
-    own: &ActorClass,
-    base: Option<Vec<GraphItem>>,
-) -> Result<Vec<GraphItem>, AllocError>
-    ensures { IfOk result (λ v. graph_view v.items ≡ chart_over (actor_view own.now) (option_map (λ b. graph_view b.items) base)) }
-{
-    let Some(mut chart) = base else {
-        return own_chart(alloc, own);
-    };
-    let changes = refinements_of(alloc, own)?;
-    refine_items(alloc, &mut chart, changes.as_slice())?;
-    add_own(alloc, &mut chart, own)?;
-    Ok(chart)
 }
 
 // ---- the judgement

@@ -9,20 +9,15 @@
 ghost use Rattle.room_inherit.specs.Names.{FlatKeepsNames};
 
 mod class_order;
-mod copies;
 mod counting;
-mod derived_class;
 mod fault;
 mod filling;
 mod flattening;
 mod judging;
-mod machine;
-mod refining;
 mod rules;
 
 pub use fault::InheritFault;
 pub use flattening::flatten;
-pub(crate) use machine::machine_of;
 
 /// The names in a model without bases are names of the language where those of the model are.
 #[tactic(auto, using(crate::proofs::NamesLaw::names_stay))]

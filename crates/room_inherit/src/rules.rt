@@ -1,14 +1,9 @@
 //! The rules on classes that extend others.
 
 mod bases;
-mod keys;
-mod named;
-mod names;
 mod once;
 mod plain;
-mod search;
 
 pub(crate) use bases::{actor_at, base_of, bases_are_known, extended_classes, names_of_classes};
-pub(crate) use named::{chart_is_known, refinements_of, refines_known};
 pub(crate) use once::refinements_differ;
 pub(crate) use plain::{extends_nothing, refinements_stand_right};

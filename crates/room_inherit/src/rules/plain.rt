@@ -6,7 +6,7 @@ ghost use Rattle.room_ast.specs.Trees.{actor_view, class_view, model_view};
 ghost use Rattle.room_ast.specs.model_parts.Charts.{chart_of};
 ghost use Rattle.room_inherit.specs.Rules.{of_actor, item_is_plain, state_is_plain, is_plain, inside_is_plain, is_plain_inside, refines_rightly, refinements_stand_right, class_is_plain, extends_nothing};
 
-use crate::machine_of;
+use derived_classes::machine_of;
 use room_ast::{ActorClass, Change, Class, GraphItem, Model, State};
 
 /// Whether an item of a graph is no refinement, and none stands inside it. The calls nest as deep as

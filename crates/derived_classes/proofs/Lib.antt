@@ -1,0 +1,9 @@
+pub mod Lists
+pub mod Graphs
+pub mod Nothing
+pub mod Seen
+pub mod Mixed
+pub mod Groups
+pub mod Strings
+pub mod Found
+pub mod KeyLaws

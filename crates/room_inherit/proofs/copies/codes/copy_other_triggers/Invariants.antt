@@ -1,5 +1,0 @@
-use Rattle.std.proofs.Common.{◌≡◌, take}
-use Rattle.room_inherit.proofs.copies.codes.copy_other_triggers.Given as goal
-
-abbrev pub invariant-loop-trigger : goal.invariant-loop-trigger
-invariant-loop-trigger l = l.copies.items ≡ take l.trigger-index l.trigger-items

@@ -1,6 +1,0 @@
-use Rattle.std.proofs.Common.{◌∙◌}
-use Rattle.room_inherit.proofs.KeyLaws.{code_done}
-use Rattle.room_inherit.proofs.rules.keys.put_name.Goals as goal
-
-pub returns : goal.returns
-returns c = c.in_ok-push-3.ensures.items ∙ code_done c.loop-byte.key.items _ c.args.name.now c.loop-byte.byte-index c.loop-byte-test.false c.loop-byte.invariant

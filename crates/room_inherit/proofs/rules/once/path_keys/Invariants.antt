@@ -1,7 +1,0 @@
-use Rattle.std.proofs.Common.{◌≡◌, map, take}
-use Rattle.room_inherit.specs.Keys.{codes}
-use Rattle.room_inherit.specs.Views.{path_views}
-use Rattle.room_inherit.proofs.rules.once.path_keys.Given as goal
-
-abbrev pub invariant-loop-path : goal.invariant-loop-path
-invariant-loop-path l = l.keys.items ≡ map codes (path_views (take l.path-index l.paths))

@@ -1,8 +1,0 @@
-use Rattle.std.proofs.Common.{◌≡◌, drop}
-use Rattle.room_inherit.specs.Searching.{all_passed}
-use Rattle.room_inherit.specs.Views.{refining_views, search_views, transition_names}
-use Rattle.room_inherit.proofs.rules.search.pass_all.Given as goal
-
-abbrev pub invariant-loop-one : goal.invariant-loop-one
-invariant-loop-one l =
-    all_passed l.states (transition_names l.transitions) (refining_views (drop l.one-index l.sought)) (search_views l.searches.items) ≡ all_passed l.states (transition_names l.transitions) (refining_views l.sought) (search_views l.initial.searches.items)
