@@ -139,7 +139,8 @@ fn put_text(page: &mut Page, text: &CodeText) -> Result<(), AllocError> {
     Ok(())
 }
 
-fn put_code(page: &mut Page, code: &Code) -> Result<(), AllocError> {
+/// A code, as far as it is shown.
+pub(crate) fn put_code(page: &mut Page, code: &Code) -> Result<(), AllocError> {
     page.put(b"\"")?;
     match code {
         Code::Single(text) => put_text(page, text)?,

@@ -1,11 +1,11 @@
 //! Why a text is refused, and where.
 use crate::judge::FaultOf;
 use fault_places::{
-    Item, Meaning, Unread, chart_meaning, could_stand, find_causes, named_by, rule_meaning,
-    wiring_meaning,
+    Item, Meaning, Unread, chart_meaning, could_stand, find_causes, head_of, named_by,
+    rule_meaning, wiring_meaning,
 };
 use journal_views::view_pages::{Named, Page};
-use room_lexer::{LexFault, Mark, Token, TokenKind, lex};
+use room_lexer::{LexFault, Token, lex};
 use room_outside::MAX_TEXT;
 use room_run::{ModelFault, read_wiring};
 use room_wiring::Wiring;
@@ -103,22 +103,6 @@ fn tell_syntax(
             }
         }
     }
-}
-
-/// The bytes of the head of a part: up to its first brace, or whole.
-fn head_of(tokens: &[Token], item: Item) -> (usize, usize) {
-    let inside = tokens.get(item.first..item.end).unwrap_or(&[]);
-    let [first, rest @ ..] = inside else {
-        return (0, 0);
-    };
-    let mut end = first.end;
-    for token in rest {
-        if token.kind == TokenKind::Mark(Mark::OpenBrace) {
-            break;
-        }
-        end = token.end;
-    }
-    (first.start, end)
 }
 
 fn tell_items(

@@ -1,0 +1,25 @@
+//! What the author of an accepted model hardly meant (docs/LINT.md): sends that get to nobody, messages that no state
+//! takes, states that are never entered, and the like.
+//!
+//! The text of the model tells what its actor classes declare and what their actions do (`classes`, `deeds`, `chart`),
+//! each at its place; the wiring tells which places of ports are joined. The rules (`rules`) put both together.
+//! All calls are safe and end; that they find what they should is shown by cases.
+#![tactic(auto)]
+
+mod by_port;
+mod chart;
+mod classes;
+mod code;
+mod conditions;
+mod deeds;
+mod finding;
+mod injected;
+mod listing;
+mod model;
+mod page;
+mod places;
+mod rules;
+mod source;
+mod ways;
+
+pub use page::tell_findings;
