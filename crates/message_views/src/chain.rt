@@ -59,8 +59,6 @@ fn is_transition_point(items: &[GraphItem], name: &[u8]) -> bool {
 #[derive(Clone, Copy)]
 enum Begins<'a> {
     Initially,
-    /// At a choice point, by its name.
-    Choice(&'a [u8]),
     /// At a point of the graph, by its name.
     Point(&'a [u8]),
     /// At a point of a state of the graph, both by name.
@@ -70,9 +68,6 @@ enum Begins<'a> {
 fn begins_at(source: &Source, begins: Begins<'_>) -> bool {
     match (source, begins) {
         (Source::Initial, Begins::Initially) => true,
-        (Source::At(Target::Bare(name) | Target::Choice(name)), Begins::Choice(choice)) => {
-            name.is(choice)
-        }
         (Source::At(Target::My(name)), Begins::Point(point)) => name.is(point),
         (Source::At(Target::Of { point, state }), Begins::PointOf(name, owner)) => {
             point.is(name) && state.is(owner)
@@ -100,13 +95,22 @@ fn condition_of(transition: &Transition) -> Option<&Code> {
     }
 }
 
+/// Whether a transition of a graph is a branch of a choice point. A bare name means a state where there is one.
+fn is_branch(items: &[GraphItem], source: &Source, choice: &[u8]) -> bool {
+    match source {
+        Source::At(Target::Choice(name)) => name.is(choice),
+        Source::At(Target::Bare(name)) => name.is(choice) && state_in(items, choice).is_none(),
+        _ => false,
+    }
+}
+
 /// The branch of a choice point that is taken where so many conditions don't hold.
 fn branch_of<'a>(items: &'a [GraphItem], choice: &[u8], before: usize) -> Option<&'a Transition> {
     let mut left = before;
     let mut default = None;
     for item in items {
         if let GraphItem::Transition(transition) = item {
-            if begins_at(&transition.source, Begins::Choice(choice)) {
+            if is_branch(items, &transition.source, choice) {
                 match condition_of(transition) {
                     Some(_) if left == 0 => return Some(transition),
                     Some(_) => left -= 1,
