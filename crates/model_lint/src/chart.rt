@@ -25,6 +25,14 @@ pub(crate) struct Arrow {
     pub item: Item,
 }
 
+/// A point or a choice point: the number of the state whose graph has it, none in the top graph, and its part of the
+/// text.
+#[derive(Clone, Copy, Drop)]
+pub(crate) struct Point {
+    pub owner: Option<usize>,
+    pub item: Item,
+}
+
 /// The items of a graph, or some of them, as they stand in a part of the text.
 #[derive(Clone, Copy, Drop)]
 struct Graph {
@@ -37,8 +45,9 @@ struct Graph {
 pub(crate) struct Chart {
     states: Vec<State>,
     by_key: IndexMap<Vec<u8>, usize>,
+    points: Vec<Point>,
     /// The keys of the transition points.
-    points: IndexSet<Vec<u8>>,
+    doors: IndexSet<Vec<u8>>,
     arrows: Vec<Arrow>,
     /// The entry, exit and action codes.
     codes: Vec<Item>,
@@ -60,7 +69,7 @@ fn is_mark(token: &Token, mark: Mark) -> bool {
 }
 
 /// The message and the port of an event that begins behind a token: `<` or `|`.
-fn event_in(tokens: &[Token]) -> Option<(&Token, &Token)> {
+pub(crate) fn event_in(tokens: &[Token]) -> Option<(&Token, &Token)> {
     match tokens {
         [before, message, colon, port, ..]
             if is_mark(colon, Mark::Colon)
@@ -77,7 +86,8 @@ impl Chart {
         Chart {
             states: Vec::new(alloc),
             by_key: IndexMap::new(alloc),
-            points: IndexSet::new(alloc),
+            points: Vec::new(alloc),
+            doors: IndexSet::new(alloc),
             arrows: Vec::new(alloc),
             codes: Vec::new(alloc),
             taken: ByPort::new(alloc),
@@ -86,6 +96,11 @@ impl Chart {
 
     pub(crate) fn states(&self) -> &[State] {
         self.states.as_slice()
+    }
+
+    /// The points and choice points.
+    pub(crate) fn points(&self) -> &[Point] {
+        self.points.as_slice()
     }
 
     pub(crate) fn arrows(&self) -> &[Arrow] {
@@ -117,7 +132,7 @@ impl Chart {
     }
 
     pub(crate) fn has_transition_point(&self, key: &[u8]) -> bool {
-        self.points.contains(key)
+        self.doors.contains(key)
     }
 
     /// Adds the codes and the graph in the body of a state, or of what refines it.
@@ -232,8 +247,11 @@ impl Chart {
             Some(Word::TransitionPoint) => {
                 let name = source.name(item).unwrap_or(&[]);
                 let key = joined(alloc, &[self.key_of(owner), b":", name])?;
-                self.points.insert(key)?;
-                Ok(())
+                self.doors.insert(key)?;
+                Ok(self.points.push(Point { owner, item })?)
+            }
+            Some(Word::EntryPoint | Word::ExitPoint | Word::ChoicePoint) => {
+                Ok(self.points.push(Point { owner, item })?)
             }
             Some(Word::Transition) => {
                 self.arrows.push(Arrow { owner, item })?;

@@ -8,8 +8,10 @@
 
 mod by_port;
 mod chart;
+mod chart_causes;
 mod classes;
 mod code;
+mod code_causes;
 mod conditions;
 mod deeds;
 mod finding;
@@ -22,4 +24,6 @@ mod rules;
 mod source;
 mod ways;
 
+pub use chart_causes::{ChartFault, chart_cause};
+pub use code_causes::Cause;
 pub use page::tell_findings;

@@ -21,9 +21,9 @@ pub(crate) struct Ways {
 
 /// The tokens between `:` and `->`, and those between `->` and the body, of a transition.
 #[derive(Clone, Copy)]
-struct Ends<'a> {
-    source: &'a [Token],
-    target: &'a [Token],
+pub(crate) struct Ends<'a> {
+    pub source: &'a [Token],
+    pub target: &'a [Token],
 }
 
 fn position_of(tokens: &[Token], mark: Mark) -> Option<usize> {
@@ -32,7 +32,7 @@ fn position_of(tokens: &[Token], mark: Mark) -> Option<usize> {
         .position(|token| token.kind == TokenKind::Mark(mark))
 }
 
-fn ends_of<'a>(source: Source<'a>, arrow: Arrow) -> Option<Ends<'a>> {
+pub(crate) fn ends_of<'a>(source: Source<'a>, arrow: Arrow) -> Option<Ends<'a>> {
     let tokens = source.tokens_of(arrow.item);
     let head = match position_of(tokens, Mark::OpenBrace) {
         Some(brace) => tokens.get(..brace)?,
@@ -46,7 +46,7 @@ fn ends_of<'a>(source: Source<'a>, arrow: Arrow) -> Option<Ends<'a>> {
     })
 }
 
-fn is_word(token: &Token, word: Word) -> bool {
+pub(crate) fn is_word(token: &Token, word: Word) -> bool {
     token.kind == TokenKind::Ident(Some(word))
 }
 
