@@ -10,6 +10,7 @@ use room_lexer::{Token, Word};
 use std::alloc::{AllocError, Global};
 
 /// A chart that is looked at for causes.
+#[derive(Clone, Copy)]
 struct Suspect<'a> {
     alloc: Global,
     source: Source<'a>,
@@ -154,7 +155,7 @@ impl<'a> Suspect<'a> {
             [] => &[],
         };
         let is_choice = match ends.source {
-            [_only] => self.state(arrow.owner, name).is_none(),
+            [only] => !is_word(only, Word::Initial) && self.state(arrow.owner, name).is_none(),
             [first, _name] => is_word(first, Word::Cp),
             _ => false,
         };
@@ -171,8 +172,7 @@ impl<'a> Suspect<'a> {
                 "it has triggers, but begins at no state and no transition point",
             ));
         }
-        let is_initial = matches!(ends.source, [only] if is_word(only, Word::Initial));
-        if (is_initial || !is_choice) && self.has_part(arrow.item, Word::Cond)? {
+        if !is_choice && self.has_part(arrow.item, Word::Cond)? {
             return Ok(Some(
                 "it has a `cond`, but begins at no choice point; a condition of a trigger is its `guard`",
             ));

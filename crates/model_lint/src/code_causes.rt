@@ -45,6 +45,7 @@ fn meaning_of(fault: ActionFault, is_condition: bool) -> &'static str {
 }
 
 /// Asks whether codes are those of a class.
+#[derive(Clone, Copy)]
 struct Judge<'a> {
     alloc: Global,
     scope: &'a Scope,

@@ -161,12 +161,11 @@ impl<'a> LintedModel<'a> {
         }
         let place = self.places.get(&slot.class).copied().unwrap_or(0);
         if let Some(class) = self.classes.as_mut_slice().get_mut(place) {
-            let slots = if is_imported {
-                &mut class.imported
+            if is_imported {
+                class.imported.push(id)?;
             } else {
-                &mut class.slots
-            };
-            slots.push(id)?;
+                class.slots.push(id)?;
+            }
         }
         Ok(())
     }

@@ -51,6 +51,7 @@ pub(crate) fn is_word(token: &Token, word: Word) -> bool {
 }
 
 /// What is on the way where a transition begins or leads to.
+#[derive(Clone, Copy)]
 struct Walk<'a> {
     alloc: Global,
     source: Source<'a>,

@@ -60,15 +60,12 @@ fn row_at(wiring: &Wiring, number: u32, size: u32) -> Option<Row> {
         return None;
     }
     let mut count = 1u32;
-    while count < wiring.slot_count()
-        && is_index(
-            wiring,
-            number.saturating_add(size.saturating_mul(count)),
-            number,
-            count,
-        )
-    {
-        count += 1;
+    for index in 1..wiring.slot_count() {
+        let slot = number.saturating_add(size.saturating_mul(index));
+        if !is_index(wiring, slot, number, index) {
+            break;
+        }
+        count = index.saturating_add(1);
     }
     if count == 1 {
         return None;
@@ -89,6 +86,11 @@ impl Row {
     }
 }
 
+/// Whether a port of the slot at a distance from that of an index has a joined place.
+fn is_joined(model: &LintedModel<'_>, row: Row, index: u32, distance: u32, port: usize) -> bool {
+    has_joined(model.wiring, slot_at(row.slot(index, distance)), port)
+}
+
 /// Adds the indexes at which a port is joined to nothing, if it is joined at another.
 fn add_port(
     model: &LintedModel<'_>,
@@ -98,12 +100,11 @@ fn add_port(
     name: &[u8],
     places: &mut Listing,
 ) -> Result<(), AllocError> {
-    let is_joined = |index: u32| has_joined(model.wiring, slot_at(row.slot(index, distance)), port);
-    if !(0..row.count).any(|index| is_joined(index)) {
+    if !(0..row.count).any(|index| is_joined(model, row, index, distance, port)) {
         return Ok(());
     }
     for index in 0..row.count {
-        if !is_joined(index) {
+        if !is_joined(model, row, index, distance, port) {
             let slot = slot_at(row.slot(index, distance));
             places.add(&[model.path(slot), b".", name])?;
         }
@@ -163,8 +164,9 @@ pub(crate) fn add_unjoined_indexes(
     let sizes = sizes_of(alloc, model.wiring)?;
     let mut known = IndexMap::new(alloc);
     let mut items = Vec::new(alloc);
-    for (number, size) in sizes.as_slice().iter().enumerate() {
-        if let Some(row) = row_at(model.wiring, number as u32, *size) {
+    for number in 0..model.wiring.slot_count() {
+        let size = sizes.as_slice().get(number as usize).copied().unwrap_or(1);
+        if let Some(row) = row_at(model.wiring, number, size) {
             add_places(alloc, model, row, &mut known, &mut items)?;
         }
     }

@@ -11,10 +11,10 @@ use std::alloc::{AllocError, Global};
 
 /// A port of a class.
 #[derive(Clone, Copy)]
-struct At<'a> {
-    class: &'a Class<'a>,
+struct At<'x, 'a> {
+    class: &'x Class<'a>,
     number: usize,
-    port: &'a PortNames,
+    port: &'x PortNames,
 }
 
 /// What comes at a port and is taken by no state, while the places of the port are looked at.
@@ -39,7 +39,7 @@ impl Untaken {
         &mut self,
         alloc: Global,
         model: &LintedModel<'_>,
-        at: At<'_>,
+        at: At<'_, '_>,
         partner: PortOf,
     ) -> Result<(), AllocError> {
         let (_number, is_new) = self.partners.insert_full(partner)?;
@@ -55,7 +55,7 @@ impl Untaken {
     }
 
     /// Adds a message that comes, if no state takes it.
-    fn add(&mut self, alloc: Global, at: At<'_>, message: &[u8]) -> Result<(), AllocError> {
+    fn add(&mut self, alloc: Global, at: At<'_, '_>, message: &[u8]) -> Result<(), AllocError> {
         if !at.class.takes(at.port.name.as_bytes(), message) {
             self.messages.insert(Vec::from_slice(alloc, message)?)?;
         }
@@ -67,7 +67,7 @@ impl Untaken {
         &mut self,
         alloc: Global,
         model: &LintedModel<'_>,
-        at: At<'_>,
+        at: At<'_, '_>,
         slot: SlotId,
     ) -> Result<(), AllocError> {
         for place in 0..place_count(model.wiring, slot, at.number) {
@@ -90,7 +90,7 @@ impl Untaken {
         &mut self,
         alloc: Global,
         model: &LintedModel<'_>,
-        at: At<'_>,
+        at: At<'_, '_>,
     ) -> Result<(), AllocError> {
         let name = at.port.name.as_bytes();
         let is_open = self.partners.is_empty()
@@ -108,7 +108,7 @@ impl Untaken {
     }
 
     /// What is told of a port.
-    fn told(&self, alloc: Global, at: At<'_>) -> Result<Vec<u8>, AllocError> {
+    fn told(&self, alloc: Global, at: At<'_, '_>) -> Result<Vec<u8>, AllocError> {
         let mut list = Listing::new(alloc);
         for message in self.messages.as_slice() {
             list.add(&[message.as_slice()])?;
@@ -126,7 +126,7 @@ impl Untaken {
 fn untaken_at(
     alloc: Global,
     model: &LintedModel<'_>,
-    at: At<'_>,
+    at: At<'_, '_>,
 ) -> Result<Untaken, AllocError> {
     let mut untaken = Untaken {
         partners: IndexSet::new(alloc),
@@ -143,10 +143,10 @@ fn untaken_at(
 }
 
 /// Adds a finding for each port of a class at which messages come that no state takes.
-pub(crate) fn add_untaken_messages<'a>(
+pub(crate) fn add_untaken_messages(
     alloc: Global,
     model: &LintedModel<'_>,
-    class: &'a Class<'a>,
+    class: &Class<'_>,
     findings: &mut Vec<Finding>,
 ) -> Result<(), AllocError> {
     for (number, port) in class.names.ports.as_slice().iter().enumerate() {
