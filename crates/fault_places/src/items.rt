@@ -119,11 +119,7 @@ pub(crate) fn body_of(tokens: &[Token], item: Item) -> Option<Item> {
 }
 
 /// The parts inside a part.
-pub fn parts_of(
-    alloc: Global,
-    tokens: &[Token],
-    item: Item,
-) -> Result<Vec<Item>, AllocError> {
+pub fn parts_of(alloc: Global, tokens: &[Token], item: Item) -> Result<Vec<Item>, AllocError> {
     match body_of(tokens, item) {
         Some(body) => items_in(alloc, tokens, body),
         None => Ok(Vec::new(alloc)),

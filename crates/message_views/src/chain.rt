@@ -113,7 +113,7 @@ fn branch_of<'a>(items: &'a [GraphItem], choice: &[u8], before: usize) -> Option
             if is_branch(items, &transition.source, choice) {
                 match condition_of(transition) {
                     Some(_) if left == 0 => return Some(transition),
-                    Some(_) => left -= 1,
+                    Some(_) => left = left.saturating_sub(1),
                     None => default = Some(transition),
                 }
             }

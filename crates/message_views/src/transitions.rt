@@ -145,9 +145,11 @@ pub(crate) fn put_code(page: &mut Page, code: &Code) -> Result<(), AllocError> {
     match code {
         Code::Single(text) => put_text(page, text)?,
         Code::Texts(texts) => {
+            let mut before: &[u8] = b"";
             for text in texts.as_slice() {
+                page.put(before)?;
                 put_text(page, text)?;
-                page.put(b" ")?;
+                before = b" ";
             }
         }
     }

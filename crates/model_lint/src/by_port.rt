@@ -44,9 +44,7 @@ impl ByPort {
 
     /// The messages of a port.
     fn messages_of(&self, port: &[u8]) -> Option<&IndexSet<Vec<u8>>> {
-        self.messages
-            .as_slice()
-            .get(self.ports.get_index_of(port)?)
+        self.messages.as_slice().get(self.ports.get_index_of(port)?)
     }
 
     /// The messages of a port, in the order in which they were added.

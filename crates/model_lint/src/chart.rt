@@ -73,8 +73,7 @@ pub(crate) fn event_in(tokens: &[Token]) -> Option<(&Token, &Token)> {
     match tokens {
         [before, message, colon, port, ..]
             if is_mark(colon, Mark::Colon)
-                && (is_mark(before, Mark::Less) || is_mark(before, Mark::Bar)) =>
-        {
+                && (is_mark(before, Mark::Less) || is_mark(before, Mark::Bar)) => {
             Some((message, port))
         }
         _ => None,
@@ -127,6 +126,20 @@ impl Chart {
         }
     }
 
+    /// The key of what a graph has, behind a mark.
+    fn key_in(
+        &self,
+        alloc: Global,
+        owner: Option<usize>,
+        mark: u8,
+        name: &[u8],
+    ) -> Result<Vec<u8>, AllocError> {
+        let mut key = Vec::from_slice(alloc, self.key_of(owner))?;
+        key.push(mark)?;
+        key.extend_from_slice(name)?;
+        Ok(key)
+    }
+
     pub(crate) fn has_state(&self, key: &[u8]) -> bool {
         self.by_key.contains_key(key)
     }
@@ -165,9 +178,10 @@ impl Chart {
         item: Item,
     ) -> Result<usize, AllocError> {
         let name = source.name(item).unwrap_or(&[]);
-        let key = joined(alloc, &[self.key_of(owner), b".", name])?;
+        let key = self.key_in(alloc, owner, b'.', name)?;
         let number = self.states.len();
-        self.by_key.insert(joined(alloc, &[key.as_slice()])?, number)?;
+        self.by_key
+            .insert(Vec::from_slice(alloc, key.as_slice())?, number)?;
         self.states.push(State { key, owner, item })?;
         Ok(number)
     }
@@ -246,7 +260,7 @@ impl Chart {
             },
             Some(Word::TransitionPoint) => {
                 let name = source.name(item).unwrap_or(&[]);
-                let key = joined(alloc, &[self.key_of(owner), b":", name])?;
+                let key = self.key_in(alloc, owner, b':', name)?;
                 self.doors.insert(key)?;
                 Ok(self.points.push(Point { owner, item })?)
             }

@@ -43,10 +43,8 @@ impl<'a> Suspect<'a> {
 
     /// The number of a state of a graph with a name.
     fn state(&self, owner: Option<usize>, name: &[u8]) -> Option<usize> {
-        self.chart
-            .states()
-            .iter()
-            .position(|state| state.owner == owner && self.source.name(state.item) == Some(name))
+        self.chart.states().iter().position(|state| state.owner == owner
+            && self.source.name(state.item) == Some(name))
     }
 
     /// How many states and points of a graph have a name.
@@ -71,9 +69,11 @@ impl<'a> Suspect<'a> {
         state: &Token,
     ) -> bool {
         match self.state(owner, self.source.bytes(state)) {
-            Some(number) => words
-                .iter()
-                .any(|word| self.has_point(Some(number), *word, self.source.bytes(name))),
+            Some(number) => words.iter().any(|word| self.has_point(
+                Some(number),
+                *word,
+                self.source.bytes(name),
+            )),
             None => false,
         }
     }
@@ -111,7 +111,12 @@ impl<'a> Suspect<'a> {
             }
             [_my, name] => self.has_point(owner, Word::ExitPoint, self.source.bytes(name)),
             [name, _of, state] => {
-                self.has_point_of(owner, &[Word::EntryPoint, Word::TransitionPoint], name, state)
+                self.has_point_of(
+                    owner,
+                    &[Word::EntryPoint, Word::TransitionPoint],
+                    name,
+                    state,
+                )
             }
             _ => false,
         }
@@ -120,10 +125,12 @@ impl<'a> Suspect<'a> {
     /// Whether a transition has a part that begins with a word.
     fn has_part(&self, item: Item, word: Word) -> Result<bool, AllocError> {
         let parts = self.source.parts(self.alloc, item)?;
-        Ok(parts
-            .as_slice()
-            .iter()
-            .any(|part| self.source.word(*part) == Some(word)))
+        Ok(
+            parts
+                .as_slice()
+                .iter()
+                .any(|part| self.source.word(*part) == Some(word)),
+        )
     }
 
     /// Which cause fits at a transition.
@@ -163,23 +170,17 @@ impl<'a> Suspect<'a> {
         let is_triggered = is_triggered(ends, is_choice, is_door);
         let has_triggers = self.has_part(arrow.item, Word::Triggers)?;
         if is_triggered && !has_triggers {
-            return Ok(Some(
-                "it begins at a state or a transition point, and has no triggers",
-            ));
+            return Ok(Some("it begins at a state or a transition point, and has no triggers"));
         }
         if !is_triggered && has_triggers {
-            return Ok(Some(
-                "it has triggers, but begins at no state and no transition point",
-            ));
+            return Ok(Some("it has triggers, but begins at no state and no transition point"));
         }
         if !is_choice && self.has_part(arrow.item, Word::Cond)? {
             return Ok(Some(
                 "it has a `cond`, but begins at no choice point; a condition of a trigger is its `guard`",
             ));
         }
-        Ok(Some(
-            "another transition goes on from the same entry or exit point",
-        ))
+        Ok(Some("another transition goes on from the same entry or exit point"))
     }
 
     /// Which cause fits at a state or a point of a graph.

@@ -3,9 +3,7 @@ use crate::chart::event_in;
 use crate::classes::ClassText;
 use crate::code::Code;
 use crate::source::Source;
-use action_lang::{
-    ActionFault, ServiceNames, check_action, check_cond, parse_action, parse_cond,
-};
+use action_lang::{ActionFault, ServiceNames, check_action, check_cond, parse_action, parse_cond};
 use fault_places::Item;
 use room_ast::Scope;
 use room_kinds::PortKind;
@@ -99,12 +97,15 @@ fn depth_behind(depth: usize, token: &Token) -> usize {
     }
 }
 
+/// The word behind which a statement goes on that a block would end.
+const GOES_ON: &[u8] = b"else";
+
 /// Whether a statement ends with a token in front of these, which lies outside of all braces.
 fn ends_statement(code: &Code, token: &Token, behind: &[Token]) -> bool {
     match token.kind {
         TokenKind::Mark(Mark::Semicolon) => true,
         TokenKind::Mark(Mark::CloseBrace) => match behind {
-            [next, ..] => code.bytes(next) != b"else",
+            [next, ..] => code.bytes(next) != GOES_ON,
             [] => true,
         },
         _ => false,
@@ -308,11 +309,7 @@ fn fault_of_event(scope: &Scope, message: &[u8], port: &[u8]) -> Option<&'static
 }
 
 /// What is wrong with the triggers of a class that meet a part of the text, and where.
-pub(crate) fn trigger_cause(
-    source: Source<'_>,
-    scope: &Scope,
-    item: Item,
-) -> Option<Cause> {
+pub(crate) fn trigger_cause(source: Source<'_>, scope: &Scope, item: Item) -> Option<Cause> {
     let tokens = source.tokens_of(item);
     for at in 0..tokens.len() {
         if let Some((message, port)) = event_in(tokens.get(at..).unwrap_or(&[])) {

@@ -69,8 +69,7 @@ fn is_name(token: &Token) -> bool {
 fn message_in(tokens: &[Token]) -> Option<&Token> {
     match tokens {
         [dot, name, open, ..]
-            if is_mark(dot, Mark::Dot) && is_name(name) && is_mark(open, Mark::OpenParen) =>
-        {
+            if is_mark(dot, Mark::Dot) && is_name(name) && is_mark(open, Mark::OpenParen) => {
             Some(name)
         }
         _ => None,

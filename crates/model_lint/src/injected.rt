@@ -31,7 +31,11 @@ fn field_at(line: &[u8], number: usize) -> (usize, usize) {
 }
 
 /// The signal that a line names.
-fn signal_of<'a>(wiring: &'a Wiring, names: &Names<'_>, wanted: &Wanted<'_>) -> Option<&'a SignalNames> {
+fn signal_of<'a>(
+    wiring: &'a Wiring,
+    names: &Names<'_>,
+    wanted: &Wanted<'_>,
+) -> Option<&'a SignalNames> {
     let slot = names.slot(wanted.target.path);
     let number = names.port(slot, wanted.target.port);
     let signal = usize::from(names.signal(slot, number, wanted.signal));

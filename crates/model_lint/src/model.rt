@@ -56,10 +56,7 @@ impl<'a> Class<'a> {
 }
 
 /// The numbers of ports, by name.
-fn numbers_of(
-    alloc: Global,
-    names: &ClassNames,
-) -> Result<IndexMap<&[u8], usize>, AllocError> {
+fn numbers_of(alloc: Global, names: &ClassNames) -> Result<IndexMap<&[u8], usize>, AllocError> {
     let mut ports = IndexMap::new(alloc);
     for (number, port) in names.ports.as_slice().iter().enumerate() {
         ports.insert(port.name.as_bytes(), number)?;

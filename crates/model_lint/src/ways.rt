@@ -110,10 +110,7 @@ impl<'a> Walk<'a> {
             [name, _of, state] => {
                 let point = self.point(graph, name, state)?;
                 if self.chart.has_transition_point(point.as_slice()) {
-                    joined(
-                        self.alloc,
-                        &[graph, b".", self.source.bytes(state), b"!"],
-                    )?
+                    joined(self.alloc, &[graph, b".", self.source.bytes(state), b"!"])?
                 } else {
                     point
                 }
@@ -156,7 +153,11 @@ impl Ways {
         self.add(alloc, by_name, joined(alloc, &[key])?)?;
         let by_name = joined(alloc, &[key, b"!"])?;
         self.add(alloc, by_name, joined(alloc, &[key, b">"])?)?;
-        self.add(alloc, joined(alloc, &[key])?, joined(alloc, &[graph, b"*"])?)
+        self.add(
+            alloc,
+            joined(alloc, &[key])?,
+            joined(alloc, &[graph, b"*"])?,
+        )
     }
 
     /// Adds that a state is entered where a way comes to a point of its border.
@@ -210,11 +211,7 @@ impl Ways {
     }
 
     /// The ways through a chart.
-    pub(crate) fn of(
-        alloc: Global,
-        source: Source<'_>,
-        chart: &Chart,
-    ) -> Result<Ways, AllocError> {
+    pub(crate) fn of(alloc: Global, source: Source<'_>, chart: &Chart) -> Result<Ways, AllocError> {
         let mut ways = Ways {
             nodes: IndexSet::new(alloc),
             edges: Vec::new(alloc),

@@ -1,18 +1,18 @@
 //! Why a text is refused, and where.
 use crate::judge::FaultOf;
+use crate::messages::tree_of;
 use fault_places::{
     Item, Meaning, Unread, chart_meaning, could_stand, find_causes, head_of, named_by,
     rule_meaning, wiring_meaning,
 };
-use crate::messages::tree_of;
 use journal_views::view_pages::{Named, Page};
 use model_lint::{ChartFault, chart_cause};
 use room_lexer::{LexFault, Token, lex};
 use room_outside::MAX_TEXT;
 use room_run::{ModelFault, read_wiring};
 use room_wiring::Wiring;
-use structure_check::check;
 use std::alloc::{AllocError, Global};
+use structure_check::check;
 
 /// What a fault is and how it is mended.
 pub(crate) fn tell_meaning(page: &mut Page, meaning: Meaning) -> Result<(), AllocError> {
@@ -154,7 +154,10 @@ fn tell_chart_causes(
     let Ok(checked) = check(alloc, &tree) else {
         return tell_items(page, named, tokens, found);
     };
-    let place = checked.classes.iter().position(|other| other.name.is(class));
+    let place = checked
+        .classes
+        .iter()
+        .position(|other| other.name.is(class));
     let fault = ChartFault {
         class,
         number,

@@ -131,7 +131,7 @@ impl<'a> Trace<'a> {
     /// Runs a transition and what follows. Each node leads to lower ones, so there are no more steps than nodes.
     fn chain(&mut self, first: &'a Arrow) -> Result<(), AllocError> {
         let mut arrow = first;
-        for _step in 0..=self.tables.nodes.len() {
+        for _step in 0..self.tables.nodes.len().saturating_add(1) {
             self.passed.push(Passed::Went)?;
             self.run(&arrow.action)?;
             let Some(node) = self.tables.nodes.as_slice().get(usize::from(arrow.target)) else {

@@ -109,9 +109,7 @@ impl Branches {
             return Ok(());
         };
         match self.taken {
-            Some(taken) => {
-                Ok(findings.push(behind(alloc, model, branch, taken, ALWAYS)?)?)
-            }
+            Some(taken) => { Ok(findings.push(behind(alloc, model, branch, taken, ALWAYS)?)?) }
             None => self.add_condition(alloc, model, branch, &condition, findings),
         }
     }

@@ -1,7 +1,7 @@
 //! States that are never entered, deferrals that nothing recalls, references that no action fills.
+use crate::chart::joined;
 use crate::finding::{Finding, Kind};
 use crate::model::{Class, LintedModel};
-use crate::chart::joined;
 use crate::ways::Ways;
 use fault_places::Item;
 use room_kinds::ReferenceKind;
@@ -41,11 +41,9 @@ pub(crate) fn add_unentered_states(
         let key = state.key.as_slice();
         let holds = state.owner.is_none() || is_reached(ways, reached, chart.key_of(state.owner));
         if holds && !is_reached(ways, reached, key) {
-            let label = key.strip_prefix(b".").unwrap_or(key);
-            let detail = joined(
-                alloc,
-                &[label, b", in an actor of ", class.names.name.as_bytes()],
-            )?;
+            let mut detail = Vec::from_slice(alloc, key.strip_prefix(b".").unwrap_or(key))?;
+            detail.extend_from_slice(b", in an actor of ")?;
+            detail.extend_from_slice(class.names.name.as_bytes())?;
             findings.push(at_head(model, Kind::UnenteredState, state.item, detail))?;
         }
     }

@@ -113,11 +113,7 @@ fn add_port(
 }
 
 /// Adds the ports of a row that are joined at some indexes and not at others.
-fn add_row(
-    model: &LintedModel<'_>,
-    row: Row,
-    places: &mut Listing,
-) -> Result<(), AllocError> {
+fn add_row(model: &LintedModel<'_>, row: Row, places: &mut Listing) -> Result<(), AllocError> {
     for distance in 0..row.size {
         let Some(class) = model.class_of(slot_at(row.slot(0, distance))) else {
             continue;
