@@ -3,6 +3,9 @@
 //!
 //! The text of the model tells what its actor classes declare and what their actions do (`classes`, `deeds`, `chart`),
 //! each at its place; the wiring tells which places of ports are joined. The rules (`rules`) put both together.
+//!
+//! The same look at a text tells which of the causes of a fault fits where a chart is refused (`chart_cause`).
+//!
 //! All calls are safe and end; that they find what they should is shown by cases.
 #![tactic(auto)]
 
