@@ -71,7 +71,7 @@ fn depth_behind(depth: usize, kind: TokenKind) -> usize {
 }
 
 /// The tokens of a part.
-pub(crate) fn tokens_of(tokens: &[Token], item: Item) -> &[Token] {
+pub fn tokens_of(tokens: &[Token], item: Item) -> &[Token] {
     tokens.get(item.first..item.end).unwrap_or(&[])
 }
 
@@ -119,13 +119,24 @@ pub(crate) fn body_of(tokens: &[Token], item: Item) -> Option<Item> {
 }
 
 /// The parts inside a part.
-pub(crate) fn parts_of(
-    alloc: Global,
-    tokens: &[Token],
-    item: Item,
-) -> Result<Vec<Item>, AllocError> {
+pub fn parts_of(alloc: Global, tokens: &[Token], item: Item) -> Result<Vec<Item>, AllocError> {
     match body_of(tokens, item) {
         Some(body) => items_in(alloc, tokens, body),
         None => Ok(Vec::new(alloc)),
     }
+}
+
+/// The bytes of the head of a part: up to its first brace, or whole. The first, and the one behind the last.
+pub fn head_of(tokens: &[Token], item: Item) -> (usize, usize) {
+    let [first, rest @ ..] = tokens_of(tokens, item) else {
+        return (0, 0);
+    };
+    let mut end = first.end;
+    for token in rest {
+        if token.kind == TokenKind::Mark(Mark::OpenBrace) {
+            break;
+        }
+        end = token.end;
+    }
+    (first.start, end)
 }

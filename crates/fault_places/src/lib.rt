@@ -16,7 +16,7 @@ mod names;
 mod search;
 mod syntax;
 
-pub use items::Item;
+pub use items::{Item, head_of, parts_of, tokens_of};
 pub use meanings::{Meaning, chart_meaning, line_meaning, rule_meaning, wiring_meaning};
 pub use names::named_by;
 pub use search::{Judge, find_causes};

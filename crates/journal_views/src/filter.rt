@@ -19,17 +19,6 @@ pub struct Wanted<'a> {
 }
 
 impl<'a> Wanted<'a> {
-    /// All lines.
-    pub fn all() -> Wanted<'a> {
-        Wanted {
-            actor: None,
-            signal: None,
-            from: 0,
-            to: u64::MAX,
-            only_trouble: false,
-        }
-    }
-
     /// Whether turns of a stamp are wanted.
     pub fn wants_stamp(&self, stamp: u64) -> bool {
         self.from <= stamp && stamp <= self.to

@@ -4,5 +4,7 @@
 mod machine;
 mod replay;
 mod sound;
+mod trace;
 
 pub use replay::replays_of;
+pub use trace::Passed;

@@ -1,4 +1,5 @@
 //! The way of one message through a run.
+use crate::chain::Chain;
 use crate::injected::posted_line;
 use crate::posted::{entries_of, place_of_post, posted_at, posts_before, turn_before};
 use crate::replayed::{Replayed, tell_attributes};
@@ -146,7 +147,7 @@ impl<'a> Explained<'a> {
         msg: &Msg,
         state: u16,
         did: Did,
-        holds: &[bool],
+        replayed: Option<&Replayed>,
     ) -> Result<(), AllocError> {
         let slot = msg.target.slot;
         let Some(machine) = machine_of(self.model, self.class_name(slot)) else {
@@ -159,7 +160,18 @@ impl<'a> Explained<'a> {
         let at = Moment {
             label: naming::state_label(self.wiring, slot, state),
             incoming,
-            holds,
+            holds: match replayed {
+                Some(replayed) => replayed.holds.as_slice(),
+                None => &[],
+            },
+            chain: Chain {
+                wiring: self.wiring,
+                slot,
+                passed: match replayed {
+                    Some(replayed) => replayed.passed.as_slice(),
+                    None => &[],
+                },
+            },
         };
         if let Did::Unhandled { .. } = did {
             tell_tried(alloc, page, machine, at)?;
@@ -182,11 +194,7 @@ impl<'a> Explained<'a> {
         if let (Some(replayed), Some(class)) = (replayed, self.wiring.class_of(msg.target.slot)) {
             tell_attributes(page, class, replayed)?;
         }
-        let holds = match replayed {
-            Some(replayed) => replayed.holds.as_slice(),
-            None => &[],
-        };
-        self.tell_chart(alloc, page, msg, before, turn.did, holds)
+        self.tell_chart(alloc, page, msg, before, turn.did, replayed)
     }
 
     /// The turns of a message.

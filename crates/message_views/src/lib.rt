@@ -6,6 +6,7 @@
 //! chart (`Replayed`), where one is given.
 #![tactic(auto)]
 
+mod chain;
 pub mod chart_replays;
 mod explain;
 mod injected;

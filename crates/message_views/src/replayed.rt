@@ -1,15 +1,18 @@
 //! What a chart's replay tells of a turn: the attributes of its actor.
+use crate::chart_replays::Passed;
 use journal_views::view_pages::Page;
 use room_wiring::ClassNames;
 use std::alloc::AllocError;
 
 /// A turn of an actor, as its chart does it again: the numbers of its attributes before and after, in order of
-/// declaration, and whether each of the transitions that are tried would be taken, in the order in which they are.
+/// declaration, whether each of the transitions that are tried would be taken, in the order in which they are, and the
+/// steps of the chain of the one that was.
 #[derive(Drop)]
 pub struct Replayed {
     pub before: Vec<i64>,
     pub after: Vec<i64>,
     pub holds: Vec<bool>,
+    pub passed: Vec<Passed>,
 }
 
 /// Numbers with blanks between them.

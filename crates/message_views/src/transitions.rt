@@ -139,14 +139,17 @@ fn put_text(page: &mut Page, text: &CodeText) -> Result<(), AllocError> {
     Ok(())
 }
 
-fn put_code(page: &mut Page, code: &Code) -> Result<(), AllocError> {
+/// A code, as far as it is shown.
+pub(crate) fn put_code(page: &mut Page, code: &Code) -> Result<(), AllocError> {
     page.put(b"\"")?;
     match code {
         Code::Single(text) => put_text(page, text)?,
         Code::Texts(texts) => {
+            let mut before: &[u8] = b"";
             for text in texts.as_slice() {
+                page.put(before)?;
                 put_text(page, text)?;
-                page.put(b" ")?;
+                before = b" ";
             }
         }
     }

@@ -1,4 +1,5 @@
 //! The transitions that are tried for a message in a state, in their order.
+use crate::chain::{Chain, Graph, tell_chain};
 use crate::transitions::{
     Fit, Incoming, fit_of, is_from_point, is_from_state, put_incoming, put_transition,
 };
@@ -13,11 +14,12 @@ struct Level<'a> {
     state: &'a [u8],
 }
 
-/// A transition that has the message, and whether it is always taken.
+/// A transition that has the message, whether it is always taken, and in how many states its graph stands.
 #[derive(Clone, Copy, Drop)]
 struct Tried<'a> {
     transition: &'a Transition,
     fit: Fit,
+    depth: usize,
 }
 
 /// The graph of a state of a graph; nothing where it has none.
@@ -62,6 +64,7 @@ fn levels_of<'a>(
 fn add_tried<'a>(
     tried: &mut Vec<Tried<'a>>,
     level: Level<'a>,
+    depth: usize,
     incoming: Incoming<'_>,
     from_state: bool,
 ) -> Result<(), AllocError> {
@@ -74,7 +77,11 @@ fn add_tried<'a>(
             };
             let fit = fit_of(transition, incoming);
             if begins && fit != Fit::Never {
-                tried.push(Tried { transition, fit })?;
+                tried.push(Tried {
+                    transition,
+                    fit,
+                    depth,
+                })?;
             }
         }
     }
@@ -88,20 +95,21 @@ fn tried_in<'a>(
     incoming: Incoming<'_>,
 ) -> Result<Vec<Tried<'a>>, AllocError> {
     let mut tried = Vec::new(alloc);
-    for level in levels.iter().rev() {
-        add_tried(&mut tried, *level, incoming, true)?;
-        add_tried(&mut tried, *level, incoming, false)?;
+    for (depth, level) in levels.iter().enumerate().rev() {
+        add_tried(&mut tried, *level, depth, incoming, true)?;
+        add_tried(&mut tried, *level, depth, incoming, false)?;
     }
     Ok(tried)
 }
 
 /// A message that comes in while the active path has a label, and whether each of the transitions that are tried for
-/// it would be taken, where that is known.
+/// it would be taken, and the chain of the one that was, where these are known.
 #[derive(Clone, Copy)]
 pub struct Moment<'a> {
     pub label: &'a [u8],
     pub incoming: Incoming<'a>,
     pub holds: &'a [bool],
+    pub chain: Chain<'a>,
 }
 
 /// The transitions up to the first that is always taken.
@@ -130,6 +138,24 @@ fn place_of_taken(tried: &[Tried<'_>], holds: &[bool]) -> Option<usize> {
         [first, ..] if first.fit == Fit::Always || tried.len() == 1 => Some(0),
         _ => None,
     }
+}
+
+/// The graphs in which a transition of a depth stands, from outer to inner.
+fn graphs_of<'a>(
+    alloc: Global,
+    levels: &[Level<'a>],
+    depth: usize,
+) -> Result<Vec<Graph<'a>>, AllocError> {
+    let mut graphs = Vec::new(alloc);
+    let mut owner: &[u8] = b"";
+    for level in levels.iter().take(depth.saturating_add(1)) {
+        graphs.push(Graph {
+            items: level.items,
+            owner,
+        })?;
+        owner = level.state;
+    }
+    Ok(graphs)
 }
 
 /// The transition at a place, which was taken, and those that were tried before it.
@@ -163,7 +189,14 @@ pub fn tell_taken(
     let tried = tried_in(alloc, levels.as_slice(), at.incoming)?;
     let all = tried.as_slice();
     match place_of_taken(all, at.holds) {
-        Some(place) => tell_one(page, all, place, at.incoming),
+        Some(place) => {
+            tell_one(page, all, place, at.incoming)?;
+            let Some(one) = all.get(place) else {
+                return Ok(());
+            };
+            let graphs = graphs_of(alloc, levels.as_slice(), one.depth)?;
+            tell_chain(page, machine, at.chain, graphs, one.transition)
+        }
         None => {
             page.put_line(b"    taken by the first of these whose guard held:")?;
             tell_all(page, all, at.incoming)

@@ -1,7 +1,6 @@
 //! Where messages from outside can come in.
-use crate::ports::{incoming, is_end, type_name};
-use journal_views::place_count;
 use journal_views::view_pages::Page;
+use journal_views::{incoming, is_end, place_count, type_name};
 use room_kinds::{ReferenceKind, SlotId};
 use room_wiring::{PortNames, SignalNames, Slot, Wiring};
 use std::alloc::AllocError;

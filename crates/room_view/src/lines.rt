@@ -1,11 +1,10 @@
 //! Why a line of injections is refused, and what would be right there.
-use crate::ports::{incoming, is_end, type_name};
 use crate::texts::{Kind, read};
 use crate::why::tell_meaning;
 use fault_places::line_meaning;
 use inject_reader::{InjectFault, read_injections};
-use journal_views::place_count;
 use journal_views::view_pages::{Named, Page};
+use journal_views::{incoming, is_end, place_count, type_name};
 use room_kinds::{ReferenceKind, SlotId};
 use room_run::Status;
 use room_wiring::{ClassNames, SignalNames, Wiring};

@@ -3,7 +3,7 @@ use text_reading::{are_digits, value};
 
 /// What is told where words have another form.
 pub(crate) const FORMS: &[u8] =
-    b"room_view: words refused; why MODEL [INJECT], doors MODEL, story MODEL JOURNALS [--actor PATH] [--signal NAME] [--from STAMP] [--to STAMP] [--only-trouble], end MODEL JOURNALS or explain MODEL INJECT JOURNALS MESSAGE\n";
+    b"room_view: words refused; why MODEL [INJECT], doors MODEL, lint MODEL [INJECT], story MODEL JOURNALS [--actor PATH] [--signal NAME] [--from STAMP] [--to STAMP] [--only-trouble], end MODEL JOURNALS or explain MODEL INJECT JOURNALS MESSAGE\n";
 
 /// Which lines of a story the words ask for.
 #[derive(Clone, Copy)]
@@ -40,6 +40,8 @@ pub(crate) enum Asked<'a> {
     Injections(&'a str),
     /// Where messages can come in.
     Doors,
+    /// What its author hardly meant; in the injections of this file too, if there is one.
+    Lint(Option<&'a str>),
     /// The story of the journals of this file.
     Story(&'a str, Options<'a>),
     /// What was still open where the run of the journals of this file ended.
@@ -200,6 +202,8 @@ pub(crate) fn question_of(words: &[String]) -> Option<Question<'_>> {
         ("why", [model]) => ask(model, Asked::Nothing),
         ("why", [model, injections]) => ask(model, Asked::Injections(injections.as_str())),
         ("doors", [model]) => ask(model, Asked::Doors),
+        ("lint", [model]) => ask(model, Asked::Lint(None)),
+        ("lint", [model, injections]) => ask(model, Asked::Lint(Some(injections.as_str()))),
         ("end", [model, journals]) => ask(model, Asked::End(journals.as_str())),
         ("explain", [model, injections, journals, message]) => {
             let name = message_of(message.as_str())?;

@@ -1,6 +1,7 @@
 //! An actor's chart, whose attributes can be looked at.
 ghost use Rattle.chart_run.specs.chart_tables.Tables.{IsSound};
 
+use crate::chart_replays::trace::{Passed, steps_of};
 use action_program::{Effects, Moment, Vars, test};
 use chart_run::chart_tables::Mind;
 use chart_run::{Arrow, Event, Row, Tables, Trigger};
@@ -104,6 +105,25 @@ impl Replay {
             .chain(alloc, tables, Some(leaf), taken.arrow, &at)?;
         self.mind.effects = Effects::new(alloc);
         Ok(())
+    }
+
+    /// The steps of the chain of a message, which isn't handled by this; none where no transition takes it.
+    pub(crate) fn steps(
+        &mut self,
+        alloc: Global,
+        tables: &Tables,
+        msg: &Msg,
+    ) -> Result<Vec<Passed>, AllocError>
+        requires { IsSound tables.now }
+    {
+        let at = self.moment_of(alloc, msg)?;
+        let leaf = self.leaf;
+        let enabled = self.mind.enabled(tables, leaf, event_of(msg), &at)?;
+        self.mind.effects = Effects::new(alloc);
+        match enabled {
+            Some(taken) => steps_of(alloc, tables, &self.mind, leaf, taken, &at),
+            None => Ok(Vec::new(alloc)),
+        }
     }
 
     /// Whether the guard of a trigger holds.

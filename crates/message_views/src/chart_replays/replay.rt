@@ -44,11 +44,13 @@ fn replay_turn(
 {
     let before = replay.numbers(alloc)?;
     let holds = replay.tries(alloc, tables, msg)?;
+    let passed = replay.steps(alloc, tables, msg)?;
     replay.handle(alloc, tables, msg)?;
     Ok(Replayed {
         before,
         after: replay.numbers(alloc)?,
         holds,
+        passed,
     })
 }
 
@@ -68,9 +70,10 @@ fn replay_all(
     for turn in turns {
         if actor_of(turn.did) == Some(me) {
             if let Some(msg) = fetched.get(turn.name()) {
-                let replayed = replay_turn(alloc, &mut replay, tables, msg)?;
                 if turn.name() == name {
-                    replays.push(replayed)?;
+                    replays.push(replay_turn(alloc, &mut replay, tables, msg)?)?;
+                } else {
+                    replay.handle(alloc, tables, msg)?;
                 }
             }
         }

@@ -3,7 +3,7 @@ use room_kinds::{NumberType, PortKind};
 use room_wiring::{PortNames, SignalNames};
 
 /// How a type of numbers is written.
-pub(crate) fn type_name(number: NumberType) -> &'static [u8] {
+pub fn type_name(number: NumberType) -> &'static [u8] {
     match number {
         NumberType::Int8 => b"int8",
         NumberType::Int16 => b"int16",
@@ -17,7 +17,7 @@ pub(crate) fn type_name(number: NumberType) -> &'static [u8] {
 }
 
 /// The signals that come in at a port.
-pub(crate) fn incoming(port: &PortNames) -> &[SignalNames] {
+pub fn incoming(port: &PortNames) -> &[SignalNames] {
     if port.conjugated {
         port.outgoing.as_slice()
     } else {
@@ -26,6 +26,6 @@ pub(crate) fn incoming(port: &PortNames) -> &[SignalNames] {
 }
 
 /// Whether messages from outside can come in at a port.
-pub(crate) fn is_end(port: &PortNames) -> bool {
+pub fn is_end(port: &PortNames) -> bool {
     matches!(port.kind, PortKind::End | PortKind::Internal)
 }
