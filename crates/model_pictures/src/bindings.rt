@@ -1,7 +1,7 @@
 //! The links of a picture of actors: the bindings and the layer connections, in each container anew.
 use crate::actors::Actors;
-use picture_formats::{Diagram, End, Label, Link, Sign, add_name, name_of};
 use indexmap::IndexMap;
+use picture_formats::{Diagram, End, Label, Link, Sign, add_name, name_of};
 use room_ast::{
     ActorClass, Binding, Class, LayerConnection, Model, Name, Side, StructureItem, Subsystem,
     SubsystemItem,

@@ -72,8 +72,10 @@ impl Cast {
     fn seats(&self, alloc: Global, wiring: &Wiring) -> Result<Vec<Seat>, AllocError> {
         let mut seats = Vec::new(alloc);
         for (number, takes_part) in self.slots.as_slice().iter().enumerate() {
-            let slot = number as u16;
-            if *takes_part && let Some(known) = wiring.get_slot(SlotId(slot)) {
+            if *takes_part
+                && let Ok(slot) = u16::try_from(number)
+                && let Some(known) = wiring.get_slot(SlotId(slot))
+            {
                 seats.push(Seat {
                     owner: known.owner.0,
                     slot,

@@ -1,8 +1,8 @@
 //! The blocks, points and links of the chart of a class.
-use picture_formats::{Block, Diagram, End, Label, Link, Mark, Point, Shape, Sign, name_of};
 use crate::orders::{Orders, orders_of};
 use crate::transitions::{add_code, label_of};
 use indexmap::IndexMap;
+use picture_formats::{Block, Diagram, End, Label, Link, Mark, Point, Shape, Sign, name_of};
 use room_ast::{
     ChoicePoint, Code, GraphItem, PointKind, Source, State, StateBody, StateMachine, Target,
     Transition,

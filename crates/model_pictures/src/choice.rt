@@ -72,7 +72,11 @@ impl<'a> Choice<'a> {
         let number = self.messages.len();
         self.messages.push(msg)?;
         self.numbers.insert(name, number)?;
-        self.add(msg.stamp.0, usize::from(msg.from.0), Happening::Post(number))
+        self.add(
+            msg.stamp.0,
+            usize::from(msg.from.0),
+            Happening::Post(number),
+        )
     }
 
     /// Draws what entries post.

@@ -1,6 +1,5 @@
 //! The texts in the picture of a run.
-use journal::naming;
-use journal::{Did, Journals};
+use journal::{Did, Journals, naming};
 use journal_views::view_pages::Page;
 use journal_views::{Turn, end_word, put_incoming, put_name, put_note, word_of};
 use picture_formats::Label;

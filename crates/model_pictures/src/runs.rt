@@ -5,8 +5,8 @@ use crate::run_texts::{
     end_text, gap_text, message_label, note_label, plain_label, state_label, turn_label,
     undrawn_text,
 };
-use journal::{Did, Entry, Journals, speaker_after};
 use indexmap::IndexMap;
+use journal::{Did, Entry, Journals, speaker_after};
 use journal_views::{Name, Start, Told, Turn, Wanted, is_trouble_note, starts_of, turns_of};
 use picture_formats::{Event, Label, Lead, Row, Sequence, Way};
 use room_kinds::{Incarnation, Msg, Note, SlotId};
@@ -45,14 +45,6 @@ struct Drawing<'a, 'b> {
     sequence: Sequence,
 }
 
-/// The stamps with which the environment went on behind a `settle`, and how many of them are passed.
-    settled: Vec<u64>,
-    passed: usize,
-    /// The first turn behind those that are drawn or passed over.
-    next_turn: usize,
-    sequence: Sequence,
-}
-
 /// The stamps with which the environment went on when all was quiet: those that aren't one above the one before.
 fn settled_of(alloc: Global, journals: &Journals) -> Result<Vec<u64>, AllocError> {
     let mut settled = Vec::new(alloc);
@@ -85,7 +77,12 @@ impl<'a, 'b> Drawing<'a, 'b> {
         choice: Choice<'a>,
     ) -> Result<Drawing<'a, 'b>, AllocError> {
         let mut sequence = Sequence::new(alloc);
-        let Choice { cast, messages, numbers, .. } = choice;
+        let Choice {
+            cast,
+            messages,
+            numbers,
+            ..
+        } = choice;
         let columns = cast.take_seats(&mut sequence, told.wiring)?;
         let mut journeys = Vec::new(alloc);
         for msg in messages.as_slice() {
@@ -171,7 +168,11 @@ impl<'a, 'b> Drawing<'a, 'b> {
         let spot = Spot {
             lifeline: own.unwrap_or(lifeline),
             stamp: None,
-            event: if is_trouble_note(note) { Event::Trouble } else { Event::Note },
+            event: if is_trouble_note(note) {
+                Event::Trouble
+            } else {
+                Event::Note
+            },
         };
         let text = note_label(self.alloc(), self.told.wiring, speaker, note)?;
         let _row = self.add_row(spot, text)?;
@@ -249,7 +250,11 @@ impl<'a, 'b> Drawing<'a, 'b> {
         let Some(journey) = self.journeys.as_mut_slice().get_mut(number) else {
             return;
         };
-        let way = if journey.is_open { Way::Sent } else { Way::PutOff };
+        let way = if journey.is_open {
+            Way::Sent
+        } else {
+            Way::PutOff
+        };
         if let Some(from) = journey.row {
             self.sequence.lead(from, Lead { row, lifeline, way });
         }
@@ -400,11 +405,7 @@ fn choice_of<'a>(
 }
 
 /// Draws how a run ended, and what isn't drawn.
-fn add_end(
-    drawing: &mut Drawing<'_, '_>,
-    gap: usize,
-    undrawn: usize,
-) -> Result<(), AllocError> {
+fn add_end(drawing: &mut Drawing<'_, '_>, gap: usize, undrawn: usize) -> Result<(), AllocError> {
     drawing.open_ways();
     add_gap(drawing, gap)?;
     if undrawn > 0 {

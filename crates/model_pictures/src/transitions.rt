@@ -1,7 +1,7 @@
 //! The labels of transitions: `event: port [guard] / action`.
 use crate::orders::message_of;
-use picture_formats::{Label, add_plain};
 use itoa::Buffer;
+use picture_formats::{Label, add_plain};
 use room_ast::{
     Code, CodeText, Event, Source, Target, Transition, TransitionBody, Trigger, Triggers,
 };

@@ -165,7 +165,12 @@ impl Diagram {
     /// Adds a line to the legend for each of these marks that one of the points has.
     pub fn add_marks(&mut self, marks: &[(Mark, &[u8])]) -> Result<(), AllocError> {
         for (mark, text) in marks {
-            if self.points.as_slice().iter().any(|point| point.mark == *mark) {
+            if self
+                .points
+                .as_slice()
+                .iter()
+                .any(|point| point.mark == *mark)
+            {
                 self.add_key(Sign::Point(*mark), text)?;
             }
         }

@@ -9,7 +9,7 @@ use std::alloc::AllocError;
 fn digit(byte: u8) -> u64 {
     match byte {
         b'0'..=b'9' => u64::from(byte - b'0'),
-        b'a'..=b'f' => u64::from(byte - b'a') + 10,
+        b'a'..=b'f' => u64::from(byte - b'a').saturating_add(10),
         _ => 0,
     }
 }
@@ -19,9 +19,9 @@ fn put_colour(page: &mut Page, colour: &[u8]) -> Result<(), AllocError> {
     let mut before: &[u8] = b"rgb(";
     for first in [1usize, 3, 5] {
         let high = digit(colour.get(first).copied().unwrap_or(0));
-        let low = digit(colour.get(first + 1).copied().unwrap_or(0));
+        let low = digit(colour.get(first.saturating_add(1)).copied().unwrap_or(0));
         page.put(before)?;
-        page.put_number(high * 16 + low)?;
+        page.put_number(high.saturating_mul(16).saturating_add(low))?;
         before = b",";
     }
     page.put(b")")
@@ -73,11 +73,7 @@ fn put_text(page: &mut Page, row: &Row, text: &[u8]) -> Result<(), AllocError> {
 /// A message on its way: with a dashed arrow where its turn isn't drawn.
 fn put_message(page: &mut Page, row: &Row, lead: Lead) -> Result<(), AllocError> {
     put_name(page, b"a", row.lifeline)?;
-    page.put(if lead.way == Way::Open {
-        b"--)"
-    } else {
-        b"-)"
-    })?;
+    page.put(if lead.way == Way::Open { b"--)" } else { b"-)" })?;
     put_name(page, b"a", lead.lifeline)?;
     put_text(page, row, row.text.shown.as_slice())
 }
@@ -96,7 +92,9 @@ fn put_row(page: &mut Page, sequence: &Sequence, row: &Row) -> Result<(), AllocE
     if row.event == Event::Divider {
         return put_divider(page, sequence, row);
     }
-    if row.event == Event::Post && let Some(lead) = row.lead {
+    if row.event == Event::Post
+        && let Some(lead) = row.lead
+    {
         return put_message(page, row, lead);
     }
     page.put(b"Note over ")?;

@@ -14,7 +14,9 @@ const CLOCK: usize = 14 * LETTER + PAD;
 
 /// Where the title of a group, the head of a lifeline, and the first row begin.
 const TITLE: usize = PAD + 15;
+
 const HEAD: usize = PAD + 24;
+
 const FIRST: usize = HEAD + 2 * ROW + 6;
 
 /// The least width of a lifeline's column.
@@ -59,7 +61,11 @@ fn widths_of(sequence: &Sequence) -> Result<Vec<usize>, AllocError> {
 }
 
 /// The columns side by side from a place on.
-fn columns_of(alloc: Global, widths: &[usize], from: usize) -> Result<Vec<(usize, usize)>, AllocError> {
+fn columns_of(
+    alloc: Global,
+    widths: &[usize],
+    from: usize,
+) -> Result<Vec<(usize, usize)>, AllocError> {
     let mut columns = Vec::new(alloc);
     let mut left = from;
     for width in widths {
@@ -186,7 +192,8 @@ impl Grid {
 /// The arrows' tips.
 fn put_tips(page: &mut Page) -> Result<(), AllocError> {
     page.put_line(b"<defs>")?;
-    for (name, colour) in [(b"sent", BLUE), (b"open", GREY)] {
+    let tips: [(&[u8], &[u8]); 2] = [(b"sent", BLUE), (b"open", GREY)];
+    for (name, colour) in tips {
         page.put(b"<marker id=\"")?;
         page.put(name)?;
         page.put(b"\" viewBox=\"0 0 8 8\" refX=\"8\" refY=\"4\" markerWidth=\"8\" ")?;
@@ -294,7 +301,12 @@ fn put_way(
     };
     if lead.lifeline == row.lifeline {
         let out = behind(first.0, LOOP);
-        return put_line_to(page, &[first, (out, first.1), (out, last.1), last], drawn, tip);
+        return put_line_to(
+            page,
+            &[first, (out, first.1), (out, last.1), last],
+            drawn,
+            tip,
+        );
     }
     put_line_to(page, &[first, last], drawn, tip)
 }

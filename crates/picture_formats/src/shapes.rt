@@ -149,11 +149,7 @@ pub fn put_corners(
 }
 
 /// The head of a line through these places.
-fn begin_path(
-    page: &mut Page,
-    places: &[(usize, usize)],
-    ink: Ink<'_>,
-) -> Result<(), AllocError> {
+fn begin_path(page: &mut Page, places: &[(usize, usize)], ink: Ink<'_>) -> Result<(), AllocError> {
     page.put(b"<path d=\"")?;
     for (number, place) in places.iter().enumerate() {
         page.put(if number == 0 { b"M" } else { b" L" })?;

@@ -1,9 +1,7 @@
 //! A picture as SVG.
 use crate::colours::{dark, light};
 use crate::diagram::{Block, Diagram, End, Key, Link, Mark, Point, Shape, Sign};
-use crate::layout::{
-    LETTER, LINE, Layout, LinkPlace, PAD, Place, ROW, lay_out, text_width,
-};
+use crate::layout::{LETTER, LINE, Layout, LinkPlace, PAD, Place, ROW, lay_out, text_width};
 use crate::shapes::{
     Anchor, Area, BLACK, Ink, RED, WHITE, before, begin_text, behind, ink, put_area, put_circle,
     put_corners, put_head, put_path, put_text, put_tooltip, put_words,
