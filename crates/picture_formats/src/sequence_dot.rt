@@ -146,12 +146,11 @@ pub fn put_sequence_dot(page: &mut Page, sequence: &Sequence) -> Result<(), Allo
     page.put_line(b"digraph run {")?;
     page.put_line(b"graph [rankdir=TB ranksep=0.1 fontname=monospace newrank=true]")?;
     page.put_line(b"node [fontname=monospace fontsize=10 height=0.25]")?;
-    page.put_line(b"{rank=same; clock")?;
+    page.put(b"{rank=same; clock")?;
     for number in 0..sequence.lifelines.len() {
-        put_name(page, b"l", number)?;
-        page.end_line()?;
+        put_name(page, b" -> l", number)?;
     }
-    page.put_line(b"}")?;
+    page.put_line(b" [style=invis]}")?;
     put_heads(page, sequence)?;
     put_clock(page, sequence)?;
     put_rows(page, sequence)?;

@@ -3,8 +3,8 @@ use crate::colours::light;
 use crate::layout::{LETTER, PAD, ROW, sum, text_width};
 use crate::sequence::{Event, Lead, Row, Sequence, Way};
 use crate::shapes::{
-    Anchor, Area, BLACK, Ink, RED, WHITE, before, behind, ink, put_area, put_circle, put_corners,
-    put_head, put_line_to, put_path, put_tooltip, put_words,
+    Anchor, Area, BLACK, Ink, RED, WHITE, before, behind, plain_ink, put_area, put_circle,
+    put_corners, put_head, put_line_to, put_path, put_tooltip, put_words,
 };
 use journal_views::view_pages::Page;
 use std::alloc::{AllocError, Global};
@@ -204,19 +204,14 @@ fn put_tips(page: &mut Page) -> Result<(), AllocError> {
     page.put_line(b"</defs>")
 }
 
-/// The band of a column, in the colour of its group, with the group's title where it begins.
+/// The band of a column, in the colour of its group.
 fn put_band(
     page: &mut Page,
-    sequence: &Sequence,
     grid: &Grid,
     lifeline: usize,
+    colour: &[u8],
 ) -> Result<(), AllocError> {
-    let lifelines = sequence.lifelines.as_slice();
-    let Some(line) = lifelines.get(lifeline) else {
-        return Ok(());
-    };
     let (left, right) = grid.sides(lifeline);
-    let colour = light(sequence.colour_of(line));
     let area = Area {
         x: left,
         y: PAD,
@@ -224,17 +219,21 @@ fn put_band(
         height: before(grid.height, PAD + PAD),
         rounding: 0,
     };
-    put_area(page, area, ink(colour, colour))?;
-    let is_first = match lifeline.checked_sub(1) {
-        Some(number) => match lifelines.get(number) {
-            Some(other) => other.group != line.group,
-            None => true,
-        },
-        None => true,
-    };
-    if is_first && let Some(group) = sequence.groups.as_slice().get(line.group) {
-        let at = (behind(left, 6), TITLE);
-        put_words(page, at, Anchor::Begin, BLACK, group.title.as_slice())?;
+    put_area(page, area, plain_ink(colour, colour))
+}
+
+/// The titles of the groups, each where its first lifeline is.
+fn put_titles(page: &mut Page, sequence: &Sequence, grid: &Grid) -> Result<(), AllocError> {
+    let mut last = None;
+    for (number, lifeline) in sequence.lifelines.as_slice().iter().enumerate() {
+        if last != Some(lifeline.group)
+            && let Some(group) = sequence.groups.as_slice().get(lifeline.group)
+        {
+            let (left, _) = grid.sides(number);
+            let title = group.title.as_slice();
+            put_words(page, (behind(left, 6), TITLE), Anchor::Begin, BLACK, title)?;
+        }
+        last = Some(lifeline.group);
     }
     Ok(())
 }
@@ -272,7 +271,7 @@ fn put_box(
         height: 17,
         rounding,
     };
-    put_area(page, area, ink(WHITE, BLACK))?;
+    put_area(page, area, plain_ink(WHITE, BLACK))?;
     put_words(page, (at.0, behind(at.1, 4)), Anchor::Middle, BLACK, text)
 }
 
@@ -315,15 +314,15 @@ fn put_way(
 fn put_cross(page: &mut Page, at: (usize, usize)) -> Result<(), AllocError> {
     let (left, right) = (before(at.0, 5), behind(at.0, 5));
     let (top, foot) = (before(at.1, 5), behind(at.1, 5));
-    put_path(page, &[(left, top), (right, foot)], ink(b"none", RED))?;
-    put_path(page, &[(left, foot), (right, top)], ink(b"none", RED))
+    put_path(page, &[(left, top), (right, foot)], plain_ink(b"none", RED))?;
+    put_path(page, &[(left, foot), (right, top)], plain_ink(b"none", RED))
 }
 
 /// What stands on a lifeline in a row.
 fn put_sign(page: &mut Page, at: (usize, usize), row: &Row) -> Result<(), AllocError> {
     match row.event {
-        Event::Post => put_circle(page, at, 2, ink(BLUE, BLUE)),
-        Event::Taken => put_circle(page, at, 3, ink(WHITE, BLUE)),
+        Event::Post => put_circle(page, at, 2, plain_ink(BLUE, BLUE)),
+        Event::Taken => put_circle(page, at, 3, plain_ink(WHITE, BLUE)),
         Event::Deferred => {
             let (x, y) = at;
             let corners = [
@@ -332,11 +331,11 @@ fn put_sign(page: &mut Page, at: (usize, usize), row: &Row) -> Result<(), AllocE
                 (x, behind(y, 5)),
                 (before(x, 5), y),
             ];
-            put_corners(page, &corners, ink(WHITE, BLUE))
+            put_corners(page, &corners, plain_ink(WHITE, BLUE))
         }
         Event::Unhandled | Event::Trouble => put_cross(page, at),
         Event::Discarded => {
-            put_circle(page, at, 7, ink(WHITE, RED))?;
+            put_circle(page, at, 7, plain_ink(WHITE, RED))?;
             put_cross(page, at)
         }
         Event::State => put_box(page, at, row.text.shown.as_slice(), 8),
@@ -403,9 +402,10 @@ fn put_stamps(page: &mut Page, sequence: &Sequence, grid: &Grid) -> Result<(), A
 
 /// The bands, the lifelines on them, and the dividers.
 fn put_ground(page: &mut Page, sequence: &Sequence, grid: &Grid) -> Result<(), AllocError> {
-    for number in 0..sequence.lifelines.len() {
-        put_band(page, sequence, grid, number)?;
+    for (number, lifeline) in sequence.lifelines.as_slice().iter().enumerate() {
+        put_band(page, grid, number, light(sequence.colour_of(lifeline)))?;
     }
+    put_titles(page, sequence, grid)?;
     for (number, lifeline) in sequence.lifelines.as_slice().iter().enumerate() {
         put_lifeline(page, grid, number, lifeline.title.as_slice())?;
     }

@@ -38,7 +38,7 @@ pub enum Anchor {
 }
 
 /// An ink without dashes.
-pub fn ink<'a>(fill: &'a [u8], stroke: &'a [u8]) -> Ink<'a> {
+pub fn plain_ink<'a>(fill: &'a [u8], stroke: &'a [u8]) -> Ink<'a> {
     Ink {
         fill,
         stroke,
@@ -239,5 +239,5 @@ pub fn put_head(page: &mut Page, width: usize, height: usize) -> Result<(), Allo
         height,
         rounding: 0,
     };
-    put_area(page, whole, ink(WHITE, WHITE))
+    put_area(page, whole, plain_ink(WHITE, WHITE))
 }

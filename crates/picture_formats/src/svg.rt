@@ -3,8 +3,8 @@ use crate::colours::{dark, light};
 use crate::diagram::{Block, Diagram, End, Key, Link, Mark, Point, Shape, Sign};
 use crate::layout::{LETTER, LINE, Layout, LinkPlace, PAD, Place, ROW, lay_out, text_width};
 use crate::shapes::{
-    Anchor, Area, BLACK, Ink, RED, WHITE, before, begin_text, behind, ink, put_area, put_circle,
-    put_corners, put_head, put_path, put_text, put_tooltip, put_words,
+    Anchor, Area, BLACK, Ink, RED, WHITE, before, begin_text, behind, plain_ink, put_area,
+    put_circle, put_corners, put_head, put_path, put_text, put_tooltip, put_words,
 };
 use journal_views::view_pages::Page;
 use std::alloc::AllocError;
@@ -46,19 +46,19 @@ fn put_mark(
     let (x, y) = at;
     match mark {
         Mark::Hidden => Ok(()),
-        Mark::Port => put_circle(page, at, HALF, ink(colour, colour)),
-        Mark::ConjugatedPort | Mark::Entry => put_circle(page, at, HALF, ink(WHITE, colour)),
-        Mark::Relay => put_corners(page, &square(x, y, 4), ink(colour, colour)),
+        Mark::Port => put_circle(page, at, HALF, plain_ink(colour, colour)),
+        Mark::ConjugatedPort | Mark::Entry => put_circle(page, at, HALF, plain_ink(WHITE, colour)),
+        Mark::Relay => put_corners(page, &square(x, y, 4), plain_ink(colour, colour)),
         Mark::ConjugatedRelay | Mark::Door => {
-            put_corners(page, &square(x, y, 4), ink(WHITE, colour))
+            put_corners(page, &square(x, y, 4), plain_ink(WHITE, colour))
         }
-        Mark::Access => put_corners(page, &triangle(x, y), ink(WHITE, colour)),
-        Mark::Provision => put_corners(page, &triangle(x, y), ink(colour, colour)),
+        Mark::Access => put_corners(page, &triangle(x, y), plain_ink(WHITE, colour)),
+        Mark::Provision => put_corners(page, &triangle(x, y), plain_ink(colour, colour)),
         Mark::Exit => {
-            put_circle(page, at, HALF, ink(WHITE, colour))?;
+            put_circle(page, at, HALF, plain_ink(WHITE, colour))?;
             let [first, second, third, fourth] = square(x, y, 3);
-            put_path(page, &[first, third], ink(b"none", colour))?;
-            put_path(page, &[second, fourth], ink(b"none", colour))
+            put_path(page, &[first, third], plain_ink(b"none", colour))?;
+            put_path(page, &[second, fourth], plain_ink(b"none", colour))
         }
     }
 }
@@ -103,7 +103,7 @@ fn put_bar(
         (place.right(), place.line(rows.row)),
         (place.right(), place.line(last)),
     ];
-    put_path(page, &bar, ink(b"none", BLACK))
+    put_path(page, &bar, plain_ink(b"none", BLACK))
 }
 
 /// A point of a block, in its row.
@@ -179,7 +179,7 @@ fn put_choice(page: &mut Page, place: Place, title: &[u8]) -> Result<(), AllocEr
         (place.right(), y),
         (x, behind(place.y, place.height)),
     ];
-    put_corners(page, &corners, ink(WHITE, BLACK))?;
+    put_corners(page, &corners, plain_ink(WHITE, BLACK))?;
     put_words(page, (x, behind(y, 4)), Anchor::Middle, BLACK, title)
 }
 
@@ -209,7 +209,7 @@ fn put_titles(page: &mut Page, place: Place, block: &Block) -> Result<(), AllocE
 }
 
 fn put_history(page: &mut Page, at: (usize, usize)) -> Result<(), AllocError> {
-    put_circle(page, at, 7, ink(WHITE, BLACK))?;
+    put_circle(page, at, 7, plain_ink(WHITE, BLACK))?;
     put_words(page, (at.0, behind(at.1, 4)), Anchor::Middle, BLACK, b"H")
 }
 
@@ -218,7 +218,7 @@ fn put_block(page: &mut Page, place: Place, block: &Block) -> Result<(), AllocEr
     match block.shape {
         Shape::Start => {
             let at = (before(place.right(), 6), place.line(0));
-            put_circle(page, at, 6, ink(BLACK, BLACK))
+            put_circle(page, at, 6, plain_ink(BLACK, BLACK))
         }
         Shape::Choice => put_choice(page, place, block.title.as_slice()),
         Shape::Frame | Shape::Actor | Shape::OptionalActor | Shape::ImportedActor | Shape::State =>
@@ -298,7 +298,7 @@ fn put_tip(
         behind(x, 7)
     };
     let corners = [at, (foot, before(y, 4)), (foot, behind(y, 4))];
-    put_corners(page, &corners, ink(colour, colour))
+    put_corners(page, &corners, plain_ink(colour, colour))
 }
 
 /// A link with its label, which stands at its beginning.
@@ -357,7 +357,7 @@ fn put_key(page: &mut Page, key: &Key, y: usize) -> Result<(), AllocError> {
                 height: 14,
                 rounding: 0,
             };
-            put_area(page, area, ink(light(Some(number)), BLACK))?;
+            put_area(page, area, plain_ink(light(Some(number)), BLACK))?;
         }
         Sign::Point(mark) => put_mark(page, mark, at, BLACK)?,
         Sign::Unjoined => put_mark(page, Mark::Port, at, RED)?,
