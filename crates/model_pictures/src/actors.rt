@@ -1,4 +1,6 @@
 //! The blocks and points of a picture of actors: one block for all the slots that differ in indexes alone.
+use journal::naming;
+use journal_views::place_count;
 use picture_formats::{Block, Diagram, Label, Mark, Point, Shape, Sign, add_name, name_of};
 use room_kinds::{ControllerId, PortKind, ReferenceKind, SlotId};
 use room_wiring::{Partner, PortNames, Slot, Wiring};
@@ -72,19 +74,10 @@ fn mark_of(port: &PortNames) -> Mark {
     }
 }
 
-/// How many places a port of a slot has.
-fn places_at(wiring: &Wiring, slot: SlotId, port: u16) -> u32 {
-    if u32::from(slot.0) < wiring.slot_count() && usize::from(port) < wiring.port_count(slot) {
-        wiring.places(slot, port)
-    } else {
-        0
-    }
-}
-
 /// How many places of a port of a slot are joined to nothing.
 fn unjoined_at(wiring: &Wiring, slot: SlotId, port: u16) -> u32 {
     let mut unjoined = 0u32;
-    for place in 0..places_at(wiring, slot, port) {
+    for place in 0..place_count(wiring, slot, usize::from(port)) {
         if is_unjoined(wiring, slot, port, place) {
             unjoined = unjoined.saturating_add(1);
         }
@@ -195,10 +188,7 @@ fn add_points(
         return Ok(());
     };
     for (number, port) in class.ports.as_slice().iter().enumerate() {
-        let places = match u16::try_from(number) {
-            Ok(number) => places_at(wiring, id, number),
-            Err(_) => 0,
-        };
+        let places = place_count(wiring, id, number);
         // an imported slot has the places of the interface alone
         let is_away = slot.kind == ReferenceKind::Imported && places == 0;
         let point = Point {
@@ -310,15 +300,6 @@ fn add_slot(
     Ok(())
 }
 
-/// The name of a controller.
-fn controller_name(wiring: &Wiring, number: u8) -> &[u8] {
-    if number < wiring.controller_count() {
-        wiring.controller_name(ControllerId(number)).as_bytes()
-    } else {
-        b""
-    }
-}
-
 /// The controllers beside that of its colour that own what a block shows.
 fn others_of(
     alloc: Global,
@@ -335,7 +316,10 @@ fn others_of(
             } else {
                 b", "
             })?;
-            add_name(&mut others, controller_name(wiring, number))?;
+            add_name(
+                &mut others,
+                naming::controller_name(wiring, usize::from(number)),
+            )?;
         }
     }
     Ok(others)
@@ -375,7 +359,10 @@ fn add_notes(
 fn add_controllers(diagram: &mut Diagram, wiring: &Wiring) -> Result<(), AllocError> {
     for number in 0..wiring.controller_count() {
         let mut text = Vec::from_slice(diagram.alloc, b"controller ")?;
-        add_name(&mut text, controller_name(wiring, number))?;
+        add_name(
+            &mut text,
+            naming::controller_name(wiring, usize::from(number)),
+        )?;
         diagram.add_key(Sign::Colour(number), text.as_slice())?;
     }
     Ok(())
