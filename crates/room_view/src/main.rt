@@ -1,8 +1,9 @@
-//! The program `room_view`: tells people why a text is refused, and where; where messages can come in; and what the
-//! journals of a run tell.
+//! The program `room_view`: tells people why a text is refused, and where; where messages can come in; what the
+//! journals of a run tell; and draws pictures of models.
 //!
-//! `why MODEL [INJECT]`, `doors MODEL`, `lint MODEL [INJECT]`, `story MODEL JOURNALS ..`, `end MODEL JOURNALS` and `explain MODEL INJECT
-//! JOURNALS MESSAGE` write a page to standard output; of a model that is refused all tell why. The status is that of
+//! `why MODEL [INJECT]`, `doors MODEL`, `lint MODEL [INJECT]`, `story MODEL JOURNALS ..`, `end MODEL JOURNALS`,
+//! `explain MODEL INJECT JOURNALS MESSAGE`, `wiring MODEL [FORM]` and `chart MODEL CLASS [FORM]` write a page to
+//! standard output; of a model that is refused all tell why. The status is that of
 //! `room` for these files: 0 where nothing is refused, 1 where the words have another form, or name what the model or
 //! the journals don't have, 2 where the model is refused, 3 where the injections or the journals are, 5 for want of
 //! memory, 6 where a file wasn't read, 7 where the page wasn't written.
@@ -12,6 +13,7 @@ mod doors;
 mod judge;
 mod lines;
 mod messages;
+mod pictures;
 mod runs;
 mod texts;
 mod why;
@@ -20,6 +22,7 @@ mod words;
 use crate::doors::tell_doors;
 use crate::lines::injections_of;
 use crate::messages::tell_message_of;
+use crate::pictures::tell_picture;
 use crate::runs::{tell_end_of, tell_story_of};
 use crate::texts::{Kind, read};
 use crate::why::tell_model;
@@ -108,6 +111,9 @@ fn tell(rt: HostRuntime, page: &mut Page, question: Question<'_>) -> Result<Stat
             return tell_message_of(rt, page, model, &wiring, message);
         }
         Asked::End(name) => return tell_end_of(rt, page, &wiring, name),
+        Asked::Picture(picture) => {
+            return tell_picture(rt.alloc(), page, model, &wiring, picture);
+        }
     }
     Ok(Status::Done)
 }

@@ -1,9 +1,10 @@
 //! What the words of a call ask for.
+use crate::pictures::{Picture, picture_of};
 use text_reading::{are_digits, value};
 
 /// What is told where words have another form.
 pub(crate) const FORMS: &[u8] =
-    b"room_view: words refused; why MODEL [INJECT], doors MODEL, lint MODEL [INJECT], story MODEL JOURNALS [--actor PATH] [--signal NAME] [--from STAMP] [--to STAMP] [--only-trouble], end MODEL JOURNALS or explain MODEL INJECT JOURNALS MESSAGE\n";
+    b"room_view: words refused; why MODEL [INJECT], doors MODEL, lint MODEL [INJECT], story MODEL JOURNALS [--actor PATH] [--signal NAME] [--from STAMP] [--to STAMP] [--only-trouble], end MODEL JOURNALS, explain MODEL INJECT JOURNALS MESSAGE, wiring MODEL [FORM] or chart MODEL CLASS [FORM], where FORM is --svg, --dot or --mermaid\n";
 
 /// Which lines of a story the words ask for.
 #[derive(Clone, Copy)]
@@ -48,6 +49,8 @@ pub(crate) enum Asked<'a> {
     End(&'a str),
     /// The way of one message of a run.
     Explain(Message<'a>),
+    /// A picture of the model.
+    Picture(Picture<'a>),
 }
 
 /// What the words ask: the file of a model, and what is asked of it.
@@ -217,6 +220,10 @@ pub(crate) fn question_of(words: &[String]) -> Option<Question<'_>> {
         ("story", [model, journals, options @ ..]) => {
             let options = options_of(options)?;
             ask(model, Asked::Story(journals.as_str(), options))
+        }
+        (command, [model, options @ ..]) => {
+            let picture = picture_of(command, options)?;
+            ask(model, Asked::Picture(picture))
         }
         _ => None,
     }
