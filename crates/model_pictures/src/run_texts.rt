@@ -111,6 +111,9 @@ pub fn plain_label(alloc: Global, text: &[u8]) -> Result<Label, AllocError> {
 
 /// That turns aren't drawn between those that are.
 pub fn gap_text(alloc: Global, turns: usize) -> Result<Label, AllocError> {
+    if turns == 1 {
+        return plain_label(alloc, b"cut: 1 turn isn't drawn here");
+    }
     counted(alloc, b"cut: ", turns, b" turns aren't drawn here")
 }
 
