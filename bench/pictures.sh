@@ -41,6 +41,8 @@ for model in "$top"/examples/*/model.room; do
     for class in $(classes_of "$model"); do
         show "$example-chart-$class" chart "$model" "$class"
     done
+    journals="${model%/*}/journal.txt"
+    [ ! -f "$journals" ] || show "$example-run" run "$model" "$journals"
 done
 echo "$page"
 [ "$#" -eq 0 ] || exit 0

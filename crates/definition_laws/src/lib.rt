@@ -36,5 +36,3 @@ pub fn owners_have_the_longest_mapping()
 pub fn imported_slots_have_end_ports()
     ensures { ImportedSlotsHaveEndPorts }
 {}
-
-pub mod message_forms;

@@ -64,12 +64,17 @@ fn put_signal(page: &mut Page, wiring: &Wiring, msg: &Msg) -> Result<(), AllocEr
     put_priority(page, msg.prio)
 }
 
-/// A message as its receiver sees it, and who sent it.
+/// A message as its receiver sees it.
+pub fn put_incoming(page: &mut Page, wiring: &Wiring, msg: &Msg) -> Result<(), AllocError> {
+    put_port_of(page, wiring, msg.target)?;
+    put_signal(page, wiring, msg)
+}
+
+/// A message under its name as its receiver sees it, and who sent it.
 pub fn put_received(page: &mut Page, wiring: &Wiring, msg: &Msg) -> Result<(), AllocError> {
     put_name(page, wiring, msg.from, msg.stamp)?;
     page.put(b" ")?;
-    put_port_of(page, wiring, msg.target)?;
-    put_signal(page, wiring, msg)?;
+    put_incoming(page, wiring, msg)?;
     page.put(b" from ")?;
     match msg.source {
         Some(source) => put_end(page, wiring, source),

@@ -7,7 +7,7 @@ use room_wiring::Wiring;
 use std::alloc::AllocError;
 
 /// Whether a note tells of something that its author hardly meant.
-fn is_trouble(note: &Note) -> bool {
+pub fn is_trouble_note(note: &Note) -> bool {
     match note {
         Note::Zero | Note::NoMessage | Note::Unbound { .. } => true,
         Note::Down { lost, .. } => *lost > 0,
@@ -17,7 +17,7 @@ fn is_trouble(note: &Note) -> bool {
 
 /// Whether one of the notes tells of something that its author hardly meant.
 pub fn have_trouble(notes: &[Note]) -> bool {
-    notes.iter().any(|note| is_trouble(note))
+    notes.iter().any(|note| is_trouble_note(note))
 }
 
 /// A send at a place of a port of who speaks, which leads to nobody.
@@ -44,7 +44,8 @@ fn put_lost(page: &mut Page, lost: u64) -> Result<(), AllocError> {
     page.put_number(lost)
 }
 
-fn put_note(
+/// A note of a start or a turn, at which actors of this slot speak.
+pub fn put_note(
     page: &mut Page,
     wiring: &Wiring,
     speaker: Option<SlotId>,

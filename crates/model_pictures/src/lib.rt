@@ -4,12 +4,17 @@
 
 mod actors;
 mod bindings;
+mod cast;
 mod charts;
+mod choice;
 mod orders;
+mod run_texts;
+mod runs;
 mod transitions;
 mod tree;
 mod wirings;
 
 pub use charts::chart_picture;
+pub use runs::run_picture;
 pub use tree::{machine_of, tell_machines};
 pub use wirings::wiring_picture;

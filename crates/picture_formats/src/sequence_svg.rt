@@ -106,7 +106,13 @@ fn comes_back(row: &Row) -> bool {
 
 /// How far from its lifeline the text of a row stands.
 fn aside(row: &Row) -> usize {
-    if comes_back(row) { LOOP + ASIDE } else { ASIDE }
+    if comes_back(row) {
+        LOOP + ASIDE
+    } else if row.event == Event::Discarded {
+        ASIDE + 4
+    } else {
+        ASIDE
+    }
 }
 
 fn middle_of(columns: &[(usize, usize)], lifeline: usize) -> usize {

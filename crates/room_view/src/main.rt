@@ -1,9 +1,10 @@
 //! The program `room_view`: tells people why a text is refused, and where; where messages can come in; what the
-//! journals of a run tell; and draws pictures of models.
+//! journals of a run tell; and draws pictures of models and of runs.
 //!
 //! `why MODEL [INJECT]`, `doors MODEL`, `lint MODEL [INJECT]`, `story MODEL JOURNALS ..`, `end MODEL JOURNALS`,
-//! `explain MODEL INJECT JOURNALS MESSAGE`, `wiring MODEL [FORM]` and `chart MODEL CLASS [FORM]` write a page to
-//! standard output; of a model that is refused all tell why. The status is that of
+//! `explain MODEL INJECT JOURNALS MESSAGE`, `wiring MODEL [FORM]`, `chart MODEL CLASS [FORM]` and
+//! `run MODEL JOURNALS [FORM] ..` write a page to standard output; of a model that is refused all tell why. The
+//! status is that of
 //! `room` for these files: 0 where nothing is refused, 1 where the words have another form, or name what the model or
 //! the journals don't have, 2 where the model is refused, 3 where the injections or the journals are, 5 for want of
 //! memory, 6 where a file wasn't read, 7 where the page wasn't written.
@@ -22,7 +23,7 @@ mod words;
 use crate::doors::tell_doors;
 use crate::lines::injections_of;
 use crate::messages::tell_message_of;
-use crate::pictures::tell_picture;
+use crate::pictures::{tell_picture, tell_run_picture};
 use crate::runs::{tell_end_of, tell_story_of};
 use crate::texts::{Kind, read};
 use crate::why::tell_model;
@@ -113,6 +114,9 @@ fn tell(rt: HostRuntime, page: &mut Page, question: Question<'_>) -> Result<Stat
         Asked::End(name) => return tell_end_of(rt, page, &wiring, name),
         Asked::Picture(picture) => {
             return tell_picture(rt.alloc(), page, model, &wiring, picture);
+        }
+        Asked::Run(name, form, options) => {
+            return tell_run_picture(rt, page, &wiring, name, form, options);
         }
     }
     Ok(Status::Done)

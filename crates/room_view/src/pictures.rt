@@ -1,8 +1,13 @@
-//! Pictures of a model: its actors with their bindings, and the charts of its classes.
+//! Pictures of a model and its runs: actors with their bindings, charts of classes, and who sent what to whom.
 use crate::messages::tree_of;
+use crate::runs::{journals_of, knows, wanted_of};
+use crate::words::Options;
 use journal_views::view_pages::{Named, Page};
-use model_pictures::{chart_picture, machine_of, tell_machines, wiring_picture};
-use picture_formats::{Diagram, put_dot, put_mermaid, put_svg};
+use model_pictures::{chart_picture, machine_of, run_picture, tell_machines, wiring_picture};
+use picture_formats::{
+    Diagram, Sequence, put_dot, put_mermaid, put_sequence_dot, put_sequence_mermaid,
+    put_sequence_svg, put_svg,
+};
 use room_ast::Model;
 use room_run::Status;
 use room_wiring::Wiring;
@@ -10,7 +15,7 @@ use std::alloc::{AllocError, Global};
 
 /// The form of a picture.
 #[derive(Clone, Copy, Debug, PartialEq, Eq)]
-enum Form {
+pub(crate) enum Form {
     Svg,
     Dot,
     Mermaid,
@@ -32,7 +37,7 @@ pub(crate) struct Picture<'a> {
 }
 
 /// The form that a word names.
-fn form_of(word: &str) -> Option<Form> {
+pub(crate) fn form_of(word: &str) -> Option<Form> {
     match word {
         "--svg" => Some(Form::Svg),
         "--dot" => Some(Form::Dot),
@@ -87,5 +92,35 @@ pub(crate) fn tell_picture(
         },
     };
     put_picture(page, &diagram, picture.form)?;
+    Ok(Status::Done)
+}
+
+fn put_run(page: &mut Page, sequence: &Sequence, form: Form) -> Result<(), AllocError> {
+    match form {
+        Form::Svg => put_sequence_svg(page, sequence),
+        Form::Dot => put_sequence_dot(page, sequence),
+        Form::Mermaid => put_sequence_mermaid(page, sequence),
+    }
+}
+
+/// Puts a picture of what options ask for of the run of the journals of a file.
+pub(crate) fn tell_run_picture(
+    rt: HostRuntime,
+    page: &mut Page,
+    wiring: &Wiring,
+    name: &str,
+    form: Form,
+    options: Options<'_>,
+) -> Result<Status, AllocError> {
+    if !knows(page, wiring, options)? {
+        return Ok(Status::WordsRefused);
+    }
+    let journals = match journals_of(rt, page, wiring, name)? {
+        Ok(journals) => journals,
+        Err(status) => return Ok(status),
+    };
+    let wanted = wanted_of(wiring, options);
+    let sequence = run_picture(rt.alloc(), wiring, &journals, wanted)?;
+    put_run(page, &sequence, form)?;
     Ok(Status::Done)
 }
