@@ -10,6 +10,7 @@ use Rattle.room_ast.specs.model_parts.Charts.{chart_of}
 use Rattle.room_ast.specs.model_parts.Classes.{class_name, number_in}
 use Rattle.room_inherit.specs.Flat.{actor_at, base_in, over_base, flat_with, flat_actor, flat_class, flat}
 use Rattle.room_inherit.specs.Flattening.{size_rule}
+use Rattle.derived_classes.specs.Derived.{once_of, refines_known, refines_once}
 use Rattle.derived_classes.specs.Refining.{refinements}
 use Rattle.room_inherit.specs.Rules as rules
 
@@ -64,11 +65,11 @@ stands_right : (a : ActorTree) → rules.class_is_plain a ≡ true → rules.ref
 stands_right a e = ap (λ (o : Option (List ℕ)). option_map_or (if is_some o then rules.is_plain_inside else rules.is_plain) (chart_of a) true) (no_base a e) ∙ plain_chart a e
 
 known_names : (classes : List ClassTree) (a : ActorTree) → rules.class_is_plain a ≡ true → rules.names_known classes a ≡ true
-known_names classes a e = ap (λ o. option_map_or (λ b. rules.refines_known (flat_actor classes b) a) o true) (no_base_in classes a e)
+known_names classes a e = ap (λ o. option_map_or (λ b. refines_known (flat_actor classes b) a) o true) (no_base_in classes a e)
 
-once : (a : ActorTree) → rules.class_is_plain a ≡ true → rules.refines_once a ≡ true
-unfolding rules.once_of
-once a e = ap rules.once_of (none_in_chart (chart_of a) (plain_chart a e))
+once : (a : ActorTree) → rules.class_is_plain a ≡ true → refines_once a ≡ true
+unfolding once_of
+once a e = ap once_of (none_in_chart (chart_of a) (plain_chart a e))
 
 -- ---- no circles
 
@@ -95,7 +96,7 @@ plain_keeps m e =
     let circle : rules.none_extends_itself m ≡ true = no_circle m e in
     let right : rules.refinements_stand_right m ≡ true = all_keep rules.refines_rightly stands_right m.classes e in
     let names : rules.refinements_are_known m ≡ true = all_keep (rules.names_known m.classes) (known_names m.classes) m.classes e in
-    let differ : rules.refinements_differ m ≡ true = all_keep rules.refines_once once m.classes e in
+    let differ : rules.refinements_differ m ≡ true = all_keep refines_once once m.classes e in
     rw (known, circle, right, names, differ)
 
 flat_itself : (classes : List ClassTree) (a : ActorTree) → rules.class_is_plain a ≡ true → flat_actor classes a ≡ a
