@@ -1,8 +1,10 @@
-//! The program `room_view`: tells people why a text is refused, and where; where messages can come in; and what the
-//! journals of a run tell.
+//! The program `room_view`: tells people why a text is refused, and where; where messages can come in; what the
+//! journals of a run tell; and draws pictures of models and of runs.
 //!
-//! `why MODEL [INJECT]`, `doors MODEL`, `story MODEL JOURNALS ..`, `end MODEL JOURNALS` and `explain MODEL INJECT
-//! JOURNALS MESSAGE` write a page to standard output; of a model that is refused all tell why. The status is that of
+//! `why MODEL [INJECT]`, `doors MODEL`, `lint MODEL [INJECT]`, `story MODEL JOURNALS ..`, `end MODEL JOURNALS`,
+//! `explain MODEL INJECT JOURNALS MESSAGE`, `wiring MODEL [FORM]`, `chart MODEL CLASS [FORM]` and
+//! `run MODEL JOURNALS [FORM] ..` write a page to standard output; of a model that is refused all tell why. The
+//! status is that of
 //! `room` for these files: 0 where nothing is refused, 1 where the words have another form, or name what the model or
 //! the journals don't have, 2 where the model is refused, 3 where the injections or the journals are, 5 for want of
 //! memory, 6 where a file wasn't read, 7 where the page wasn't written.
@@ -12,6 +14,7 @@ mod doors;
 mod judge;
 mod lines;
 mod messages;
+mod pictures;
 mod runs;
 mod texts;
 mod why;
@@ -20,11 +23,13 @@ mod words;
 use crate::doors::tell_doors;
 use crate::lines::injections_of;
 use crate::messages::tell_message_of;
+use crate::pictures::{tell_picture, tell_run_picture};
 use crate::runs::{tell_end_of, tell_story_of};
 use crate::texts::{Kind, read};
 use crate::why::tell_model;
 use crate::words::{Asked, FORMS, Question, question_of};
 use journal_views::view_pages::{Named, Page};
+use model_lint::tell_findings;
 use room_outside::{FileShelf, OutSink, read_whole, write_whole};
 use room_run::{LEAST_STACK, Status, stack_for};
 use room_wiring::Wiring;
@@ -59,6 +64,31 @@ fn tell_injections(
     Ok(Status::Done)
 }
 
+/// Tells what the author of a model, and of injections if there are any, hardly meant.
+fn tell_lint(
+    rt: HostRuntime,
+    page: &mut Page,
+    model: Named<'_>,
+    wiring: &Wiring,
+    injections: Option<&str>,
+) -> Result<Status, AllocError> {
+    let Some(name) = injections else {
+        tell_findings(rt.alloc(), page, model, wiring, None)?;
+        return Ok(Status::Done);
+    };
+    match injections_of(rt, page, wiring, name)? {
+        Ok(text) => {
+            let lines = Named {
+                name,
+                text: text.as_slice(),
+            };
+            tell_findings(rt.alloc(), page, model, wiring, Some(lines))?;
+        }
+        Err(status) => return Ok(status),
+    }
+    Ok(Status::Done)
+}
+
 /// The page for a question, and the status.
 fn tell(rt: HostRuntime, page: &mut Page, question: Question<'_>) -> Result<Status, AllocError> {
     let text = match read(rt, page, question.model, Kind::Model)? {
@@ -75,12 +105,19 @@ fn tell(rt: HostRuntime, page: &mut Page, question: Question<'_>) -> Result<Stat
     match question.asked {
         Asked::Nothing => page.put_line(b"ok")?,
         Asked::Doors => tell_doors(page, &wiring)?,
+        Asked::Lint(injections) => return tell_lint(rt, page, model, &wiring, injections),
         Asked::Injections(name) => return tell_injections(rt, page, &wiring, name),
         Asked::Story(name, options) => return tell_story_of(rt, page, &wiring, name, options),
         Asked::Explain(message) => {
             return tell_message_of(rt, page, model, &wiring, message);
         }
         Asked::End(name) => return tell_end_of(rt, page, &wiring, name),
+        Asked::Picture(picture) => {
+            return tell_picture(rt.alloc(), page, model, &wiring, picture);
+        }
+        Asked::Run(name, form, options) => {
+            return tell_run_picture(rt, page, &wiring, name, form, options);
+        }
     }
     Ok(Status::Done)
 }

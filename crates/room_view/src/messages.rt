@@ -18,7 +18,7 @@ use std::alloc::{AllocError, Global};
 
 /// The tree of the text of a model that isn't refused, in which each actor class has all that it has from its bases.
 /// Where there is none memory ran out.
-fn tree_of(alloc: Global, text: &[u8]) -> Result<Model, AllocError> {
+pub(crate) fn tree_of(alloc: Global, text: &[u8]) -> Result<Model, AllocError> {
     let Ok(tokens) = lex(alloc, text) else {
         return Err(AllocError);
     };

@@ -102,7 +102,11 @@ fn knows_signal(page: &mut Page, wiring: &Wiring, name: &str) -> Result<bool, Al
 }
 
 /// Whether a model has what options name; what it hasn't is told.
-fn knows(page: &mut Page, wiring: &Wiring, options: Options<'_>) -> Result<bool, AllocError> {
+pub(crate) fn knows(
+    page: &mut Page,
+    wiring: &Wiring,
+    options: Options<'_>,
+) -> Result<bool, AllocError> {
     let is_known = match options.actor {
         Some(path) => knows_actor(page, wiring, path)?,
         None => true,
@@ -131,7 +135,7 @@ fn bytes_of(name: Option<&str>) -> Option<&[u8]> {
 }
 
 /// Which lines of a story options ask for.
-fn wanted_of<'a>(wiring: &Wiring, options: Options<'a>) -> Wanted<'a> {
+pub(crate) fn wanted_of<'a>(wiring: &Wiring, options: Options<'a>) -> Wanted<'a> {
     Wanted {
         actor: slot_of(wiring, options.actor),
         signal: bytes_of(options.signal),

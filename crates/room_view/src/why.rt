@@ -1,15 +1,18 @@
 //! Why a text is refused, and where.
 use crate::judge::FaultOf;
+use crate::messages::tree_of;
 use fault_places::{
     Item, Meaning, Unread, chart_meaning, could_stand, find_causes, head_of, named_by,
     rule_meaning, wiring_meaning,
 };
 use journal_views::view_pages::{Named, Page};
+use model_lint::{ChartFault, chart_cause};
 use room_lexer::{LexFault, Token, lex};
 use room_outside::MAX_TEXT;
 use room_run::{ModelFault, read_wiring};
 use room_wiring::Wiring;
 use std::alloc::{AllocError, Global};
+use structure_check::check;
 
 /// What a fault is and how it is mended.
 pub(crate) fn tell_meaning(page: &mut Page, meaning: Meaning) -> Result<(), AllocError> {
@@ -118,19 +121,77 @@ fn tell_items(
     Ok(())
 }
 
+/// A part of a text in which the cause of a fault of a chart stands, and which cause it is, if that is seen.
+fn tell_chart_cause(
+    alloc: Global,
+    page: &mut Page,
+    named: Named<'_>,
+    tokens: &[Token],
+    fault: ChartFault<'_>,
+    item: Item,
+) -> Result<(), AllocError> {
+    match chart_cause(alloc, named.text, tokens, fault, item)? {
+        Some(cause) => {
+            page.put_part(named, cause.start, cause.end)?;
+            page.put(b"    ")?;
+            page.put_line(cause.what.as_bytes())
+        }
+        None => tell_items(page, named, tokens, &[item]),
+    }
+}
+
+/// The parts of a text in which the causes of a fault of a chart stand.
+fn tell_chart_causes(
+    alloc: Global,
+    page: &mut Page,
+    named: Named<'_>,
+    tokens: &[Token],
+    class: &[u8],
+    number: u8,
+    found: &[Item],
+) -> Result<(), AllocError> {
+    let tree = tree_of(alloc, named.text)?;
+    let Ok(checked) = check(alloc, &tree) else {
+        return tell_items(page, named, tokens, found);
+    };
+    let place = checked
+        .classes
+        .iter()
+        .position(|other| other.name.is(class));
+    let fault = ChartFault {
+        class,
+        number,
+        scope: match place {
+            Some(place) => checked.scopes.get(place),
+            None => None,
+        },
+    };
+    for item in found {
+        tell_chart_cause(alloc, page, named, tokens, fault, *item)?;
+    }
+    Ok(())
+}
+
 /// Where the causes of a fault stand, and what they name.
 fn tell_causes(
     alloc: Global,
     page: &mut Page,
     named: Named<'_>,
     tokens: &[Token],
+    fault: &ModelFault,
     found: &[Item],
 ) -> Result<(), AllocError> {
     page.end_line()?;
     if found.is_empty() {
         return page.put_line(b"no single part of the text is its cause");
     }
-    tell_items(page, named, tokens, found)?;
+    match fault {
+        ModelFault::Chart { class, number } => {
+            let class = class.as_bytes();
+            tell_chart_causes(alloc, page, named, tokens, class, *number, found)?;
+        }
+        _ => tell_items(page, named, tokens, found)?,
+    }
     let declared = named_by(alloc, named.text, tokens, found)?;
     if !declared.is_empty() {
         page.end_line()?;
@@ -190,7 +251,7 @@ fn tell_fault(
     tell_head(alloc, page, named, fault)?;
     let judge = FaultOf { alloc, fault };
     let found = find_causes(alloc, named.text, tokens, class_of(fault), &judge)?;
-    tell_causes(alloc, page, named, tokens, found.as_slice())
+    tell_causes(alloc, page, named, tokens, fault, found.as_slice())
 }
 
 /// Tells why the text of a model is refused; gives its wiring where it isn't.

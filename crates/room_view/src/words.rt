@@ -1,9 +1,10 @@
 //! What the words of a call ask for.
+use crate::pictures::{Form, Picture, form_of, picture_of};
 use text_reading::{are_digits, value};
 
 /// What is told where words have another form.
 pub(crate) const FORMS: &[u8] =
-    b"room_view: words refused; why MODEL [INJECT], doors MODEL, story MODEL JOURNALS [--actor PATH] [--signal NAME] [--from STAMP] [--to STAMP] [--only-trouble], end MODEL JOURNALS or explain MODEL INJECT JOURNALS MESSAGE\n";
+    b"room_view: words refused; why MODEL [INJECT], doors MODEL, lint MODEL [INJECT], story MODEL JOURNALS [--actor PATH] [--signal NAME] [--from STAMP] [--to STAMP] [--only-trouble], end MODEL JOURNALS, explain MODEL INJECT JOURNALS MESSAGE, wiring MODEL [FORM], chart MODEL CLASS [FORM] or run MODEL JOURNALS [FORM] with the options of story; FORM is --svg, --dot or --mermaid\n";
 
 /// Which lines of a story the words ask for.
 #[derive(Clone, Copy)]
@@ -40,12 +41,18 @@ pub(crate) enum Asked<'a> {
     Injections(&'a str),
     /// Where messages can come in.
     Doors,
+    /// What its author hardly meant; in the injections of this file too, if there is one.
+    Lint(Option<&'a str>),
     /// The story of the journals of this file.
     Story(&'a str, Options<'a>),
     /// What was still open where the run of the journals of this file ended.
     End(&'a str),
     /// The way of one message of a run.
     Explain(Message<'a>),
+    /// A picture of the model.
+    Picture(Picture<'a>),
+    /// A picture of the run of the journals of this file.
+    Run(&'a str, Form, Options<'a>),
 }
 
 /// What the words ask: the file of a model, and what is asked of it.
@@ -186,6 +193,16 @@ fn options_of(words: &[String]) -> Option<Options<'_>> {
     })
 }
 
+/// The form of a picture and the words behind it; an SVG is meant where no form is named.
+fn form_and_rest(words: &[String]) -> (Form, &[String]) {
+    if let [word, rest @ ..] = words
+        && let Some(form) = form_of(word.as_str())
+    {
+        return (form, rest);
+    }
+    (Form::Svg, words)
+}
+
 fn ask<'a>(model: &'a String, asked: Asked<'a>) -> Option<Question<'a>> {
     Some(Question {
         model: model.as_str(),
@@ -200,6 +217,8 @@ pub(crate) fn question_of(words: &[String]) -> Option<Question<'_>> {
         ("why", [model]) => ask(model, Asked::Nothing),
         ("why", [model, injections]) => ask(model, Asked::Injections(injections.as_str())),
         ("doors", [model]) => ask(model, Asked::Doors),
+        ("lint", [model]) => ask(model, Asked::Lint(None)),
+        ("lint", [model, injections]) => ask(model, Asked::Lint(Some(injections.as_str()))),
         ("end", [model, journals]) => ask(model, Asked::End(journals.as_str())),
         ("explain", [model, injections, journals, message]) => {
             let name = message_of(message.as_str())?;
@@ -213,6 +232,15 @@ pub(crate) fn question_of(words: &[String]) -> Option<Question<'_>> {
         ("story", [model, journals, options @ ..]) => {
             let options = options_of(options)?;
             ask(model, Asked::Story(journals.as_str(), options))
+        }
+        ("run", [model, journals, options @ ..]) => {
+            let (form, options) = form_and_rest(options);
+            let options = options_of(options)?;
+            ask(model, Asked::Run(journals.as_str(), form, options))
+        }
+        (command, [model, options @ ..]) => {
+            let picture = picture_of(command, options)?;
+            ask(model, Asked::Picture(picture))
         }
         _ => None,
     }

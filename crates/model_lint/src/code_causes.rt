@@ -1,0 +1,327 @@
+//! Which fault a code or a trigger has that a class refuses, and where in it.
+use crate::chart::event_in;
+use crate::classes::ClassText;
+use crate::code::Code;
+use crate::source::Source;
+use action_lang::{ActionFault, ServiceNames, check_action, check_cond, parse_action, parse_cond};
+use fault_places::Item;
+use room_ast::Scope;
+use room_kinds::PortKind;
+use room_lexer::{Mark, Token, TokenKind, Word};
+use std::alloc::{AllocError, Global};
+
+/// What is wrong at a place of a text: its first byte, the one behind its last, and what it is.
+#[derive(Clone, Copy, Drop)]
+pub struct Cause {
+    pub start: usize,
+    pub end: usize,
+    pub what: &'static str,
+}
+
+/// Whether two parts have a token in common.
+fn meet(one: Item, other: Item) -> bool {
+    one.first < other.end && other.first < one.end
+}
+
+/// What a fault of a code is.
+fn meaning_of(fault: ActionFault, is_condition: bool) -> &'static str {
+    match fault {
+        ActionFault::Syntax if is_condition => {
+            "this is no condition: one value, without a semicolon and without `=` alone"
+        }
+        ActionFault::Syntax => "this is no statement, or the semicolon at its end is missing",
+        ActionFault::UnknownName => {
+            "it names an attribute, port or reference that the class hasn't, or one of another kind; the first number of a message is `data`"
+        }
+        ActionFault::WrongPort => {
+            "the message doesn't go out at this port, or the actor doesn't work at it, or the port takes no name"
+        }
+        ActionFault::WrongArgs => "it sends another number of values than the message has numbers",
+        ActionFault::NestTooDeep => "it nests or repeats beyond the limits",
+        ActionFault::Memory => "there was no memory for it",
+    }
+}
+
+/// Asks whether codes are those of a class.
+#[derive(Clone, Copy)]
+struct Judge<'a> {
+    alloc: Global,
+    scope: &'a Scope,
+    is_condition: bool,
+}
+
+impl<'a> Judge<'a> {
+    fn action_fault(&self, text: &[u8]) -> Result<(), ActionFault> {
+        let program = parse_action(self.alloc, text)?;
+        let mut names = ServiceNames::new(self.alloc);
+        match check_action(self.alloc, &program, self.scope, &mut names) {
+            Ok(_bound) => Ok(()),
+            Err(fault) => Err(fault),
+        }
+    }
+
+    fn condition_fault(&self, text: &[u8]) -> Result<(), ActionFault> {
+        let condition = parse_cond(self.alloc, text)?;
+        match check_cond(self.alloc, &condition, self.scope) {
+            Ok(_bound) => Ok(()),
+            Err(fault) => Err(fault),
+        }
+    }
+
+    /// The fault of a text, if it has one.
+    fn fault(&self, text: &[u8]) -> Result<Option<ActionFault>, AllocError> {
+        let judged = if self.is_condition {
+            self.condition_fault(text)
+        } else {
+            self.action_fault(text)
+        };
+        match judged {
+            Ok(()) => Ok(None),
+            Err(ActionFault::Memory) => Err(AllocError),
+            Err(fault) => Ok(Some(fault)),
+        }
+    }
+
+    /// The fault of the first statements of a code, which end behind a byte.
+    fn fault_up_to(&self, code: &Code, end: usize) -> Result<Option<ActionFault>, AllocError> {
+        self.fault(code.text().get(..end).unwrap_or(&[]))
+    }
+}
+
+/// How deep a token lies behind another one in braces and parentheses.
+fn depth_behind(depth: usize, token: &Token) -> usize {
+    match token.kind {
+        TokenKind::Mark(Mark::OpenBrace | Mark::OpenParen) => depth.saturating_add(1),
+        TokenKind::Mark(Mark::CloseBrace | Mark::CloseParen) => depth.saturating_sub(1),
+        _ => depth,
+    }
+}
+
+/// The word behind which a statement goes on that a block would end.
+const GOES_ON: &[u8] = b"else";
+
+/// Whether a statement ends with a token in front of these, which lies outside of all braces.
+fn ends_statement(code: &Code, token: &Token, behind: &[Token]) -> bool {
+    match token.kind {
+        TokenKind::Mark(Mark::Semicolon) => true,
+        TokenKind::Mark(Mark::CloseBrace) => match behind {
+            [next, ..] => code.bytes(next) != GOES_ON,
+            [] => true,
+        },
+        _ => false,
+    }
+}
+
+/// The numbers of the tokens with which statements of a code end, and at last of its last token.
+fn ends_of_statements(alloc: Global, code: &Code) -> Result<Vec<usize>, AllocError> {
+    let tokens = code.tokens();
+    let mut ends = Vec::new(alloc);
+    let mut depth = 0usize;
+    for (at, token) in tokens.iter().enumerate() {
+        depth = depth_behind(depth, token);
+        let behind = tokens.get(at.saturating_add(1)..).unwrap_or(&[]);
+        let is_last = behind.is_empty();
+        if is_last || (depth == 0 && ends_statement(code, token, behind)) {
+            ends.push(at)?;
+        }
+    }
+    Ok(ends)
+}
+
+/// The byte of a code behind a token of a number.
+fn byte_behind(code: &Code, token: usize) -> usize {
+    match code.tokens().get(token) {
+        Some(token) => token.end,
+        None => code.text().len(),
+    }
+}
+
+/// The first end of statements up to which a code is faulty: the one before is the last up to which it isn't. A code
+/// that is faulty up to an end is so up to each later one.
+fn first_faulty(judge: &Judge<'_>, code: &Code, ends: &[usize]) -> Result<usize, AllocError> {
+    let mut low = 0usize;
+    let mut high = ends.len().saturating_sub(1);
+    for _half in 0..64u32 {
+        if low >= high {
+            break;
+        }
+        let middle = low.saturating_add((high - low) / 2);
+        let end = byte_behind(code, ends.get(middle).copied().unwrap_or(0));
+        if judge.fault_up_to(code, end)?.is_some() {
+            high = middle;
+        } else {
+            low = middle.saturating_add(1);
+        }
+    }
+    Ok(low)
+}
+
+/// The tokens of the statement that ends with the end of a number among those of statements.
+fn statement_at<'a>(code: &'a Code, ends: &[usize], number: usize) -> &'a [Token] {
+    let first = match number.checked_sub(1) {
+        Some(before) => ends.get(before).copied().unwrap_or(0).saturating_add(1),
+        None => 0,
+    };
+    let last = ends.get(number).copied().unwrap_or(0);
+    code.tokens()
+        .get(first..last.saturating_add(1))
+        .unwrap_or(&[])
+}
+
+/// What is wrong with a code, and at which of its statements.
+fn cause_in(judge: &Judge<'_>, code: &Code) -> Result<Option<Cause>, AllocError> {
+    let Some(whole) = judge.fault(code.text())? else {
+        return Ok(None);
+    };
+    let ends = if judge.is_condition {
+        Vec::new(judge.alloc)
+    } else {
+        ends_of_statements(judge.alloc, code)?
+    };
+    let number = first_faulty(judge, code, ends.as_slice())?;
+    let statement = if ends.is_empty() {
+        code.tokens()
+    } else {
+        statement_at(code, ends.as_slice(), number)
+    };
+    let (Some(first), Some(last)) = (statement.first(), statement.last()) else {
+        return Ok(None);
+    };
+    let fault = match judge.fault_up_to(code, last.end)? {
+        Some(fault) => fault,
+        None => whole,
+    };
+    let (start, end) = code.span(first, last);
+    Ok(Some(Cause {
+        start,
+        end,
+        what: meaning_of(fault, judge.is_condition),
+    }))
+}
+
+/// The codes of the guards in the triggers of a transition.
+fn guards_in(alloc: Global, source: Source<'_>, triggers: Item) -> Result<Vec<Item>, AllocError> {
+    let mut guards = Vec::new(alloc);
+    let mut first: Option<usize> = None;
+    for (at, token) in source.tokens_of(triggers).iter().enumerate() {
+        let place = triggers.first.saturating_add(at);
+        match token.kind {
+            TokenKind::Ident(Some(Word::Guard)) => first = Some(place),
+            TokenKind::Mark(Mark::Greater) => {
+                if let Some(first) = first {
+                    guards.push(Item { first, end: place })?;
+                }
+                first = None;
+            }
+            _ => (),
+        }
+    }
+    Ok(guards)
+}
+
+/// The conditions of a transition: that of a branch, and the guards of triggers.
+fn conditions_of(alloc: Global, source: Source<'_>, arrow: Item) -> Result<Vec<Item>, AllocError> {
+    let mut conditions = Vec::new(alloc);
+    for part in source.parts(alloc, arrow)?.as_slice() {
+        match source.word(*part) {
+            Some(Word::Cond) => conditions.push(*part)?,
+            Some(Word::Triggers) => {
+                conditions.append(&mut guards_in(alloc, source, *part)?)?;
+            }
+            _ => (),
+        }
+    }
+    Ok(conditions)
+}
+
+/// What is wrong with the first faulty one of some codes that meets a part of the text.
+fn cause_among(
+    source: Source<'_>,
+    judge: &Judge<'_>,
+    codes: &[Item],
+    item: Item,
+) -> Result<Option<Cause>, AllocError> {
+    for part in codes {
+        if meet(*part, item) {
+            let code = Code::of(judge.alloc, source, *part)?;
+            let cause = cause_in(judge, &code)?;
+            if cause.is_some() {
+                return Ok(cause);
+            }
+        }
+    }
+    Ok(None)
+}
+
+/// What is wrong with the codes of a class that meet a part of the text, and where.
+pub(crate) fn code_cause(
+    alloc: Global,
+    source: Source<'_>,
+    class: &ClassText<'_>,
+    scope: &Scope,
+    item: Item,
+) -> Result<Option<Cause>, AllocError> {
+    let actions = Judge {
+        alloc,
+        scope,
+        is_condition: false,
+    };
+    let cause = cause_among(source, &actions, class.chart.codes(), item)?;
+    if cause.is_some() {
+        return Ok(cause);
+    }
+    let conditions = Judge {
+        alloc,
+        scope,
+        is_condition: true,
+    };
+    for arrow in class.chart.arrows() {
+        if meet(arrow.item, item) {
+            let codes = conditions_of(alloc, source, arrow.item)?;
+            let cause = cause_among(source, &conditions, codes.as_slice(), item)?;
+            if cause.is_some() {
+                return Ok(cause);
+            }
+        }
+    }
+    Ok(None)
+}
+
+/// What is wrong with an event of a trigger, if something is.
+fn fault_of_event(scope: &Scope, message: &[u8], port: &[u8]) -> Option<&'static str> {
+    let Some((_number, port)) = scope.port(port) else {
+        return Some("the class has no such port");
+    };
+    if port.kind == PortKind::Relay {
+        return Some(
+            "this port only passes on: `external Port` in the Structure lets the actor work at it",
+        );
+    }
+    if port.received(message).is_some() {
+        return None;
+    }
+    if port.sent(message).is_some() {
+        return Some(
+            "this message goes out at the port, and doesn't come in: `conjugated` turns a port round",
+        );
+    }
+    Some("the port's protocol has no such message")
+}
+
+/// What is wrong with the triggers of a class that meet a part of the text, and where.
+pub(crate) fn trigger_cause(source: Source<'_>, scope: &Scope, item: Item) -> Option<Cause> {
+    let tokens = source.tokens_of(item);
+    for at in 0..tokens.len() {
+        if let Some((message, port)) = event_in(tokens.get(at..).unwrap_or(&[])) {
+            let what = fault_of_event(scope, source.bytes(message), source.bytes(port));
+            if let Some(what) = what {
+                return Some(Cause {
+                    start: message.start,
+                    end: port.end,
+                    what,
+                });
+            }
+        }
+    }
+    None
+}

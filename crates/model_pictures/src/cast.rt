@@ -1,0 +1,159 @@
+//! Who has a lifeline in the picture of a run.
+use journal::naming;
+use picture_formats::{Group, Lifeline, Sequence, tail_of};
+use room_kinds::{Endpoint, SlotId};
+use room_wiring::Wiring;
+use std::alloc::{AllocError, Global};
+
+/// The most slots that have lifelines.
+pub const MOST_LIFELINES: usize = 100;
+
+/// Who takes part in what is drawn of a run.
+#[derive(Drop)]
+pub struct Cast {
+    /// For each slot whether an actor of it takes part.
+    slots: Vec<bool>,
+    count: usize,
+    has_environment: bool,
+}
+
+/// The lifelines of those who take part.
+#[derive(Drop)]
+pub struct Columns {
+    /// The lifeline of each slot that takes part.
+    slots: Vec<Option<usize>>,
+}
+
+/// Where the lifeline of a slot stands among the others: by controller, and by number.
+#[derive(Clone, Copy, Drop, PartialEq, Eq, PartialOrd, Ord)]
+struct Seat {
+    owner: u8,
+    slot: u16,
+}
+
+impl Cast {
+    /// Nobody.
+    pub fn nobody(alloc: Global, wiring: &Wiring) -> Result<Cast, AllocError> {
+        let mut slots = Vec::new(alloc);
+        for _slot in 0..wiring.slot_count() {
+            slots.push(false)?;
+        }
+        Ok(Cast {
+            slots,
+            count: 0,
+            has_environment: false,
+        })
+    }
+
+    /// Whether the actors of a slot take part: from now on they do, where there is room.
+    pub fn admit(&mut self, slot: SlotId) -> bool {
+        let Some(takes_part) = self.slots.as_mut_slice().get_mut(usize::from(slot.0)) else {
+            return false;
+        };
+        if !*takes_part && self.count < MOST_LIFELINES {
+            *takes_part = true;
+            self.count = self.count.saturating_add(1);
+        }
+        *takes_part
+    }
+
+    /// Whether who sends at an end takes part; the environment sends at none.
+    pub fn admit_sender(&mut self, source: Option<Endpoint>) -> bool {
+        match source {
+            Some(source) => self.admit(source.slot),
+            None => {
+                self.has_environment = true;
+                true
+            }
+        }
+    }
+
+    /// Where the lifelines of those who take part stand.
+    fn seats(&self, alloc: Global, wiring: &Wiring) -> Result<Vec<Seat>, AllocError> {
+        let mut seats = Vec::new(alloc);
+        for (number, takes_part) in self.slots.as_slice().iter().enumerate() {
+            if *takes_part
+                && let Ok(slot) = u16::try_from(number)
+                && let Some(known) = wiring.get_slot(SlotId(slot))
+            {
+                seats.push(Seat {
+                    owner: known.owner.0,
+                    slot,
+                })?;
+            }
+        }
+        seats.sort()?;
+        Ok(seats)
+    }
+
+    /// Gives those who take part their lifelines: first the environment, then the slots by controller. Where nobody
+    /// takes part the environment has one.
+    pub fn take_seats(
+        &self,
+        sequence: &mut Sequence,
+        wiring: &Wiring,
+    ) -> Result<Columns, AllocError> {
+        let alloc = sequence.alloc;
+        let mut columns = Columns {
+            slots: vec![in alloc; None; self.slots.len()]?,
+        };
+        if self.has_environment || self.count == 0 {
+            add_group(sequence, b"", b"", None)?;
+            add_lifeline(sequence, b"environment")?;
+        }
+        let mut owner = None;
+        for seat in self.seats(alloc, wiring)?.as_slice() {
+            if owner != Some(seat.owner) {
+                let name = naming::controller_name(wiring, usize::from(seat.owner));
+                add_group(sequence, b"controller ", name, Some(seat.owner))?;
+                owner = Some(seat.owner);
+            }
+            columns.sit(seat.slot, sequence.lifelines.len());
+            add_lifeline(sequence, naming::path(wiring, SlotId(seat.slot)))?;
+        }
+        Ok(columns)
+    }
+}
+
+impl Columns {
+    fn sit(&mut self, slot: u16, lifeline: usize) {
+        if let Some(place) = self.slots.as_mut_slice().get_mut(usize::from(slot)) {
+            *place = Some(lifeline);
+        }
+    }
+
+    /// The lifeline of a slot, if it takes part.
+    pub fn of(&self, slot: SlotId) -> Option<usize> {
+        match self.slots.as_slice().get(usize::from(slot.0)) {
+            Some(lifeline) => *lifeline,
+            None => None,
+        }
+    }
+
+    /// The lifeline of who sends at an end; that of the environment is the first one.
+    pub fn of_sender(&self, source: Option<Endpoint>) -> Option<usize> {
+        match source {
+            Some(source) => self.of(source.slot),
+            None => Some(0),
+        }
+    }
+}
+
+/// Adds a group, which has no lifelines yet.
+fn add_group(
+    sequence: &mut Sequence,
+    kind: &[u8],
+    name: &[u8],
+    colour: Option<u8>,
+) -> Result<(), AllocError> {
+    let mut title = Vec::from_slice(sequence.alloc, kind)?;
+    title.extend_from_slice(tail_of(name))?;
+    Ok(sequence.groups.push(Group { title, colour })?)
+}
+
+/// Adds a lifeline to the group that was added last.
+fn add_lifeline(sequence: &mut Sequence, title: &[u8]) -> Result<(), AllocError> {
+    let group = sequence.groups.len().saturating_sub(1);
+    let title = Vec::from_slice(sequence.alloc, tail_of(title))?;
+    Ok(sequence.lifelines.push(Lifeline { title, group })?)
+}

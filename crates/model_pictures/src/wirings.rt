@@ -1,0 +1,40 @@
+//! The picture of the actors of a model.
+use crate::actors::add_actors;
+use crate::bindings::{add_bindings, containers_of};
+use picture_formats::{Diagram, Mark, Sign};
+use room_ast::Model;
+use room_wiring::Wiring;
+use std::alloc::{AllocError, Global};
+
+/// What the legend of a wiring tells, where it occurs.
+fn add_keys(diagram: &mut Diagram) -> Result<(), AllocError> {
+    let marks: [(Mark, &[u8]); 6] = [
+        (Mark::Port, b"port"),
+        (Mark::ConjugatedPort, b"conjugated port"),
+        (Mark::Relay, b"relay port"),
+        (Mark::ConjugatedRelay, b"conjugated relay port"),
+        (Mark::Access, b"service access point"),
+        (Mark::Provision, b"service provision point"),
+    ];
+    diagram.add_marks(&marks)?;
+    let points = diagram.points.as_slice();
+    if points.iter().any(|point| point.unjoined > 0) {
+        diagram.add_key(Sign::Unjoined, b"has places that are joined to nothing")?;
+    }
+    Ok(())
+}
+
+/// The picture of the actors of a model, and of what joins their ports.
+pub fn wiring_picture<'a>(
+    alloc: Global,
+    model: &'a Model,
+    wiring: &'a Wiring,
+) -> Result<Diagram, AllocError> {
+    let mut diagram = Diagram::new(alloc, false);
+    let containers = containers_of(alloc, model)?;
+    let title = containers.title(alloc)?;
+    let actors = add_actors(&mut diagram, wiring, title, containers.top_count())?;
+    add_keys(&mut diagram)?;
+    add_bindings(&mut diagram, &actors, wiring, &containers)?;
+    Ok(diagram)
+}

@@ -1,0 +1,126 @@
+//! Pictures of a model and its runs: actors with their bindings, charts of classes, and who sent what to whom.
+use crate::messages::tree_of;
+use crate::runs::{journals_of, knows, wanted_of};
+use crate::words::Options;
+use journal_views::view_pages::{Named, Page};
+use model_pictures::{chart_picture, machine_of, run_picture, tell_machines, wiring_picture};
+use picture_formats::{
+    Diagram, Sequence, put_dot, put_mermaid, put_sequence_dot, put_sequence_mermaid,
+    put_sequence_svg, put_svg,
+};
+use room_ast::Model;
+use room_run::Status;
+use room_wiring::Wiring;
+use std::alloc::{AllocError, Global};
+
+/// The form of a picture.
+#[derive(Clone, Copy, Debug, PartialEq, Eq)]
+pub(crate) enum Form {
+    Svg,
+    Dot,
+    Mermaid,
+}
+
+/// What a picture shows.
+#[derive(Clone, Copy)]
+enum Shown<'a> {
+    Wiring,
+    /// The chart of the class of this name.
+    Chart(&'a str),
+}
+
+/// A picture that is asked for.
+#[derive(Clone, Copy)]
+pub(crate) struct Picture<'a> {
+    shown: Shown<'a>,
+    form: Form,
+}
+
+/// The form that a word names.
+pub(crate) fn form_of(word: &str) -> Option<Form> {
+    match word {
+        "--svg" => Some(Form::Svg),
+        "--dot" => Some(Form::Dot),
+        "--mermaid" => Some(Form::Mermaid),
+        _ => None,
+    }
+}
+
+/// The picture that a command asks for with the words behind the model: `wiring MODEL [FORM]` or `chart MODEL CLASS
+/// [FORM]`.
+pub(crate) fn picture_of<'a>(command: &str, rest: &'a [String]) -> Option<Picture<'a>> {
+    let (shown, form) = match (command, rest) {
+        ("wiring", []) => (Shown::Wiring, Form::Svg),
+        ("wiring", [form]) => (Shown::Wiring, form_of(form.as_str())?),
+        ("chart", [class]) => (Shown::Chart(class.as_str()), Form::Svg),
+        ("chart", [class, form]) => (Shown::Chart(class.as_str()), form_of(form.as_str())?),
+        _ => return None,
+    };
+    Some(Picture { shown, form })
+}
+
+fn put_picture(page: &mut Page, diagram: &Diagram, form: Form) -> Result<(), AllocError> {
+    match form {
+        Form::Svg => put_svg(page, diagram),
+        Form::Dot => put_dot(page, diagram),
+        Form::Mermaid => put_mermaid(page, diagram),
+    }
+}
+
+/// Tells that a model has no chart of a class of this name.
+fn tell_no_chart(page: &mut Page, model: &Model, class: &str) -> Result<Status, AllocError> {
+    page.put(b"room_view: words refused; the model has no chart of a class ")?;
+    page.put(class.as_bytes())?;
+    tell_machines(page, model)?;
+    Ok(Status::WordsRefused)
+}
+
+/// Puts a picture of a model whose wiring this is.
+pub(crate) fn tell_picture(
+    alloc: Global,
+    page: &mut Page,
+    named: Named<'_>,
+    wiring: &Wiring,
+    picture: Picture<'_>,
+) -> Result<Status, AllocError> {
+    let model = tree_of(alloc, named.text)?;
+    let diagram = match picture.shown {
+        Shown::Wiring => wiring_picture(alloc, &model, wiring)?,
+        Shown::Chart(class) => match machine_of(&model, class.as_bytes()) {
+            Some(machine) => chart_picture(alloc, class.as_bytes(), machine)?,
+            None => return tell_no_chart(page, &model, class),
+        },
+    };
+    put_picture(page, &diagram, picture.form)?;
+    Ok(Status::Done)
+}
+
+fn put_run(page: &mut Page, sequence: &Sequence, form: Form) -> Result<(), AllocError> {
+    match form {
+        Form::Svg => put_sequence_svg(page, sequence),
+        Form::Dot => put_sequence_dot(page, sequence),
+        Form::Mermaid => put_sequence_mermaid(page, sequence),
+    }
+}
+
+/// Puts a picture of what options ask for of the run of the journals of a file.
+pub(crate) fn tell_run_picture(
+    rt: HostRuntime,
+    page: &mut Page,
+    wiring: &Wiring,
+    name: &str,
+    form: Form,
+    options: Options<'_>,
+) -> Result<Status, AllocError> {
+    if !knows(page, wiring, options)? {
+        return Ok(Status::WordsRefused);
+    }
+    let journals = match journals_of(rt, page, wiring, name)? {
+        Ok(journals) => journals,
+        Err(status) => return Ok(status),
+    };
+    let wanted = wanted_of(wiring, options);
+    let sequence = run_picture(rt.alloc(), wiring, &journals, wanted)?;
+    put_run(page, &sequence, form)?;
+    Ok(Status::Done)
+}
