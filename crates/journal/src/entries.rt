@@ -1,13 +1,16 @@
 //! Journals as text, line by line.
 ghost use Rattle.std.specs.Prelude.{◌≡◌, ℕ, false, Some, [], ◌∷◌, ◌++◌};
 ghost use Rattle.room_outside.specs.line_text.Lines.{line};
-ghost use Rattle.journal.specs.Lines.{turn_parts, turn_line, note_line, note_lines, is_duty, speaker_of, start_line, fetch_line, post_line, entry_text, where_text, left_line, unposted_line};
-ghost use Rattle.room_outside.specs.line_text.Parts.{part_texts};
+ghost use Rattle.std.specs.List.{concat};
+ghost use Rattle.journal.specs.Lines.{turn_parts, did_parts, turn_line, note_line, note_lines, is_duty, speaker_of, start_line, fetch_line, post_line, entry_text, where_text, left_line, unposted_line};
 ghost use Rattle.journal.specs.Text.{title_of, journal_text, controller_text, controllers_text, left_text, unposted_text, end_line, text_of};
 ghost use Rattle.room_outside.specs.line_text.Output.{Puts, at_rest};
 
 use crate::entry::{Did, Entry, Journal, Journals, Left};
-use crate::lines::{write_actor_line, write_message_line, write_standing_line};
+use crate::lines::{
+    end_actor_line, end_message_line, end_standing_line, end_word_line, write_actor_line,
+    write_message_line, write_standing_line,
+};
 use crate::naming;
 use crate::speaker::speaker_after;
 use room_kinds::{ControllerId, Incarnation, Msg, Note, SlotId, Stamp};
@@ -84,18 +87,53 @@ struct TurnHead {
     sent: Stamp,
 }
 
-fn turn_head<'a>(wiring: &Wiring, head: TurnHead, word: &'a [u8]) -> [Part<'a>; 6]
-    ensures { part_texts result
-        ≡ turn_parts wiring.now head.stamp.0 head.from.0 head.sent.0 ++ word.now ∷ [] }
+/// Begins the line of a turn.
+fn put_turn_head<K: Sink>(
+    out: &mut LineBuffer,
+    sink: &mut K,
+    wiring: &Wiring,
+    head: TurnHead,
+) -> Result<(), WriteFault>
+    ensures { Puts result
+        (record { written = K.written sink.old; held = out.old })
+        (record { written = K.written sink.new; held = out.new })
+        (concat (turn_parts wiring.now head.stamp.0 head.from.0 head.sent.0)) }
 {
-    [
-        Part::Number(head.stamp.0),
-        Part::Text(b" turn "),
+    out.put_two(sink, Part::Number(head.stamp.0), Part::Text(b" turn "))?;
+    out.put_three(
+        sink,
         naming::party(wiring, head.from),
         Part::Text(b"@"),
         Part::Number(head.sent.0),
-        Part::Text(word),
-    ]
+    )
+}
+
+/// Ends the line of a turn with what it did.
+fn end_turn_line<K: Sink>(
+    out: &mut LineBuffer,
+    sink: &mut K,
+    wiring: &Wiring,
+    did: Did,
+) -> Result<(), WriteFault>
+    ensures { Puts result
+        (record { written = K.written sink.old; held = out.old })
+        (at_rest (K.written sink.new))
+        (line (did_parts wiring.now did)) }
+{
+    match did {
+        Did::Duty => end_word_line(out, sink, b" duty"),
+        Did::Handled { who, state } => {
+            end_standing_line(out, sink, wiring, b" handled ", who, state)
+        }
+        Did::Deferred { who, state } => {
+            end_standing_line(out, sink, wiring, b" deferred ", who, state)
+        }
+        Did::Unhandled { who, state } => {
+            end_standing_line(out, sink, wiring, b" unhandled ", who, state)
+        }
+        Did::Stale { target } => end_actor_line(out, sink, wiring, b" stale ", target),
+        Did::Empty { target } => end_actor_line(out, sink, wiring, b" empty ", target),
+    }
 }
 
 fn write_turn<K: Sink>(
@@ -108,29 +146,9 @@ fn write_turn<K: Sink>(
     ensures { Puts result (at_rest (K.written sink.old)) (at_rest (K.written sink.new))
         (turn_line wiring.now head.stamp.0 head.from.0 head.sent.0 did) }
 {
-    match did {
-        Did::Duty => write_line(out, sink, &turn_head(wiring, head, b" duty")),
-        Did::Handled { who, state } => {
-            let head = turn_head(wiring, head, b" handled ");
-            write_standing_line(out, sink, wiring, &head, who, state)
-        }
-        Did::Deferred { who, state } => {
-            let head = turn_head(wiring, head, b" deferred ");
-            write_standing_line(out, sink, wiring, &head, who, state)
-        }
-        Did::Unhandled { who, state } => {
-            let head = turn_head(wiring, head, b" unhandled ");
-            write_standing_line(out, sink, wiring, &head, who, state)
-        }
-        Did::Stale { target } => {
-            let head = turn_head(wiring, head, b" stale ");
-            write_actor_line(out, sink, wiring, &head, target, &[])
-        }
-        Did::Empty { target } => {
-            let head = turn_head(wiring, head, b" empty ");
-            write_actor_line(out, sink, wiring, &head, target, &[])
-        }
-    }
+    out.clear();
+    put_turn_head(out, sink, wiring, head)?;
+    end_turn_line(out, sink, wiring, did)
 }
 
 fn write_fetch<K: Sink>(
@@ -164,13 +182,15 @@ fn write_post<K: Sink>(
     ensures { Puts result (at_rest (K.written sink.old)) (at_rest (K.written sink.new))
         (post_line wiring.now stamp.0 msg.now) }
 {
-    let head = [
+    out.clear();
+    out.put_four(
+        sink,
         Part::Number(stamp.0),
         Part::Text(b" post "),
         Part::Number(u64::from(msg.to.0)),
         Part::Text(b" "),
-    ];
-    write_message_line(out, sink, wiring, &head, msg)
+    )?;
+    end_message_line(out, sink, wiring, msg)
 }
 
 /// Writes a start and its notes.

@@ -31,6 +31,24 @@ fn put_incarnation<K: Sink>(
     )
 }
 
+/// A word and an actor.
+#[inline(always)]
+fn put_named<K: Sink>(
+    out: &mut LineBuffer,
+    sink: &mut K,
+    wiring: &Wiring,
+    word: &[u8],
+    who: Incarnation,
+) -> Result<(), WriteFault>
+    ensures { Puts result
+        (record { written = K.written sink.old; held = out.old })
+        (record { written = K.written sink.new; held = out.new })
+        (concat (word.now ∷ incarnation_parts wiring.now who)) }
+{
+    out.put_one(sink, Part::Text(word))?;
+    put_incarnation(out, sink, wiring, who)
+}
+
 /// The actor of an endpoint, and the mark behind it.
 fn put_actor<K: Sink>(
     out: &mut LineBuffer,
@@ -158,6 +176,22 @@ fn put_message<K: Sink>(
     put_signal(out, sink, wiring, msg)
 }
 
+/// Ends the line of a message, of which what stands before the message was put.
+pub fn end_message_line<K: Sink>(
+    out: &mut LineBuffer,
+    sink: &mut K,
+    wiring: &Wiring,
+    msg: &Msg,
+) -> Result<(), WriteFault>
+    ensures { Puts result
+        (record { written = K.written sink.old; held = out.old })
+        (at_rest (K.written sink.new))
+        (line (message_parts wiring.now msg.now)) }
+{
+    put_message(out, sink, wiring, msg)?;
+    out.end_line(sink)
+}
+
 /// Writes the line of a message: `head`, and then the message.
 pub fn write_message_line<K: Sink>(
     out: &mut LineBuffer,
@@ -215,4 +249,59 @@ pub fn write_standing_line<K: Sink>(
         who,
         &[Part::Text(b" "), Part::Text(label)],
     )
+}
+
+/// Ends a line with a word.
+#[inline(always)]
+pub fn end_word_line<K: Sink>(
+    out: &mut LineBuffer,
+    sink: &mut K,
+    word: &[u8],
+) -> Result<(), WriteFault>
+    ensures { Puts result
+        (record { written = K.written sink.old; held = out.old })
+        (at_rest (K.written sink.new))
+        (line (word.now ∷ [])) }
+{
+    out.put_one(sink, Part::Text(word))?;
+    out.end_line(sink)
+}
+
+/// Ends a line with a word and an actor.
+#[inline(always)]
+pub fn end_actor_line<K: Sink>(
+    out: &mut LineBuffer,
+    sink: &mut K,
+    wiring: &Wiring,
+    word: &[u8],
+    who: Incarnation,
+) -> Result<(), WriteFault>
+    ensures { Puts result
+        (record { written = K.written sink.old; held = out.old })
+        (at_rest (K.written sink.new))
+        (line (word.now ∷ incarnation_parts wiring.now who)) }
+{
+    put_named(out, sink, wiring, word, who)?;
+    out.end_line(sink)
+}
+
+/// Ends a line with a word, an actor and its state.
+#[inline(always)]
+pub fn end_standing_line<K: Sink>(
+    out: &mut LineBuffer,
+    sink: &mut K,
+    wiring: &Wiring,
+    word: &[u8],
+    who: Incarnation,
+    state: u16,
+) -> Result<(), WriteFault>
+    ensures { Puts result
+        (record { written = K.written sink.old; held = out.old })
+        (at_rest (K.written sink.new))
+        (line (word.now ∷ standing_parts wiring.now who state)) }
+{
+    let label = naming::state_label(wiring, who.slot, state);
+    put_named(out, sink, wiring, word, who)?;
+    out.put_two(sink, Part::Text(b" "), Part::Text(label))?;
+    out.end_line(sink)
 }

@@ -38,17 +38,8 @@ fn begin_fetches<K: Sink>(
         (concat (fetch_parts wiring.now stamp.0 msg.now)) }
 {
     out.clear();
-    out.put_all(
-        sink,
-        &[
-            Part::Number(stamp.0),
-            Part::Text(b" fetch"),
-            Part::Text(b" "),
-            naming::party(wiring, msg.from),
-            Part::Text(b"@"),
-            Part::Number(msg.stamp.0),
-        ],
-    )
+    out.put_two(sink, Part::Number(stamp.0), Part::Text(b" fetch"))?;
+    put_further(out, sink, wiring, msg)
 }
 
 /// A further fetch in the line that stands open.
