@@ -17,7 +17,7 @@ use Rattle.run_promises.proofs.run_journals.TiedLaw.{tied}
 use Rattle.run_promises.proofs.PromisesLaw.{promises}
 use Rattle.room_run.specs.Agreement.{AllAgree}
 use Rattle.run_promises.specs.run_texts.Texts.{TextTells}
-use Rattle.room_run.proofs.settled.Fitting.{settles_of}
+use Rattle.room_run.proofs.settled.Fitting.{settles_of, actors_of}
 use Rattle.room_run.proofs.settled.Runs.{runs_agree}
 use Rattle.run_promises.specs.run_texts.Fetches.{FetchesFit}
 use Rattle.room_run.proofs.settled.Told.{text_tells, model_fetches_fit}
@@ -76,6 +76,7 @@ run_of shelf files fuel p lines j texts run = record {
   determined = of_texts (shelf.text files.model) (shelf.text files.injections) p lines (TextTells p lines j) texts.model_accepted texts.lines_accepted
       (λ text model fit. text_tells text p lines fuel j model fit run);
   settled = settles_of (shelf.text files.model) (shelf.text files.injections) p lines fuel j texts.model_accepted texts.lines_accepted run;
+  actors = actors_of (shelf.text files.model) p lines fuel j texts.model_accepted run;
   in_place = in_place p lines fuel j run;
   tied = tied p lines fuel j run;
 }

@@ -6,6 +6,8 @@ use Rattle.journal.specs.declared.entry.Journals.{Journals}
 use Rattle.inject_reader.specs.declared.inject_lines.accepted.Line.{Line}
 use Rattle.controller_actors.specs.declared.plant.Plant.{Plant}
 use Rattle.model_run.specs.run_ends.Runs.{IsRun}
+use Rattle.run_promises.specs.run_journals.InPlace.{OfControllers}
+use Rattle.room_run.specs.fitting_journals.Actors.{TellsOfActors}
 use Rattle.room_run.specs.fitting_plants.Runs.{Settles}
 use Rattle.room_run.specs.Words.{Files}
 use Rattle.room_run.specs.Causes.{TextIs}
@@ -14,3 +16,7 @@ use Rattle.room_run.specs.Causes.{TextIs}
 abbrev pub SettlesWhenTold : (shelf : Shown) (files : Files) (plant : Plant) (lines : List Line) (fuel : ℕ) (j : Journals) → IsRun plant lines fuel j → Type 0
 SettlesWhenTold shelf files plant lines fuel j run =
     TextIs shelf files.model (λ text. TextIs shelf files.injections (λ injected. Settles plant lines fuel j run))
+
+-- who starts, acts, comes up or goes down is an actor of the wiring, in a state of its class, and the notes of who speaks name its own ports
+abbrev pub TellsActorsWhenTold : Shown → Files → Plant → Journals → Type 0
+TellsActorsWhenTold shelf files plant j = TextIs shelf files.model (λ text. OfControllers j (λ c. TellsOfActors plant.wiring))

@@ -1,2 +1,3 @@
+pub mod Actors
 pub mod Fitting
 pub mod Naming

@@ -2,6 +2,8 @@ pub mod OneRun
 pub mod Plain
 pub mod Rows
 pub mod Told
+pub mod Clocks
+pub mod Lengths
 pub mod InTime
 pub mod Party
 pub mod SameRuns

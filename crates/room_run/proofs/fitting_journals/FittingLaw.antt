@@ -24,6 +24,7 @@ use Rattle.run_promises.proofs.run_journals.TiedLaw.{tied}
 use Rattle.room_run.specs.fitting_plants.Lines.{WhatFits, LinesFit}
 use Rattle.room_run.specs.fitting_plants.Plants.{PlantFits}
 use Rattle.room_run.specs.fitting_journals.Fitting.{FittingRunsAreInPlace}
+use Rattle.room_run.proofs.fitting_journals.ActorsLaw.{actors_told}
 
 -- lines that fit name what the wiring has
 one_names : (t : Wired) (what : What) → WhatFits t what → WhatNames t what
@@ -67,4 +68,5 @@ fitting_in_place owned plant lines fuel j fits fit run =
       in_place = in_place plant lines fuel j run;
       receivers = reach plant lines owners (ranked plant fits) names fuel j run;
       environment = environment_fits plant lines owners names fuel j run;
+      actors = actors_told plant fits lines fuel j run;
     }

@@ -5,7 +5,9 @@ use Rattle.std.proofs.lemmas.Bool.{cases_order}
 use Rattle.std.proofs.lemmas.List.Elements.{All-from_recursion, recursion_from_All, All-contains}
 use Rattle.room_kinds.specs.declared.message.Msg.{Msg}
 use Rattle.room_wiring.specs.declared.tables.Tables.{Tables}
-use Rattle.journal.specs.Fits.{FitsMessage, FitsEntry, FitsEnvironment, FitsLeft, Fits}
+use Rattle.journal.specs.Fits.{FitsMessage, FitsDid, FitsEntry, FitsEnvironment, FitsLeft, Fits}
+use Rattle.journal.specs.declared.entry.Did.{Did}
+use Rattle.journal.specs.declared.entry.Did.TheVariants as outcomes
 use Rattle.journal.specs.declared.entry.Entry.{Entry}
 use Rattle.journal.specs.declared.entry.Entry.TheVariants as entry
 use Rattle.journal.specs.declared.entry.Journals.{Journals}
@@ -35,7 +37,8 @@ use Rattle.run_promises.proofs.run_journals.Waiting.{all_counted, each_behind, e
 use Rattle.room_run.specs.fitting_plants.Lines.{LinesFit}
 use Rattle.room_run.specs.fitting_plants.Plants.{PlantFits}
 use Rattle.room_run.specs.fitting_journals.Fitting.{JournalsInPlace}
-use Rattle.room_run.specs.fitting_journals.Naming.{NamesWhatIsThere, ControllersName, NamedJournalsFit}
+use Rattle.room_run.specs.fitting_journals.Actors.{FitsActor, TellsOfActors}
+use Rattle.room_run.specs.fitting_journals.Naming.{FitsNobody, NamesWhatIsThere, ControllersName, NamedJournalsFit}
 use Rattle.room_run.proofs.fitting_journals.FittingLaw.{fitting_in_place}
 use Rattle.room_run.proofs.fitting_journals.Testing.{passes, passed, is_fit, none_counted_at}
 
@@ -48,11 +51,20 @@ MessageFits t (entry.Post stamp m) = FitsMessage t m
 MessageFits t (entry.Start who state notes) = Unit {0}
 MessageFits t (entry.Turn stamp from sent did notes) = Unit {0}
 
-one_fits : (t : Tables) (c : ℕ) (e : Entry) → IsFetchedBy c e → ComesFromParty t e → IsPostedBy c e → NamesWhatIsThere t e → MessageFits t e → FitsEntry t c e
-one_fits t c (entry.Start who state notes) f p o n m = n
-one_fits t c (entry.Fetch stamp x) f p o n m = (f, m)
-one_fits t c (entry.Turn stamp from sent did notes) f p o n m = (p, n.0, n.1)
-one_fits t c (entry.Post stamp x) f p o n m = record { message = m; own = o.0; stamped = o.1 }
+-- what a turn did, by whom it was for
+did_fits : (t : Tables) (did : Did) → FitsActor t did → FitsNobody t did → FitsDid t did
+did_fits t outcomes.Duty a n = tt
+did_fits t (outcomes.Handled who state) a n = a
+did_fits t (outcomes.Deferred who state) a n = a
+did_fits t (outcomes.Unhandled who state) a n = a
+did_fits t (outcomes.Stale target) a n = a
+did_fits t (outcomes.Empty target) a n = n
+
+one_fits : (t : Tables) (c : ℕ) (e : Entry) → IsFetchedBy c e → ComesFromParty t e → IsPostedBy c e → TellsOfActors t e → NamesWhatIsThere t e → MessageFits t e → FitsEntry t c e
+one_fits t c (entry.Start who state notes) f p o a n m = a
+one_fits t c (entry.Fetch stamp x) f p o a n m = (f, m)
+one_fits t c (entry.Turn stamp from sent did notes) f p o a n m = (p, did_fits t did a.0 n, a.1)
+one_fits t c (entry.Post stamp x) f p o a n m = record { message = m; own = o.0; stamped = o.1 }
 
 messages_fit : (t : Tables) (es : List Entry) → ((m : Msg) → Contains (fetched es) m → FitsMessage t m) → ((m : Msg) → Contains (posted es) m → FitsMessage t m)
     → Each (MessageFits t) es
@@ -154,7 +166,7 @@ module _ (owned : ModelsHaveOwners) (plant : Plant) (lines : List Line) (fuel : 
       (λ m h. fetched_fit c m (subst (λ (z : List Entry). Contains (fetched z) m) (sym same) h))
       (λ m h. posted_fit c m (subst (λ (z : List Entry). Contains (posted z) m) (sym same) h))) in
       one_fits plant.wiring c (slice_index_or es k d) (so_far.in_place.fetched_by_receiver c es there k d low) (so_far.in_place.sent_by_parties c es there k d low)
-      (so_far.in_place.posted_by_sender c es there k d low) (names c es there k d low) (messages k d low)
+      (so_far.in_place.posted_by_sender c es there k d low) (so_far.actors c es there k d low) (names c es there k d low) (messages k d low)
 
   -- ---- what is left
 

@@ -1,12 +1,13 @@
--- What is left to be shown of a run's journals so that they fit the wiring: what controllers name.
--- `ControllersName`: the places, ports and signals of what controllers post, and the slots, states and ports of
--- their starts, turns and notes, are those of the wiring. All else that journals that fit the wiring ask (`Fits`
--- of `journal`) is so of every run: the law `named_journals_fit`.
-use Rattle.std.specs.Prelude.{ℕ, Some, false, List}
+-- What is left to be shown of a run's journals so that they fit the wiring: what controllers name in messages.
+-- `ControllersName`: the places, ports and signals of what controllers post, and the slots of messages that found
+-- nobody, are those of the wiring. All else that journals that fit the wiring ask (`Fits` of `journal`) is so of
+-- every run: the law `named_journals_fit`.
+use Rattle.std.specs.Prelude.{ℕ, List}
 use Rattle.room_kinds.specs.declared.message.Msg.{Msg}
 use Rattle.room_wiring.specs.declared.tables.Tables.{Tables}
-use Rattle.journal.specs.Fits.{FitsSource, FitsEndpoint, FitsSignal, FitsStanding, FitsDid, FitsNotes, Fits}
-use Rattle.journal.specs.Lines.{is_duty, speaker_of}
+use Rattle.journal.specs.Fits.{FitsIncarnation, FitsSource, FitsEndpoint, FitsSignal, Fits}
+use Rattle.journal.specs.declared.entry.Did.{Did}
+use Rattle.journal.specs.declared.entry.Did.TheVariants as outcomes
 use Rattle.journal.specs.declared.entry.Entry.{Entry}
 use Rattle.journal.specs.declared.entry.Entry.TheVariants as entry
 use Rattle.journal.specs.declared.entry.Journals.{Journals}
@@ -23,11 +24,20 @@ pub record NamesPlaces (t : Tables) (m : Msg) : Type 0 where
   pub target : FitsEndpoint t m.target
   pub signal : FitsSignal t m.prio.0 m.target m.signal
 
--- so are those of what an entry posts, and what the entry tells of actors
+-- where a message found nobody, its slot is one of the wiring
+abbrev pub FitsNobody : Tables → Did → Type 0
+FitsNobody t outcomes.Duty = Unit {0}
+FitsNobody t (outcomes.Handled who state) = Unit {0}
+FitsNobody t (outcomes.Deferred who state) = Unit {0}
+FitsNobody t (outcomes.Unhandled who state) = Unit {0}
+FitsNobody t (outcomes.Stale target) = Unit {0}
+FitsNobody t (outcomes.Empty target) = FitsIncarnation t target
+
+-- so are those of what an entry posts, and the slot of a turn's message that found nobody
 abbrev pub NamesWhatIsThere : Tables → Entry → Type 0
-NamesWhatIsThere t (entry.Start who state notes) = FitsStanding t who state × FitsNotes t false (Some who.slot) notes
+NamesWhatIsThere t (entry.Start who state notes) = Unit {0}
 NamesWhatIsThere t (entry.Fetch stamp m) = Unit {0}
-NamesWhatIsThere t (entry.Turn stamp from sent did notes) = FitsDid t did × FitsNotes t (is_duty did) (speaker_of did) notes
+NamesWhatIsThere t (entry.Turn stamp from sent did notes) = FitsNobody t did
 NamesWhatIsThere t (entry.Post stamp m) = NamesPlaces t m
 
 -- each entry of each controller does

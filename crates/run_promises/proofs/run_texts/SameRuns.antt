@@ -9,7 +9,6 @@ use Rattle.journal.specs.declared.entry.Left.{Left}
 use Rattle.journal.specs.declared.entry.Journals.{Journals}
 use Rattle.tied_journals.specs.Tied.{IsPosted}
 use Rattle.tied_journals.specs.Text.{tied_text_of}
-use Rattle.journal_reader.specs.journal_texts.InRange.{IsInRange}
 use Rattle.room_wiring.specs.declared.tables.Tables.{Tables}
 use Rattle.room_wiring.specs.Consistent.{IsConsistent}
 use Rattle.room_wiring.specs.WellNamed.{IsWellNamed}
@@ -79,7 +78,7 @@ module _ {B : Type 0} (plant : RunPlant B) (w v : World B) (controllers : (c : �
 
 module _ (plant : Plant) (lines : List Asked) (fuel other_fuel : ℕ) (i j : Journals) (a : IsRun plant lines fuel i) (b : IsRun plant lines other_fuel j)
     (consistent : IsConsistent plant.wiring) (named : IsWellNamed plant.wiring) (i_six : AtSixPriorities i) (j_six : AtSixPriorities j)
-    (range : IsInRange j) (one_text : tied_text_of plant.wiring i ≡ tied_text_of plant.wiring j) where
+    (short : length (tied_text_of plant.wiring j) < 18446744073709551616) (one_text : tied_text_of plant.wiring i ≡ tied_text_of plant.wiring j) where
   abbrev t : Tables
   t = plant.wiring
 
@@ -117,7 +116,7 @@ module _ (plant : Plant) (lines : List Asked) (fuel other_fuel : ℕ) (i j : Jou
       let from : m.from.0 ≡ k.from.0 = same_sender t m k consistent.controllers_numbered h.0 l.0 e in
       ap₂ Fetch from
       (same_priority t m k (journal_of i m.from.0) (journal_of j k.from.0) (journals_told m.from.0 ∙ ap (λ (p : ℕ). told t (journal_of j p)) from)
-      h.2 l.2 (posts_in_time j range k.from.0) h.1 l.1 (same_sent t m k e))
+      h.2 l.2 (posts_in_time plant lines other_fuel j b short k.from.0) h.1 l.1 (same_sent t m k e))
 
   same_did : (party : ℕ) → map event_of (did plant lines fuel i a party) ≡ map event_of (did plant lines other_fuel j b party)
   same_did party =

@@ -1,5 +1,4 @@
 -- The text of each run tells it, and what it fetches fits.
-use Rattle.std.proofs.Common.{sym}
 use Rattle.chart_behaviour.proofs.Charts.{asks_only}
 use Rattle.bounded_sends.specs.Sends.{is_ranked}
 use Rattle.controller_actors.specs.Plants.{model_of}
@@ -17,10 +16,10 @@ ranked : (plant : Plant) → AsksOnly is_ranked (model_of plant)
 ranked plant = asks_only plant.wiring plant.tables.items is_ranked plant.fits.ranked
 
 pub texts_tell : TextsTellRuns
-texts_tell plant lines consistent named fit fuel j run other_fuel other other_run range one_text =
+texts_tell plant lines consistent named fit fuel j run short other_fuel other other_run one_text =
     let asks = ranked plant in
-    sym (one_journal plant lines fuel other_fuel j other run other_run consistent named
-    (at_six plant lines fuel j run asks fit) (at_six plant lines other_fuel other other_run asks fit) range (sym one_text))
+    one_journal plant lines other_fuel fuel other j other_run run consistent named
+    (at_six plant lines other_fuel other other_run asks fit) (at_six plant lines fuel j run asks fit) short one_text
 
 pub fetches_fit : RunsFetchWhatFits
 fetches_fit plant lines fit fuel j run c m h = record {
