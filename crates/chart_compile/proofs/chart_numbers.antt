@@ -4,3 +4,4 @@ pub mod Distinct
 pub mod Counting
 pub mod KeyLists
 pub mod Known
+pub mod Reaching

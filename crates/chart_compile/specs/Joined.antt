@@ -16,8 +16,8 @@ abbrev pub AreKeyed : List StepTree → Type 0
 AreKeyed steps = (i : ℕ) (s : StepTree) → slice_get steps i ≡ Some s → s.target ≡ target_of s
 
 -- a chain goes on from the node of each step
-abbrev pub AllGoOn : List StepTree → Type 0
-AllGoOn steps = (i : ℕ) (s : StepTree) → slice_get steps i ≡ Some s → GoesOn (node_after s) (from_key (target_of s) steps)
+abbrev pub AllGoOn : List (List ℕ) → List StepTree → Type 0
+AllGoOn states steps = (i : ℕ) (s : StepTree) → slice_get steps i ≡ Some s → GoesOn states (node_after s) (from_key (target_of s) steps)
 
 -- each number has the same node
 abbrev pub SameNodes : List CodeNode → List CodeNode → Type 0

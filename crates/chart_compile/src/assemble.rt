@@ -6,11 +6,11 @@ ghost use Rattle.chart_reader.specs.chart_nodes.Keys.{codes};
 ghost use Rattle.chart_reader.specs.chart_nodes.Steps.{step_view};
 ghost use Rattle.chart_reader.specs.chart_nodes.Circles.{parts_of};
 ghost use Rattle.chart_compile.specs.chart_places.Places.{place_view};
-ghost use Rattle.chart_compile.specs.chart_parts.Parts.{IsRow, IsShared, from_key, key_of};
+ghost use Rattle.chart_compile.specs.chart_parts.Parts.{ArePlaced, IsRow, IsShared, LeadTo, from_key, key_of};
 ghost use Rattle.chart_compile.specs.chart_numbers.Order.{AreNumbered};
 ghost use Rattle.chart_compile.specs.Joined.{AllGoOn, AreKeyed, AreMade, AreOf};
 
-use crate::chart_numbers::number_nodes;
+use crate::chart_numbers::{NodeOrder, number_nodes};
 use crate::chart_places::{Place, group_by};
 use crate::chart_rows::{rows_of, shared_of};
 use crate::nodes::{fill_up, nodes_of};
@@ -21,6 +21,9 @@ use name_tables::NameIndex;
 use room_kinds::Sequence;
 use std::alloc::{AllocError, Global};
 
+/// The most states, graphs or nodes of a chart: their numbers have 16 bits.
+pub(crate) const MOST_NUMBERS: usize = 65535;
+
 /// The rows of states.
 fn state_rows<'b, 'p, 's, 'g, 'n>(
     alloc: Global,
@@ -30,7 +33,9 @@ fn state_rows<'b, 'p, 's, 'g, 'n>(
     steps: &[Step<'b>],
     places: &[Place<'p>],
 ) -> Result<Vec<Row>, AllocError>
-    requires { states.now ≡ map key_of (map place_view places.now) }
+    requires keyed { states.now ≡ map key_of (map place_view places.now) }
+    requires placed { ArePlaced states.now graphs.now (map place_view places.now) }
+    requires lead { LeadTo nodes.now (map step_view steps.now) }
     ensures { IfOk result (λ rows. Each (IsRow states.now graphs.now nodes.now (map step_view steps.now)) rows.items (map place_view places.now)) }
 {
     let own = group_by(alloc, states, places.len(), steps)?;
@@ -46,7 +51,8 @@ fn shared_rows<'b, 'g, 'n>(
     steps: &[Step<'b>],
     keys: &[Sequence<u8>],
 ) -> Result<Vec<Vec<Arrow>>, AllocError>
-    requires { graphs.now ≡ keys.now }
+    requires keyed { graphs.now ≡ keys.now }
+    requires lead { LeadTo nodes.now (map step_view steps.now) }
     ensures { IfOk result (λ shared. Each (IsShared nodes.now (map step_view steps.now)) shared.items keys.now) }
 {
     let groups = group_by(alloc, graphs, keys.len(), steps)?;
@@ -66,7 +72,8 @@ fn node_rows<'b, 's, 'n>(
 ) -> Result<Vec<Node>, AllocError>
     requires numbered { AreNumbered (map step_view steps.now) nodes.now targets.now }
     requires keyed { AreKeyed (map step_view steps.now) }
-    requires go_on { AllGoOn (map step_view steps.now) }
+    requires go_on { AllGoOn states.now (map step_view steps.now) }
+    requires lead { LeadTo nodes.now (map step_view steps.now) }
     requires enough { length nodes.now ≤ count }
     ensures { IfOk result (λ made. AreMade states.now nodes.now (map step_view steps.now) targets.now count made.items) }
 {
@@ -76,7 +83,23 @@ fn node_rows<'b, 's, 'n>(
     Ok(made)
 }
 
-/// The tables of steps and states, with so many nodes.
+/// The nodes to which steps lead, in the order of their numbers. It answers as where memory runs out
+/// where there are more than 65,535.
+fn numbered<'a, 'b>(alloc: Global, steps: &'a [Step<'b>]) -> Result<NodeOrder<'a>, AllocError>
+    requires keyed { AreKeyed (map step_view steps.now) }
+    requires no_circle { NoneContainsItself (parts_of (map step_view steps.now)) }
+    ensures numbered { IfOk result (λ nodes. AreNumbered (map step_view steps.now) nodes.keys nodes.targets.items) }
+    ensures lead { IfOk result (λ nodes. LeadTo nodes.keys (map step_view steps.now)) }
+{
+    let nodes = number_nodes(alloc, steps)?;
+    if nodes.targets.len() > MOST_NUMBERS {
+        return Err(AllocError);
+    }
+    Ok(nodes)
+}
+
+/// The tables of steps and states, with so many nodes. It answers as where memory runs out where the
+/// steps lead to more than 65,535 nodes.
 pub fn assemble<'b, 'p, 's, 'g>(
     alloc: Global,
     states: &NameIndex<'s>,
@@ -90,14 +113,15 @@ pub fn assemble<'b, 'p, 's, 'g>(
     requires states_are { states.now ≡ map key_of (map place_view places.now) }
     requires graphs_are { graphs.now ≡ keys.now }
     requires keyed { AreKeyed (map step_view steps.now) }
-    requires go_on { AllGoOn (map step_view steps.now) }
+    requires placed { ArePlaced states.now graphs.now (map place_view places.now) }
+    requires go_on { AllGoOn states.now (map step_view steps.now) }
     requires no_circle { NoneContainsItself (parts_of (map step_view steps.now)) }
     requires enough { (keys : List (List ℕ)) (targets : List ℕ) → AreNumbered (map step_view steps.now) keys targets → length keys ≤ count }
     requires starts { 0 < length (from_key (0 ∷ codes []) (map step_view steps.now)) }
     ensures tables { IfOk result (λ v. AreOf states.now graphs.now (map step_view steps.now) (map place_view places.now) count v) }
     ensures values { IfOk result (λ v. v.values.items ≡ values.now) }
 {
-    let nodes = number_nodes(alloc, steps)?;
+    let nodes = numbered(alloc, steps)?;
     let rows = state_rows(alloc, states, graphs, &nodes.keys, steps, places)?;
     let shared = shared_rows(alloc, graphs, &nodes.keys, steps, keys)?;
     let targets = nodes.targets.as_slice();

@@ -7,7 +7,7 @@ ghost use Rattle.chart_model.specs.Named.{a_choice, a_state, an_entry, an_exit};
 ghost use Rattle.chart_run.specs.chart_tables.Tables.{arrow_views, kind};
 ghost use Rattle.chart_reader.specs.chart_nodes.Steps.{step_view};
 ghost use Rattle.chart_compile.specs.chart_places.Groups.{picked};
-ghost use Rattle.chart_compile.specs.chart_parts.Parts.{IsArrow, IsState};
+ghost use Rattle.chart_compile.specs.chart_parts.Parts.{IsArrow, IsState, LeadTo};
 ghost use Rattle.chart_compile.specs.chart_parts.Nodes.{AddsBranch, GoesOn, IsFirst, has_condition, has_none, is_lower, kind_by, leads_lower, node_after};
 
 use crate::chart_rows::{make_arrow, state_number, step_at};
@@ -25,6 +25,7 @@ fn arrow_at<'b, 'c>(
     steps: &[Step<'b>],
     number: usize,
 ) -> Result<Option<Arrow>, AllocError>
+    requires { LeadTo nodes.now (map step_view steps.now) }
     ensures { IfOk result (λ arrow. IsFirst nodes.now arrow (cons_option (slice_get (map step_view steps.now) number) [])) }
 {
     let Some(step) = step_at(steps, number) else {
@@ -41,6 +42,7 @@ fn first_arrow<'b, 'c>(
     steps: &[Step<'b>],
     group: &[usize],
 ) -> Result<Option<Arrow>, AllocError>
+    requires { LeadTo nodes.now (map step_view steps.now) }
     ensures { IfOk result (λ arrow. IsFirst nodes.now arrow (picked (map step_view steps.now) group.now)) }
 {
     for number in group {
@@ -60,6 +62,7 @@ fn border<'b, 'c>(
     group: &[usize],
     state: u16,
 ) -> Result<Node, AllocError>
+    requires { LeadTo nodes.now (map step_view steps.now) }
     ensures { IfOk result (λ n. (states : List (List ℕ)) (path : Path) → IsState states state path → SameKind (IsState states) (IsArrow nodes.now) (kind n) (kind_by (a_state path) (picked (map step_view steps.now) group.now))) }
 {
     let first = first_arrow(alloc, nodes, steps, group)?;
@@ -77,6 +80,7 @@ fn entry<'b, 'c>(
     group: &[usize],
     state: u16,
 ) -> Result<Node, AllocError>
+    requires { LeadTo nodes.now (map step_view steps.now) }
     ensures { IfOk result (λ n. (states : List (List ℕ)) (path : Path) (e : Name) → IsState states state path → SameKind (IsState states) (IsArrow nodes.now) (kind n) (kind_by (an_entry path e) (picked (map step_view steps.now) group.now))) }
 {
     let first = first_arrow(alloc, nodes, steps, group)?;
@@ -94,6 +98,7 @@ fn exit<'b, 'c>(
     group: &[usize],
     state: u16,
 ) -> Result<Node, AllocError>
+    requires { LeadTo nodes.now (map step_view steps.now) }
     ensures { IfOk result (λ n. (states : List (List ℕ)) (s x : Name) (owner : Path) → IsState states state (s ∷ owner) → SameKind (IsState states) (IsArrow nodes.now) (kind n) (kind_by (an_exit (s ∷ owner) x) (picked (map step_view steps.now) group.now))) }
 {
     let first = first_arrow(alloc, nodes, steps, group)?;
@@ -111,6 +116,7 @@ fn add_branch<'b, 'c>(
     number: usize,
     branches: &mut Vec<Arrow>,
 ) -> Result<(), AllocError>
+    requires { LeadTo nodes.now (map step_view steps.now) }
     ensures { OnOk result (AddsBranch nodes.now (slice_get (map step_view steps.now) number) branches.old.items branches.new.items) }
 {
     let Some(step) = step_at(steps, number) else {
@@ -132,6 +138,7 @@ fn branches_of<'b, 'c>(
     steps: &[Step<'b>],
     group: &[usize],
 ) -> Result<Vec<Arrow>, AllocError>
+    requires { LeadTo nodes.now (map step_view steps.now) }
     ensures { IfOk result (λ arrows. Each (IsArrow nodes.now) (arrow_views arrows.items) (filter has_condition (picked (map step_view steps.now) group.now))) }
 {
     let mut branches = Vec::new(alloc);
@@ -148,6 +155,7 @@ fn default_at<'b, 'c>(
     steps: &[Step<'b>],
     number: usize,
 ) -> Result<Option<Arrow>, AllocError>
+    requires { LeadTo nodes.now (map step_view steps.now) }
     ensures { IfOk result (λ arrow. IsFirst nodes.now arrow (filter has_none (cons_option (slice_get (map step_view steps.now) number) []))) }
 {
     let Some(step) = step_at(steps, number) else {
@@ -168,6 +176,7 @@ fn default_of<'b, 'c>(
     steps: &[Step<'b>],
     group: &[usize],
 ) -> Result<Option<Arrow>, AllocError>
+    requires { LeadTo nodes.now (map step_view steps.now) }
     ensures { IfOk result (λ arrow. IsFirst nodes.now arrow (filter has_none (picked (map step_view steps.now) group.now))) }
 {
     for number in group {
@@ -186,7 +195,8 @@ fn choice<'b, 'c>(
     steps: &[Step<'b>],
     group: &[usize],
 ) -> Result<Node, AllocError>
-    requires { 0 < length (filter has_none (picked (map step_view steps.now) group.now)) }
+    requires default { 0 < length (filter has_none (picked (map step_view steps.now) group.now)) }
+    requires lead { LeadTo nodes.now (map step_view steps.now) }
     ensures { IfOk result (λ n. (states : List (List ℕ)) (graph : Path) (c : Name) → SameKind (IsState states) (IsArrow nodes.now) (kind n) (kind_by (a_choice graph c) (picked (map step_view steps.now) group.now))) }
 {
     let branches = branches_of(alloc, nodes, steps, group)?;
@@ -206,7 +216,8 @@ pub fn make_node<'b, 's, 'n>(
     group: &[usize],
     step: &Step<'b>,
 ) -> Result<Node, AllocError>
-    requires { GoesOn (node_after (step_view step.now)) (picked (map step_view steps.now) group.now) }
+    requires goes_on { GoesOn states.now (node_after (step_view step.now)) (picked (map step_view steps.now) group.now) }
+    requires lead { LeadTo nodes.now (map step_view steps.now) }
     ensures { IfOk result (λ n. SameKind (IsState states.now) (IsArrow nodes.now) (kind n) (kind_by (node_after (step_view step.now)) (picked (map step_view steps.now) group.now))) }
 {
     let owner = step.graph.owner.as_slice();

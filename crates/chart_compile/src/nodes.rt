@@ -5,7 +5,7 @@ ghost use Rattle.chart_model.specs.chart_plan.Same.{Each};
 ghost use Rattle.chart_reader.specs.chart_nodes.Steps.{StepTree, step_view};
 ghost use Rattle.chart_reader.specs.chart_nodes.Circles.{targets_of};
 ghost use Rattle.chart_compile.specs.chart_places.Groups.{IsGrouped, picked};
-ghost use Rattle.chart_compile.specs.chart_parts.Parts.{from_key, target_of};
+ghost use Rattle.chart_compile.specs.chart_parts.Parts.{LeadTo, from_key, target_of};
 ghost use Rattle.chart_compile.specs.chart_parts.Nodes.{GoesOn, IsNode, node_after};
 ghost use Rattle.chart_compile.specs.Joined.{AddsNode, AllGoOn, AreKeyed, SameNodes};
 
@@ -28,8 +28,9 @@ fn node_after<'b, 's, 'n>(
 ) -> Result<Node, AllocError>
     requires grouped { IsGrouped nodes.now groups.now (map step_view steps.now) }
     requires keyed { (step_view step.now).target ≡ target_of (step_view step.now) }
-    requires goes_on { GoesOn (node_after (step_view step.now)) (from_key (target_of (step_view step.now)) (map step_view steps.now)) }
+    requires goes_on { GoesOn states.now (node_after (step_view step.now)) (from_key (target_of (step_view step.now)) (map step_view steps.now)) }
     requires known { is_among nodes.now (step_view step.now).target ≡ true }
+    requires lead { LeadTo nodes.now (map step_view steps.now) }
     ensures { IfOk result (λ n. IsNode states.now nodes.now (map step_view steps.now) n (step_view step.now)) }
 {
     let group = steps_at(nodes, groups, step.target.as_slice());
@@ -49,7 +50,8 @@ fn add_node<'b, 's, 'n>(
 ) -> Result<(), AllocError>
     requires grouped { IsGrouped nodes.now groups.now (map step_view steps.now) }
     requires keyed { AreKeyed (map step_view steps.now) }
-    requires go_on { AllGoOn (map step_view steps.now) }
+    requires go_on { AllGoOn states.now (map step_view steps.now) }
+    requires lead { LeadTo nodes.now (map step_view steps.now) }
     requires known { (s : StepTree) → slice_get (map step_view steps.now) number ≡ Some s → is_among nodes.now s.target ≡ true }
     ensures { OnOk result (AddsNode states.now nodes.now (map step_view steps.now) number made.old.items made.new.items) }
 {
@@ -72,7 +74,8 @@ pub fn nodes_of<'b, 's, 'n>(
 ) -> Result<Vec<Node>, AllocError>
     requires grouped { IsGrouped nodes.now groups.now (map step_view steps.now) }
     requires keyed { AreKeyed (map step_view steps.now) }
-    requires go_on { AllGoOn (map step_view steps.now) }
+    requires go_on { AllGoOn states.now (map step_view steps.now) }
+    requires lead { LeadTo nodes.now (map step_view steps.now) }
     requires numbered { nodes.now ≡ targets_of (picked (map step_view steps.now) targets.now) }
     ensures { IfOk result (λ made. Each (IsNode states.now nodes.now (map step_view steps.now)) made.items (picked (map step_view steps.now) targets.now)) }
 {

@@ -3,7 +3,7 @@ ghost use Rattle.std.specs.Prelude.{◌≡◌, ◌<◌, ◌∷◌, [], Some, len
 ghost use Rattle.name_tables.specs.name_numbers.Names.{same};
 ghost use Rattle.chart_reader.specs.chart_nodes.Keys.{codes};
 ghost use Rattle.chart_reader.specs.chart_nodes.Steps.{step_view};
-ghost use Rattle.chart_compile.specs.chart_parts.Parts.{from_key};
+ghost use Rattle.chart_compile.specs.chart_parts.Parts.{LeadTo, from_key};
 ghost use Rattle.chart_compile.specs.chart_parts.Nodes.{IsFirst};
 
 use crate::chart_rows::make_arrow;
@@ -25,7 +25,8 @@ pub fn initial_arrow<'b, 'n>(
     nodes: &NameIndex<'n>,
     steps: &[Step<'b>],
 ) -> Result<Arrow, AllocError>
-    requires { 0 < length (from_key (0 ∷ codes []) (map step_view steps.now)) }
+    requires starts { 0 < length (from_key (0 ∷ codes []) (map step_view steps.now)) }
+    requires lead { LeadTo nodes.now (map step_view steps.now) }
     ensures { IfOk result (λ arrow. IsFirst nodes.now (Some arrow) (from_key (0 ∷ codes []) (map step_view steps.now))) }
 {
     let key = plain_key(alloc, 0, &[])?;

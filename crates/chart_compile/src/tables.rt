@@ -1,10 +1,10 @@
 //! Compiling a chart.
 ghost use Rattle.std.specs.Prelude.{IfOk};
-ghost use Rattle.chart_model.specs.Valid.{IsValid};
 ghost use Rattle.chart_reading.specs.chart_graphs.Views.{chart_view};
+ghost use Rattle.chart_reader.specs.Whole.{IsWhole};
 ghost use Rattle.chart_compile.specs.chart_parts.Compiled.{Compiles};
 
-use crate::assemble::assemble;
+use crate::assemble::{MOST_NUMBERS, assemble};
 use crate::chart_numbers::{count_nodes, state_keys};
 use crate::chart_places::{graph_keys, index_of, places_of};
 use chart_reader::steps_of;
@@ -12,17 +12,14 @@ use chart_reading::Chart;
 use chart_run::Tables;
 use std::alloc::{AllocError, Global};
 
-/// The most states of a chart: a state's number has 16 bits.
-const MOST_STATES: usize = 65535;
-
-/// The tables of a valid chart: a machine over them does what the chart says. It takes time in
-/// proportion to the transitions and states of the chart and the names of their paths.
+/// The tables of a valid chart whose graphs are those of its states: a machine over them does what
+/// the chart says. It takes time in proportion to the transitions and states of the chart and the
+/// names of their paths.
 ///
 /// It answers as where memory runs out where the chart has more than 65,535 states, graphs or nodes
-/// to which transitions lead, and where a transition of a graph that is none of its states' leads to a
-/// state, which no text writes. Of two graphs under one path the first alone counts.
+/// to which transitions lead. Of two graphs under one path the first alone counts.
 pub fn compile(alloc: Global, chart: &Chart) -> Result<Tables, AllocError>
-    requires { IsValid (chart_view chart.now) }
+    requires { IsWhole (chart_view chart.now) }
     ensures { IfOk result (λ t. Compiles t (chart_view chart.now)) }
 {
     let Some(count) = count_nodes(&chart.graphs) else {
@@ -31,8 +28,11 @@ pub fn compile(alloc: Global, chart: &Chart) -> Result<Tables, AllocError>
     let steps = steps_of(alloc, chart)?;
     let graph_keys = graph_keys(alloc, &chart.graphs)?;
     let graphs = index_of(alloc, graph_keys.as_slice())?;
+    if graphs.len() > MOST_NUMBERS {
+        return Err(AllocError);
+    }
     let places = places_of(alloc, chart, &graphs)?;
-    if places.len() > MOST_STATES {
+    if places.len() > MOST_NUMBERS {
         return Err(AllocError);
     }
     let state_keys = state_keys(alloc, places.as_slice())?;

@@ -1,7 +1,7 @@
 -- What a text is read as has its numbers in the ranges of their types.
-use Rattle.std.proofs.Common.{◌≡◌, ℕ, zero, suc, ◌+◌, ◌-◌, ◌<◌, ◌≤◌, nat_lt, nat_le, ◌==◌, ◌&&◌, Bool, true, false, if◌then◌else◌, List, [], ◌∷◌, ◌++◌, length, map, Option, Some, None, ℤ, pos, negsuc, refl, subst, leb-true, arith}
+use Rattle.std.proofs.Common.{◌≡◌, ℕ, zero, suc, ◌-◌, ◌<◌, ◌≤◌, nat_lt, nat_le, ◌==◌, ◌&&◌, Bool, true, false, if◌then◌else◌, List, [], ◌∷◌, ◌++◌, length, Option, Some, None, ℤ, pos, negsuc, refl, leb-true, arith}
 use Rattle.std.specs.Prelude.{All, codes, fold, unwrap_or, option_map, option_and_then, position}
-use Rattle.std.specs.List.{AllByRecursion as Each, slice_split, flat_map, slice_index_or}
+use Rattle.std.specs.List.{AllByRecursion as Each, slice_split, slice_index_or}
 use Rattle.std.specs.Option.{option_map_or}
 use Rattle.std.proofs.lemmas.Bool.{ltb-true, and_parts}
 use Rattle.std.proofs.lemmas.List.Elements.{All-nil, All-push, All-map, All-weaker, All-from_recursion, recursion_from_All}
@@ -14,7 +14,6 @@ use Rattle.room_kinds.specs.declared.system.SysKind.TheVariants as kinds
 use Rattle.room_kinds.specs.declared.numbers.ControllerId.{ControllerId}
 use Rattle.room_kinds.specs.declared.numbers.Endpoint.{Endpoint}
 use Rattle.room_kinds.specs.declared.numbers.SlotId.{SlotId}
-use Rattle.room_kinds.specs.declared.numbers.Stamp.{Stamp}
 use Rattle.room_kinds.specs.declared.message.Msg.{Msg}
 use Rattle.room_kinds.specs.declared.note.Note.{Note}
 use Rattle.room_wiring.specs.declared.tables.Tables.{Tables}
@@ -23,24 +22,22 @@ use Rattle.room_wiring.specs.declared.names.PortNames.{PortNames}
 use Rattle.room_wiring.specs.Consistent.{IsConsistent}
 use Rattle.room_wiring.specs.Slots.{class_of}
 use Rattle.room_wiring.specs.wiring_names.Lookup.{narrowed, place_of, port_in, state_in as label_in, signal_in as signal_of, port_of, port_called, state_called, signal_called}
-use Rattle.journal.specs.declared.entry.Did.{Did}
 use Rattle.journal.specs.declared.entry.Entry.{Entry}
 use Rattle.journal.specs.declared.entry.Entry.TheVariants as entries
 use Rattle.journal.specs.declared.entry.Left.{Left}
 use Rattle.journal.specs.declared.entry.Journals.{Journals}
-use Rattle.journal.specs.Lines.{speaker_of}
-use Rattle.tied_journals.specs.Tied.{journal_of, posted_by, posted_at}
+use Rattle.tied_journals.specs.Tied.{journal_of, posted_at}
 use Rattle.tied_journals.specs.PostTables.{kept_of, only_of}
 use Rattle.journal_reader.specs.declared.journal_lines.draft.Draft.{Draft}
 use Rattle.journal_reader.specs.declared.journal_lines.draft.Head.{Head}
 use Rattle.journal_reader.specs.declared.journal_lines.draft.Head.TheVariants as heads
 use Rattle.journal_reader.specs.journal_lines.Numerals.{upto, past, begins, begins_digit, below, number_in, byte_in, word_in, signed_in}
-use Rattle.journal_reader.specs.journal_lines.Fields.{party_in, incarnation_in, endpoint_in, source_in, after_source, after_endpoint, state_in, kind_in, signal_in, speaking_port_in}
+use Rattle.journal_reader.specs.journal_lines.Fields.{party_in, incarnation_in, endpoint_in, source_in, after_source, state_in, kind_in, signal_in, speaking_port_in}
 use Rattle.journal_reader.specs.journal_lines.Messages.{numbers_from, numbers_in, message_in, did_in, note_in}
 use Rattle.journal_reader.specs.journal_lines.Fetches.{outline_in, fetched_after, further, fetches}
-use Rattle.journal_reader.specs.journal_lines.Drafts.{nothing_read, with_entry, closed_at, closed, opened, entered, annotated, shelved, titled_by, in_form, with_left, with_unposted, with_done, finished}
+use Rattle.journal_reader.specs.journal_lines.Drafts.{nothing_read, with_entry, closed_at, closed, opened, entered, annotated, shelved, titled_by, in_form, with_left, with_unposted, with_done}
 use Rattle.journal_reader.specs.journal_lines.Reading.{fetched, any_fetched, turned, posted, timed, started, left_message, worded, taking, reading, journals_in}
-use Rattle.journal_reader.specs.journal_texts.InRange.{Is8Bit, Is16Bit, Is32Bit, Is64Bit, IsSigned64, InRangeIncarnation, InRangeEndpoint, InRangeSource, InRangeMsg, InRangeStanding, InRangeNote, InRangeDid, InRangeTurn, InRangeEntry, InRangeLeft, IsInRange}
+use Rattle.journal_reader.specs.journal_texts.InRange.{Is8Bit, Is16Bit, Is32Bit, Is64Bit, IsSigned64, InRangeIncarnation, InRangeEndpoint, InRangeSource, InRangeMsg, InRangeStanding, InRangeNote, InRangeDid, InRangeEntry, InRangeLeft, IsInRange}
 use Rattle.journal_reader.specs.journal_texts.Filled.{filled_message, filled_entry, filled_entries, filled, tied_journals_in}
 
 -- one of two

@@ -1,3 +1,4 @@
 pub mod Judging
 pub mod FillSteps
+pub mod FullSinkSteps
 pub mod InRangeLaw

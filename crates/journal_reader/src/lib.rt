@@ -3,6 +3,7 @@
 
 mod fault;
 mod fill;
+mod full_sink;
 pub mod journal_fits;
 pub mod journal_lines;
 pub mod journal_texts;

@@ -12,10 +12,10 @@ ghost use Rattle.tied_journals.specs.Text.{tied_text_of};
 
 use crate::fault::ReadFaultOf;
 use crate::fill::fill;
+use crate::full_sink::FullSink;
 use crate::journal_fits::fits;
 use crate::journal_lines::read;
 use journal::{Journals, text_to};
-use room_outside::MemSink;
 use room_wiring::Wiring;
 use room_wiring::wiring_names::Names;
 use std::alloc::{AllocError, Global};
@@ -24,6 +24,17 @@ use tied_journals::{first_untied, lines_to};
 /// How many bytes at the front of two texts are the same.
 fn same_front(a: &[u8], b: &[u8]) -> usize {
     a.iter().zip(b).take_while(|(x, y)| x == y).count()
+}
+
+/// The first byte at which two texts differ, if they do.
+fn first_difference(text: &[u8], bytes: &[u8]) -> Option<usize>
+    ensures { Differs result text.now bytes.now }
+{
+    if text == bytes {
+        None
+    } else {
+        Some(same_front(text, bytes))
+    }
 }
 
 /// The first byte at which the text of the journals differs from this one, if it does. It takes as
@@ -36,25 +47,11 @@ fn difference(
 ) -> Result<Option<usize>, AllocError>
     ensures { IfOk result (λ offset. Differs offset (text_of wiring.now journals.now) bytes.now) }
 {
-    let mut sink = MemSink::new(alloc, bytes.len(), Vec::new(alloc))?;
-    let written = text_to(journals, wiring, &mut sink);
-    let text = sink.bytes();
-    match written {
-        Ok(()) => {
-            if text == bytes {
-                Ok(None)
-            } else {
-                Ok(Some(same_front(text, bytes)))
-            }
-        }
-        // The text is longer: the sink has room for all of these bytes, and for no others.
-        Err(_) => {
-            if bytes.len() <= text.len() {
-                Ok(Some(same_front(text, bytes)))
-            } else {
-                Err(AllocError)
-            }
-        }
+    let mut sink = FullSink::new(alloc, bytes.len())?;
+    match text_to(journals, wiring, &mut sink) {
+        Ok(()) => Ok(first_difference(sink.bytes(), bytes)),
+        // The sink is full, so the text is longer.
+        Err(_) => Ok(Some(same_front(sink.bytes(), bytes))),
     }
 }
 
@@ -69,25 +66,11 @@ fn tied_difference(
     ensures { IfOk result (λ offset. Differs offset
         (tied_text_of wiring.now journals.now) bytes.now) }
 {
-    let mut sink = MemSink::new(alloc, bytes.len(), Vec::new(alloc))?;
-    let written = lines_to(journals, wiring, &mut sink);
-    let text = sink.bytes();
-    match written {
-        Ok(()) => {
-            if text == bytes {
-                Ok(None)
-            } else {
-                Ok(Some(same_front(text, bytes)))
-            }
-        }
-        // The text is longer: the sink has room for all of these bytes, and for no others.
-        Err(_) => {
-            if bytes.len() <= text.len() {
-                Ok(Some(same_front(text, bytes)))
-            } else {
-                Err(AllocError)
-            }
-        }
+    let mut sink = FullSink::new(alloc, bytes.len())?;
+    match lines_to(journals, wiring, &mut sink) {
+        Ok(()) => Ok(first_difference(sink.bytes(), bytes)),
+        // The sink is full, so the text is longer.
+        Err(_) => Ok(Some(same_front(sink.bytes(), bytes))),
     }
 }
 

@@ -69,12 +69,12 @@ In_right : {A : Type 0} (xs ys : List A) (z : A) → In ys z → In (xs ++ ys) z
 In_right [] ys z h = h
 In_right (x ∷ xs) ys z h = inr (In_right xs ys z h)
 
-In-map : {A B : Type 0} (f : A → B) (xs : List A) (x : A) → In xs x → In (map f xs) (f x)
+pub In-map : {A B : Type 0} (f : A → B) (xs : List A) (x : A) → In xs x → In (map f xs) (f x)
 In-map f [] x h = absurd h
 In-map f (y ∷ xs) x (inl e) = inl (ap f e)
 In-map f (y ∷ xs) x (inr i) = inr (In-map f xs x i)
 
-In_whole : {A B : Type 0} (f : A → List B) (xs : List A) (x : A) (y : B) → In xs x → In (f x) y → In (flat_map f xs) y
+pub In_whole : {A B : Type 0} (f : A → List B) (xs : List A) (x : A) (y : B) → In xs x → In (f x) y → In (flat_map f xs) y
 In_whole f [] x y h i = absurd h
 In_whole f (z ∷ xs) x y (inl e) i = In_left (f z) (flat_map f xs) y (subst (λ w. In (f w) y) (sym e) i)
 In_whole f (z ∷ xs) x y (inr h) i = In_right (f z) (flat_map f xs) y (In_whole f xs x y h i)
@@ -140,7 +140,7 @@ target_there chart g (to_exit x) h e = In_whole graph_nodes chart.graphs g (an_e
 abbrev pub IsStep : List Graph → StepTree → Type 0
 IsStep graphs s = (g : Graph) × (t : Transition) × In graphs g × In g.transitions t × (step_of g.owner t ≡ s)
 
-of_graph : (owner : Path) (ts : List Transition) (s : StepTree) → In (map (step_of owner) ts) s → (t : Transition) × In ts t × (step_of owner t ≡ s)
+pub of_graph : (owner : Path) (ts : List Transition) (s : StepTree) → In (map (step_of owner) ts) s → (t : Transition) × In ts t × (step_of owner t ≡ s)
 of_graph owner [] s h = absurd h
 of_graph owner (t ∷ ts) s (inl e) = (t, inl refl, e)
 of_graph owner (t ∷ ts) s (inr h) = let r = of_graph owner ts s h in (r.0, inr r.1, r.2)

@@ -36,7 +36,7 @@ unique_append [] ys u v apart = v
 unique_append (x ∷ xs) ys u v apart =
     (λ y h e. elim (In_append xs ys y h) [ inl i ↦ u.0 y i e | inr i ↦ apart x y (inl refl) i e ], unique_append xs ys u.1 v (λ a b i j e. apart a b (inr i) j e))
 
-In_parts : {A B : Type 0} (f : A → List B) (xs : List A) (y : B) → In (flat_map f xs) y → (x : A) × In xs x × In (f x) y
+pub In_parts : {A B : Type 0} (f : A → List B) (xs : List A) (y : B) → In (flat_map f xs) y → (x : A) × In xs x × In (f x) y
 In_parts f [] y h = absurd h
 In_parts f (x ∷ xs) y h = elim (In_append (f x) (flat_map f xs) y h) [ inl i ↦ (x, inl refl, i) | inr i ↦ (let r = In_parts f xs y i in (r.0, inr r.1, r.2)) ]
 
@@ -139,7 +139,7 @@ unfolding IsDistinct
 keys_distinct [] u = tt
 keys_distinct (p ∷ paths) u = (apart_all p paths u.0, keys_distinct paths u.1)
 
-keys_of_paths : (places : List PlaceTree) → map key_of places ≡ map state_key (map (λ (p : PlaceTree). p.path) places)
+pub keys_of_paths : (places : List PlaceTree) → map key_of places ≡ map state_key (map (λ (p : PlaceTree). p.path) places)
 keys_of_paths [] = refl
 keys_of_paths (p ∷ places) = ap (λ l. state_key p.path ∷ l) (keys_of_paths places)
 

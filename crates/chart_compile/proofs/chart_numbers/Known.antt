@@ -32,3 +32,9 @@ among_picked steps [] i s h at = absurd (omega arith)
 among_picked steps (n ∷ numbers) zero s h at =
     subst (λ (o : Option StepTree). is_among (targets_of (cons_option o (picked steps numbers))) s.target ≡ true) (sym at) (or_first (same s.target s.target) (is_among (targets_of (picked steps numbers)) s.target) (key_own s.target))
 among_picked steps (n ∷ numbers) (suc i) s h at = later (slice_get steps n) (picked steps numbers) s.target (among_picked steps numbers i s (omega arith) at)
+
+-- what an item at a place is seen as
+pub view_at : {A B : Type 0} (v : A → B) (xs : List A) (i : ℕ) (x : A) → i < length xs → x ≡ get_or xs i x → slice_get (map v xs) i ≡ Some (v x)
+view_at v [] i x h is = absurd (omega arith)
+view_at v (y ∷ xs) zero x h is = ap (λ z. Some (v z)) (sym is)
+view_at v (y ∷ xs) (suc i) x h is = view_at v xs i x (omega arith) is

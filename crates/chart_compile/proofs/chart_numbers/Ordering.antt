@@ -23,8 +23,8 @@ use Rattle.chart_reader.proofs.chart_nodes.Linking.{is_at, goes, length-parts, p
 use Rattle.chart_reader.proofs.chart_nodes.Members.{In-from_Contains, In_any}
 use Rattle.chart_reader.proofs.chart_nodes.CircleLaws.{number_after}
 use Rattle.chart_compile.specs.chart_places.Groups.{picked}
-use Rattle.chart_compile.specs.chart_numbers.Order.{AreNumbered, Numbering, is_number, numbered, numbering, with_first, with_node, with_step}
-use Rattle.chart_compile.proofs.chart_numbers.Members.{get_pushed}
+use Rattle.chart_compile.specs.chart_numbers.Order.{AllNumbered, AreNumbered, Numbering, is_number, numbered, numbering, with_first, with_node, with_step}
+use Rattle.chart_compile.proofs.chart_numbers.Members.{In-slice_get, get_pushed}
 
 key_is : (a b : List ℕ) → same a b ≡ true → a ≡ b
 key_is a b = (bytes_decides a b).0
@@ -219,6 +219,22 @@ in_order steps order targets keys o e =
     let size : length (parts_of steps) ≡ length steps = length-parts (targets_of steps) (replicate (length steps) []) steps ∙ length-replicate (length steps) (let none : List ℕ = [] in none) in
     let all = go steps order [] order (numbering [] []) o size refl (nothing steps) in
     subst (λ (n : Numbering). AreNumbered steps n.node_keys n.node_steps) (sym e) all.numbers
+
+-- and each step leads to one of them
+pub all_in_order : (steps : List StepTree) (order targets : List ℕ) (keys : List (List ℕ)) → IsContainmentOrder (parts_of steps) order → numbering keys targets ≡ numbered steps order → AllNumbered steps keys
+all_in_order steps order targets keys o e = λ i s at.
+    let size : length (parts_of steps) ≡ length steps = length-parts (targets_of steps) (replicate (length steps) []) steps ∙ length-replicate (length steps) (let none : List ℕ = [] in none) in
+    let all = go steps order [] order (numbering [] []) o size refl (nothing steps) in
+    let next = number_after steps s (In-slice_get steps i s at) in
+    let k = next.0 in
+    let found = position-Some (same s.target) (targets_of steps) k s.target next.1 in
+    let small : k < length steps = omega (arith, found.0, length-map steps (λ (s : StepTree). s.target)) in
+    let u = get_or steps k s in
+    let u_at : slice_get steps k ≡ Some u = slice_get-get_or steps k s small in
+    let key : s.target ≡ u.target = key_is s.target u.target (subst (λ x. same s.target x ≡ true) (get_or-map (λ (s : StepTree). s.target) steps k s s.target small) found.1) in
+    let place = o.whole k (omega (arith, small, size)) in
+    let there : is_among (numbered steps order).node_keys u.target ≡ true = all.reached place.0 k u place.1 place.2 u_at (ap (number_of (targets_of steps)) (sym key) ∙ next.1) in
+    subst (λ (n : Numbering). is_among n.node_keys s.target ≡ true) (sym e) (subst (λ x. is_among (numbered steps order).node_keys x ≡ true) (sym key) there)
 
 -- ---- what the code does with a step
 

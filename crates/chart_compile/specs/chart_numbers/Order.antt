@@ -41,6 +41,10 @@ numbered steps order = fold (with_step steps) (numbering [] []) order
 abbrev pub LeadLower : List StepTree → List (List ℕ) → Type 0
 LeadLower steps keys = (p : ℕ) (key : List ℕ) (s : StepTree) → slice_get keys p ≡ Some key → Contains steps s → same s.origin key ≡ true → (q : ℕ) × (position (same s.target) keys ≡ Some q) × (q < p)
 
+-- The node of each step is among those with these keys.
+abbrev pub AllNumbered : List StepTree → List (List ℕ) → Type 0
+AllNumbered steps keys = (i : ℕ) (s : StepTree) → slice_get steps i ≡ Some s → is_among keys s.target ≡ true
+
 -- The nodes with these keys are those that the steps with these numbers lead to, one by one; no two are the same, and each leads to lower ones.
 pub record AreNumbered (steps : List StepTree) (keys : List (List ℕ)) (targets : List ℕ) : Type 0 where
   pub named : keys ≡ map (λ (s : StepTree). s.target) (picked steps targets)

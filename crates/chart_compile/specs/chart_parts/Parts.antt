@@ -1,5 +1,5 @@
 -- Rows of tables, by the keys of a chart's states, graphs and nodes.
-use Rattle.std.specs.Prelude.{◌≡◌, ℕ, List, [], ◌∷◌, ◌++◌, Option, Some, position}
+use Rattle.std.specs.Prelude.{◌≡◌, ◌<◌, ◌^◌, ℕ, List, [], ◌∷◌, ◌++◌, Option, Some, position, slice_get}
 use Rattle.std.specs.Global.{Vec}
 use Rattle.std.specs.List.{cons_option, filter}
 use Rattle.action_program.specs.Numbered.{program_view}
@@ -22,6 +22,10 @@ from_key key steps = filter (λ (s : StepTree). same s.origin key) steps
 abbrev pub IsNumber : List (List ℕ) → List ℕ → ℕ → Type 0
 IsNumber keys key n = position (same key) keys ≡ Some n
 
+-- a key has a number of 16 bits among keys
+abbrev pub HasNumber : List (List ℕ) → List ℕ → Type 0
+HasNumber keys key = (n : ℕ) × IsNumber keys key n × (n < 2 ^ 16)
+
 -- a number is that of the state at a path
 abbrev pub IsState : List (List ℕ) → ℕ → Path → Type 0
 IsState states n path = IsNumber states (state_key path) n
@@ -29,6 +33,10 @@ IsState states n path = IsNumber states (state_key path) n
 -- the key of the node that a step leads to
 abbrev pub target_of : StepTree → List ℕ
 target_of s = target_key s.placed.graph s.placed.transition.target
+
+-- the node of each step has a number
+abbrev pub LeadTo : List (List ℕ) → List StepTree → Type 0
+LeadTo nodes steps = (i : ℕ) (s : StepTree) → slice_get steps i ≡ Some s → HasNumber nodes (target_of s)
 
 -- the key of a state
 abbrev pub key_of : PlaceTree → List ℕ
@@ -49,6 +57,19 @@ AddsArrow nodes step old new = (ss : List StepTree) → Each (IsArrow nodes) (ar
 abbrev pub outer : Path → Path
 outer [] = []
 outer (s ∷ owner) = owner
+
+-- the state at a path and those that have it have numbers
+abbrev pub HaveNumbers : List (List ℕ) → Path → Type 0
+HaveNumbers states [] = Unit {0}
+HaveNumbers states (s ∷ owner) = HasNumber states (state_key (s ∷ owner)) × HaveNumbers states owner
+
+-- so has the graph in which a state stands
+pub record IsPlaced (states graphs : List (List ℕ)) (p : PlaceTree) : Type 0 where
+  pub up : HaveNumbers states p.path
+  pub graph : HasNumber graphs (shared_key (outer p.path))
+
+abbrev pub ArePlaced : List (List ℕ) → List (List ℕ) → List PlaceTree → Type 0
+ArePlaced states graphs places = (i : ℕ) (p : PlaceTree) → slice_get places i ≡ Some p → IsPlaced states graphs p
 
 -- a row is that of a state
 pub record IsRow (states graphs nodes : List (List ℕ)) (steps : List StepTree) (r : Row) (p : PlaceTree) : Type 0 where

@@ -6,7 +6,7 @@ ghost use Rattle.number_graphs.specs.class_containment.Containment.{IsContainmen
 ghost use Rattle.chart_reader.specs.chart_nodes.Steps.{step_view};
 ghost use Rattle.chart_reader.specs.chart_nodes.Circles.{number_of, parts_of, targets_of};
 ghost use Rattle.chart_compile.specs.chart_places.Groups.{picked};
-ghost use Rattle.chart_compile.specs.chart_numbers.Order.{AreNumbered, is_number, numbered, numbering, with_node, with_step};
+ghost use Rattle.chart_compile.specs.chart_numbers.Order.{AllNumbered, AreNumbered, is_number, numbered, numbering, with_node, with_step};
 
 use chart_reader::{Step, node_order, target_index};
 use name_tables::{NameIndex, Numbers};
@@ -142,7 +142,8 @@ pub fn number_nodes<'a, 'b>(
     steps: &'a [Step<'b>],
 ) -> Result<NodeOrder<'a>, AllocError>
     requires { NoneContainsItself (parts_of (map step_view steps.now)) }
-    ensures { IfOk result (λ nodes. AreNumbered (map step_view steps.now) nodes.keys nodes.targets.items) }
+    ensures numbered { IfOk result (λ nodes. AreNumbered (map step_view steps.now) nodes.keys nodes.targets.items) }
+    ensures all { IfOk result (λ nodes. AllNumbered (map step_view steps.now) nodes.keys) }
 {
     let first = target_index(alloc, steps)?;
     let order = ordered(alloc, steps)?;

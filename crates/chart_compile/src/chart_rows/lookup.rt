@@ -3,7 +3,8 @@ ghost use Rattle.std.specs.Prelude.{◌≡◌, ◌∷◌, true, List, option_and
 ghost use Rattle.name_tables.specs.name_numbers.Names.{same, is_among};
 ghost use Rattle.chart_reader.specs.chart_nodes.Steps.{StepTree};
 ghost use Rattle.chart_compile.specs.chart_places.Groups.{IsGrouped, picked};
-ghost use Rattle.chart_compile.specs.chart_parts.Parts.{IsNumber, IsState, from_key};
+ghost use Rattle.chart_compile.specs.chart_places.Places.{state_key};
+ghost use Rattle.chart_compile.specs.chart_parts.Parts.{HasNumber, IsNumber, IsState, from_key};
 
 use chart_reader::{Step, named_key};
 use name_tables::NameIndex;
@@ -11,22 +12,14 @@ use room_ast::Name;
 use room_kinds::Sequence;
 use std::alloc::{AllocError, Global};
 
-/// The most numbers of one kind.
-const MOST: usize = 65535;
-
-/// The number of a key. It answers as where memory runs out where the key has none below 65,535.
-pub fn number<'c>(numbers: &NameIndex<'c>, key: &[u8]) -> Result<u16, AllocError>
-    ensures { IfOk result (λ n. IsNumber numbers.now key.now n) }
+/// The number of a key that has one.
+pub fn number<'c>(numbers: &NameIndex<'c>, key: &[u8]) -> u16
+    requires { HasNumber numbers.now key.now }
+    ensures { IsNumber numbers.now key.now result }
 {
     match numbers.place_of(key) {
-        Some(n) => {
-            if n < MOST {
-                Ok(n as u16)
-            } else {
-                Err(AllocError)
-            }
-        }
-        None => Err(AllocError),
+        Some(n) => n as u16,
+        None => unreachable!(),
     }
 }
 
@@ -37,10 +30,11 @@ pub fn state_number<'c>(
     name: &Name,
     owner: &[Name],
 ) -> Result<u16, AllocError>
+    requires { HasNumber states.now (state_key (name.now ∷ owner.now)) }
     ensures { IfOk result (λ n. IsState states.now n (name.now ∷ owner.now)) }
 {
     let key = named_key(alloc, 1, name, owner)?;
-    number(states, key.as_slice())
+    Ok(number(states, key.as_slice()))
 }
 
 /// The step with a number.

@@ -6,7 +6,7 @@ ghost use Rattle.chart_model.specs.Named.{outward};
 ghost use Rattle.chart_reader.specs.chart_nodes.Steps.{step_view};
 ghost use Rattle.chart_compile.specs.chart_places.Places.{place_view};
 ghost use Rattle.chart_compile.specs.chart_places.Groups.{IsGrouped};
-ghost use Rattle.chart_compile.specs.chart_parts.Parts.{IsRow, IsShared, IsState, key_of};
+ghost use Rattle.chart_compile.specs.chart_parts.Parts.{ArePlaced, HaveNumbers, IsPlaced, IsRow, IsShared, IsState, LeadTo, key_of};
 
 use crate::chart_places::Place;
 use crate::chart_rows::arrows::arrows_of;
@@ -19,13 +19,14 @@ use room_ast::Name;
 use room_kinds::Sequence;
 use std::alloc::{AllocError, Global};
 
-/// The numbers of a state and of those that have it, from inner to outer.
+/// The numbers of a state and of those that have it, from inner to outer, which have numbers.
 fn up_line<'c>(
     alloc: Global,
     states: &NameIndex<'c>,
     name: &Name,
     owner: &[Name],
 ) -> Result<Vec<u16>, AllocError>
+    requires { HaveNumbers states.now (name.now ∷ owner.now) }
     ensures { IfOk result (λ up. Each (IsState states.now) up.items (outward (name.now ∷ owner.now))) }
 {
     let mut up = Vec::new(alloc);
@@ -52,6 +53,8 @@ fn make_row<'b, 's, 'g, 'n, 'p>(
 ) -> Result<Row, AllocError>
     requires grouped { IsGrouped states.now own.now (map step_view steps.now) }
     requires known { is_among states.now (key_of (place_view place.now)) ≡ true }
+    requires placed { IsPlaced states.now graphs.now (place_view place.now) }
+    requires lead { LeadTo nodes.now (map step_view steps.now) }
     ensures { IfOk result (λ row. IsRow states.now graphs.now nodes.now (map step_view steps.now) row (place_view place.now)) }
 {
     let state = place.state;
@@ -63,7 +66,7 @@ fn make_row<'b, 's, 'g, 'n, 'p>(
     let group = steps_at(states, own, key.as_slice());
     let arrows = arrows_of(alloc, nodes, steps, group)?;
     let graph_key = plain_key(alloc, 2, owner)?;
-    let graph = number(graphs, graph_key.as_slice())?;
+    let graph = number(graphs, graph_key.as_slice());
     Ok(Row {
         up,
         entry,
@@ -85,6 +88,8 @@ pub fn rows_of<'b, 's, 'g, 'n, 'p>(
 ) -> Result<Vec<Row>, AllocError>
     requires grouped { IsGrouped states.now own.now (map step_view steps.now) }
     requires keyed { states.now ≡ map key_of (map place_view places.now) }
+    requires placed { ArePlaced states.now graphs.now (map place_view places.now) }
+    requires lead { LeadTo nodes.now (map step_view steps.now) }
     ensures { IfOk result (λ rows. Each (IsRow states.now graphs.now nodes.now (map step_view steps.now)) rows.items (map place_view places.now)) }
 {
     let mut rows = Vec::new(alloc);
@@ -105,6 +110,7 @@ fn make_shared<'b, 'g, 'n>(
 ) -> Result<Vec<Arrow>, AllocError>
     requires grouped { IsGrouped graphs.now groups.now (map step_view steps.now) }
     requires known { is_among graphs.now key.now ≡ true }
+    requires lead { LeadTo nodes.now (map step_view steps.now) }
     ensures { IfOk result (λ arrows. IsShared nodes.now (map step_view steps.now) arrows key.now) }
 {
     let group = steps_at(graphs, groups, key);
@@ -123,6 +129,7 @@ pub fn shared_of<'b, 'g, 'n>(
 ) -> Result<Vec<Vec<Arrow>>, AllocError>
     requires grouped { IsGrouped graphs.now groups.now (map step_view steps.now) }
     requires keyed { graphs.now ≡ keys.now }
+    requires lead { LeadTo nodes.now (map step_view steps.now) }
     ensures { IfOk result (λ shared. Each (IsShared nodes.now (map step_view steps.now)) shared.items keys.now) }
 {
     let mut shared = Vec::new(alloc);

@@ -12,6 +12,7 @@ use Rattle.chart_model.specs.Chart.{Name, Chart}
 use Rattle.chart_reading.specs.Reading.{reading}
 use Rattle.chart_reader.specs.Reads.{Reads}
 use Rattle.chart_reader.proofs.Lowest.{valid_told}
+use Rattle.chart_reader.proofs.NestedGraphs.{whole_told}
 use Rattle.chart_reader.specs.declared.fault.ChartFault.{ChartFault}
 use Rattle.chart_reader.specs.declared.fault.ChartFault.TheVariants as chart_faults
 use Rattle.check_scopes.specs.class_scopes.Views.{ScopeView, scope_view}
@@ -142,13 +143,17 @@ all_read all rest charts h none =
       charts_are = h.charts_are ∙ ap (map chart_in) (sym whole);
     }
 
-valid_all : (ws : List (Option Written)) → NoneIsFaulty ws → AreValid (map chart_in ws)
-valid_all [] h = tt
-valid_all (None ∷ ws) h = valid_all ws h.1
-valid_all (Some w ∷ ws) h = (valid_told w.chart w.events_fit w.codes_fit h.0, valid_all ws h.1)
+valid_one : (scope : Scope) (names : List Name) (machine : Option GraphItems) (ws : List (Option Written)) → HasFault (option_map (written scope names) machine) None → AreValid (map chart_in ws) → AreValid (map chart_in (option_map (written scope names) machine ∷ ws))
+valid_one scope names None ws f h = h
+valid_one scope names (Some is) ws f h = (whole_told scope names is (valid_told (written scope names is).chart (written scope names is).events_fit (written scope names is).codes_fit f), h)
 
-pub valid_when_read : (all : List (Option Written)) (charts : List (Option Chart)) → AllRead all charts → AreValid charts
-valid_when_read all charts h = subst AreValid (sym h.charts_are) (valid_all all h.faultless)
+valid_all : (names : List Name) (ss : List Scope) (ks : List ActorTree) → NoneIsFaulty (written_from names ss ks) → AreValid (map chart_in (written_from names ss ks))
+valid_all names [] ks h = tt
+valid_all names (s ∷ ss) [] h = tt
+valid_all names (s ∷ ss) (a ∷ ks) h = valid_one s names (machine_of a) (written_from (names_after s names (machine_of a)) ss ks) h.0 (valid_all (names_after s names (machine_of a)) ss ks h.1)
+
+pub valid_when_read : (ss : List Scope) (ks : List ActorTree) (charts : List (Option Chart)) → AllRead (written_from [] ss ks) charts → AreValid charts
+valid_when_read ss ks charts h = subst AreValid (sym h.charts_are) (valid_all [] ss ks h.faultless)
 
 -- nothing is written behind the last class
 pub none_behind : (names : List Name) (ss : List Scope) (ks : List ActorTree) (i : ℕ) → length ss ≤ i → written_from names (drop i ss) (drop i ks) ≡ []

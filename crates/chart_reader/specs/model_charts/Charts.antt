@@ -3,9 +3,9 @@ use Rattle.std.specs.Prelude.{◌≡◌, ℕ, zero, suc, List, [], ◌∷◌, ma
 use Rattle.room_ast.specs.Trees.{ModelTree, ActorTree}
 use Rattle.room_ast.specs.model_parts.Classes.{actors}
 use Rattle.chart_model.specs.Chart.{Name, Chart}
-use Rattle.chart_model.specs.Valid.{IsValid}
 use Rattle.chart_reader.specs.Faults.{number}
 use Rattle.chart_reader.specs.Reads.{IsLowestFault}
+use Rattle.chart_reader.specs.Whole.{IsWhole}
 use Rattle.chart_reader.specs.declared.fault.ChartFault.{ChartFault}
 use Rattle.chart_reader.specs.model_charts.Written.{Written, AreWritten}
 
@@ -28,11 +28,11 @@ IsFirstFaulty (w ∷ ws) (suc i) fault = HasFault w None × IsFirstFaulty ws i f
 abbrev pub chart_in : Option Written → Option Chart
 chart_in w = option_map (λ (x : Written). x.chart) w
 
--- Each of the charts is valid.
+-- Each of the charts is valid, and its graphs are those of its states.
 abbrev pub AreValid : List (Option Chart) → Type 0
 AreValid [] = Unit {0}
 AreValid (None ∷ cs) = AreValid cs
-AreValid (Some c ∷ cs) = IsValid c × AreValid cs
+AreValid (Some c ∷ cs) = IsWhole c × AreValid cs
 
 -- These are the charts of a model's actor classes, in order of declaration, and none has a fault. A class without a state machine has none.
 pub record HasCharts (m : ModelTree) (charts : List (Option Chart)) : Type 0 where

@@ -1,9 +1,9 @@
 -- The charts of a model.
 use Rattle.std.specs.Prelude.{Option, Some, None}
 use Rattle.chart_model.specs.Chart.{Chart}
-use Rattle.chart_model.specs.Valid.{IsValid}
+use Rattle.chart_reader.specs.Whole.{IsWhole}
 
--- The chart of a class, if it has one, is valid.
+-- The chart of a class, if it has one, is valid, and its graphs are those of its states.
 abbrev pub IsValidIfAny : Option Chart → Type 0
 IsValidIfAny None = Unit {0}
-IsValidIfAny (Some c) = IsValid c
+IsValidIfAny (Some c) = IsWhole c

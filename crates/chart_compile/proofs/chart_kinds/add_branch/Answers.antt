@@ -21,3 +21,6 @@ returns c =
     let s = c.in-Some.step in
     branch_with c.args.nodes.now c.args.branches.now.items c.push.new.self.items c.in_ok-arrow.arrow (slice_get (map step_view c.args.steps.now) c.args.number) (step_view s.now) (step_found step_view c.args.steps.now c.args.number c.step_at.result s c.step_at.ensures c.in-Some.is)
     c.in_ok-push.ensures.items (some_view expr_view s.now.transition.now.condition ∙ sym c.is_some-has.ensures ∙ c.if-not-has.false) c.in_ok-arrow.ensures
+
+pub make_arrow-requires : goal.make_arrow-requires
+make_arrow-requires c = c.requires c.args.number (step_view c.in-Some.step.now) (step_found step_view c.args.steps.now c.args.number c.step_at.result c.in-Some.step c.step_at.ensures c.in-Some.is)

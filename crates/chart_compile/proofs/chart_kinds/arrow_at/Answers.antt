@@ -13,3 +13,6 @@ pub returns : goal.returns
 returns c =
     let s = c.in-Some.step in
     at_some c.args.nodes.now (slice_get (map step_view c.args.steps.now) c.args.number) (step_view s.now) c.in_ok-arrow.arrow (step_found step_view c.args.steps.now c.args.number c.step_at.result s c.step_at.ensures c.in-Some.is) c.in_ok-arrow.ensures
+
+pub make_arrow-requires : goal.make_arrow-requires
+make_arrow-requires c = c.requires c.args.number (step_view c.in-Some.step.now) (step_found step_view c.args.steps.now c.args.number c.step_at.result c.in-Some.step c.step_at.ensures c.in-Some.is)

@@ -9,7 +9,7 @@ use Rattle.chart_compile.proofs.chart_kinds.Lines.{choice_some, some_first}
 use Rattle.chart_compile.proofs.chart_kinds.choice.Goals as goal
 
 pub unreachable-requires : goal.unreachable-requires
-unreachable-requires c = some_first c.args.nodes.now c.in_ok-default.default (filter has_none (picked (map step_view c.args.steps.now) c.args.group.now)) c.in_ok-default.ensures c.in-None.is c.requires
+unreachable-requires c = some_first c.args.nodes.now c.in_ok-default.default (filter has_none (picked (map step_view c.args.steps.now) c.args.group.now)) c.in_ok-default.ensures c.in-None.is c.requires.default
 
 pub returns : goal.returns
 returns c =

@@ -1,4 +1,4 @@
-use Rattle.std.proofs.Common.{◌∷◌, ◌<◌, ap, arith, length, map, subst, sym}
+use Rattle.std.proofs.Common.{◌∷◌, ap, arith, length, map, subst, sym}
 use Rattle.chart_model.specs.chart_plan.Same.{SameKind}
 use Rattle.chart_model.specs.Chart.{Path}
 use Rattle.chart_model.specs.Named.{node_of}
@@ -11,18 +11,18 @@ use Rattle.chart_compile.specs.chart_parts.Parts.{IsArrow, IsState}
 use Rattle.chart_compile.specs.chart_parts.Nodes.{GoesOn, kind_by}
 use Rattle.chart_compile.proofs.chart_kinds.make_node.Goals as goal
 
-pub choice-requires : goal.choice-requires
-choice-requires c =
+pub choice-requires-clause-default : goal.choice-requires-clause-default
+choice-requires-clause-default c =
     let owner = c.args.step.now.graph.now.owner in
     let steps = picked (map step_view c.args.steps.now) c.args.group.now in
-    subst (λ (t : Target). GoesOn (node_of owner (target_view t)) steps) c.in-Choice.is c.requires
+    subst (λ (t : Target). GoesOn c.args.states.now (node_of owner (target_view t)) steps) c.in-Choice.is c.requires.goes_on
 
 pub unreachable-requires : goal.unreachable-requires
 unreachable-requires c =
     let owner = c.args.step.now.graph.now.owner in
     let steps = picked (map step_view c.args.steps.now) c.args.group.now in
-    let some : 0 < length owner = subst (λ (t : Target). GoesOn (node_of owner (target_view t)) steps) c.in-Exit.is c.requires in
-    omega (arith, some, ap length c.as_slice-owner.ensures, c.in_default.ensures.cases)
+    let some = subst (λ (t : Target). GoesOn c.args.states.now (node_of owner (target_view t)) steps) c.in-Exit.is c.requires.goes_on in
+    omega (arith, some.0, ap length c.as_slice-owner.ensures, c.in_default.ensures.cases)
 
 pub returns-in_ok-node-in-Choice : goal.returns-in_ok-node-in-Choice
 returns-in_ok-node-in-Choice c =

@@ -9,11 +9,11 @@ use Rattle.chart_compile.proofs.nodes.node_after.Goals as goal
 pub steps_at-group-requires-clause-grouped : goal.steps_at-group-requires-clause-grouped
 steps_at-group-requires-clause-grouped c = (map step_view c.args.steps.now, c.requires.grouped)
 
-pub make_node-requires : goal.make_node-requires
-make_node-requires c =
+pub make_node-requires-clause-goes_on : goal.make_node-requires-clause-goes_on
+make_node-requires-clause-goes_on c =
     let steps = map step_view c.args.steps.now in
     let s = step_view c.args.step.now in
-    subst (λ (l : List StepTree). GoesOn (node_after s) l) (sym (c.steps_at-group.ensures steps c.requires.grouped ∙ ap (λ k. from_key k steps) (c.as_slice.ensures.value ∙ c.requires.keyed))) c.requires.goes_on
+    subst (λ (l : List StepTree). GoesOn c.args.states.now (node_after s) l) (sym (c.steps_at-group.ensures steps c.requires.grouped ∙ ap (λ k. from_key k steps) (c.as_slice.ensures.value ∙ c.requires.keyed))) c.requires.goes_on
 
 pub returns : goal.returns
 returns c =

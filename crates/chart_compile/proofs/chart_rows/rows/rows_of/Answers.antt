@@ -5,7 +5,7 @@ use Rattle.chart_compile.specs.chart_places.Places.{place_view}
 use Rattle.chart_compile.specs.declared.chart_places.places.Place.{Place}
 use Rattle.chart_compile.specs.chart_parts.Parts.{IsRow, key_of}
 use Rattle.name_tables.specs.name_numbers.Names.{is_among}
-use Rattle.chart_compile.proofs.chart_numbers.Known.{among_made}
+use Rattle.chart_compile.proofs.chart_numbers.Known.{among_made, view_at}
 use Rattle.chart_compile.proofs.chart_rows.Listing.{each_more_plain, each_start_plain, made_more, taken_all}
 use Rattle.chart_compile.proofs.chart_rows.rows.rows_of.Goals as goal
 
@@ -16,6 +16,11 @@ pub make_row-requires-clause-known : goal.make_row-requires-clause-known
 make_row-requires-clause-known c =
     let p = c.place-item.result in
     subst (λ (keys : List (List ℕ)). is_among keys (key_of (place_view p)) ≡ true) (sym c.requires.keyed) (among_made key_of place_view c.args.places.now c.loop-place.place-index p c.loop-place-test.true c.place-item.is)
+
+pub make_row-requires-clause-placed : goal.make_row-requires-clause-placed
+make_row-requires-clause-placed c =
+    let p = c.place-item.result in
+    c.requires.placed c.loop-place.place-index (place_view p) (view_at place_view c.args.places.now c.loop-place.place-index p c.loop-place-test.true c.place-item.is)
 
 pub loop-place-preserved : goal.loop-place-preserved
 loop-place-preserved c =

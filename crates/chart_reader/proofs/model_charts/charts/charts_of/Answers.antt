@@ -48,6 +48,6 @@ loop-scope-preserved c =
 
 pub returns-clause-valid : goal.returns-clause-valid
 returns-clause-valid c =
-    valid_when_read (written_from [] c.args.checked.now.scopes.items (actors (model_view c.args.checked.now.model.now))) (map (option_map chart_view) c.loop-scope.charts.items)
+    valid_when_read c.args.checked.now.scopes.items (actors (model_view c.args.checked.now.model.now)) (map (option_map chart_view) c.loop-scope.charts.items)
     (all_read (written_from [] c.args.checked.now.scopes.items (actors (model_view c.args.checked.now.model.now))) _ (map (option_map chart_view) c.loop-scope.charts.items) c.loop-scope.invariant.read
     (none_behind c.loop-scope.names c.args.checked.now.scopes.items (actors (model_view c.args.checked.now.model.now)) c.loop-scope.scope-index (rw c.deref-scope-items.ensures.value at c.loop-scope-test.false)))
