@@ -1,8 +1,8 @@
 //! What the actions of a class do: what they send and where, whether they defer and recall, which references they fill.
 //!
 //! The codes of an accepted model are programs (docs/ACTIONS.md), so the first tokens of a statement tell which it is.
-use crate::by_port::ByPort;
-use crate::code::Code;
+use chart_texts::{ByPort, Code, Source};
+use fault_places::Item;
 use indexmap::IndexSet;
 use room_lexer::{Mark, Token, TokenKind};
 use std::alloc::{AllocError, Global};
@@ -138,7 +138,7 @@ fn first_of(one: Option<(usize, usize)>, other: (usize, usize)) -> (usize, usize
 }
 
 impl Deeds {
-    pub(crate) fn new(alloc: Global) -> Deeds {
+    fn new(alloc: Global) -> Deeds {
         Deeds {
             targets: IndexSet::new(alloc),
             sends: Vec::new(alloc),
@@ -233,8 +233,8 @@ impl Deeds {
         }
     }
 
-    /// Adds what is done where a statement begins with these tokens.
-    fn add_statement(
+    /// Adds what a statement does whose first words these are.
+    fn add_words(
         &mut self,
         alloc: Global,
         code: &Code,
@@ -243,12 +243,23 @@ impl Deeds {
         match tokens {
             [word, end, ..] if is_name(word) && is_mark(end, Mark::Semicolon) => {
                 self.add_word(code, word);
+                Ok(())
             }
             [word, name, ..] if is_name(word) && is_name(name) => {
-                self.add_named(alloc, code.bytes(word), code.bytes(name))?;
+                self.add_named(alloc, code.bytes(word), code.bytes(name))
             }
-            _ => (),
+            _ => Ok(()),
         }
+    }
+
+    /// Adds what is done where a statement begins with these tokens.
+    fn add_statement(
+        &mut self,
+        alloc: Global,
+        code: &Code,
+        tokens: &[Token],
+    ) -> Result<(), AllocError> {
+        self.add_words(alloc, code, tokens)?;
         match sent_in(tokens) {
             Some(sent) => self.add_send(alloc, code, sent),
             None => Ok(()),
@@ -256,11 +267,36 @@ impl Deeds {
     }
 
     /// Adds what a code does.
-    pub(crate) fn add_code(&mut self, alloc: Global, code: &Code) -> Result<(), AllocError> {
+    fn add_code(&mut self, alloc: Global, code: &Code) -> Result<(), AllocError> {
         let tokens = code.tokens();
         for at in 0..tokens.len() {
             self.add_statement(alloc, code, tokens.get(at..).unwrap_or(&[]))?;
         }
         Ok(())
+    }
+
+    /// Adds what the codes in parts of the text do.
+    fn add_codes(
+        &mut self,
+        alloc: Global,
+        source: Source<'_>,
+        codes: &[Item],
+    ) -> Result<(), AllocError> {
+        for item in codes {
+            let code = Code::of(alloc, source, *item)?;
+            self.add_code(alloc, &code)?;
+        }
+        Ok(())
+    }
+
+    /// What the codes in parts of the text do.
+    pub(crate) fn of(
+        alloc: Global,
+        source: Source<'_>,
+        codes: &[Item],
+    ) -> Result<Deeds, AllocError> {
+        let mut deeds = Deeds::new(alloc);
+        deeds.add_codes(alloc, source, codes)?;
+        Ok(deeds)
     }
 }

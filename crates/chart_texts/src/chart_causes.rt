@@ -2,8 +2,8 @@
 use crate::chart::{Arrow, Chart};
 use crate::classes::ClassItems;
 use crate::code_causes::{Cause, code_cause, trigger_cause};
+use crate::ends::{Ends, ends_of, is_word};
 use crate::source::Source;
-use crate::ways::{Ends, ends_of, is_word};
 use fault_places::Item;
 use room_ast::Scope;
 use room_lexer::{Token, Word};
@@ -16,6 +16,18 @@ struct Suspect<'a> {
     source: Source<'a>,
     chart: &'a Chart,
 }
+
+/// What is wrong with a transition whose source there isn't.
+const BEGINS_NOWHERE: &str =
+    "it begins at what its graph hasn't: a state, choice point or point of this name in the graph in which it stands";
+
+/// What is wrong with a transition whose target there isn't.
+const LEADS_NOWHERE: &str =
+    "it leads to what its graph hasn't: a state, choice point or point of this name in the graph in which it stands";
+
+/// What is wrong with a transition that has a condition of its own, and begins elsewhere.
+const COND_WITHOUT_CHOICE: &str =
+    "it has a `cond`, but begins at no choice point; a condition of a trigger is its `guard`";
 
 /// Whether a part stands in another one.
 fn is_in(inner: Item, outer: Item) -> bool {
@@ -60,32 +72,24 @@ impl<'a> Suspect<'a> {
         states.count().saturating_add(points.count())
     }
 
-    /// Whether what stands behind `of` is a state of a graph with a point of one of these words and this name.
-    fn has_point_of(
-        &self,
-        owner: Option<usize>,
-        words: &[Word],
-        name: &Token,
-        state: &Token,
-    ) -> bool {
+    /// Whether what stands behind `of` is a state of a graph with a point of this word and this name.
+    fn has_point_of(&self, owner: Option<usize>, word: Word, name: &Token, state: &Token) -> bool {
         match self.state(owner, self.source.bytes(state)) {
-            Some(number) => words.iter().any(|word| self.has_point(
-                Some(number),
-                *word,
-                self.source.bytes(name),
-            )),
+            Some(number) => self.has_point(Some(number), word, self.source.bytes(name)),
             None => false,
         }
+    }
+
+    /// Whether a graph has a state or a choice point with a name.
+    fn has_node(&self, owner: Option<usize>, name: &Token) -> bool {
+        let name = self.source.bytes(name);
+        self.state(owner, name).is_some() || self.has_point(owner, Word::ChoicePoint, name)
     }
 
     /// Whether a transition of a graph begins at what there is.
     fn source_is_there(&self, owner: Option<usize>, tokens: &[Token]) -> bool {
         match tokens {
-            [only] if is_word(only, Word::Initial) => true,
-            [name] => {
-                let name = self.source.bytes(name);
-                self.state(owner, name).is_some() || self.has_point(owner, Word::ChoicePoint, name)
-            }
+            [only] => is_word(only, Word::Initial) || self.has_node(owner, only),
             [cp, name] if is_word(cp, Word::Cp) => {
                 self.has_point(owner, Word::ChoicePoint, self.source.bytes(name))
             }
@@ -94,7 +98,7 @@ impl<'a> Suspect<'a> {
                 self.has_point(owner, Word::TransitionPoint, name)
                     || self.has_point(owner, Word::EntryPoint, name)
             }
-            [name, _of, state] => self.has_point_of(owner, &[Word::ExitPoint], name, state),
+            [name, _of, state] => self.has_point_of(owner, Word::ExitPoint, name, state),
             _ => false,
         }
     }
@@ -102,21 +106,14 @@ impl<'a> Suspect<'a> {
     /// Whether a transition of a graph leads to what there is.
     fn target_is_there(&self, owner: Option<usize>, tokens: &[Token]) -> bool {
         match tokens {
-            [name] => {
-                let name = self.source.bytes(name);
-                self.state(owner, name).is_some() || self.has_point(owner, Word::ChoicePoint, name)
-            }
+            [name] => self.has_node(owner, name),
             [cp, name] if is_word(cp, Word::Cp) => {
                 self.has_point(owner, Word::ChoicePoint, self.source.bytes(name))
             }
             [_my, name] => self.has_point(owner, Word::ExitPoint, self.source.bytes(name)),
             [name, _of, state] => {
-                self.has_point_of(
-                    owner,
-                    &[Word::EntryPoint, Word::TransitionPoint],
-                    name,
-                    state,
-                )
+                self.has_point_of(owner, Word::EntryPoint, name, state)
+                    || self.has_point_of(owner, Word::TransitionPoint, name, state)
             }
             _ => false,
         }
@@ -139,16 +136,32 @@ impl<'a> Suspect<'a> {
             return Ok(None);
         };
         if !self.source_is_there(arrow.owner, ends.source) {
-            return Ok(Some(
-                "it begins at what its graph hasn't: a state, choice point or point of this name in the graph in which it stands",
-            ));
+            return Ok(Some(BEGINS_NOWHERE));
         }
         if !self.target_is_there(arrow.owner, ends.target) {
-            return Ok(Some(
-                "it leads to what its graph hasn't: a state, choice point or point of this name in the graph in which it stands",
-            ));
+            return Ok(Some(LEADS_NOWHERE));
         }
         self.cause_of_parts(arrow, ends)
+    }
+
+    /// Whether a transition begins at a choice point of its graph, if it begins at what there is.
+    fn begins_at_choice(&self, owner: Option<usize>, tokens: &[Token]) -> bool {
+        match tokens {
+            [only] => {
+                !is_word(only, Word::Initial)
+                    && self.state(owner, self.source.bytes(only)).is_none()
+            }
+            [first, _name] => is_word(first, Word::Cp),
+            _ => false,
+        }
+    }
+
+    /// Whether a transition begins at a transition point of its graph.
+    fn begins_at_door(&self, owner: Option<usize>, tokens: &[Token]) -> bool {
+        match tokens {
+            [.., last] => self.has_point(owner, Word::TransitionPoint, self.source.bytes(last)),
+            [] => false,
+        }
     }
 
     /// Which cause fits at the parts of a transition that begins and leads where it may.
@@ -157,30 +170,18 @@ impl<'a> Suspect<'a> {
         arrow: Arrow,
         ends: Ends<'_>,
     ) -> Result<Option<&'static str>, AllocError> {
-        let name = match ends.source {
-            [.., last] => self.source.bytes(last),
-            [] => &[],
-        };
-        let is_choice = match ends.source {
-            [only] => !is_word(only, Word::Initial) && self.state(arrow.owner, name).is_none(),
-            [first, _name] => is_word(first, Word::Cp),
-            _ => false,
-        };
-        let is_door = self.has_point(arrow.owner, Word::TransitionPoint, name);
-        let is_triggered = is_triggered(ends, is_choice, is_door);
+        let is_choice = self.begins_at_choice(arrow.owner, ends.source);
+        let is_door = self.begins_at_door(arrow.owner, ends.source);
         let has_triggers = self.has_part(arrow.item, Word::Triggers)?;
-        if is_triggered && !has_triggers {
-            return Ok(Some("it begins at a state or a transition point, and has no triggers"));
-        }
-        if !is_triggered && has_triggers {
-            return Ok(Some("it has triggers, but begins at no state and no transition point"));
-        }
-        if !is_choice && self.has_part(arrow.item, Word::Cond)? {
-            return Ok(Some(
-                "it has a `cond`, but begins at no choice point; a condition of a trigger is its `guard`",
-            ));
-        }
-        Ok(Some("another transition goes on from the same entry or exit point"))
+        let has_condition = self.has_part(arrow.item, Word::Cond)?;
+        Ok(Some(
+            match (is_triggered(ends, is_choice, is_door), has_triggers) {
+                (true, false) => "it begins at a state or a transition point, and has no triggers",
+                (false, true) => "it has triggers, but begins at no state and no transition point",
+                _ if !is_choice && has_condition => COND_WITHOUT_CHOICE,
+                _ => "another transition goes on from the same entry or exit point",
+            },
+        ))
     }
 
     /// Which cause fits at a state or a point of a graph.
@@ -203,24 +204,26 @@ impl<'a> Suspect<'a> {
         }
     }
 
+    /// Which cause of fault 2 fits at a state or a point, if a part is one.
+    fn cause_at_part(&self, item: Item) -> Option<&'static str> {
+        if let Some(point) = self.chart.points().iter().find(|point| point.item == item) {
+            return self.cause_at_name(point.owner, item);
+        }
+        let state = self.chart.states().iter().find(|state| state.item == item)?;
+        self.cause_at_name(state.owner, item)
+    }
+
     /// Which cause of fault 2 fits at a part.
     fn cause(&self, item: Item) -> Result<Option<&'static str>, AllocError> {
-        for arrow in self.chart.arrows() {
-            if is_in(item, arrow.item) {
-                return self.cause_at_arrow(*arrow);
-            }
+        match self
+            .chart
+            .arrows()
+            .iter()
+            .find(|arrow| is_in(item, arrow.item))
+        {
+            Some(arrow) => self.cause_at_arrow(*arrow),
+            None => Ok(self.cause_at_part(item)),
         }
-        for point in self.chart.points() {
-            if point.item == item {
-                return Ok(self.cause_at_name(point.owner, item));
-            }
-        }
-        for state in self.chart.states() {
-            if state.item == item {
-                return Ok(self.cause_at_name(state.owner, item));
-            }
-        }
-        Ok(None)
     }
 }
 
@@ -230,6 +233,32 @@ pub struct ChartFault<'a> {
     pub class: &'a [u8],
     pub number: u8,
     pub scope: Option<&'a Scope>,
+}
+
+/// The chart of a class of a text.
+fn chart_of(alloc: Global, source: Source<'_>, class: &[u8]) -> Result<Chart, AllocError> {
+    let classes = ClassItems::of(alloc, source)?;
+    let chain = classes.chain(alloc, source, class)?;
+    Chart::of(alloc, source, chain.as_slice())
+}
+
+/// Which cause of fault 2 fits at a part.
+fn shape_cause(
+    alloc: Global,
+    source: Source<'_>,
+    chart: &Chart,
+    item: Item,
+) -> Result<Option<Cause>, AllocError> {
+    let suspect = Suspect {
+        alloc,
+        source,
+        chart,
+    };
+    let (start, end) = source.head(item);
+    match suspect.cause(item)? {
+        Some(what) => Ok(Some(Cause { start, end, what })),
+        None => Ok(None),
+    }
 }
 
 /// Which of the causes of a fault of a chart fits at a part of the text in which it was found, and where in it; none
@@ -242,24 +271,16 @@ pub fn chart_cause(
     item: Item,
 ) -> Result<Option<Cause>, AllocError> {
     let source = Source { text, tokens };
-    if let (7, Some(scope)) = (fault.number, fault.scope) {
-        return Ok(trigger_cause(source, scope, item));
-    }
-    if fault.number != 2 && fault.number != 8 {
-        return Ok(None);
-    }
-    let class = ClassItems::of(alloc, source)?.read(alloc, source, fault.class)?;
-    if let (8, Some(scope)) = (fault.number, fault.scope) {
-        return code_cause(alloc, source, &class, scope, item);
-    }
-    let suspect = Suspect {
-        alloc,
-        source,
-        chart: &class.chart,
-    };
-    let (start, end) = source.head(item);
-    match suspect.cause(item)? {
-        Some(what) => Ok(Some(Cause { start, end, what })),
-        None => Ok(None),
+    match (fault.number, fault.scope) {
+        (7, Some(scope)) => Ok(trigger_cause(source, scope, item)),
+        (2, _) => {
+            let chart = chart_of(alloc, source, fault.class)?;
+            shape_cause(alloc, source, &chart, item)
+        }
+        (8, Some(scope)) => {
+            let chart = chart_of(alloc, source, fault.class)?;
+            code_cause(alloc, source, &chart, scope, item)
+        }
+        _ => Ok(None),
     }
 }

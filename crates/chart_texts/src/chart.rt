@@ -1,5 +1,6 @@
 //! What the chart of a class has, at its places in the text: states, transitions and codes, those of its bases first.
 use crate::by_port::ByPort;
+use crate::keys::named;
 use crate::source::Source;
 use fault_places::Item;
 use indexmap::{IndexMap, IndexSet};
@@ -12,7 +13,7 @@ const MOST_DEEP: usize = 17;
 /// A state: its key, which is that of the state that holds it, a dot and its name; the number of that state, none in
 /// the top graph; and its part of the text.
 #[derive(Drop)]
-pub(crate) struct State {
+pub struct State {
     pub key: Vec<u8>,
     pub owner: Option<usize>,
     pub item: Item,
@@ -20,7 +21,7 @@ pub(crate) struct State {
 
 /// A transition: the number of the state whose graph has it, none in the top graph, and its part of the text.
 #[derive(Clone, Copy, Drop)]
-pub(crate) struct Arrow {
+pub struct Arrow {
     pub owner: Option<usize>,
     pub item: Item,
 }
@@ -42,7 +43,7 @@ struct Graph {
 
 /// What a chart has, in the order in which charts have it.
 #[derive(Drop)]
-pub(crate) struct Chart {
+pub struct Chart {
     states: Vec<State>,
     by_key: IndexMap<Vec<u8>, usize>,
     points: Vec<Point>,
@@ -53,15 +54,6 @@ pub(crate) struct Chart {
     codes: Vec<Item>,
     /// The messages that transitions name, by ports.
     taken: ByPort,
-}
-
-/// Bytes, one behind the other.
-pub(crate) fn joined(alloc: Global, parts: &[&[u8]]) -> Result<Vec<u8>, AllocError> {
-    let mut whole = Vec::new(alloc);
-    for part in parts {
-        whole.extend_from_slice(part)?;
-    }
-    Ok(whole)
 }
 
 fn is_mark(token: &Token, mark: Mark) -> bool {
@@ -80,8 +72,23 @@ pub(crate) fn event_in(tokens: &[Token]) -> Option<(&Token, &Token)> {
     }
 }
 
+/// The key of the state that a refinement names by its path.
+fn refined_key(alloc: Global, source: Source<'_>, item: Item) -> Result<Vec<u8>, AllocError> {
+    let mut key = Vec::new(alloc);
+    for token in source.tokens_of(item) {
+        if is_mark(token, Mark::OpenBrace) {
+            break;
+        }
+        if token.kind == TokenKind::Ident(None) {
+            key.push(b'.')?;
+            key.extend_from_slice(source.bytes(token))?;
+        }
+    }
+    Ok(key)
+}
+
 impl Chart {
-    pub(crate) fn new(alloc: Global) -> Chart {
+    fn new(alloc: Global) -> Chart {
         Chart {
             states: Vec::new(alloc),
             by_key: IndexMap::new(alloc),
@@ -93,7 +100,8 @@ impl Chart {
         }
     }
 
-    pub(crate) fn states(&self) -> &[State] {
+    /// The states.
+    pub fn states(&self) -> &[State] {
         self.states.as_slice()
     }
 
@@ -102,21 +110,23 @@ impl Chart {
         self.points.as_slice()
     }
 
-    pub(crate) fn arrows(&self) -> &[Arrow] {
+    /// The transitions.
+    pub fn arrows(&self) -> &[Arrow] {
         self.arrows.as_slice()
     }
 
-    pub(crate) fn codes(&self) -> &[Item] {
+    /// The entry, exit and action codes.
+    pub fn codes(&self) -> &[Item] {
         self.codes.as_slice()
     }
 
     /// The messages that transitions name, by ports.
-    pub(crate) fn taken(&self) -> &ByPort {
+    pub fn taken(&self) -> &ByPort {
         &self.taken
     }
 
     /// The key of a state; nothing stands for the top graph.
-    pub(crate) fn key_of(&self, owner: Option<usize>) -> &[u8] {
+    pub fn key_of(&self, owner: Option<usize>) -> &[u8] {
         match owner {
             Some(number) => match self.states.as_slice().get(number) {
                 Some(state) => state.key.as_slice(),
@@ -124,20 +134,6 @@ impl Chart {
             },
             None => &[],
         }
-    }
-
-    /// The key of what a graph has, behind a mark.
-    fn key_in(
-        &self,
-        alloc: Global,
-        owner: Option<usize>,
-        mark: u8,
-        name: &[u8],
-    ) -> Result<Vec<u8>, AllocError> {
-        let mut key = Vec::from_slice(alloc, self.key_of(owner))?;
-        key.push(mark)?;
-        key.extend_from_slice(name)?;
-        Ok(key)
     }
 
     pub(crate) fn has_state(&self, key: &[u8]) -> bool {
@@ -170,40 +166,78 @@ impl Chart {
         Ok(())
     }
 
+    /// Adds a state; gives its number.
+    fn add_name(
+        &mut self,
+        alloc: Global,
+        owner: Option<usize>,
+        name: &[u8],
+        item: Item,
+    ) -> Result<usize, AllocError> {
+        let number = self.states.len();
+        let known = named(alloc, self.key_of(owner), b'.', name)?;
+        let key = Vec::from_slice(alloc, known.as_slice())?;
+        self.by_key.insert(known, number)?;
+        self.states.push(State { key, owner, item })?;
+        Ok(number)
+    }
+
+    /// Adds a state and what is in it.
     fn add_state(
         &mut self,
         alloc: Global,
         source: Source<'_>,
         owner: Option<usize>,
         item: Item,
-    ) -> Result<usize, AllocError> {
+        below: &mut Vec<Graph>,
+    ) -> Result<(), AllocError> {
         let name = source.name(item).unwrap_or(&[]);
-        let key = self.key_in(alloc, owner, b'.', name)?;
-        let number = self.states.len();
-        self.by_key
-            .insert(Vec::from_slice(alloc, key.as_slice())?, number)?;
-        self.states.push(State { key, owner, item })?;
-        Ok(number)
+        let number = self.add_name(alloc, owner, name, item)?;
+        self.add_body(alloc, source, item, number, below)
     }
 
-    /// The state that a refinement names by its path.
-    fn refined(
-        &self,
+    /// Adds what refines a state.
+    fn add_refined_state(
+        &mut self,
         alloc: Global,
         source: Source<'_>,
         item: Item,
-    ) -> Result<Option<usize>, AllocError> {
-        let mut key = Vec::new(alloc);
-        for token in source.tokens_of(item) {
-            if is_mark(token, Mark::OpenBrace) {
-                break;
-            }
-            if token.kind == TokenKind::Ident(None) {
-                key.push(b'.')?;
-                key.extend_from_slice(source.bytes(token))?;
-            }
+        below: &mut Vec<Graph>,
+    ) -> Result<(), AllocError> {
+        let key = refined_key(alloc, source, item)?;
+        match self.by_key.get(key.as_slice()).copied() {
+            Some(number) => self.add_body(alloc, source, item, number, below),
+            None => Ok(()),
         }
-        Ok(self.by_key.get(key.as_slice()).copied())
+    }
+
+    /// Adds a transition point.
+    fn add_transition_point(
+        &mut self,
+        alloc: Global,
+        source: Source<'_>,
+        owner: Option<usize>,
+        item: Item,
+    ) -> Result<(), AllocError> {
+        let name = source.name(item).unwrap_or(&[]);
+        let key = named(alloc, self.key_of(owner), b':', name)?;
+        self.doors.insert(key)?;
+        self.add_point(owner, item)
+    }
+
+    fn add_point(&mut self, owner: Option<usize>, item: Item) -> Result<(), AllocError> {
+        Ok(self.points.push(Point { owner, item })?)
+    }
+
+    fn add_transition(
+        &mut self,
+        alloc: Global,
+        source: Source<'_>,
+        owner: Option<usize>,
+        item: Item,
+    ) -> Result<(), AllocError> {
+        self.arrows.push(Arrow { owner, item })?;
+        self.add_deeds(alloc, source, item)
     }
 
     /// Adds the events of the triggers of a transition.
@@ -250,34 +284,49 @@ impl Chart {
         below: &mut Vec<Graph>,
     ) -> Result<(), AllocError> {
         match source.word(item) {
-            Some(Word::State) => {
-                let number = self.add_state(alloc, source, owner, item)?;
-                self.add_body(alloc, source, item, number, below)
-            }
-            Some(Word::RefinedState) => match self.refined(alloc, source, item)? {
-                Some(number) => self.add_body(alloc, source, item, number, below),
-                None => Ok(()),
-            },
-            Some(Word::TransitionPoint) => {
-                let name = source.name(item).unwrap_or(&[]);
-                let key = self.key_in(alloc, owner, b':', name)?;
-                self.doors.insert(key)?;
-                Ok(self.points.push(Point { owner, item })?)
-            }
+            Some(Word::State) => self.add_state(alloc, source, owner, item, below),
+            Some(Word::RefinedState) => self.add_refined_state(alloc, source, item, below),
+            Some(Word::TransitionPoint) => self.add_transition_point(alloc, source, owner, item),
             Some(Word::EntryPoint | Word::ExitPoint | Word::ChoicePoint) => {
-                Ok(self.points.push(Point { owner, item })?)
+                self.add_point(owner, item)
             }
-            Some(Word::Transition) => {
-                self.arrows.push(Arrow { owner, item })?;
-                self.add_deeds(alloc, source, item)
-            }
+            Some(Word::Transition) => self.add_transition(alloc, source, owner, item),
             Some(Word::RefinedTransition) => self.add_deeds(alloc, source, item),
             _ => Ok(()),
         }
     }
 
+    /// Adds the items of a graph, or of a part of it; the graphs in them are added to those below.
+    fn add_graph(
+        &mut self,
+        alloc: Global,
+        source: Source<'_>,
+        graph: Graph,
+        below: &mut Vec<Graph>,
+    ) -> Result<(), AllocError> {
+        let items = source.parts(alloc, graph.body)?;
+        for item in items.as_slice() {
+            self.add_item(alloc, source, graph.owner, *item, below)?;
+        }
+        Ok(())
+    }
+
+    /// Adds the graphs of a level; gives those of the level below.
+    fn add_level(
+        &mut self,
+        alloc: Global,
+        source: Source<'_>,
+        level: &[Graph],
+    ) -> Result<Vec<Graph>, AllocError> {
+        let mut below = Vec::new(alloc);
+        for graph in level {
+            self.add_graph(alloc, source, *graph, &mut below)?;
+        }
+        Ok(below)
+    }
+
     /// Adds the state machine of a class, which stands in a part of the text. That of its base is added before it.
-    pub(crate) fn add_machine(
+    fn add_machine(
         &mut self,
         alloc: Global,
         source: Source<'_>,
@@ -289,14 +338,58 @@ impl Chart {
             body: machine,
         })?;
         for _deep in 0..MOST_DEEP {
-            let mut below = Vec::new(alloc);
-            for graph in level.as_slice() {
-                for item in source.parts(alloc, graph.body)?.as_slice() {
-                    self.add_item(alloc, source, graph.owner, *item, &mut below)?;
-                }
-            }
-            level = below;
+            level = self.add_level(alloc, source, level.as_slice())?;
         }
         Ok(())
+    }
+
+    /// Adds the state machine in the Behavior of a class.
+    fn add_behavior(
+        &mut self,
+        alloc: Global,
+        source: Source<'_>,
+        behavior: Item,
+    ) -> Result<(), AllocError> {
+        let machines = source.parts(alloc, behavior)?;
+        for machine in machines.as_slice() {
+            self.add_machine(alloc, source, *machine)?;
+        }
+        Ok(())
+    }
+
+    /// Adds what a class says of its chart beyond its base.
+    fn add_class(
+        &mut self,
+        alloc: Global,
+        source: Source<'_>,
+        class: Item,
+    ) -> Result<(), AllocError> {
+        let parts = source.parts(alloc, class)?;
+        for part in parts.as_slice() {
+            if source.word(*part) == Some(Word::Behavior) {
+                self.add_behavior(alloc, source, *part)?;
+            }
+        }
+        Ok(())
+    }
+
+    /// Adds what classes say of their chart, the last of them first.
+    fn add_classes(
+        &mut self,
+        alloc: Global,
+        source: Source<'_>,
+        chain: &[Item],
+    ) -> Result<(), AllocError> {
+        for class in chain.iter().rev() {
+            self.add_class(alloc, source, *class)?;
+        }
+        Ok(())
+    }
+
+    /// The chart of a class, which stands before its bases in a chain.
+    pub fn of(alloc: Global, source: Source<'_>, chain: &[Item]) -> Result<Chart, AllocError> {
+        let mut chart = Chart::new(alloc);
+        chart.add_classes(alloc, source, chain)?;
+        Ok(chart)
     }
 }
