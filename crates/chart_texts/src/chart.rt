@@ -73,8 +73,8 @@ pub(crate) fn event_in(tokens: &[Token]) -> Option<(&Token, &Token)> {
 }
 
 /// The key of the state that a refinement names by its path.
-fn refined_key(alloc: Global, source: Source<'_>, item: Item) -> Result<Vec<u8>, AllocError> {
-    let mut key = Vec::new(alloc);
+fn refined_key(source: Source<'_>, item: Item) -> Result<Vec<u8>, AllocError> {
+    let mut key = Vec::new(source.alloc);
     for token in source.tokens_of(item) {
         if is_mark(token, Mark::OpenBrace) {
             break;
@@ -147,13 +147,12 @@ impl Chart {
     /// Adds the codes and the graph in the body of a state, or of what refines it.
     fn add_body(
         &mut self,
-        alloc: Global,
         source: Source<'_>,
         item: Item,
         number: usize,
         below: &mut Vec<Graph>,
     ) -> Result<(), AllocError> {
-        for part in source.parts(alloc, item)?.as_slice() {
+        for part in source.parts(item)?.as_slice() {
             match source.word(*part) {
                 Some(Word::Entry | Word::Exit) => self.codes.push(*part)?,
                 Some(Word::Subgraph) => below.push(Graph {
@@ -166,17 +165,17 @@ impl Chart {
         Ok(())
     }
 
-    /// Adds a state; gives its number.
+    /// Adds a state without what is in it; gives its number.
     fn add_name(
         &mut self,
-        alloc: Global,
+        source: Source<'_>,
         owner: Option<usize>,
-        name: &[u8],
         item: Item,
     ) -> Result<usize, AllocError> {
         let number = self.states.len();
-        let known = named(alloc, self.key_of(owner), b'.', name)?;
-        let key = Vec::from_slice(alloc, known.as_slice())?;
+        let name = source.name(item).unwrap_or(&[]);
+        let known = named(source.alloc, self.key_of(owner), b'.', name)?;
+        let key = Vec::from_slice(source.alloc, known.as_slice())?;
         self.by_key.insert(known, number)?;
         self.states.push(State { key, owner, item })?;
         Ok(number)
@@ -185,28 +184,25 @@ impl Chart {
     /// Adds a state and what is in it.
     fn add_state(
         &mut self,
-        alloc: Global,
         source: Source<'_>,
         owner: Option<usize>,
         item: Item,
         below: &mut Vec<Graph>,
     ) -> Result<(), AllocError> {
-        let name = source.name(item).unwrap_or(&[]);
-        let number = self.add_name(alloc, owner, name, item)?;
-        self.add_body(alloc, source, item, number, below)
+        let number = self.add_name(source, owner, item)?;
+        self.add_body(source, item, number, below)
     }
 
     /// Adds what refines a state.
     fn add_refined_state(
         &mut self,
-        alloc: Global,
         source: Source<'_>,
         item: Item,
         below: &mut Vec<Graph>,
     ) -> Result<(), AllocError> {
-        let key = refined_key(alloc, source, item)?;
+        let key = refined_key(source, item)?;
         match self.by_key.get(key.as_slice()).copied() {
-            Some(number) => self.add_body(alloc, source, item, number, below),
+            Some(number) => self.add_body(source, item, number, below),
             None => Ok(()),
         }
     }
@@ -214,13 +210,12 @@ impl Chart {
     /// Adds a transition point.
     fn add_transition_point(
         &mut self,
-        alloc: Global,
         source: Source<'_>,
         owner: Option<usize>,
         item: Item,
     ) -> Result<(), AllocError> {
         let name = source.name(item).unwrap_or(&[]);
-        let key = named(alloc, self.key_of(owner), b':', name)?;
+        let key = named(source.alloc, self.key_of(owner), b':', name)?;
         self.doors.insert(key)?;
         self.add_point(owner, item)
     }
@@ -231,43 +226,32 @@ impl Chart {
 
     fn add_transition(
         &mut self,
-        alloc: Global,
         source: Source<'_>,
         owner: Option<usize>,
         item: Item,
     ) -> Result<(), AllocError> {
         self.arrows.push(Arrow { owner, item })?;
-        self.add_deeds(alloc, source, item)
+        self.add_deeds(source, item)
     }
 
     /// Adds the events of the triggers of a transition.
-    fn add_events(
-        &mut self,
-        alloc: Global,
-        source: Source<'_>,
-        triggers: Item,
-    ) -> Result<(), AllocError> {
+    fn add_events(&mut self, source: Source<'_>, triggers: Item) -> Result<(), AllocError> {
         let tokens = source.tokens_of(triggers);
         for at in 0..tokens.len() {
             if let Some((message, port)) = event_in(tokens.get(at..).unwrap_or(&[])) {
                 self.taken
-                    .add(alloc, source.bytes(port), source.bytes(message))?;
+                    .add(source.alloc, source.bytes(port), source.bytes(message))?;
             }
         }
         Ok(())
     }
 
     /// Adds the action and the events of a transition, or the action of what refines it.
-    fn add_deeds(
-        &mut self,
-        alloc: Global,
-        source: Source<'_>,
-        item: Item,
-    ) -> Result<(), AllocError> {
-        for part in source.parts(alloc, item)?.as_slice() {
+    fn add_deeds(&mut self, source: Source<'_>, item: Item) -> Result<(), AllocError> {
+        for part in source.parts(item)?.as_slice() {
             match source.word(*part) {
                 Some(Word::Action) => self.codes.push(*part)?,
-                Some(Word::Triggers) => self.add_events(alloc, source, *part)?,
+                Some(Word::Triggers) => self.add_events(source, *part)?,
                 _ => (),
             }
         }
@@ -277,21 +261,20 @@ impl Chart {
     /// Adds an item of a graph; the graphs in it are added to those below.
     fn add_item(
         &mut self,
-        alloc: Global,
         source: Source<'_>,
         owner: Option<usize>,
         item: Item,
         below: &mut Vec<Graph>,
     ) -> Result<(), AllocError> {
         match source.word(item) {
-            Some(Word::State) => self.add_state(alloc, source, owner, item, below),
-            Some(Word::RefinedState) => self.add_refined_state(alloc, source, item, below),
-            Some(Word::TransitionPoint) => self.add_transition_point(alloc, source, owner, item),
+            Some(Word::State) => self.add_state(source, owner, item, below),
+            Some(Word::RefinedState) => self.add_refined_state(source, item, below),
+            Some(Word::TransitionPoint) => self.add_transition_point(source, owner, item),
             Some(Word::EntryPoint | Word::ExitPoint | Word::ChoicePoint) => {
                 self.add_point(owner, item)
             }
-            Some(Word::Transition) => self.add_transition(alloc, source, owner, item),
-            Some(Word::RefinedTransition) => self.add_deeds(alloc, source, item),
+            Some(Word::Transition) => self.add_transition(source, owner, item),
+            Some(Word::RefinedTransition) => self.add_deeds(source, item),
             _ => Ok(()),
         }
     }
@@ -299,97 +282,71 @@ impl Chart {
     /// Adds the items of a graph, or of a part of it; the graphs in them are added to those below.
     fn add_graph(
         &mut self,
-        alloc: Global,
         source: Source<'_>,
         graph: Graph,
         below: &mut Vec<Graph>,
     ) -> Result<(), AllocError> {
-        let items = source.parts(alloc, graph.body)?;
+        let items = source.parts(graph.body)?;
         for item in items.as_slice() {
-            self.add_item(alloc, source, graph.owner, *item, below)?;
+            self.add_item(source, graph.owner, *item, below)?;
         }
         Ok(())
     }
 
     /// Adds the graphs of a level; gives those of the level below.
-    fn add_level(
-        &mut self,
-        alloc: Global,
-        source: Source<'_>,
-        level: &[Graph],
-    ) -> Result<Vec<Graph>, AllocError> {
-        let mut below = Vec::new(alloc);
+    fn add_level(&mut self, source: Source<'_>, level: &[Graph]) -> Result<Vec<Graph>, AllocError> {
+        let mut below = Vec::new(source.alloc);
         for graph in level {
-            self.add_graph(alloc, source, *graph, &mut below)?;
+            self.add_graph(source, *graph, &mut below)?;
         }
         Ok(below)
     }
 
     /// Adds the state machine of a class, which stands in a part of the text. That of its base is added before it.
-    fn add_machine(
-        &mut self,
-        alloc: Global,
-        source: Source<'_>,
-        machine: Item,
-    ) -> Result<(), AllocError> {
-        let mut level = Vec::new(alloc);
+    fn add_machine(&mut self, source: Source<'_>, machine: Item) -> Result<(), AllocError> {
+        let mut level = Vec::new(source.alloc);
         level.push(Graph {
             owner: None,
             body: machine,
         })?;
         for _deep in 0..MOST_DEEP {
-            level = self.add_level(alloc, source, level.as_slice())?;
+            level = self.add_level(source, level.as_slice())?;
         }
         Ok(())
     }
 
     /// Adds the state machine in the Behavior of a class.
-    fn add_behavior(
-        &mut self,
-        alloc: Global,
-        source: Source<'_>,
-        behavior: Item,
-    ) -> Result<(), AllocError> {
-        let machines = source.parts(alloc, behavior)?;
+    fn add_behavior(&mut self, source: Source<'_>, behavior: Item) -> Result<(), AllocError> {
+        let machines = source.parts(behavior)?;
         for machine in machines.as_slice() {
-            self.add_machine(alloc, source, *machine)?;
+            self.add_machine(source, *machine)?;
         }
         Ok(())
     }
 
     /// Adds what a class says of its chart beyond its base.
-    fn add_class(
-        &mut self,
-        alloc: Global,
-        source: Source<'_>,
-        class: Item,
-    ) -> Result<(), AllocError> {
-        let parts = source.parts(alloc, class)?;
+    fn add_class(&mut self, source: Source<'_>, class: Item) -> Result<(), AllocError> {
+        let parts = source.parts(class)?;
         for part in parts.as_slice() {
             if source.word(*part) == Some(Word::Behavior) {
-                self.add_behavior(alloc, source, *part)?;
+                self.add_behavior(source, *part)?;
             }
         }
         Ok(())
     }
 
     /// Adds what classes say of their chart, the last of them first.
-    fn add_classes(
-        &mut self,
-        alloc: Global,
-        source: Source<'_>,
-        chain: &[Item],
-    ) -> Result<(), AllocError> {
+    fn add_classes(&mut self, source: Source<'_>, chain: &[Item]) -> Result<(), AllocError> {
         for class in chain.iter().rev() {
-            self.add_class(alloc, source, *class)?;
+            self.add_class(source, *class)?;
         }
         Ok(())
     }
 
     /// The chart of a class, which stands before its bases in a chain.
-    pub fn of(alloc: Global, source: Source<'_>, chain: &[Item]) -> Result<Chart, AllocError> {
-        let mut chart = Chart::new(alloc);
-        chart.add_classes(alloc, source, chain)?;
+    pub fn of(source: Source<'_>, chain: &[Item]) -> Result<Chart, AllocError> {
+        let mut chart = Chart::new(source.alloc);
+        chart.add_classes(source, chain)?;
         Ok(chart)
     }
 }

@@ -12,7 +12,6 @@ use std::alloc::{AllocError, Global};
 /// A chart that is looked at for causes.
 #[derive(Clone, Copy)]
 struct Suspect<'a> {
-    alloc: Global,
     source: Source<'a>,
     chart: &'a Chart,
 }
@@ -121,7 +120,7 @@ impl<'a> Suspect<'a> {
 
     /// Whether a transition has a part that begins with a word.
     fn has_part(&self, item: Item, word: Word) -> Result<bool, AllocError> {
-        let parts = self.source.parts(self.alloc, item)?;
+        let parts = self.source.parts(item)?;
         Ok(
             parts
                 .as_slice()
@@ -236,24 +235,15 @@ pub struct ChartFault<'a> {
 }
 
 /// The chart of a class of a text.
-fn chart_of(alloc: Global, source: Source<'_>, class: &[u8]) -> Result<Chart, AllocError> {
-    let classes = ClassItems::of(alloc, source)?;
-    let chain = classes.chain(alloc, source, class)?;
-    Chart::of(alloc, source, chain.as_slice())
+fn chart_of(source: Source<'_>, class: &[u8]) -> Result<Chart, AllocError> {
+    let classes = ClassItems::of(source)?;
+    let chain = classes.chain(source, class)?;
+    Chart::of(source, chain.as_slice())
 }
 
 /// Which cause of fault 2 fits at a part.
-fn shape_cause(
-    alloc: Global,
-    source: Source<'_>,
-    chart: &Chart,
-    item: Item,
-) -> Result<Option<Cause>, AllocError> {
-    let suspect = Suspect {
-        alloc,
-        source,
-        chart,
-    };
+fn shape_cause(source: Source<'_>, chart: &Chart, item: Item) -> Result<Option<Cause>, AllocError> {
+    let suspect = Suspect { source, chart };
     let (start, end) = source.head(item);
     match suspect.cause(item)? {
         Some(what) => Ok(Some(Cause { start, end, what })),
@@ -270,16 +260,20 @@ pub fn chart_cause(
     fault: ChartFault<'_>,
     item: Item,
 ) -> Result<Option<Cause>, AllocError> {
-    let source = Source { text, tokens };
+    let source = Source {
+        alloc,
+        text,
+        tokens,
+    };
     match (fault.number, fault.scope) {
         (7, Some(scope)) => Ok(trigger_cause(source, scope, item)),
         (2, _) => {
-            let chart = chart_of(alloc, source, fault.class)?;
-            shape_cause(alloc, source, &chart, item)
+            let chart = chart_of(source, fault.class)?;
+            shape_cause(source, &chart, item)
         }
         (8, Some(scope)) => {
-            let chart = chart_of(alloc, source, fault.class)?;
-            code_cause(alloc, source, &chart, scope, item)
+            let chart = chart_of(source, fault.class)?;
+            code_cause(source, &chart, scope, item)
         }
         _ => Ok(None),
     }

@@ -3,7 +3,7 @@ use crate::source::Source;
 use fault_places::Item;
 use indexmap::IndexMap;
 use room_lexer::{TokenKind, Word};
-use std::alloc::{AllocError, Global};
+use std::alloc::AllocError;
 
 /// The actor and subsystem classes of a text, by name.
 #[derive(Drop)]
@@ -27,10 +27,10 @@ fn base_of<'a>(source: Source<'a>, item: Item) -> Option<&'a [u8]> {
 
 impl<'a> ClassItems<'a> {
     /// The classes of a text.
-    pub fn of(alloc: Global, source: Source<'a>) -> Result<ClassItems<'a>, AllocError> {
-        let declarations = source.declarations(alloc)?;
+    pub fn of(source: Source<'a>) -> Result<ClassItems<'a>, AllocError> {
+        let declarations = source.declarations()?;
         let mut classes = ClassItems {
-            items: IndexMap::new(alloc),
+            items: IndexMap::new(source.alloc),
         };
         classes.add_all(source, declarations.as_slice())?;
         Ok(classes)
@@ -64,13 +64,8 @@ impl<'a> ClassItems<'a> {
     }
 
     /// A class and its bases, the class first.
-    pub fn chain(
-        &self,
-        alloc: Global,
-        source: Source<'a>,
-        name: &[u8],
-    ) -> Result<Vec<Item>, AllocError> {
-        let mut chain = Vec::new(alloc);
+    pub fn chain(&self, source: Source<'a>, name: &[u8]) -> Result<Vec<Item>, AllocError> {
+        let mut chain = Vec::new(source.alloc);
         let mut next = self.get(name);
         for _class in 0..self.items.len() {
             let Some(item) = next else {

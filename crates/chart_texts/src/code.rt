@@ -95,10 +95,10 @@ impl Code {
     }
 
     /// The code of the texts in a part of a model.
-    pub fn of(alloc: Global, source: Source<'_>, item: Item) -> Result<Code, AllocError> {
-        let mut code = Code::new(alloc);
+    pub fn of(source: Source<'_>, item: Item) -> Result<Code, AllocError> {
+        let mut code = Code::new(source.alloc);
         code.add_texts(source, source.tokens_of(item))?;
-        code.tokens = tokens_in(alloc, code.bytes.as_slice())?;
+        code.tokens = tokens_in(source.alloc, code.bytes.as_slice())?;
         Ok(code)
     }
 

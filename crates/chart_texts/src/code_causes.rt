@@ -44,24 +44,24 @@ fn meaning_of(fault: ActionFault, is_condition: bool) -> &'static str {
 /// Asks whether codes are those of a class.
 #[derive(Clone, Copy)]
 struct Judge<'a> {
-    alloc: Global,
+    source: Source<'a>,
     scope: &'a Scope,
     is_condition: bool,
 }
 
 impl<'a> Judge<'a> {
     fn action_fault(&self, text: &[u8]) -> Result<(), ActionFault> {
-        let program = parse_action(self.alloc, text)?;
-        let mut names = ServiceNames::new(self.alloc);
-        match check_action(self.alloc, &program, self.scope, &mut names) {
+        let program = parse_action(self.source.alloc, text)?;
+        let mut names = ServiceNames::new(self.source.alloc);
+        match check_action(self.source.alloc, &program, self.scope, &mut names) {
             Ok(_bound) => Ok(()),
             Err(fault) => Err(fault),
         }
     }
 
     fn condition_fault(&self, text: &[u8]) -> Result<(), ActionFault> {
-        let condition = parse_cond(self.alloc, text)?;
-        match check_cond(self.alloc, &condition, self.scope) {
+        let condition = parse_cond(self.source.alloc, text)?;
+        match check_cond(self.source.alloc, &condition, self.scope) {
             Ok(_bound) => Ok(()),
             Err(fault) => Err(fault),
         }
@@ -172,7 +172,7 @@ fn faulty_statement<'a>(judge: &Judge<'_>, code: &'a Code) -> Result<&'a [Token]
     if judge.is_condition {
         return Ok(code.tokens());
     }
-    let ends = ends_of_statements(judge.alloc, code)?;
+    let ends = ends_of_statements(judge.source.alloc, code)?;
     if ends.is_empty() {
         return Ok(code.tokens());
     }
@@ -208,8 +208,8 @@ fn cause_in(judge: &Judge<'_>, code: &Code) -> Result<Option<Cause>, AllocError>
 }
 
 /// The codes of the guards in the triggers of a transition.
-fn guards_in(alloc: Global, source: Source<'_>, triggers: Item) -> Result<Vec<Item>, AllocError> {
-    let mut guards = Vec::new(alloc);
+fn guards_in(source: Source<'_>, triggers: Item) -> Result<Vec<Item>, AllocError> {
+    let mut guards = Vec::new(source.alloc);
     let mut first: Option<usize> = None;
     for (at, token) in source.tokens_of(triggers).iter().enumerate() {
         let place = triggers.first.saturating_add(at);
@@ -228,13 +228,13 @@ fn guards_in(alloc: Global, source: Source<'_>, triggers: Item) -> Result<Vec<It
 }
 
 /// The conditions of a transition: that of a branch, and the guards of triggers.
-fn conditions_of(alloc: Global, source: Source<'_>, arrow: Item) -> Result<Vec<Item>, AllocError> {
-    let mut conditions = Vec::new(alloc);
-    for part in source.parts(alloc, arrow)?.as_slice() {
+fn conditions_of(source: Source<'_>, arrow: Item) -> Result<Vec<Item>, AllocError> {
+    let mut conditions = Vec::new(source.alloc);
+    for part in source.parts(arrow)?.as_slice() {
         match source.word(*part) {
             Some(Word::Cond) => conditions.push(*part)?,
             Some(Word::Triggers) => {
-                conditions.append(&mut guards_in(alloc, source, *part)?)?;
+                conditions.append(&mut guards_in(source, *part)?)?;
             }
             _ => (),
         }
@@ -243,25 +243,16 @@ fn conditions_of(alloc: Global, source: Source<'_>, arrow: Item) -> Result<Vec<I
 }
 
 /// What is wrong with a code in a part of the text.
-fn cause_in_part(
-    source: Source<'_>,
-    judge: &Judge<'_>,
-    part: Item,
-) -> Result<Option<Cause>, AllocError> {
-    let code = Code::of(judge.alloc, source, part)?;
+fn cause_in_part(judge: &Judge<'_>, part: Item) -> Result<Option<Cause>, AllocError> {
+    let code = Code::of(judge.source, part)?;
     cause_in(judge, &code)
 }
 
 /// What is wrong with the first faulty one of some codes that meets a part of the text.
-fn cause_among(
-    source: Source<'_>,
-    judge: &Judge<'_>,
-    codes: &[Item],
-    item: Item,
-) -> Result<Option<Cause>, AllocError> {
+fn cause_among(judge: &Judge<'_>, codes: &[Item], item: Item) -> Result<Option<Cause>, AllocError> {
     for part in codes {
         if meet(*part, item) {
-            let cause = cause_in_part(source, judge, *part)?;
+            let cause = cause_in_part(judge, *part)?;
             if cause.is_some() {
                 return Ok(cause);
             }
@@ -272,7 +263,6 @@ fn cause_among(
 
 /// What is wrong with the conditions of a transition that meet a part of the text.
 fn cause_at_arrow(
-    source: Source<'_>,
     judge: &Judge<'_>,
     arrow: Arrow,
     item: Item,
@@ -280,19 +270,18 @@ fn cause_at_arrow(
     if !meet(arrow.item, item) {
         return Ok(None);
     }
-    let codes = conditions_of(judge.alloc, source, arrow.item)?;
-    cause_among(source, judge, codes.as_slice(), item)
+    let codes = conditions_of(judge.source, arrow.item)?;
+    cause_among(judge, codes.as_slice(), item)
 }
 
 /// What is wrong with the conditions of transitions that meet a part of the text.
 fn condition_cause(
-    source: Source<'_>,
     judge: &Judge<'_>,
     arrows: &[Arrow],
     item: Item,
 ) -> Result<Option<Cause>, AllocError> {
     for arrow in arrows {
-        let cause = cause_at_arrow(source, judge, *arrow, item)?;
+        let cause = cause_at_arrow(judge, *arrow, item)?;
         if cause.is_some() {
             return Ok(cause);
         }
@@ -302,27 +291,26 @@ fn condition_cause(
 
 /// What is wrong with the codes of a chart that meet a part of the text, and where.
 pub(crate) fn code_cause(
-    alloc: Global,
     source: Source<'_>,
     chart: &Chart,
     scope: &Scope,
     item: Item,
 ) -> Result<Option<Cause>, AllocError> {
     let actions = Judge {
-        alloc,
+        source,
         scope,
         is_condition: false,
     };
-    let cause = cause_among(source, &actions, chart.codes(), item)?;
+    let cause = cause_among(&actions, chart.codes(), item)?;
     if cause.is_some() {
         return Ok(cause);
     }
     let conditions = Judge {
-        alloc,
+        source,
         scope,
         is_condition: true,
     };
-    condition_cause(source, &conditions, chart.arrows(), item)
+    condition_cause(&conditions, chart.arrows(), item)
 }
 
 /// What is wrong with an event of a trigger, if something is.

@@ -1,5 +1,6 @@
 //! The charts of actor classes as the text of a model has them: each state, transition and code at its place (`Chart`,
-//! `Code`), those of the bases of a class first, and the ways that lead through a chart (`Ways`).
+//! `Code`), those of the bases of a class first, what the codes do (`Deeds`), and the ways that lead through a chart
+//! (`Ways`).
 //!
 //! The same look at a text tells which of the causes of a fault fits where a chart is refused (`chart_cause`).
 //!
@@ -12,6 +13,7 @@ mod chart_causes;
 mod classes;
 mod code;
 mod code_causes;
+mod deeds;
 mod ends;
 mod keys;
 mod source;
@@ -23,6 +25,7 @@ pub use chart_causes::{ChartFault, chart_cause};
 pub use classes::ClassItems;
 pub use code::Code;
 pub use code_causes::Cause;
+pub use deeds::{Deeds, Index, Send};
 pub use keys::joined;
 pub use source::Source;
 pub use ways::Ways;

@@ -3,9 +3,10 @@ use fault_places::{Item, head_of, parts_of, tokens_of};
 use room_lexer::{Token, TokenKind, Word};
 use std::alloc::{AllocError, Global};
 
-/// The text of a model, and its tokens.
+/// The text of a model and its tokens, and where memory for what is read of them comes from.
 #[derive(Clone, Copy)]
 pub struct Source<'a> {
+    pub alloc: Global,
     pub text: &'a [u8],
     pub tokens: &'a [Token],
 }
@@ -42,8 +43,8 @@ impl<'a> Source<'a> {
     }
 
     /// The parts inside a part, in order.
-    pub fn parts(&self, alloc: Global, item: Item) -> Result<Vec<Item>, AllocError> {
-        parts_of(alloc, self.tokens, item)
+    pub fn parts(&self, item: Item) -> Result<Vec<Item>, AllocError> {
+        parts_of(self.alloc, self.tokens, item)
     }
 
     /// The bytes of the head of a part.
@@ -52,12 +53,12 @@ impl<'a> Source<'a> {
     }
 
     /// The declarations of a model.
-    pub fn declarations(&self, alloc: Global) -> Result<Vec<Item>, AllocError> {
+    pub fn declarations(&self) -> Result<Vec<Item>, AllocError> {
         let whole = Item {
             first: 0,
             end: self.tokens.len(),
         };
-        self.parts(alloc, whole)
+        self.parts(whole)
     }
 
     /// The word that says what a part declares or is.

@@ -24,7 +24,6 @@ pub struct Ways {
 /// What is on the way where a transition begins or leads to.
 #[derive(Clone, Copy)]
 struct Walk<'a> {
-    alloc: Global,
     source: Source<'a>,
     chart: &'a Chart,
 }
@@ -32,12 +31,12 @@ struct Walk<'a> {
 impl<'a> Walk<'a> {
     /// The key of a choice point of a graph.
     fn choice(&self, graph: &[u8], name: &Token) -> Result<Vec<u8>, AllocError> {
-        named(self.alloc, graph, b'?', self.source.bytes(name))
+        named(self.source.alloc, graph, b'?', self.source.bytes(name))
     }
 
     /// The key of a state of a graph, or else of a choice point.
     fn bare(&self, graph: &[u8], name: &Token) -> Result<Vec<u8>, AllocError> {
-        let state = named(self.alloc, graph, b'.', self.source.bytes(name))?;
+        let state = named(self.source.alloc, graph, b'.', self.source.bytes(name))?;
         if self.chart.has_state(state.as_slice()) {
             return Ok(state);
         }
@@ -46,30 +45,30 @@ impl<'a> Walk<'a> {
 
     /// The key of a state that is entered by its name, or else of a choice point.
     fn entered(&self, graph: &[u8], name: &Token) -> Result<Vec<u8>, AllocError> {
-        let state = named(self.alloc, graph, b'.', self.source.bytes(name))?;
+        let state = named(self.source.alloc, graph, b'.', self.source.bytes(name))?;
         if self.chart.has_state(state.as_slice()) {
-            return marked(self.alloc, state.as_slice(), b'!');
+            return marked(self.source.alloc, state.as_slice(), b'!');
         }
         self.choice(graph, name)
     }
 
     /// The key of a point of the border of a graph.
     fn border(&self, graph: &[u8], name: &Token) -> Result<Vec<u8>, AllocError> {
-        named(self.alloc, graph, b':', self.source.bytes(name))
+        named(self.source.alloc, graph, b':', self.source.bytes(name))
     }
 
     /// The key from which a transition goes on that begins at a point of the border of its graph.
     fn from_border(&self, graph: &[u8], name: &Token) -> Result<Vec<u8>, AllocError> {
         let point = self.border(graph, name)?;
         if self.chart.has_transition_point(point.as_slice()) {
-            return marked(self.alloc, graph, b'*');
+            return marked(self.source.alloc, graph, b'*');
         }
         Ok(point)
     }
 
     /// The key of a state of a graph.
     fn state(&self, graph: &[u8], state: &Token) -> Result<Vec<u8>, AllocError> {
-        named(self.alloc, graph, b'.', self.source.bytes(state))
+        named(self.source.alloc, graph, b'.', self.source.bytes(state))
     }
 
     /// The key of a point of a state of a graph.
@@ -85,13 +84,13 @@ impl<'a> Walk<'a> {
             return Ok(point);
         }
         let state = self.state(graph, state)?;
-        marked(self.alloc, state.as_slice(), b'!')
+        marked(self.source.alloc, state.as_slice(), b'!')
     }
 
     /// The key from which a transition goes on.
     fn source_key(&self, graph: &[u8], tokens: &[Token]) -> Result<Option<Vec<u8>>, AllocError> {
         let key = match tokens {
-            [only] if is_word(only, Word::Initial) => marked(self.alloc, graph, b'>'),
+            [only] if is_word(only, Word::Initial) => marked(self.source.alloc, graph, b'>'),
             [name] => self.bare(graph, name),
             [cp, name] if is_word(cp, Word::Cp) => self.choice(graph, name),
             [_my, name] => self.from_border(graph, name),
@@ -186,8 +185,8 @@ impl Ways {
     fn add_states(&mut self, walk: &Walk<'_>, states: &[State]) -> Result<(), AllocError> {
         for state in states {
             let key = state.key.as_slice();
-            self.add_entry(walk.alloc, key)?;
-            self.add_activity(walk.alloc, key, walk.chart.key_of(state.owner))?;
+            self.add_entry(walk.source.alloc, key)?;
+            self.add_activity(walk.source.alloc, key, walk.chart.key_of(state.owner))?;
         }
         Ok(())
     }
@@ -245,7 +244,7 @@ impl Ways {
             return Ok(());
         };
         match walk.target_key(graph, ends.target)? {
-            Some(to) => self.add_step(walk.alloc, number, from, to),
+            Some(to) => self.add_step(walk.source.alloc, number, from, to),
             None => Ok(()),
         }
     }
@@ -262,19 +261,16 @@ impl Ways {
 
     /// Adds the ways through a chart: the first node is the beginning of the top graph.
     fn add_chart(&mut self, walk: &Walk<'_>) -> Result<(), AllocError> {
-        self.node(walk.alloc, marked(walk.alloc, &[], b'>')?)?;
+        let begins = marked(walk.source.alloc, &[], b'>')?;
+        self.node(walk.source.alloc, begins)?;
         self.add_states(walk, walk.chart.states())?;
         self.add_arrows(walk, walk.chart.arrows())
     }
 
     /// The ways through a chart.
-    pub fn of(alloc: Global, source: Source<'_>, chart: &Chart) -> Result<Ways, AllocError> {
-        let mut ways = Ways::new(alloc);
-        ways.add_chart(&Walk {
-            alloc,
-            source,
-            chart,
-        })?;
+    pub fn of(source: Source<'_>, chart: &Chart) -> Result<Ways, AllocError> {
+        let mut ways = Ways::new(source.alloc);
+        ways.add_chart(&Walk { source, chart })?;
         Ok(ways)
     }
 

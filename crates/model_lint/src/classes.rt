@@ -1,10 +1,9 @@
 //! What the text says of actor classes, each with all that it has from its bases.
-use crate::deeds::Deeds;
-use chart_texts::{Chart, ClassItems, Source};
+use chart_texts::{Chart, ClassItems, Deeds, Source};
 use fault_places::Item;
 use indexmap::IndexMap;
 use room_lexer::Word;
-use std::alloc::{AllocError, Global};
+use std::alloc::AllocError;
 
 /// Where the ports, service points and references of a class are declared, by name.
 #[derive(Drop)]
@@ -35,13 +34,8 @@ impl<'a> Declared<'a> {
     }
 
     /// Adds the declarations in the Interface or in the Structure of a class.
-    fn add_section(
-        &mut self,
-        alloc: Global,
-        source: Source<'a>,
-        section: Item,
-    ) -> Result<(), AllocError> {
-        let items = source.parts(alloc, section)?;
+    fn add_section(&mut self, source: Source<'a>, section: Item) -> Result<(), AllocError> {
+        let items = source.parts(section)?;
         for item in items.as_slice() {
             if let Some(Word::Port | Word::Sap | Word::Spp | Word::ActorRef) = source.word(*item) {
                 self.add(source, *item)?;
@@ -51,40 +45,30 @@ impl<'a> Declared<'a> {
     }
 
     /// Adds what a class declares beyond its base.
-    fn add_class(
-        &mut self,
-        alloc: Global,
-        source: Source<'a>,
-        class: Item,
-    ) -> Result<(), AllocError> {
-        let parts = source.parts(alloc, class)?;
+    fn add_class(&mut self, source: Source<'a>, class: Item) -> Result<(), AllocError> {
+        let parts = source.parts(class)?;
         for part in parts.as_slice() {
             if let Some(Word::Interface | Word::Structure) = source.word(*part) {
-                self.add_section(alloc, source, *part)?;
+                self.add_section(source, *part)?;
             }
         }
         Ok(())
     }
 
     /// Adds what classes declare, the last of them first.
-    fn add_classes(
-        &mut self,
-        alloc: Global,
-        source: Source<'a>,
-        chain: &[Item],
-    ) -> Result<(), AllocError> {
+    fn add_classes(&mut self, source: Source<'a>, chain: &[Item]) -> Result<(), AllocError> {
         for class in chain.iter().rev() {
-            self.add_class(alloc, source, *class)?;
+            self.add_class(source, *class)?;
         }
         Ok(())
     }
 
     /// What a class declares, which stands before its bases in a chain.
-    fn of(alloc: Global, source: Source<'a>, chain: &[Item]) -> Result<Declared<'a>, AllocError> {
+    fn of(source: Source<'a>, chain: &[Item]) -> Result<Declared<'a>, AllocError> {
         let mut declared = Declared {
-            items: IndexMap::new(alloc),
+            items: IndexMap::new(source.alloc),
         };
-        declared.add_classes(alloc, source, chain)?;
+        declared.add_classes(source, chain)?;
         Ok(declared)
     }
 }
@@ -92,15 +76,14 @@ impl<'a> Declared<'a> {
 impl<'a> ClassText<'a> {
     /// What the text says of an actor class.
     pub(crate) fn of(
-        alloc: Global,
         source: Source<'a>,
         classes: &ClassItems<'a>,
         name: &[u8],
     ) -> Result<ClassText<'a>, AllocError> {
-        let chain = classes.chain(alloc, source, name)?;
-        let declared = Declared::of(alloc, source, chain.as_slice())?;
-        let chart = Chart::of(alloc, source, chain.as_slice())?;
-        let deeds = Deeds::of(alloc, source, chart.codes())?;
+        let chain = classes.chain(source, name)?;
+        let declared = Declared::of(source, chain.as_slice())?;
+        let chart = Chart::of(source, chain.as_slice())?;
+        let deeds = Deeds::of(source, chart.codes())?;
         Ok(ClassText {
             chart,
             deeds,

@@ -1,15 +1,14 @@
 //! What the author of an accepted model hardly meant (docs/LINT.md): sends that get to nobody, messages that no state
 //! takes, states that are never entered, and the like.
 //!
-//! The text of the model tells what its actor classes declare and what their actions do (`classes`, `deeds`), each at
-//! its place; the wiring tells which places of ports are joined. The rules (`rules`) put both together.
+//! The text of the model tells what its actor classes declare (`classes`), and what their charts are and their actions
+//! do, each at its place; the wiring tells which places of ports are joined. The rules (`rules`) put both together.
 //!
 //! All calls are safe and end; that they find what they should is shown by cases.
 #![tactic(auto)]
 
 mod classes;
 mod conditions;
-mod deeds;
 mod finding;
 mod injected;
 mod listing;

@@ -46,21 +46,20 @@ pub(crate) struct LintedModel<'a> {
 impl<'a> Class<'a> {
     /// A class as yet without slots.
     fn of(
-        alloc: Global,
         source: Source<'a>,
         items: &ClassItems<'a>,
         number: u16,
         names: &'a ClassNames,
     ) -> Result<Class<'a>, AllocError> {
-        let ports = numbers_of(alloc, names)?;
-        let text = ClassText::of(alloc, source, items, names.name.as_bytes())?;
+        let ports = numbers_of(source.alloc, names)?;
+        let text = ClassText::of(source, items, names.name.as_bytes())?;
         Ok(Class {
             number,
             names,
             text,
             ports,
-            slots: Vec::new(alloc),
-            imported: Vec::new(alloc),
+            slots: Vec::new(source.alloc),
+            imported: Vec::new(source.alloc),
         })
     }
 
@@ -91,26 +90,25 @@ pub(crate) fn slot_at(number: u32) -> SlotId {
 
 impl<'a> LintedModel<'a> {
     pub(crate) fn of(
-        alloc: Global,
         source: Source<'a>,
         wiring: &'a Wiring,
     ) -> Result<LintedModel<'a>, AllocError> {
-        let items = ClassItems::of(alloc, source)?;
+        let items = ClassItems::of(source)?;
         let mut model = LintedModel {
             source,
             wiring,
             items,
-            classes: Vec::new(alloc),
-            places: IndexMap::new(alloc),
-            lent: IndexSet::new(alloc),
+            classes: Vec::new(source.alloc),
+            places: IndexMap::new(source.alloc),
+            lent: IndexSet::new(source.alloc),
         };
-        model.add_slots(alloc)?;
+        model.add_slots()?;
         Ok(model)
     }
 
-    fn add_slots(&mut self, alloc: Global) -> Result<(), AllocError> {
+    fn add_slots(&mut self) -> Result<(), AllocError> {
         for number in 0..self.wiring.slot_count() {
-            self.add_slot(alloc, slot_at(number))?;
+            self.add_slot(slot_at(number))?;
         }
         Ok(())
     }
@@ -154,7 +152,7 @@ impl<'a> LintedModel<'a> {
     }
 
     /// Adds the class of a number, if it isn't known.
-    fn add_class(&mut self, alloc: Global, number: u16) -> Result<(), AllocError> {
+    fn add_class(&mut self, number: u16) -> Result<(), AllocError> {
         if self.places.contains_key(&number) {
             return Ok(());
         }
@@ -162,7 +160,7 @@ impl<'a> LintedModel<'a> {
             return Ok(());
         };
         let place = self.classes.len();
-        let class = Class::of(alloc, self.source, &self.items, number, names)?;
+        let class = Class::of(self.source, &self.items, number, names)?;
         self.classes.push(class)?;
         self.places.insert(number, place)?;
         Ok(())
@@ -193,11 +191,11 @@ impl<'a> LintedModel<'a> {
         }
     }
 
-    fn add_slot(&mut self, alloc: Global, id: SlotId) -> Result<(), AllocError> {
+    fn add_slot(&mut self, id: SlotId) -> Result<(), AllocError> {
         let Some(slot) = self.wiring.get_slot(id) else {
             return Ok(());
         };
-        self.add_class(alloc, slot.class)?;
+        self.add_class(slot.class)?;
         let is_imported = slot.kind == ReferenceKind::Imported;
         if is_imported {
             self.add_lent(id, slot.class)?;
@@ -214,18 +212,14 @@ impl<'a> LintedModel<'a> {
     }
 
     /// Where the reference is declared that a slot stands for.
-    pub(crate) fn reference_of(
-        &self,
-        alloc: Global,
-        slot: SlotId,
-    ) -> Result<Option<Item>, AllocError> {
+    pub(crate) fn reference_of(&self, slot: SlotId) -> Result<Option<Item>, AllocError> {
         let Some(here) = self.wiring.get_slot(slot) else {
             return Ok(None);
         };
         let name = name_in(here.path.as_bytes());
         match here.parent {
             Some(parent) => Ok(self.inner_reference(parent, name)),
-            None => self.top_reference(alloc, name),
+            None => self.top_reference(name),
         }
     }
 
@@ -235,12 +229,12 @@ impl<'a> LintedModel<'a> {
     }
 
     /// Where a reference of a subsystem class is declared.
-    fn top_reference(&self, alloc: Global, name: &[u8]) -> Result<Option<Item>, AllocError> {
-        let declarations = self.source.declarations(alloc)?;
+    fn top_reference(&self, name: &[u8]) -> Result<Option<Item>, AllocError> {
+        let declarations = self.source.declarations()?;
         let Some(system) = self.system(declarations.as_slice()) else {
             return Ok(None);
         };
-        let parts = self.source.parts(alloc, system)?;
+        let parts = self.source.parts(system)?;
         Ok(reference_among(self.source, parts.as_slice(), name))
     }
 

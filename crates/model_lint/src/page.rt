@@ -30,51 +30,41 @@ impl Place {
 
 /// Adds what is found in the chart of a class by the ways through it.
 fn add_by_ways(
-    alloc: Global,
     source: Source<'_>,
     class: &Class<'_>,
     findings: &mut Vec<Finding>,
 ) -> Result<(), AllocError> {
-    let ways = Ways::of(alloc, source, &class.text.chart)?;
-    add_unentered_states(alloc, source, class, &ways, findings)?;
-    add_dead_branches(alloc, source, class.text.chart.arrows(), &ways, findings)
+    let ways = Ways::of(source, &class.text.chart)?;
+    add_unentered_states(source, class, &ways, findings)?;
+    add_dead_branches(source, class.text.chart.arrows(), &ways, findings)
 }
 
 /// Adds what is found in a class.
 fn add_class(
-    alloc: Global,
     model: &LintedModel<'_>,
     class: &Class<'_>,
     findings: &mut Vec<Finding>,
 ) -> Result<(), AllocError> {
-    add_by_ways(alloc, model.source, class, findings)?;
-    add_unjoined_sends(alloc, model, class, findings)?;
-    add_untaken_messages(alloc, model, class, findings)?;
-    add_lost_deferral(alloc, class, findings)?;
-    add_unfilled_references(alloc, model.source, class, findings)
+    add_by_ways(model.source, class, findings)?;
+    add_unjoined_sends(model, class, findings)?;
+    add_untaken_messages(model, class, findings)?;
+    add_lost_deferral(model.source.alloc, class, findings)?;
+    add_unfilled_references(model.source, class, findings)
 }
 
 /// Adds what is found in a model, class by class and then over all.
-fn add_model(
-    alloc: Global,
-    model: &LintedModel<'_>,
-    findings: &mut Vec<Finding>,
-) -> Result<(), AllocError> {
+fn add_model(model: &LintedModel<'_>, findings: &mut Vec<Finding>) -> Result<(), AllocError> {
     for class in model.classes() {
-        add_class(alloc, model, class, findings)?;
+        add_class(model, class, findings)?;
     }
-    add_unjoined_indexes(alloc, model, findings)
+    add_unjoined_indexes(model, findings)
 }
 
 /// What is found in a model.
-fn findings_of(
-    alloc: Global,
-    source: Source<'_>,
-    wiring: &Wiring,
-) -> Result<Vec<Finding>, AllocError> {
-    let mut findings = Vec::new(alloc);
-    let model = LintedModel::of(alloc, source, wiring)?;
-    add_model(alloc, &model, &mut findings)?;
+fn findings_of(source: Source<'_>, wiring: &Wiring) -> Result<Vec<Finding>, AllocError> {
+    let mut findings = Vec::new(source.alloc);
+    let model = LintedModel::of(source, wiring)?;
+    add_model(&model, &mut findings)?;
     Ok(findings)
 }
 
@@ -212,10 +202,11 @@ fn tell_model(
 ) -> Result<usize, AllocError> {
     let tokens = tokens_in(alloc, model.text)?;
     let source = Source {
+        alloc,
         text: model.text,
         tokens: tokens.as_slice(),
     };
-    let findings = findings_of(alloc, source, wiring)?;
+    let findings = findings_of(source, wiring)?;
     tell_all(alloc, page, model, findings.as_slice())
 }
 

@@ -27,14 +27,10 @@ fn condition_part(source: Source<'_>, parts: &[Item]) -> Option<Item> {
 }
 
 /// The condition of a branch.
-fn condition_of(
-    alloc: Global,
-    source: Source<'_>,
-    branch: Item,
-) -> Result<Option<Code>, AllocError> {
-    let parts = source.parts(alloc, branch)?;
+fn condition_of(source: Source<'_>, branch: Item) -> Result<Option<Code>, AllocError> {
+    let parts = source.parts(branch)?;
     match condition_part(source, parts.as_slice()) {
-        Some(part) => Ok(Some(Code::of(alloc, source, part)?)),
+        Some(part) => Ok(Some(Code::of(source, part)?)),
         None => Ok(None),
     }
 }
@@ -52,14 +48,13 @@ fn dead(source: Source<'_>, branch: Item, detail: Vec<u8>) -> Finding {
 
 /// The finding that a branch is never taken, since another one before it has what is said of it.
 fn behind(
-    alloc: Global,
     source: Source<'_>,
     branch: Item,
     other: Item,
     why: &[u8],
 ) -> Result<Finding, AllocError> {
     let (from, to) = source.head(other);
-    let mut detail = Vec::from_slice(alloc, b"before it stands ")?;
+    let mut detail = Vec::from_slice(source.alloc, b"before it stands ")?;
     detail.extend_from_slice(source.text.get(from..to).unwrap_or(&[]))?;
     detail.extend_from_slice(why)?;
     Ok(dead(source, branch, detail))
@@ -77,68 +72,64 @@ impl Branches {
     /// Looks at a branch whose condition may hold or not.
     fn add_open(
         &mut self,
-        alloc: Global,
         source: Source<'_>,
         branch: Item,
         condition: &[u8],
         findings: &mut Vec<Finding>,
     ) -> Result<(), AllocError> {
         if let Some(other) = self.conditions.get(condition).copied() {
-            let finding = behind(alloc, source, branch, other, SAME)?;
+            let finding = behind(source, branch, other, SAME)?;
             return Ok(findings.push(finding)?);
         }
         self.conditions
-            .insert(Vec::from_slice(alloc, condition)?, branch)?;
+            .insert(Vec::from_slice(source.alloc, condition)?, branch)?;
         Ok(())
     }
 
     /// Looks at a branch with a condition, behind one that isn't always taken.
     fn add_condition(
         &mut self,
-        alloc: Global,
         source: Source<'_>,
         branch: Item,
         condition: &Code,
         findings: &mut Vec<Finding>,
     ) -> Result<(), AllocError> {
-        match always(alloc, condition)? {
+        match always(source.alloc, condition)? {
             Some(true) => {
                 self.taken = Some(branch);
                 Ok(())
             }
             Some(false) => {
-                let detail = Vec::from_slice(alloc, NEVER)?;
+                let detail = Vec::from_slice(source.alloc, NEVER)?;
                 Ok(findings.push(dead(source, branch, detail))?)
             }
-            None => self.add_open(alloc, source, branch, condition.text(), findings),
+            None => self.add_open(source, branch, condition.text(), findings),
         }
     }
 
     /// Looks at the next branch.
     fn add(
         &mut self,
-        alloc: Global,
         source: Source<'_>,
         branch: Item,
         findings: &mut Vec<Finding>,
     ) -> Result<(), AllocError> {
-        let Some(condition) = condition_of(alloc, source, branch)? else {
+        let Some(condition) = condition_of(source, branch)? else {
             self.last = Some(branch);
             return Ok(());
         };
         match self.taken {
             Some(taken) => {
-                let finding = behind(alloc, source, branch, taken, ALWAYS)?;
+                let finding = behind(source, branch, taken, ALWAYS)?;
                 Ok(findings.push(finding)?)
             }
-            None => self.add_condition(alloc, source, branch, &condition, findings),
+            None => self.add_condition(source, branch, &condition, findings),
         }
     }
 
     /// Looks at the branches of a choice point, which are the transitions of these numbers.
     fn add_all(
         &mut self,
-        alloc: Global,
         source: Source<'_>,
         arrows: &[Arrow],
         numbers: &[usize],
@@ -146,21 +137,16 @@ impl Branches {
     ) -> Result<(), AllocError> {
         for number in numbers {
             if let Some(arrow) = arrows.get(*number) {
-                self.add(alloc, source, arrow.item, findings)?;
+                self.add(source, arrow.item, findings)?;
             }
         }
         Ok(())
     }
 
     /// Looks at the branch without a condition, which comes behind all others.
-    fn end(
-        &self,
-        alloc: Global,
-        source: Source<'_>,
-        findings: &mut Vec<Finding>,
-    ) -> Result<(), AllocError> {
+    fn end(&self, source: Source<'_>, findings: &mut Vec<Finding>) -> Result<(), AllocError> {
         if let (Some(taken), Some(last)) = (self.taken, self.last) {
-            let finding = behind(alloc, source, last, taken, ALWAYS)?;
+            let finding = behind(source, last, taken, ALWAYS)?;
             findings.push(finding)?;
         }
         Ok(())
@@ -177,27 +163,25 @@ const NEVER: &[u8] = b"its condition never holds";
 
 /// Adds a finding for each branch of a choice point that is never taken.
 fn add_choice(
-    alloc: Global,
     source: Source<'_>,
     arrows: &[Arrow],
     numbers: &[usize],
     findings: &mut Vec<Finding>,
 ) -> Result<(), AllocError> {
-    let mut branches = Branches::new(alloc);
-    branches.add_all(alloc, source, arrows, numbers, findings)?;
-    branches.end(alloc, source, findings)
+    let mut branches = Branches::new(source.alloc);
+    branches.add_all(source, arrows, numbers, findings)?;
+    branches.end(source, findings)
 }
 
 /// Adds a finding for each branch of a choice point of a class that is never taken.
 pub(crate) fn add_dead_branches(
-    alloc: Global,
     source: Source<'_>,
     arrows: &[Arrow],
     ways: &Ways,
     findings: &mut Vec<Finding>,
 ) -> Result<(), AllocError> {
     for (_choice, numbers) in ways.choices().iter() {
-        add_choice(alloc, source, arrows, numbers.as_slice(), findings)?;
+        add_choice(source, arrows, numbers.as_slice(), findings)?;
     }
     Ok(())
 }

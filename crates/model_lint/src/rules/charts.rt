@@ -42,17 +42,20 @@ fn unentered(alloc: Global, key: &[u8], class: &[u8]) -> Result<Vec<u8>, AllocEr
 
 /// Adds a finding for each state of the chart of a class that is never entered, but for those inside such a state.
 pub(crate) fn add_unentered_states(
-    alloc: Global,
     source: Source<'_>,
     class: &Class<'_>,
     ways: &Ways,
     findings: &mut Vec<Finding>,
 ) -> Result<(), AllocError> {
     let chart = &class.text.chart;
-    let reached = ways.reached(alloc)?;
+    let reached = ways.reached(source.alloc)?;
     for state in chart.states() {
         if is_unentered(ways, reached.as_slice(), chart, state) {
-            let detail = unentered(alloc, state.key.as_slice(), class.names.name.as_bytes())?;
+            let detail = unentered(
+                source.alloc,
+                state.key.as_slice(),
+                class.names.name.as_bytes(),
+            )?;
             findings.push(at_head(source, Kind::UnenteredState, state.item, detail))?;
         }
     }
@@ -98,7 +101,6 @@ fn unfilled(alloc: Global, class: &[u8], verb: &[u8], name: &[u8]) -> Result<Vec
 
 /// Adds a finding for a reference of a class, if no action of the class fills it.
 fn add_reference(
-    alloc: Global,
     source: Source<'_>,
     class: &Class<'_>,
     reference: &RefNames,
@@ -114,19 +116,18 @@ fn add_reference(
     let Some(item) = class.text.declared.get(name) else {
         return Ok(());
     };
-    let detail = unfilled(alloc, class.names.name.as_bytes(), verb, name)?;
+    let detail = unfilled(source.alloc, class.names.name.as_bytes(), verb, name)?;
     Ok(findings.push(at_head(source, Kind::UnfilledReference, item, detail))?)
 }
 
 /// Adds a finding for each optional or imported reference of a class that no action of it fills.
 pub(crate) fn add_unfilled_references(
-    alloc: Global,
     source: Source<'_>,
     class: &Class<'_>,
     findings: &mut Vec<Finding>,
 ) -> Result<(), AllocError> {
     for reference in class.names.references.as_slice() {
-        add_reference(alloc, source, class, reference, findings)?;
+        add_reference(source, class, reference, findings)?;
     }
     Ok(())
 }

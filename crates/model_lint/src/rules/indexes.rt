@@ -143,8 +143,8 @@ struct Told {
 }
 
 /// The places of a row that are told.
-fn places_of(alloc: Global, model: &LintedModel<'_>, row: Row) -> Result<Listing, AllocError> {
-    let mut places = Listing::new(alloc);
+fn places_of(model: &LintedModel<'_>, row: Row) -> Result<Listing, AllocError> {
+    let mut places = Listing::new(model.source.alloc);
     add_row(model, row, &mut places)?;
     Ok(places)
 }
@@ -160,7 +160,6 @@ impl Told {
     /// Adds the places of a row of a reference to those that are known.
     fn add_places(
         &mut self,
-        alloc: Global,
         model: &LintedModel<'_>,
         row: Row,
         item: Item,
@@ -168,7 +167,7 @@ impl Told {
         if let Some(places) = self.places.get_mut(&item.first) {
             return add_row(model, row, places);
         }
-        let places = places_of(alloc, model, row)?;
+        let places = places_of(model, row)?;
         if places.is_empty() {
             return Ok(());
         }
@@ -179,7 +178,6 @@ impl Told {
     /// Adds the row that begins at a slot, if one does.
     fn add_slot(
         &mut self,
-        alloc: Global,
         model: &LintedModel<'_>,
         number: u32,
         size: u32,
@@ -187,22 +185,17 @@ impl Told {
         let Some(row) = row_at(model.wiring, number, size) else {
             return Ok(());
         };
-        match model.reference_of(alloc, slot_at(row.first))? {
-            Some(item) => self.add_places(alloc, model, row, item),
+        match model.reference_of(slot_at(row.first))? {
+            Some(item) => self.add_places(model, row, item),
             None => Ok(()),
         }
     }
 
     /// Adds all rows.
-    fn add_slots(
-        &mut self,
-        alloc: Global,
-        model: &LintedModel<'_>,
-        sizes: &[u32],
-    ) -> Result<(), AllocError> {
+    fn add_slots(&mut self, model: &LintedModel<'_>, sizes: &[u32]) -> Result<(), AllocError> {
         for number in 0..model.wiring.slot_count() {
             let size = sizes.get(number as usize).copied().unwrap_or(1);
-            self.add_slot(alloc, model, number, size)?;
+            self.add_slot(model, number, size)?;
         }
         Ok(())
     }
@@ -234,12 +227,11 @@ fn unjoined_at(source: Source<'_>, item: Item, detail: Vec<u8>) -> Finding {
 
 /// Adds a finding for each replicated reference of which some index stays unjoined.
 pub(crate) fn add_unjoined_indexes(
-    alloc: Global,
     model: &LintedModel<'_>,
     findings: &mut Vec<Finding>,
 ) -> Result<(), AllocError> {
-    let sizes = sizes_of(alloc, model.wiring)?;
-    let mut told = Told::new(alloc);
-    told.add_slots(alloc, model, sizes.as_slice())?;
+    let sizes = sizes_of(model.source.alloc, model.wiring)?;
+    let mut told = Told::new(model.source.alloc);
+    told.add_slots(model, sizes.as_slice())?;
     told.add_findings(model.source, findings)
 }

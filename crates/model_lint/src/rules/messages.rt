@@ -46,14 +46,13 @@ impl Untaken {
     /// Adds what actors of a class send at a port to which this one is joined.
     fn add_partner(
         &mut self,
-        alloc: Global,
         model: &LintedModel<'_>,
         at: At<'_, '_>,
         partner: PortOf,
     ) -> Result<(), AllocError> {
         let (_number, is_new) = self.partners.insert_full(partner)?;
         if is_new {
-            return self.add_messages(alloc, at, model.sent_from(partner));
+            return self.add_messages(model.source.alloc, at, model.sent_from(partner));
         }
         Ok(())
     }
@@ -82,7 +81,6 @@ impl Untaken {
     /// Adds what comes at a place that is joined to a port of a slot.
     fn add_end(
         &mut self,
-        alloc: Global,
         model: &LintedModel<'_>,
         at: At<'_, '_>,
         slot: SlotId,
@@ -95,13 +93,12 @@ impl Untaken {
             class: class.number,
             port: usize::from(port),
         };
-        self.add_partner(alloc, model, at, partner)
+        self.add_partner(model, at, partner)
     }
 
     /// Adds what comes at the places of a slot.
     fn add_slot(
         &mut self,
-        alloc: Global,
         model: &LintedModel<'_>,
         at: At<'_, '_>,
         slot: SlotId,
@@ -109,7 +106,7 @@ impl Untaken {
         for place in 0..place_count(model.wiring, slot, at.number) {
             let partner = partner_of(model.wiring, slot, at.number, place);
             if let Some((slot, port)) = end_of(partner) {
-                self.add_end(alloc, model, at, slot, port)?;
+                self.add_end(model, at, slot, port)?;
             }
         }
         Ok(())
@@ -118,13 +115,12 @@ impl Untaken {
     /// Adds what comes at the places of slots.
     fn add_slots(
         &mut self,
-        alloc: Global,
         model: &LintedModel<'_>,
         at: At<'_, '_>,
         slots: &[SlotId],
     ) -> Result<(), AllocError> {
         for slot in slots {
-            self.add_slot(alloc, model, at, *slot)?;
+            self.add_slot(model, at, *slot)?;
         }
         Ok(())
     }
@@ -138,15 +134,10 @@ impl Untaken {
     }
 
     /// Adds what can come in from outside alone, where the port is there for that.
-    fn add_injected(
-        &mut self,
-        alloc: Global,
-        model: &LintedModel<'_>,
-        at: At<'_, '_>,
-    ) -> Result<(), AllocError> {
+    fn add_injected(&mut self, model: &LintedModel<'_>, at: At<'_, '_>) -> Result<(), AllocError> {
         if self.is_open(model, at) && !at.is_listened_to() {
             for signal in incoming(at.port) {
-                self.add(alloc, at, signal.name.as_bytes())?;
+                self.add(model.source.alloc, at, signal.name.as_bytes())?;
             }
         }
         Ok(())
@@ -173,24 +164,19 @@ impl Untaken {
 }
 
 /// What comes at a port and no state takes.
-fn untaken_at(
-    alloc: Global,
-    model: &LintedModel<'_>,
-    at: At<'_, '_>,
-) -> Result<Untaken, AllocError> {
+fn untaken_at(model: &LintedModel<'_>, at: At<'_, '_>) -> Result<Untaken, AllocError> {
     let mut untaken = Untaken {
-        partners: IndexSet::new(alloc),
-        messages: IndexSet::new(alloc),
+        partners: IndexSet::new(model.source.alloc),
+        messages: IndexSet::new(model.source.alloc),
     };
-    untaken.add_slots(alloc, model, at, at.class.slots.as_slice())?;
-    untaken.add_slots(alloc, model, at, at.class.imported.as_slice())?;
-    untaken.add_injected(alloc, model, at)?;
+    untaken.add_slots(model, at, at.class.slots.as_slice())?;
+    untaken.add_slots(model, at, at.class.imported.as_slice())?;
+    untaken.add_injected(model, at)?;
     Ok(untaken)
 }
 
 /// Adds a finding for a port of a class, if messages come there that no state takes.
 fn add_port(
-    alloc: Global,
     model: &LintedModel<'_>,
     at: At<'_, '_>,
     findings: &mut Vec<Finding>,
@@ -198,11 +184,11 @@ fn add_port(
     let Some(item) = at.class.text.declared.get(at.port.name.as_bytes()) else {
         return Ok(());
     };
-    let untaken = untaken_at(alloc, model, at)?;
+    let untaken = untaken_at(model, at)?;
     if untaken.messages.is_empty() {
         return Ok(());
     }
-    let detail = untaken.told(alloc, at)?;
+    let detail = untaken.told(model.source.alloc, at)?;
     let (start, end) = model.source.head(item);
     Ok(findings.push(Finding {
         kind: Kind::UntakenMessage,
@@ -214,7 +200,6 @@ fn add_port(
 
 /// Adds a finding for each port of a class at which messages come that no state takes.
 pub(crate) fn add_untaken_messages(
-    alloc: Global,
     model: &LintedModel<'_>,
     class: &Class<'_>,
     findings: &mut Vec<Finding>,
@@ -226,7 +211,7 @@ pub(crate) fn add_untaken_messages(
                 number,
                 port,
             };
-            add_port(alloc, model, at, findings)?;
+            add_port(model, at, findings)?;
         }
     }
     Ok(())

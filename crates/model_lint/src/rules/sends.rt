@@ -1,12 +1,12 @@
 //! Sends at places that are joined to nothing.
-use crate::deeds::{Index, Send};
 use crate::finding::{Finding, Kind};
 use crate::listing::{Listing, decimal};
 use crate::model::{Class, LintedModel};
 use crate::places::{has_joined, is_joined};
+use chart_texts::{Index, Send};
 use journal_views::place_count;
 use room_kinds::SlotId;
-use std::alloc::{AllocError, Global};
+use std::alloc::AllocError;
 
 /// A port of a class, by its number and its name.
 #[derive(Clone, Copy)]
@@ -17,20 +17,18 @@ struct At<'a> {
 
 /// Adds a place of a port of a slot.
 fn add_place(
-    alloc: Global,
     model: &LintedModel<'_>,
     slot: SlotId,
     port: &[u8],
     place: u64,
     places: &mut Listing,
 ) -> Result<(), AllocError> {
-    let number = decimal(alloc, place)?;
+    let number = decimal(model.source.alloc, place)?;
     places.add(&[model.path(slot), b".", port, b"[", number.as_slice(), b"]"])
 }
 
 /// Adds the places of a port of a slot that are joined to nothing; the port where it has no place.
 fn add_places(
-    alloc: Global,
     model: &LintedModel<'_>,
     slot: SlotId,
     at: At<'_>,
@@ -42,7 +40,7 @@ fn add_places(
     }
     for place in 0..count {
         if !is_joined(model.wiring, slot, at.port, place) {
-            add_place(alloc, model, slot, at.name, u64::from(place), places)?;
+            add_place(model, slot, at.name, u64::from(place), places)?;
         }
     }
     Ok(())
@@ -58,7 +56,6 @@ fn is_joined_at(model: &LintedModel<'_>, slot: SlotId, port: usize, place: u64) 
 
 /// Adds a place of this number of a port of a slot, if it isn't joined.
 fn add_numbered(
-    alloc: Global,
     model: &LintedModel<'_>,
     slot: SlotId,
     at: At<'_>,
@@ -68,7 +65,7 @@ fn add_numbered(
     if is_joined_at(model, slot, at.port, place) {
         return Ok(());
     }
-    add_place(alloc, model, slot, at.name, place, places)
+    add_place(model, slot, at.name, place, places)
 }
 
 /// Adds a port of a slot, if none of its places is joined.
@@ -86,7 +83,6 @@ fn add_unjoined(
 
 /// Adds the places of a slot at which a send with an index gets to nobody.
 fn add_slot(
-    alloc: Global,
     model: &LintedModel<'_>,
     slot: SlotId,
     at: At<'_>,
@@ -94,30 +90,28 @@ fn add_slot(
     places: &mut Listing,
 ) -> Result<(), AllocError> {
     match index {
-        Index::All => add_places(alloc, model, slot, at, places),
-        Index::Place(place) => add_numbered(alloc, model, slot, at, place, places),
+        Index::All => add_places(model, slot, at, places),
+        Index::Place(place) => add_numbered(model, slot, at, place, places),
         Index::Computed => add_unjoined(model, slot, at, places),
     }
 }
 
 /// The places of slots at which a send with an index gets to nobody.
 fn unjoined(
-    alloc: Global,
     model: &LintedModel<'_>,
     slots: &[SlotId],
     at: At<'_>,
     index: Index,
 ) -> Result<Listing, AllocError> {
-    let mut places = Listing::new(alloc);
+    let mut places = Listing::new(model.source.alloc);
     for slot in slots {
-        add_slot(alloc, model, *slot, at, index, &mut places)?;
+        add_slot(model, *slot, at, index, &mut places)?;
     }
     Ok(places)
 }
 
 /// Adds a finding, if a send of a class gets to nobody at a slot of it.
 fn add_send(
-    alloc: Global,
     model: &LintedModel<'_>,
     class: &Class<'_>,
     send: &Send,
@@ -131,7 +125,7 @@ fn add_send(
         return Ok(());
     }
     let at = At { port, name };
-    let places = unjoined(alloc, model, class.slots.as_slice(), at, send.index)?;
+    let places = unjoined(model, class.slots.as_slice(), at, send.index)?;
     if places.is_empty() {
         return Ok(());
     }
@@ -145,13 +139,12 @@ fn add_send(
 
 /// Adds a finding for each port and index at which a class sends and, at a slot of it, gets to nobody.
 pub(crate) fn add_unjoined_sends(
-    alloc: Global,
     model: &LintedModel<'_>,
     class: &Class<'_>,
     findings: &mut Vec<Finding>,
 ) -> Result<(), AllocError> {
     for send in class.text.deeds.sends() {
-        add_send(alloc, model, class, send, findings)?;
+        add_send(model, class, send, findings)?;
     }
     Ok(())
 }

@@ -1,7 +1,9 @@
 //! What the actions of a class do: what they send and where, whether they defer and recall, which references they fill.
 //!
 //! The codes of an accepted model are programs (docs/ACTIONS.md), so the first tokens of a statement tell which it is.
-use chart_texts::{ByPort, Code, Source};
+use crate::by_port::ByPort;
+use crate::code::Code;
+use crate::source::Source;
 use fault_places::Item;
 use indexmap::IndexSet;
 use room_lexer::{Mark, Token, TokenKind};
@@ -9,7 +11,7 @@ use std::alloc::{AllocError, Global};
 
 /// Where at a port a message is sent.
 #[derive(Clone, Copy, Drop, PartialEq, Eq, Hash)]
-pub(crate) enum Index {
+pub enum Index {
     /// At all places.
     All,
     /// At the place of this number.
@@ -20,7 +22,7 @@ pub(crate) enum Index {
 
 /// Sends of one class at one port with one index: the bytes of the first of them in the text.
 #[derive(Drop)]
-pub(crate) struct Send {
+pub struct Send {
     pub port: Vec<u8>,
     pub index: Index,
     pub start: usize,
@@ -36,7 +38,7 @@ struct Target {
 
 /// What the actions of a class do.
 #[derive(Drop)]
-pub(crate) struct Deeds {
+pub struct Deeds {
     /// For each port and index at which something is sent, a send.
     targets: IndexSet<Target>,
     sends: Vec<Send>,
@@ -151,25 +153,27 @@ impl Deeds {
     }
 
     /// A send for each port and index at which something is sent: the first in the text.
-    pub(crate) fn sends(&self) -> &[Send] {
+    pub fn sends(&self) -> &[Send] {
         self.sends.as_slice()
     }
 
     /// What is sent, by ports.
-    pub(crate) fn sent(&self) -> &ByPort {
+    pub fn sent(&self) -> &ByPort {
         &self.sent
     }
 
-    pub(crate) fn fills(&self, reference: &[u8]) -> bool {
+    /// Whether a reference is filled.
+    pub fn fills(&self, reference: &[u8]) -> bool {
         self.filled.contains(reference)
     }
 
-    pub(crate) fn registers(&self, port: &[u8]) -> bool {
+    /// Whether a port is registered under a name.
+    pub fn registers(&self, port: &[u8]) -> bool {
         self.registered.contains(port)
     }
 
     /// The first `defer` in the text, where nothing recalls.
-    pub(crate) fn lost_deferral(&self) -> Option<(usize, usize)> {
+    pub fn lost_deferral(&self) -> Option<(usize, usize)> {
         if self.recalls {
             return None;
         }
@@ -276,27 +280,18 @@ impl Deeds {
     }
 
     /// Adds what the codes in parts of the text do.
-    fn add_codes(
-        &mut self,
-        alloc: Global,
-        source: Source<'_>,
-        codes: &[Item],
-    ) -> Result<(), AllocError> {
+    fn add_codes(&mut self, source: Source<'_>, codes: &[Item]) -> Result<(), AllocError> {
         for item in codes {
-            let code = Code::of(alloc, source, *item)?;
-            self.add_code(alloc, &code)?;
+            let code = Code::of(source, *item)?;
+            self.add_code(source.alloc, &code)?;
         }
         Ok(())
     }
 
     /// What the codes in parts of the text do.
-    pub(crate) fn of(
-        alloc: Global,
-        source: Source<'_>,
-        codes: &[Item],
-    ) -> Result<Deeds, AllocError> {
-        let mut deeds = Deeds::new(alloc);
-        deeds.add_codes(alloc, source, codes)?;
+    pub fn of(source: Source<'_>, codes: &[Item]) -> Result<Deeds, AllocError> {
+        let mut deeds = Deeds::new(source.alloc);
+        deeds.add_codes(source, codes)?;
         Ok(deeds)
     }
 }
