@@ -24,6 +24,10 @@ const BEGINS_NOWHERE: &str =
 const LEADS_NOWHERE: &str =
     "it leads to what its graph hasn't: a state, choice point or point of this name in the graph in which it stands";
 
+/// What is wrong with a transition that enters a graph without an initial one.
+const ENTERS_WITHOUT_BEGINNING: &str =
+    "it enters a state as a whole, and inside that state there is no initial transition";
+
 /// What is wrong with a transition that has a condition of its own, and begins elsewhere.
 const COND_WITHOUT_CHOICE: &str =
     "it has a `cond`, but begins at no choice point; a condition of a trigger is its `guard`";
@@ -39,6 +43,17 @@ fn is_triggered(ends: Ends<'_>, is_choice: bool, is_door: bool) -> bool {
         [only] => !is_word(only, Word::Initial) && !is_choice,
         [my, _name] => is_word(my, Word::My) && is_door,
         _ => false,
+    }
+}
+
+/// Whether a transition is the initial one of its graph.
+fn is_initial(source: Source<'_>, arrow: Arrow) -> bool {
+    match ends_of(source, arrow) {
+        Some(ends) => match ends.source {
+            [only] => is_word(only, Word::Initial),
+            _ => false,
+        },
+        None => false,
     }
 }
 
@@ -212,6 +227,24 @@ impl<'a> Suspect<'a> {
         self.cause_at_name(state.owner, item)
     }
 
+    /// Whether the top graph has an initial transition.
+    fn has_beginning(&self) -> bool {
+        let mut arrows = self.chart.arrows().iter();
+        arrows.any(|arrow| arrow.owner.is_none() && is_initial(self.source, *arrow))
+    }
+
+    /// Which cause of fault 4 fits at a part.
+    fn cause_of_missing(&self, item: Item) -> Option<&'static str> {
+        if !self.has_beginning() {
+            return Some("the top graph has no initial transition");
+        }
+        let mut arrows = self.chart.arrows().iter();
+        if arrows.any(|arrow| is_in(item, arrow.item)) {
+            return Some(ENTERS_WITHOUT_BEGINNING);
+        }
+        None
+    }
+
     /// Which cause of fault 2 fits at a part.
     fn cause(&self, item: Item) -> Result<Option<&'static str>, AllocError> {
         match self
@@ -241,14 +274,21 @@ fn chart_of(source: Source<'_>, class: &[u8]) -> Result<Chart, AllocError> {
     Chart::of(source, chain.as_slice())
 }
 
-/// Which cause of fault 2 fits at a part.
-fn shape_cause(source: Source<'_>, chart: &Chart, item: Item) -> Result<Option<Cause>, AllocError> {
+/// Which cause of fault 2 or 4 fits at a part.
+fn shape_cause(
+    source: Source<'_>,
+    chart: &Chart,
+    number: u8,
+    item: Item,
+) -> Result<Option<Cause>, AllocError> {
     let suspect = Suspect { source, chart };
+    let what = if number == 4 {
+        suspect.cause_of_missing(item)
+    } else {
+        suspect.cause(item)?
+    };
     let (start, end) = source.head(item);
-    match suspect.cause(item)? {
-        Some(what) => Ok(Some(Cause { start, end, what })),
-        None => Ok(None),
-    }
+    Ok(what.map(|what| Cause { start, end, what }))
 }
 
 /// Which of the causes of a fault of a chart fits at a part of the text in which it was found, and where in it; none
@@ -267,9 +307,9 @@ pub fn chart_cause(
     };
     match (fault.number, fault.scope) {
         (7, Some(scope)) => Ok(trigger_cause(source, scope, item)),
-        (2, _) => {
+        (2 | 4, _) => {
             let chart = chart_of(source, fault.class)?;
-            shape_cause(source, &chart, item)
+            shape_cause(source, &chart, fault.number, item)
         }
         (8, Some(scope)) => {
             let chart = chart_of(source, fault.class)?;
