@@ -1,6 +1,6 @@
 //! Conditions that are the same whatever happens.
-use crate::code::Code;
-use action_lang::{ActionFault, Effects, Moment, Vars, check_cond, parse_cond, test};
+use action_lang::{ActionFault, BoundExpr, Effects, Moment, Vars, check_cond, parse_cond, test};
+use chart_texts::Code;
 use room_ast::Scope;
 use room_kinds::{Generation, Incarnation, Payload, SlotId};
 use room_lexer::{TokenKind, Word};
@@ -39,12 +39,17 @@ fn no_message(alloc: Global) -> Moment {
     }
 }
 
-/// What a fault of a code that was accepted can only be: want of memory, or else none.
-fn memory_of(fault: ActionFault) -> Result<Option<bool>, AllocError> {
-    match fault {
-        ActionFault::Memory => Err(AllocError),
-        _ => Ok(None),
-    }
+/// A condition that names nothing, made ready.
+fn bound_in(alloc: Global, code: &Code) -> Result<BoundExpr, ActionFault> {
+    let condition = parse_cond(alloc, code.text())?;
+    check_cond(alloc, &condition, &no_names(alloc))
+}
+
+/// Whether a condition that names nothing holds.
+fn holds(alloc: Global, condition: &BoundExpr) -> Result<bool, AllocError> {
+    let vars = Vars::new(alloc, &[])?;
+    let mut told = Effects::new(alloc);
+    test(condition, &vars, &no_message(alloc), &mut told)
 }
 
 /// Whether a condition always holds, or never does; none where that isn't known from its text.
@@ -52,15 +57,10 @@ pub(crate) fn always(alloc: Global, code: &Code) -> Result<Option<bool>, AllocEr
     if !names_nothing(code) {
         return Ok(None);
     }
-    let condition = match parse_cond(alloc, code.text()) {
-        Ok(condition) => condition,
-        Err(fault) => return memory_of(fault),
-    };
-    let bound = match check_cond(alloc, &condition, &no_names(alloc)) {
-        Ok(bound) => bound,
-        Err(fault) => return memory_of(fault),
-    };
-    let vars = Vars::new(alloc, &[])?;
-    let mut told = Effects::new(alloc);
-    Ok(Some(test(&bound, &vars, &no_message(alloc), &mut told)?))
+    match bound_in(alloc, code) {
+        Ok(condition) => Ok(Some(holds(alloc, &condition)?)),
+        Err(ActionFault::Memory) => Err(AllocError),
+        // an accepted model has no such condition
+        Err(_) => Ok(None),
+    }
 }

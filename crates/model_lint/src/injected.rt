@@ -1,5 +1,4 @@
 //! Numbers of injections that lie outside their types.
-use crate::chart::joined;
 use crate::finding::{Finding, Kind};
 use crate::listing::signed;
 use inject_reader::inject_lines::{Form, Wanted, read_form};
@@ -52,45 +51,73 @@ fn signal_of<'a>(
 
 /// What is told of a number that another one comes in for.
 fn told(alloc: Global, kind: NumberType, number: i64) -> Result<Vec<u8>, AllocError> {
-    let written = signed(alloc, number)?;
-    let comes = signed(alloc, kind.reduce(number))?;
-    joined(
-        alloc,
-        &[
-            written.as_slice(),
-            b" comes in as ",
-            comes.as_slice(),
-            b", since it is of type ",
-            type_name(kind),
-        ],
-    )
+    let mut told = signed(alloc, number)?;
+    told.extend_from_slice(b" comes in as ")?;
+    told.extend_from_slice(signed(alloc, kind.reduce(number))?.as_slice())?;
+    told.extend_from_slice(b", since it is of type ")?;
+    told.extend_from_slice(type_name(kind))?;
+    Ok(told)
 }
 
 /// Adds the numbers of a line that lie outside their types; the line begins at a byte of the text.
-fn add_line(
+fn add_numbers(
     alloc: Global,
     line: &[u8],
     start: usize,
-    signal: &SignalNames,
+    kinds: &[NumberType],
     numbers: &[i64],
     findings: &mut Vec<Finding>,
 ) -> Result<(), AllocError> {
-    for (place, (kind, number)) in signal
-        .numbers
-        .as_slice()
-        .iter()
-        .zip(numbers.iter())
-        .enumerate()
-    {
+    for (place, (kind, number)) in kinds.iter().zip(numbers.iter()).enumerate() {
         if kind.reduce(*number) != *number {
+            let detail = told(alloc, *kind, *number)?;
             let (from, to) = field_at(line, place.saturating_add(2));
             findings.push(Finding {
                 kind: Kind::WideNumber,
                 start: start.saturating_add(from),
                 end: start.saturating_add(to),
-                detail: told(alloc, *kind, *number)?,
+                detail,
             })?;
         }
+    }
+    Ok(())
+}
+
+/// Adds the numbers of a line that lie outside their types, if it is an injection.
+fn add_line(
+    alloc: Global,
+    wiring: &Wiring,
+    names: &Names<'_>,
+    line: &[u8],
+    start: usize,
+    findings: &mut Vec<Finding>,
+) -> Result<(), AllocError> {
+    let Some(Form::Message(wanted)) = read_form(alloc, line)? else {
+        return Ok(());
+    };
+    let Some(signal) = signal_of(wiring, names, &wanted) else {
+        return Ok(());
+    };
+    let kinds = signal.numbers.as_slice();
+    let numbers = wanted.load.numbers.as_slice();
+    add_numbers(alloc, line, start, kinds, numbers, findings)
+}
+
+/// Adds the numbers of injections that lie outside their types.
+fn add_lines(
+    alloc: Global,
+    wiring: &Wiring,
+    names: &Names<'_>,
+    text: &[u8],
+    findings: &mut Vec<Finding>,
+) -> Result<(), AllocError> {
+    let mut start = 0usize;
+    for whole in text.split(|byte| *byte == b'\n') {
+        let line = whole.strip_suffix(b"\r").unwrap_or(whole);
+        if !line.starts_with(b"#") {
+            add_line(alloc, wiring, names, line, start, findings)?;
+        }
+        start = start.saturating_add(whole.len()).saturating_add(1);
     }
     Ok(())
 }
@@ -103,18 +130,6 @@ pub(crate) fn wide_numbers(
 ) -> Result<Vec<Finding>, AllocError> {
     let names = Names::of(alloc, wiring)?;
     let mut findings = Vec::new(alloc);
-    let mut start = 0usize;
-    for whole in text.split(|byte| *byte == b'\n') {
-        let line = whole.strip_suffix(b"\r").unwrap_or(whole);
-        if !line.starts_with(b"#") {
-            if let Some(Form::Message(wanted)) = read_form(alloc, line)? {
-                if let Some(signal) = signal_of(wiring, &names, &wanted) {
-                    let numbers = wanted.load.numbers.as_slice();
-                    add_line(alloc, line, start, signal, numbers, &mut findings)?;
-                }
-            }
-        }
-        start = start.saturating_add(whole.len()).saturating_add(1);
-    }
+    add_lines(alloc, wiring, &names, text, &mut findings)?;
     Ok(findings)
 }

@@ -1,7 +1,7 @@
 //! A model that is looked at: its text, its wiring, and its classes by both.
-use crate::classes::{ClassItems, ClassText};
+use crate::classes::ClassText;
 use crate::places::has_joined;
-use crate::source::Source;
+use chart_texts::{ClassItems, Source};
 use fault_places::Item;
 use indexmap::{IndexMap, IndexSet};
 use room_kinds::{ReferenceKind, SlotId};
@@ -44,6 +44,25 @@ pub(crate) struct LintedModel<'a> {
 }
 
 impl<'a> Class<'a> {
+    /// A class as yet without slots.
+    fn of(
+        source: Source<'a>,
+        items: &ClassItems<'a>,
+        number: u16,
+        names: &'a ClassNames,
+    ) -> Result<Class<'a>, AllocError> {
+        let ports = numbers_of(source.alloc, names)?;
+        let text = ClassText::of(source, items, names.name.as_bytes())?;
+        Ok(Class {
+            number,
+            names,
+            text,
+            ports,
+            slots: Vec::new(source.alloc),
+            imported: Vec::new(source.alloc),
+        })
+    }
+
     /// Whether a transition names a message at a port.
     pub(crate) fn takes(&self, port: &[u8], message: &[u8]) -> bool {
         self.text.chart.taken().has(port, message)
@@ -71,22 +90,27 @@ pub(crate) fn slot_at(number: u32) -> SlotId {
 
 impl<'a> LintedModel<'a> {
     pub(crate) fn of(
-        alloc: Global,
         source: Source<'a>,
         wiring: &'a Wiring,
     ) -> Result<LintedModel<'a>, AllocError> {
+        let items = ClassItems::of(source)?;
         let mut model = LintedModel {
             source,
             wiring,
-            items: ClassItems::of(alloc, source)?,
-            classes: Vec::new(alloc),
-            places: IndexMap::new(alloc),
-            lent: IndexSet::new(alloc),
+            items,
+            classes: Vec::new(source.alloc),
+            places: IndexMap::new(source.alloc),
+            lent: IndexSet::new(source.alloc),
         };
-        for number in 0..wiring.slot_count() {
-            model.add_slot(alloc, slot_at(number))?;
-        }
+        model.add_slots()?;
         Ok(model)
+    }
+
+    fn add_slots(&mut self) -> Result<(), AllocError> {
+        for number in 0..self.wiring.slot_count() {
+            self.add_slot(slot_at(number))?;
+        }
+        Ok(())
     }
 
     /// The classes that have slots, in the order of their first ones.
@@ -116,25 +140,30 @@ impl<'a> LintedModel<'a> {
         class.text.deeds.registers(name) || self.is_lent(class.number, port)
     }
 
+    /// The messages that actors of a class send at a port.
+    pub(crate) fn sent_from(&self, port: PortOf) -> &[Vec<u8>] {
+        let Some(class) = self.class(port.class) else {
+            return &[];
+        };
+        match class.names.ports.as_slice().get(port.port) {
+            Some(port) => class.text.deeds.sent().at(port.name.as_bytes()),
+            None => &[],
+        }
+    }
+
     /// Adds the class of a number, if it isn't known.
-    fn add_class(&mut self, alloc: Global, number: u16) -> Result<(), AllocError> {
+    fn add_class(&mut self, number: u16) -> Result<(), AllocError> {
         if self.places.contains_key(&number) {
             return Ok(());
         }
         let Some(names) = self.wiring.get_class(number) else {
             return Ok(());
         };
-        let text = self.items.read(alloc, self.source, names.name.as_bytes())?;
-        let class = Class {
-            number,
-            names,
-            text,
-            ports: numbers_of(alloc, names)?,
-            slots: Vec::new(alloc),
-            imported: Vec::new(alloc),
-        };
-        self.places.insert(number, self.classes.len())?;
-        Ok(self.classes.push(class)?)
+        let place = self.classes.len();
+        let class = Class::of(self.source, &self.items, number, names)?;
+        self.classes.push(class)?;
+        self.places.insert(number, place)?;
+        Ok(())
     }
 
     /// Adds the ports that are joined at an imported slot.
@@ -147,24 +176,31 @@ impl<'a> LintedModel<'a> {
         Ok(())
     }
 
-    fn add_slot(&mut self, alloc: Global, id: SlotId) -> Result<(), AllocError> {
+    /// Adds a slot to those of its class, which is known.
+    fn add_to_class(
+        &mut self,
+        class: u16,
+        slot: SlotId,
+        is_imported: bool,
+    ) -> Result<(), AllocError> {
+        let place = self.places.get(&class).copied().unwrap_or(0);
+        match self.classes.as_mut_slice().get_mut(place) {
+            Some(class) if is_imported => Ok(class.imported.push(slot)?),
+            Some(class) => Ok(class.slots.push(slot)?),
+            None => Ok(()),
+        }
+    }
+
+    fn add_slot(&mut self, id: SlotId) -> Result<(), AllocError> {
         let Some(slot) = self.wiring.get_slot(id) else {
             return Ok(());
         };
-        self.add_class(alloc, slot.class)?;
+        self.add_class(slot.class)?;
         let is_imported = slot.kind == ReferenceKind::Imported;
         if is_imported {
             self.add_lent(id, slot.class)?;
         }
-        let place = self.places.get(&slot.class).copied().unwrap_or(0);
-        if let Some(class) = self.classes.as_mut_slice().get_mut(place) {
-            if is_imported {
-                class.imported.push(id)?;
-            } else {
-                class.slots.push(id)?;
-            }
-        }
-        Ok(())
+        self.add_to_class(slot.class, id, is_imported)
     }
 
     /// The path of a slot.
@@ -176,52 +212,51 @@ impl<'a> LintedModel<'a> {
     }
 
     /// Where the reference is declared that a slot stands for.
-    pub(crate) fn reference_of(
-        &self,
-        alloc: Global,
-        slot: SlotId,
-    ) -> Result<Option<Item>, AllocError> {
+    pub(crate) fn reference_of(&self, slot: SlotId) -> Result<Option<Item>, AllocError> {
         let Some(here) = self.wiring.get_slot(slot) else {
             return Ok(None);
         };
         let name = name_in(here.path.as_bytes());
         match here.parent {
-            Some(parent) => Ok(match self.class_of(parent) {
-                Some(class) => class.text.declared(name),
-                None => None,
-            }),
-            None => self.top_reference(alloc, name),
+            Some(parent) => Ok(self.inner_reference(parent, name)),
+            None => self.top_reference(name),
         }
+    }
+
+    /// Where a reference of the class of a slot is declared.
+    fn inner_reference(&self, slot: SlotId, name: &[u8]) -> Option<Item> {
+        self.class_of(slot)?.text.declared.get(name)
     }
 
     /// Where a reference of a subsystem class is declared.
-    fn top_reference(&self, alloc: Global, name: &[u8]) -> Result<Option<Item>, AllocError> {
-        let Some(system) = self.system(alloc)? else {
+    fn top_reference(&self, name: &[u8]) -> Result<Option<Item>, AllocError> {
+        let declarations = self.source.declarations()?;
+        let Some(system) = self.system(declarations.as_slice()) else {
             return Ok(None);
         };
-        for item in self.source.parts(alloc, system)?.as_slice() {
-            if self.source.word(*item) == Some(Word::ActorRef)
-                && self.source.name(*item) == Some(name)
-            {
-                return Ok(Some(*item));
-            }
-        }
-        Ok(None)
+        let parts = self.source.parts(system)?;
+        Ok(reference_among(self.source, parts.as_slice(), name))
     }
 
-    /// The subsystem class that the system names.
-    fn system(&self, alloc: Global) -> Result<Option<Item>, AllocError> {
-        for item in self.source.declarations(alloc)?.as_slice() {
-            if self.source.word(*item) == Some(Word::LogicalSystem) {
-                let tokens = self.source.tokens_of(*item);
-                // `}` stands last, and before it the name of the class
-                if let [.., class, _brace] = tokens {
-                    return Ok(self.items.get(self.source.bytes(class)));
-                }
-            }
+    /// The subsystem class that the system names, which stands among declarations.
+    fn system(&self, declarations: &[Item]) -> Option<Item> {
+        let system = declarations.iter().find(|item| self.source.word(**item)
+            == Some(Word::LogicalSystem))?;
+        // `}` stands last, and before it the name of the class
+        match self.source.tokens_of(*system) {
+            [.., class, _brace] => self.items.get(self.source.bytes(class)),
+            _ => None,
         }
-        Ok(None)
     }
+}
+
+/// The actor reference of a name among parts of a class.
+fn reference_among(source: Source<'_>, parts: &[Item], name: &[u8]) -> Option<Item> {
+    parts
+        .iter()
+        .find(|part| source.word(**part) == Some(Word::ActorRef)
+            && source.name(**part) == Some(name))
+        .copied()
 }
 
 /// The name of the reference at the end of a path.

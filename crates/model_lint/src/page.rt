@@ -1,15 +1,14 @@
 //! The page of what lint tells.
 use crate::finding::{Finding, Kind};
 use crate::injected::wide_numbers;
-use crate::model::LintedModel;
+use crate::model::{Class, LintedModel};
 use crate::rules::{
     add_dead_branches, add_lost_deferral, add_unentered_states, add_unfilled_references,
     add_unjoined_indexes, add_unjoined_sends, add_untaken_messages,
 };
-use crate::source::Source;
-use crate::ways::Ways;
+use chart_texts::{Source, Ways};
 use journal_views::view_pages::{Named, Page};
-use room_lexer::{LexFault, lex};
+use room_lexer::{LexFault, Token, lex};
 use room_wiring::Wiring;
 use std::alloc::{AllocError, Global};
 
@@ -29,24 +28,48 @@ impl Place {
     }
 }
 
-/// What is found in a model.
-fn findings_of(alloc: Global, model: &LintedModel<'_>) -> Result<Vec<Finding>, AllocError> {
-    let mut findings = Vec::new(alloc);
+/// Adds what is found in the chart of a class by the ways through it.
+fn add_by_ways(
+    source: Source<'_>,
+    class: &Class<'_>,
+    findings: &mut Vec<Finding>,
+) -> Result<(), AllocError> {
+    let ways = Ways::of(source, &class.text.chart)?;
+    add_unentered_states(source, class, &ways, findings)?;
+    add_dead_branches(source, class.text.chart.arrows(), &ways, findings)
+}
+
+/// Adds what is found in a class.
+fn add_class(
+    model: &LintedModel<'_>,
+    class: &Class<'_>,
+    findings: &mut Vec<Finding>,
+) -> Result<(), AllocError> {
+    add_by_ways(model.source, class, findings)?;
+    add_unjoined_sends(model, class, findings)?;
+    add_untaken_messages(model, class, findings)?;
+    add_lost_deferral(model.source.alloc, class, findings)?;
+    add_unfilled_references(model.source, class, findings)
+}
+
+/// Adds what is found in a model, class by class and then over all.
+fn add_model(model: &LintedModel<'_>, findings: &mut Vec<Finding>) -> Result<(), AllocError> {
     for class in model.classes() {
-        let ways = Ways::of(alloc, model.source, &class.text.chart)?;
-        add_unjoined_sends(alloc, model, class, &mut findings)?;
-        add_unentered_states(alloc, model, class, &ways, &mut findings)?;
-        add_untaken_messages(alloc, model, class, &mut findings)?;
-        add_lost_deferral(alloc, class, &mut findings)?;
-        add_dead_branches(alloc, model, class, &ways, &mut findings)?;
-        add_unfilled_references(alloc, model, class, &mut findings)?;
+        add_class(model, class, findings)?;
     }
-    add_unjoined_indexes(alloc, model, &mut findings)?;
+    add_unjoined_indexes(model, findings)
+}
+
+/// What is found in a model.
+fn findings_of(source: Source<'_>, wiring: &Wiring) -> Result<Vec<Finding>, AllocError> {
+    let mut findings = Vec::new(source.alloc);
+    let model = LintedModel::of(source, wiring)?;
+    add_model(&model, &mut findings)?;
     Ok(findings)
 }
 
-/// The places of findings, in the order in which they are told, each once.
-fn in_order(alloc: Global, findings: &[Finding]) -> Result<Vec<Place>, AllocError> {
+/// The places of findings, sorted into the order in which they are told.
+fn sorted_places(alloc: Global, findings: &[Finding]) -> Result<Vec<Place>, AllocError> {
     let mut places = Vec::new(alloc);
     for (number, finding) in findings.iter().enumerate() {
         places.push(Place {
@@ -57,13 +80,23 @@ fn in_order(alloc: Global, findings: &[Finding]) -> Result<Vec<Place>, AllocErro
         })?;
     }
     places.sort()?;
+    Ok(places)
+}
+
+/// Whether a place is the same as one before it, if there is one.
+fn is_told(before: Option<&Place>, place: Place) -> bool {
+    match before {
+        Some(before) => before.is_same(place),
+        None => false,
+    }
+}
+
+/// The places of findings, in the order in which they are told, each once.
+fn in_order(alloc: Global, findings: &[Finding]) -> Result<Vec<Place>, AllocError> {
+    let places = sorted_places(alloc, findings)?;
     let mut told: Vec<Place> = Vec::new(alloc);
     for place in places.as_slice() {
-        let is_known = match told.last() {
-            Some(last) => last.is_same(*place),
-            None => false,
-        };
-        if !is_known {
+        if !is_told(told.last(), *place) {
             told.push(*place)?;
         }
     }
@@ -80,6 +113,53 @@ fn tell_kind(page: &mut Page, kind: Kind) -> Result<(), AllocError> {
     page.end_line()
 }
 
+/// Begins to tell findings of a kind, behind those of the kind before.
+fn change_kind(page: &mut Page, before: Option<Kind>, kind: Kind) -> Result<(), AllocError> {
+    if before == Some(kind) {
+        return Ok(());
+    }
+    if before.is_some() {
+        page.end_line()?;
+    }
+    tell_kind(page, kind)
+}
+
+/// Tells of a finding where it stands, and what it is in particular.
+fn tell_finding(
+    page: &mut Page,
+    named: Named<'_>,
+    findings: &[Finding],
+    place: Place,
+) -> Result<(), AllocError> {
+    page.put_part(named, place.start, place.end)?;
+    match findings.get(place.number) {
+        Some(finding) => {
+            page.put(b"    ")?;
+            page.put_line(finding.detail.as_slice())
+        }
+        None => Ok(()),
+    }
+}
+
+/// Tells the findings at places in a text, kind by kind.
+fn tell_places(
+    page: &mut Page,
+    named: Named<'_>,
+    findings: &[Finding],
+    places: &[Place],
+) -> Result<(), AllocError> {
+    let mut told: Option<Kind> = None;
+    for place in places {
+        change_kind(page, told, place.kind)?;
+        told = Some(place.kind);
+        tell_finding(page, named, findings, *place)?;
+    }
+    if told.is_some() {
+        page.end_line()?;
+    }
+    Ok(())
+}
+
 /// Tells findings in a text, kind by kind; says how many there are.
 fn tell_all(
     alloc: Global,
@@ -88,24 +168,7 @@ fn tell_all(
     findings: &[Finding],
 ) -> Result<usize, AllocError> {
     let places = in_order(alloc, findings)?;
-    let mut told: Option<Kind> = None;
-    for place in places.as_slice() {
-        if told != Some(place.kind) {
-            if told.is_some() {
-                page.end_line()?;
-            }
-            tell_kind(page, place.kind)?;
-            told = Some(place.kind);
-        }
-        page.put_part(named, place.start, place.end)?;
-        if let Some(finding) = findings.get(place.number) {
-            page.put(b"    ")?;
-            page.put_line(finding.detail.as_slice())?;
-        }
-    }
-    if !places.is_empty() {
-        page.end_line()?;
-    }
+    tell_places(page, named, findings, places.as_slice())?;
     Ok(places.len())
 }
 
@@ -121,6 +184,43 @@ fn tell_count(page: &mut Page, count: usize) -> Result<(), AllocError> {
     }
 }
 
+/// The tokens of a text; none where it has none.
+fn tokens_in(alloc: Global, text: &[u8]) -> Result<Vec<Token>, AllocError> {
+    match lex(alloc, text) {
+        Ok(tokens) => Ok(tokens),
+        Err(LexFault::Memory) => Err(AllocError),
+        Err(_) => Ok(Vec::new(alloc)),
+    }
+}
+
+/// Tells what the author of a model hardly meant; says how many findings there are.
+fn tell_model(
+    alloc: Global,
+    page: &mut Page,
+    model: Named<'_>,
+    wiring: &Wiring,
+) -> Result<usize, AllocError> {
+    let tokens = tokens_in(alloc, model.text)?;
+    let source = Source {
+        alloc,
+        text: model.text,
+        tokens: tokens.as_slice(),
+    };
+    let findings = findings_of(source, wiring)?;
+    tell_all(alloc, page, model, findings.as_slice())
+}
+
+/// Tells which numbers of injections lie outside their types; says how many there are.
+fn tell_numbers(
+    alloc: Global,
+    page: &mut Page,
+    wiring: &Wiring,
+    lines: Named<'_>,
+) -> Result<usize, AllocError> {
+    let findings = wide_numbers(alloc, wiring, lines.text)?;
+    tell_all(alloc, page, lines, findings.as_slice())
+}
+
 /// Tells what the author of an accepted model with this wiring hardly meant, and where; and, if there are injections,
 /// which of their numbers lie outside their types. The model's text is one that has tokens, and the injections are
 /// accepted over the wiring; of others nothing is told but by chance.
@@ -131,21 +231,9 @@ pub fn tell_findings(
     wiring: &Wiring,
     injections: Option<Named<'_>>,
 ) -> Result<(), AllocError> {
-    let tokens = match lex(alloc, model.text) {
-        Ok(tokens) => tokens,
-        Err(LexFault::Memory) => return Err(AllocError),
-        Err(_) => Vec::new(alloc),
-    };
-    let source = Source {
-        text: model.text,
-        tokens: tokens.as_slice(),
-    };
-    let linted = LintedModel::of(alloc, source, wiring)?;
-    let findings = findings_of(alloc, &linted)?;
-    let mut count = tell_all(alloc, page, model, findings.as_slice())?;
+    let mut count = tell_model(alloc, page, model, wiring)?;
     if let Some(lines) = injections {
-        let findings = wide_numbers(alloc, wiring, lines.text)?;
-        let more = tell_all(alloc, page, lines, findings.as_slice())?;
+        let more = tell_numbers(alloc, page, wiring, lines)?;
         count = count.saturating_add(more);
     }
     tell_count(page, count)

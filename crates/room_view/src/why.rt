@@ -1,12 +1,12 @@
 //! Why a text is refused, and where.
 use crate::judge::FaultOf;
 use crate::messages::tree_of;
+use chart_texts::{ChartFault, chart_cause};
 use fault_places::{
     Item, Meaning, Unread, chart_meaning, could_stand, find_causes, head_of, named_by,
     rule_meaning, wiring_meaning,
 };
 use journal_views::view_pages::{Named, Page};
-use model_lint::{ChartFault, chart_cause};
 use room_lexer::{LexFault, Token, lex};
 use room_outside::MAX_TEXT;
 use room_run::{ModelFault, read_wiring};

@@ -3,6 +3,7 @@ use crate::finding::{Finding, Kind};
 use crate::listing::Listing;
 use crate::model::{LintedModel, slot_at};
 use crate::places::{has_joined, is_worked_at};
+use chart_texts::Source;
 use fault_places::Item;
 use indexmap::IndexMap;
 use room_wiring::Wiring;
@@ -17,6 +18,20 @@ struct Row {
     count: u32,
 }
 
+/// Adds to the size of the slot that holds a slot the size of this one.
+fn add_size(wiring: &Wiring, number: u32, sizes: &mut [u32]) {
+    let size = sizes.get(number as usize).copied().unwrap_or(1);
+    let Some(slot) = wiring.get_slot(slot_at(number)) else {
+        return;
+    };
+    let Some(parent) = slot.parent else {
+        return;
+    };
+    if let Some(whole) = sizes.get_mut(usize::from(parent.0)) {
+        *whole = whole.saturating_add(size);
+    }
+}
+
 /// How many slots each slot stands for: itself and all that are inside.
 fn sizes_of(alloc: Global, wiring: &Wiring) -> Result<Vec<u32>, AllocError> {
     let mut sizes = Vec::new(alloc);
@@ -24,16 +39,7 @@ fn sizes_of(alloc: Global, wiring: &Wiring) -> Result<Vec<u32>, AllocError> {
         sizes.push(1u32)?;
     }
     for number in (0..wiring.slot_count()).rev() {
-        let size = sizes.as_slice().get(number as usize).copied().unwrap_or(1);
-        let parent = match wiring.get_slot(slot_at(number)) {
-            Some(slot) => slot.parent,
-            None => None,
-        };
-        if let Some(parent) = parent {
-            if let Some(whole) = sizes.as_mut_slice().get_mut(usize::from(parent.0)) {
-                *whole = whole.saturating_add(size);
-            }
-        }
+        add_size(wiring, number, sizes.as_mut_slice());
     }
     Ok(sizes)
 }
@@ -128,54 +134,104 @@ fn add_row(model: &LintedModel<'_>, row: Row, places: &mut Listing) -> Result<()
     Ok(())
 }
 
-/// The places of a reference that are told, added to those that are known.
-fn add_places(
-    alloc: Global,
-    model: &LintedModel<'_>,
-    row: Row,
-    known: &mut IndexMap<usize, Listing>,
-    items: &mut Vec<Item>,
-) -> Result<(), AllocError> {
-    let Some(item) = model.reference_of(alloc, slot_at(row.first))? else {
-        return Ok(());
-    };
-    if let Some(places) = known.get_mut(&item.first) {
-        return add_row(model, row, places);
-    }
-    let mut places = Listing::new(alloc);
+/// What is told of replicated references, in the order in which it was found.
+#[derive(Drop)]
+struct Told {
+    /// The places of a reference that are told, by the reference's first token.
+    places: IndexMap<usize, Listing>,
+    items: Vec<Item>,
+}
+
+/// The places of a row that are told.
+fn places_of(model: &LintedModel<'_>, row: Row) -> Result<Listing, AllocError> {
+    let mut places = Listing::new(model.source.alloc);
     add_row(model, row, &mut places)?;
-    if !places.is_empty() {
-        known.insert(item.first, places)?;
-        items.push(item)?;
+    Ok(places)
+}
+
+impl Told {
+    fn new(alloc: Global) -> Told {
+        Told {
+            places: IndexMap::new(alloc),
+            items: Vec::new(alloc),
+        }
     }
-    Ok(())
+
+    /// Adds the places of a row of a reference to those that are known.
+    fn add_places(
+        &mut self,
+        model: &LintedModel<'_>,
+        row: Row,
+        item: Item,
+    ) -> Result<(), AllocError> {
+        if let Some(places) = self.places.get_mut(&item.first) {
+            return add_row(model, row, places);
+        }
+        let places = places_of(model, row)?;
+        if places.is_empty() {
+            return Ok(());
+        }
+        self.places.insert(item.first, places)?;
+        Ok(self.items.push(item)?)
+    }
+
+    /// Adds the row that begins at a slot, if one does.
+    fn add_slot(
+        &mut self,
+        model: &LintedModel<'_>,
+        number: u32,
+        size: u32,
+    ) -> Result<(), AllocError> {
+        let Some(row) = row_at(model.wiring, number, size) else {
+            return Ok(());
+        };
+        match model.reference_of(slot_at(row.first))? {
+            Some(item) => self.add_places(model, row, item),
+            None => Ok(()),
+        }
+    }
+
+    /// Adds all rows.
+    fn add_slots(&mut self, model: &LintedModel<'_>, sizes: &[u32]) -> Result<(), AllocError> {
+        for number in 0..model.wiring.slot_count() {
+            let size = sizes.get(number as usize).copied().unwrap_or(1);
+            self.add_slot(model, number, size)?;
+        }
+        Ok(())
+    }
+
+    /// Adds a finding for each reference.
+    fn add_findings(
+        &mut self,
+        source: Source<'_>,
+        findings: &mut Vec<Finding>,
+    ) -> Result<(), AllocError> {
+        for item in self.items.as_slice() {
+            if let Some(places) = self.places.swap_remove(&item.first) {
+                findings.push(unjoined_at(source, *item, places.told()?))?;
+            }
+        }
+        Ok(())
+    }
+}
+
+fn unjoined_at(source: Source<'_>, item: Item, detail: Vec<u8>) -> Finding {
+    let (start, end) = source.head(item);
+    Finding {
+        kind: Kind::UnjoinedIndex,
+        start,
+        end,
+        detail,
+    }
 }
 
 /// Adds a finding for each replicated reference of which some index stays unjoined.
 pub(crate) fn add_unjoined_indexes(
-    alloc: Global,
     model: &LintedModel<'_>,
     findings: &mut Vec<Finding>,
 ) -> Result<(), AllocError> {
-    let sizes = sizes_of(alloc, model.wiring)?;
-    let mut known = IndexMap::new(alloc);
-    let mut items = Vec::new(alloc);
-    for number in 0..model.wiring.slot_count() {
-        let size = sizes.as_slice().get(number as usize).copied().unwrap_or(1);
-        if let Some(row) = row_at(model.wiring, number, size) {
-            add_places(alloc, model, row, &mut known, &mut items)?;
-        }
-    }
-    for item in items.as_slice() {
-        let (start, end) = model.source.head(*item);
-        if let Some(places) = known.swap_remove(&item.first) {
-            findings.push(Finding {
-                kind: Kind::UnjoinedIndex,
-                start,
-                end,
-                detail: places.told()?,
-            })?;
-        }
-    }
-    Ok(())
+    let sizes = sizes_of(model.source.alloc, model.wiring)?;
+    let mut told = Told::new(model.source.alloc);
+    told.add_slots(model, sizes.as_slice())?;
+    told.add_findings(model.source, findings)
 }

@@ -3,9 +3,10 @@ use fault_places::{Item, head_of, parts_of, tokens_of};
 use room_lexer::{Token, TokenKind, Word};
 use std::alloc::{AllocError, Global};
 
-/// The text of a model, and its tokens.
+/// The text of a model and its tokens, and where memory for what is read of them comes from.
 #[derive(Clone, Copy)]
-pub(crate) struct Source<'a> {
+pub struct Source<'a> {
+    pub alloc: Global,
     pub text: &'a [u8],
     pub tokens: &'a [Token],
 }
@@ -32,41 +33,41 @@ fn word_among(tokens: &[Token]) -> Option<Word> {
 
 impl<'a> Source<'a> {
     /// The bytes of a token.
-    pub(crate) fn bytes(&self, token: &Token) -> &'a [u8] {
+    pub fn bytes(&self, token: &Token) -> &'a [u8] {
         self.text.get(token.start..token.end).unwrap_or(&[])
     }
 
     /// The tokens of a part.
-    pub(crate) fn tokens_of(&self, item: Item) -> &'a [Token] {
+    pub fn tokens_of(&self, item: Item) -> &'a [Token] {
         tokens_of(self.tokens, item)
     }
 
     /// The parts inside a part, in order.
-    pub(crate) fn parts(&self, alloc: Global, item: Item) -> Result<Vec<Item>, AllocError> {
-        parts_of(alloc, self.tokens, item)
+    pub fn parts(&self, item: Item) -> Result<Vec<Item>, AllocError> {
+        parts_of(self.alloc, self.tokens, item)
     }
 
     /// The bytes of the head of a part.
-    pub(crate) fn head(&self, item: Item) -> (usize, usize) {
+    pub fn head(&self, item: Item) -> (usize, usize) {
         head_of(self.tokens, item)
     }
 
     /// The declarations of a model.
-    pub(crate) fn declarations(&self, alloc: Global) -> Result<Vec<Item>, AllocError> {
+    pub fn declarations(&self) -> Result<Vec<Item>, AllocError> {
         let whole = Item {
             first: 0,
             end: self.tokens.len(),
         };
-        self.parts(alloc, whole)
+        self.parts(whole)
     }
 
     /// The word that says what a part declares or is.
-    pub(crate) fn word(&self, item: Item) -> Option<Word> {
+    pub fn word(&self, item: Item) -> Option<Word> {
         word_among(self.tokens_of(item))
     }
 
     /// The first name in a part that is no reserved word: that of what it declares.
-    pub(crate) fn name(&self, item: Item) -> Option<&'a [u8]> {
+    pub fn name(&self, item: Item) -> Option<&'a [u8]> {
         let token = self
             .tokens_of(item)
             .iter()

@@ -4,13 +4,14 @@ use std::alloc::{AllocError, Global};
 
 /// Messages by ports: each port has each message once, in the order in which they were added.
 #[derive(Drop)]
-pub(crate) struct ByPort {
+pub struct ByPort {
     ports: IndexSet<Vec<u8>>,
     messages: Vec<IndexSet<Vec<u8>>>,
 }
 
 impl ByPort {
-    pub(crate) fn new(alloc: Global) -> ByPort {
+    /// No messages at all.
+    pub fn new(alloc: Global) -> ByPort {
         ByPort {
             ports: IndexSet::new(alloc),
             messages: Vec::new(alloc),
@@ -29,12 +30,7 @@ impl ByPort {
     }
 
     /// Adds a message of a port; says the port's number, in the order in which they came.
-    pub(crate) fn add(
-        &mut self,
-        alloc: Global,
-        port: &[u8],
-        message: &[u8],
-    ) -> Result<usize, AllocError> {
+    pub fn add(&mut self, alloc: Global, port: &[u8], message: &[u8]) -> Result<usize, AllocError> {
         let number = self.number_of(alloc, port)?;
         if let Some(messages) = self.messages.as_mut_slice().get_mut(number) {
             messages.insert(Vec::from_slice(alloc, message)?)?;
@@ -48,14 +44,15 @@ impl ByPort {
     }
 
     /// The messages of a port, in the order in which they were added.
-    pub(crate) fn at(&self, port: &[u8]) -> &[Vec<u8>] {
+    pub fn at(&self, port: &[u8]) -> &[Vec<u8>] {
         match self.messages_of(port) {
             Some(messages) => messages.as_slice(),
             None => &[],
         }
     }
 
-    pub(crate) fn has(&self, port: &[u8], message: &[u8]) -> bool {
+    /// Whether a port has a message.
+    pub fn has(&self, port: &[u8], message: &[u8]) -> bool {
         match self.messages_of(port) {
             Some(messages) => messages.contains(message),
             None => false,

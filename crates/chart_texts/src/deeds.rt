@@ -3,13 +3,15 @@
 //! The codes of an accepted model are programs (docs/ACTIONS.md), so the first tokens of a statement tell which it is.
 use crate::by_port::ByPort;
 use crate::code::Code;
+use crate::source::Source;
+use fault_places::Item;
 use indexmap::IndexSet;
 use room_lexer::{Mark, Token, TokenKind};
 use std::alloc::{AllocError, Global};
 
 /// Where at a port a message is sent.
 #[derive(Clone, Copy, Drop, PartialEq, Eq, Hash)]
-pub(crate) enum Index {
+pub enum Index {
     /// At all places.
     All,
     /// At the place of this number.
@@ -20,7 +22,7 @@ pub(crate) enum Index {
 
 /// Sends of one class at one port with one index: the bytes of the first of them in the text.
 #[derive(Drop)]
-pub(crate) struct Send {
+pub struct Send {
     pub port: Vec<u8>,
     pub index: Index,
     pub start: usize,
@@ -36,7 +38,7 @@ struct Target {
 
 /// What the actions of a class do.
 #[derive(Drop)]
-pub(crate) struct Deeds {
+pub struct Deeds {
     /// For each port and index at which something is sent, a send.
     targets: IndexSet<Target>,
     sends: Vec<Send>,
@@ -138,7 +140,7 @@ fn first_of(one: Option<(usize, usize)>, other: (usize, usize)) -> (usize, usize
 }
 
 impl Deeds {
-    pub(crate) fn new(alloc: Global) -> Deeds {
+    fn new(alloc: Global) -> Deeds {
         Deeds {
             targets: IndexSet::new(alloc),
             sends: Vec::new(alloc),
@@ -151,25 +153,27 @@ impl Deeds {
     }
 
     /// A send for each port and index at which something is sent: the first in the text.
-    pub(crate) fn sends(&self) -> &[Send] {
+    pub fn sends(&self) -> &[Send] {
         self.sends.as_slice()
     }
 
     /// What is sent, by ports.
-    pub(crate) fn sent(&self) -> &ByPort {
+    pub fn sent(&self) -> &ByPort {
         &self.sent
     }
 
-    pub(crate) fn fills(&self, reference: &[u8]) -> bool {
+    /// Whether a reference is filled.
+    pub fn fills(&self, reference: &[u8]) -> bool {
         self.filled.contains(reference)
     }
 
-    pub(crate) fn registers(&self, port: &[u8]) -> bool {
+    /// Whether a port is registered under a name.
+    pub fn registers(&self, port: &[u8]) -> bool {
         self.registered.contains(port)
     }
 
     /// The first `defer` in the text, where nothing recalls.
-    pub(crate) fn lost_deferral(&self) -> Option<(usize, usize)> {
+    pub fn lost_deferral(&self) -> Option<(usize, usize)> {
         if self.recalls {
             return None;
         }
@@ -233,8 +237,8 @@ impl Deeds {
         }
     }
 
-    /// Adds what is done where a statement begins with these tokens.
-    fn add_statement(
+    /// Adds what a statement does whose first words these are.
+    fn add_words(
         &mut self,
         alloc: Global,
         code: &Code,
@@ -243,12 +247,23 @@ impl Deeds {
         match tokens {
             [word, end, ..] if is_name(word) && is_mark(end, Mark::Semicolon) => {
                 self.add_word(code, word);
+                Ok(())
             }
             [word, name, ..] if is_name(word) && is_name(name) => {
-                self.add_named(alloc, code.bytes(word), code.bytes(name))?;
+                self.add_named(alloc, code.bytes(word), code.bytes(name))
             }
-            _ => (),
+            _ => Ok(()),
         }
+    }
+
+    /// Adds what is done where a statement begins with these tokens.
+    fn add_statement(
+        &mut self,
+        alloc: Global,
+        code: &Code,
+        tokens: &[Token],
+    ) -> Result<(), AllocError> {
+        self.add_words(alloc, code, tokens)?;
         match sent_in(tokens) {
             Some(sent) => self.add_send(alloc, code, sent),
             None => Ok(()),
@@ -256,11 +271,27 @@ impl Deeds {
     }
 
     /// Adds what a code does.
-    pub(crate) fn add_code(&mut self, alloc: Global, code: &Code) -> Result<(), AllocError> {
+    fn add_code(&mut self, alloc: Global, code: &Code) -> Result<(), AllocError> {
         let tokens = code.tokens();
         for at in 0..tokens.len() {
             self.add_statement(alloc, code, tokens.get(at..).unwrap_or(&[]))?;
         }
         Ok(())
+    }
+
+    /// Adds what the codes in parts of the text do.
+    fn add_codes(&mut self, source: Source<'_>, codes: &[Item]) -> Result<(), AllocError> {
+        for item in codes {
+            let code = Code::of(source, *item)?;
+            self.add_code(source.alloc, &code)?;
+        }
+        Ok(())
+    }
+
+    /// What the codes in parts of the text do.
+    pub fn of(source: Source<'_>, codes: &[Item]) -> Result<Deeds, AllocError> {
+        let mut deeds = Deeds::new(source.alloc);
+        deeds.add_codes(source, codes)?;
+        Ok(deeds)
     }
 }

@@ -7,10 +7,19 @@ use std::alloc::{AllocError, Global};
 /// A code: the bytes of its texts, joined by line feeds, where each of them stands in the model's text, and its
 /// tokens.
 #[derive(Drop)]
-pub(crate) struct Code {
+pub struct Code {
     bytes: Vec<u8>,
     places: Vec<usize>,
     tokens: Vec<Token>,
+}
+
+/// The tokens of a text; none where it isn't made of tokens, which no code of an accepted model is.
+fn tokens_in(alloc: Global, text: &[u8]) -> Result<Vec<Token>, AllocError> {
+    match lex(alloc, text) {
+        Ok(tokens) => Ok(tokens),
+        Err(LexFault::Memory) => Err(AllocError),
+        Err(_) => Ok(Vec::new(alloc)),
+    }
 }
 
 impl Code {
@@ -69,36 +78,42 @@ impl Code {
         }
     }
 
-    /// The code of the texts in a part of a model.
-    pub(crate) fn of(alloc: Global, source: Source<'_>, item: Item) -> Result<Code, AllocError> {
-        let mut code = Code {
+    fn new(alloc: Global) -> Code {
+        Code {
             bytes: Vec::new(alloc),
             places: Vec::new(alloc),
             tokens: Vec::new(alloc),
-        };
-        for token in source.tokens_of(item) {
-            code.add_text(source, token)?;
         }
-        match lex(alloc, code.bytes.as_slice()) {
-            Ok(tokens) => code.tokens = tokens,
-            Err(LexFault::Memory) => return Err(AllocError),
-            // an accepted model has no such code
-            Err(_) => (),
+    }
+
+    /// Adds the texts among tokens.
+    fn add_texts(&mut self, source: Source<'_>, tokens: &[Token]) -> Result<(), AllocError> {
+        for token in tokens {
+            self.add_text(source, token)?;
         }
+        Ok(())
+    }
+
+    /// The code of the texts in a part of a model.
+    pub fn of(source: Source<'_>, item: Item) -> Result<Code, AllocError> {
+        let mut code = Code::new(source.alloc);
+        code.add_texts(source, source.tokens_of(item))?;
+        code.tokens = tokens_in(source.alloc, code.bytes.as_slice())?;
         Ok(code)
     }
 
-    pub(crate) fn tokens(&self) -> &[Token] {
+    /// The tokens of the code.
+    pub fn tokens(&self) -> &[Token] {
         self.tokens.as_slice()
     }
 
     /// The text of the code, each text of it behind a line feed.
-    pub(crate) fn text(&self) -> &[u8] {
+    pub fn text(&self) -> &[u8] {
         self.bytes.as_slice()
     }
 
     /// The bytes of a token.
-    pub(crate) fn bytes(&self, token: &Token) -> &[u8] {
+    pub fn bytes(&self, token: &Token) -> &[u8] {
         self.bytes
             .as_slice()
             .get(token.start..token.end)
@@ -106,7 +121,7 @@ impl Code {
     }
 
     /// Where tokens stand in the model's text, from the first of them to the last.
-    pub(crate) fn span(&self, first: &Token, last: &Token) -> (usize, usize) {
+    pub fn span(&self, first: &Token, last: &Token) -> (usize, usize) {
         let places = self.places.as_slice();
         let start = places.get(first.start).copied().unwrap_or(0);
         let end = match places.get(last.end.saturating_sub(1)).copied() {

@@ -1,6 +1,5 @@
 //! Which fault a code or a trigger has that a class refuses, and where in it.
-use crate::chart::event_in;
-use crate::classes::ClassText;
+use crate::chart::{Arrow, Chart, event_in};
 use crate::code::Code;
 use crate::source::Source;
 use action_lang::{ActionFault, ServiceNames, check_action, check_cond, parse_action, parse_cond};
@@ -45,24 +44,24 @@ fn meaning_of(fault: ActionFault, is_condition: bool) -> &'static str {
 /// Asks whether codes are those of a class.
 #[derive(Clone, Copy)]
 struct Judge<'a> {
-    alloc: Global,
+    source: Source<'a>,
     scope: &'a Scope,
     is_condition: bool,
 }
 
 impl<'a> Judge<'a> {
     fn action_fault(&self, text: &[u8]) -> Result<(), ActionFault> {
-        let program = parse_action(self.alloc, text)?;
-        let mut names = ServiceNames::new(self.alloc);
-        match check_action(self.alloc, &program, self.scope, &mut names) {
+        let program = parse_action(self.source.alloc, text)?;
+        let mut names = ServiceNames::new(self.source.alloc);
+        match check_action(self.source.alloc, &program, self.scope, &mut names) {
             Ok(_bound) => Ok(()),
             Err(fault) => Err(fault),
         }
     }
 
     fn condition_fault(&self, text: &[u8]) -> Result<(), ActionFault> {
-        let condition = parse_cond(self.alloc, text)?;
-        match check_cond(self.alloc, &condition, self.scope) {
+        let condition = parse_cond(self.source.alloc, text)?;
+        match check_cond(self.source.alloc, &condition, self.scope) {
             Ok(_bound) => Ok(()),
             Err(fault) => Err(fault),
         }
@@ -168,29 +167,30 @@ fn statement_at<'a>(code: &'a Code, ends: &[usize], number: usize) -> &'a [Token
         .unwrap_or(&[])
 }
 
-/// What is wrong with a code, and at which of its statements.
-fn cause_in(judge: &Judge<'_>, code: &Code) -> Result<Option<Cause>, AllocError> {
-    let Some(whole) = judge.fault(code.text())? else {
-        return Ok(None);
-    };
-    let ends = if judge.is_condition {
-        Vec::new(judge.alloc)
-    } else {
-        ends_of_statements(judge.alloc, code)?
-    };
+/// The first statement up to which a faulty code is so; of a condition the whole.
+fn faulty_statement<'a>(judge: &Judge<'_>, code: &'a Code) -> Result<&'a [Token], AllocError> {
+    if judge.is_condition {
+        return Ok(code.tokens());
+    }
+    let ends = ends_of_statements(judge.source.alloc, code)?;
+    if ends.is_empty() {
+        return Ok(code.tokens());
+    }
     let number = first_faulty(judge, code, ends.as_slice())?;
-    let statement = if ends.is_empty() {
-        code.tokens()
-    } else {
-        statement_at(code, ends.as_slice(), number)
-    };
+    Ok(statement_at(code, ends.as_slice(), number))
+}
+
+/// What is wrong with a code that has a fault, at a statement of it.
+fn cause_at(
+    judge: &Judge<'_>,
+    code: &Code,
+    whole: ActionFault,
+    statement: &[Token],
+) -> Result<Option<Cause>, AllocError> {
     let (Some(first), Some(last)) = (statement.first(), statement.last()) else {
         return Ok(None);
     };
-    let fault = match judge.fault_up_to(code, last.end)? {
-        Some(fault) => fault,
-        None => whole,
-    };
+    let fault = judge.fault_up_to(code, last.end)?.unwrap_or(whole);
     let (start, end) = code.span(first, last);
     Ok(Some(Cause {
         start,
@@ -199,9 +199,17 @@ fn cause_in(judge: &Judge<'_>, code: &Code) -> Result<Option<Cause>, AllocError>
     }))
 }
 
+/// What is wrong with a code, and at which of its statements.
+fn cause_in(judge: &Judge<'_>, code: &Code) -> Result<Option<Cause>, AllocError> {
+    match judge.fault(code.text())? {
+        Some(whole) => cause_at(judge, code, whole, faulty_statement(judge, code)?),
+        None => Ok(None),
+    }
+}
+
 /// The codes of the guards in the triggers of a transition.
-fn guards_in(alloc: Global, source: Source<'_>, triggers: Item) -> Result<Vec<Item>, AllocError> {
-    let mut guards = Vec::new(alloc);
+fn guards_in(source: Source<'_>, triggers: Item) -> Result<Vec<Item>, AllocError> {
+    let mut guards = Vec::new(source.alloc);
     let mut first: Option<usize> = None;
     for (at, token) in source.tokens_of(triggers).iter().enumerate() {
         let place = triggers.first.saturating_add(at);
@@ -220,13 +228,13 @@ fn guards_in(alloc: Global, source: Source<'_>, triggers: Item) -> Result<Vec<It
 }
 
 /// The conditions of a transition: that of a branch, and the guards of triggers.
-fn conditions_of(alloc: Global, source: Source<'_>, arrow: Item) -> Result<Vec<Item>, AllocError> {
-    let mut conditions = Vec::new(alloc);
-    for part in source.parts(alloc, arrow)?.as_slice() {
+fn conditions_of(source: Source<'_>, arrow: Item) -> Result<Vec<Item>, AllocError> {
+    let mut conditions = Vec::new(source.alloc);
+    for part in source.parts(arrow)?.as_slice() {
         match source.word(*part) {
             Some(Word::Cond) => conditions.push(*part)?,
             Some(Word::Triggers) => {
-                conditions.append(&mut guards_in(alloc, source, *part)?)?;
+                conditions.append(&mut guards_in(source, *part)?)?;
             }
             _ => (),
         }
@@ -234,17 +242,17 @@ fn conditions_of(alloc: Global, source: Source<'_>, arrow: Item) -> Result<Vec<I
     Ok(conditions)
 }
 
+/// What is wrong with a code in a part of the text.
+fn cause_in_part(judge: &Judge<'_>, part: Item) -> Result<Option<Cause>, AllocError> {
+    let code = Code::of(judge.source, part)?;
+    cause_in(judge, &code)
+}
+
 /// What is wrong with the first faulty one of some codes that meets a part of the text.
-fn cause_among(
-    source: Source<'_>,
-    judge: &Judge<'_>,
-    codes: &[Item],
-    item: Item,
-) -> Result<Option<Cause>, AllocError> {
+fn cause_among(judge: &Judge<'_>, codes: &[Item], item: Item) -> Result<Option<Cause>, AllocError> {
     for part in codes {
         if meet(*part, item) {
-            let code = Code::of(judge.alloc, source, *part)?;
-            let cause = cause_in(judge, &code)?;
+            let cause = cause_in_part(judge, *part)?;
             if cause.is_some() {
                 return Ok(cause);
             }
@@ -253,38 +261,56 @@ fn cause_among(
     Ok(None)
 }
 
-/// What is wrong with the codes of a class that meet a part of the text, and where.
+/// What is wrong with the conditions of a transition that meet a part of the text.
+fn cause_at_arrow(
+    judge: &Judge<'_>,
+    arrow: Arrow,
+    item: Item,
+) -> Result<Option<Cause>, AllocError> {
+    if !meet(arrow.item, item) {
+        return Ok(None);
+    }
+    let codes = conditions_of(judge.source, arrow.item)?;
+    cause_among(judge, codes.as_slice(), item)
+}
+
+/// What is wrong with the conditions of transitions that meet a part of the text.
+fn condition_cause(
+    judge: &Judge<'_>,
+    arrows: &[Arrow],
+    item: Item,
+) -> Result<Option<Cause>, AllocError> {
+    for arrow in arrows {
+        let cause = cause_at_arrow(judge, *arrow, item)?;
+        if cause.is_some() {
+            return Ok(cause);
+        }
+    }
+    Ok(None)
+}
+
+/// What is wrong with the codes of a chart that meet a part of the text, and where.
 pub(crate) fn code_cause(
-    alloc: Global,
     source: Source<'_>,
-    class: &ClassText<'_>,
+    chart: &Chart,
     scope: &Scope,
     item: Item,
 ) -> Result<Option<Cause>, AllocError> {
     let actions = Judge {
-        alloc,
+        source,
         scope,
         is_condition: false,
     };
-    let cause = cause_among(source, &actions, class.chart.codes(), item)?;
+    let cause = cause_among(&actions, chart.codes(), item)?;
     if cause.is_some() {
         return Ok(cause);
     }
     let conditions = Judge {
-        alloc,
+        source,
         scope,
         is_condition: true,
     };
-    for arrow in class.chart.arrows() {
-        if meet(arrow.item, item) {
-            let codes = conditions_of(alloc, source, arrow.item)?;
-            let cause = cause_among(source, &conditions, codes.as_slice(), item)?;
-            if cause.is_some() {
-                return Ok(cause);
-            }
-        }
-    }
-    Ok(None)
+    condition_cause(&conditions, chart.arrows(), item)
 }
 
 /// What is wrong with an event of a trigger, if something is.
@@ -308,19 +334,24 @@ fn fault_of_event(scope: &Scope, message: &[u8], port: &[u8]) -> Option<&'static
     Some("the port's protocol has no such message")
 }
 
+/// What is wrong with the event that begins with tokens, if one does, and where.
+fn event_cause(source: Source<'_>, scope: &Scope, tokens: &[Token]) -> Option<Cause> {
+    let (message, port) = event_in(tokens)?;
+    let what = fault_of_event(scope, source.bytes(message), source.bytes(port))?;
+    Some(Cause {
+        start: message.start,
+        end: port.end,
+        what,
+    })
+}
+
 /// What is wrong with the triggers of a class that meet a part of the text, and where.
 pub(crate) fn trigger_cause(source: Source<'_>, scope: &Scope, item: Item) -> Option<Cause> {
     let tokens = source.tokens_of(item);
     for at in 0..tokens.len() {
-        if let Some((message, port)) = event_in(tokens.get(at..).unwrap_or(&[])) {
-            let what = fault_of_event(scope, source.bytes(message), source.bytes(port));
-            if let Some(what) = what {
-                return Some(Cause {
-                    start: message.start,
-                    end: port.end,
-                    what,
-                });
-            }
+        let cause = event_cause(source, scope, tokens.get(at..).unwrap_or(&[]));
+        if cause.is_some() {
+            return cause;
         }
     }
     None

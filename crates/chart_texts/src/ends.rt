@@ -1,0 +1,39 @@
+//! Where transitions begin and lead to.
+use crate::chart::Arrow;
+use crate::source::Source;
+use room_lexer::{Mark, Token, TokenKind, Word};
+
+/// The tokens between `:` and `->`, and those between `->` and the body, of a transition.
+#[derive(Clone, Copy)]
+pub(crate) struct Ends<'a> {
+    pub source: &'a [Token],
+    pub target: &'a [Token],
+}
+
+fn position_of(tokens: &[Token], mark: Mark) -> Option<usize> {
+    tokens
+        .iter()
+        .position(|token| token.kind == TokenKind::Mark(mark))
+}
+
+/// The tokens in front of the body of a part.
+fn before_body(tokens: &[Token]) -> &[Token] {
+    match position_of(tokens, Mark::OpenBrace) {
+        Some(brace) => tokens.get(..brace).unwrap_or(tokens),
+        None => tokens,
+    }
+}
+
+pub(crate) fn ends_of<'a>(source: Source<'a>, arrow: Arrow) -> Option<Ends<'a>> {
+    let head = before_body(source.tokens_of(arrow.item));
+    let colon = position_of(head, Mark::Colon)?;
+    let mark = position_of(head, Mark::Arrow)?;
+    Some(Ends {
+        source: head.get(colon.saturating_add(1)..mark)?,
+        target: head.get(mark.saturating_add(1)..)?,
+    })
+}
+
+pub(crate) fn is_word(token: &Token, word: Word) -> bool {
+    token.kind == TokenKind::Ident(Some(word))
+}
