@@ -93,7 +93,8 @@ fn is_unjoined(wiring: &Wiring, slot: SlotId, port: u16, place: u32) -> bool {
 }
 
 impl Actors {
-    fn new(alloc: Global) -> Actors {
+    /// Those of a picture without blocks.
+    pub fn new(alloc: Global) -> Actors {
         Actors {
             shown_as: Vec::new(alloc),
             blocks: Vec::new(alloc),
@@ -131,6 +132,23 @@ impl Actors {
         Ok(())
     }
 
+    /// Keeps the block of a reference of a block.
+    fn keep_reference(&mut self, block: usize, reference: usize, number: usize) {
+        let first = number_at(&self.first_references, block);
+        set_number(
+            &mut self.references,
+            first.saturating_add(reference),
+            number,
+        );
+    }
+
+    /// Keeps as which slot the next one is shown, and in which block.
+    fn keep_slot(&mut self, twin: usize, block: usize) -> Result<(), AllocError> {
+        self.shown_as.push(twin)?;
+        self.blocks.push(block)?;
+        Ok(self.last_parts.push(0)?)
+    }
+
     /// The slot as which another one is shown: one whose slots up to the top have the index 0. Containers that differ
     /// in indexes alone have the same slots, in the same order.
     fn twin_of(&mut self, number: usize, slot: &Slot) -> usize {
@@ -150,6 +168,17 @@ impl Actors {
             set_number(&mut self.last_parts, parent, number);
         }
         number_at(&self.last_parts, parent)
+    }
+
+    /// Whether a slot stands in a slot that has a block of its own.
+    fn is_copy(&self, slot: &Slot) -> bool {
+        match slot.parent {
+            Some(parent) => {
+                let parent = usize::from(parent.0);
+                number_at(&self.shown_as, parent) == parent
+            }
+            None => true,
+        }
     }
 
     /// The block in which the block of a slot stands.
@@ -176,6 +205,27 @@ fn title_of(
     Ok(title)
 }
 
+/// The point of a port of a slot.
+fn point_of(
+    alloc: Global,
+    wiring: &Wiring,
+    id: SlotId,
+    slot: &Slot,
+    number: usize,
+    port: &PortNames,
+) -> Result<Point, AllocError> {
+    let places = place_count(wiring, id, number);
+    // an imported slot has the places of the interface alone
+    let is_away = slot.kind == ReferenceKind::Imported && places == 0;
+    let name = name_of(alloc, port.name.as_bytes())?;
+    Ok(Point {
+        mark: if is_away { Mark::Hidden } else { mark_of(port) },
+        name,
+        places,
+        unjoined: 0,
+    })
+}
+
 /// Adds the points of a block, one for each port of its class.
 fn add_points(
     diagram: &mut Diagram,
@@ -188,18 +238,33 @@ fn add_points(
         return Ok(());
     };
     for (number, port) in class.ports.as_slice().iter().enumerate() {
-        let places = place_count(wiring, id, number);
-        // an imported slot has the places of the interface alone
-        let is_away = slot.kind == ReferenceKind::Imported && places == 0;
-        let point = Point {
-            mark: if is_away { Mark::Hidden } else { mark_of(port) },
-            name: name_of(diagram.alloc, port.name.as_bytes())?,
-            places,
-            unjoined: 0,
-        };
+        let point = point_of(diagram.alloc, wiring, id, slot, number, port)?;
         let _number = diagram.add_point(block, point)?;
     }
     Ok(())
+}
+
+/// The block of a slot, which stands in this one.
+fn block_of(
+    alloc: Global,
+    wiring: &Wiring,
+    id: SlotId,
+    slot: &Slot,
+    container: usize,
+) -> Result<Block, AllocError> {
+    let title = title_of(alloc, wiring, id, slot)?;
+    let mut block = Block::new(alloc, shape_of(slot.kind), Some(container), title);
+    block.colour = Some(slot.owner.0);
+    block.copies = 0;
+    Ok(block)
+}
+
+/// How many references the class of a slot has.
+fn reference_count(wiring: &Wiring, id: SlotId) -> usize {
+    match wiring.class_of(id) {
+        Some(class) => class.references.len(),
+        None => 0,
+    }
 }
 
 /// Adds the block of a slot, and gives its number.
@@ -211,44 +276,41 @@ fn add_actor(
     slot: &Slot,
 ) -> Result<usize, AllocError> {
     let container = actors.container_of(slot);
-    let mut block = Block::new(diagram.alloc, shape_of(slot.kind), Some(container));
-    block.title = title_of(diagram.alloc, wiring, id, slot)?;
-    block.colour = Some(slot.owner.0);
-    block.copies = 0;
+    let block = block_of(diagram.alloc, wiring, id, slot, container)?;
     let number = diagram.add_block(block)?;
-    let references = match wiring.class_of(id) {
-        Some(class) => class.references.len(),
-        None => 0,
-    };
-    actors.add_block(Some(slot.class), references)?;
-    let first = number_at(&actors.first_references, container);
-    let place = first.saturating_add(usize::from(slot.reference));
-    set_number(&mut actors.references, place, number);
+    actors.add_block(Some(slot.class), reference_count(wiring, id))?;
+    actors.keep_reference(container, usize::from(slot.reference), number);
     add_points(diagram, wiring, id, slot, number)?;
     Ok(number)
 }
 
-/// Counts the places of a slot that are joined to nothing at the points of its block.
-fn count_unjoined(diagram: &mut Diagram, wiring: &Wiring, id: SlotId, block: usize) {
-    let (first, count) = match diagram.blocks.as_slice().get(block) {
+/// The place of the first point of a block, and how many points it has.
+fn points_at(diagram: &Diagram, block: usize) -> (usize, usize) {
+    match diagram.blocks.as_slice().get(block) {
         Some(block) => (block.first_point, block.point_count),
         None => (0, 0),
-    };
+    }
+}
+
+/// Counts the places of a port of a slot that are joined to nothing at the point of the port.
+fn count_at(point: &mut Point, wiring: &Wiring, id: SlotId, port: usize) {
+    let is_end = !matches!(
+        point.mark,
+        Mark::Hidden | Mark::Relay | Mark::ConjugatedRelay
+    );
+    if is_end && let Ok(port) = u16::try_from(port) {
+        let unjoined = unjoined_at(wiring, id, port);
+        point.unjoined = point.unjoined.saturating_add(unjoined);
+    }
+}
+
+/// Counts the places of a slot that are joined to nothing at the points of its block.
+fn count_unjoined(diagram: &mut Diagram, wiring: &Wiring, id: SlotId, block: usize) {
+    let (first, count) = points_at(diagram, block);
     for number in 0..count {
-        let Some(point) = diagram
-            .points
-            .as_mut_slice()
-            .get_mut(first.saturating_add(number))
-        else {
-            continue;
-        };
-        let is_end = !matches!(
-            point.mark,
-            Mark::Hidden | Mark::Relay | Mark::ConjugatedRelay
-        );
-        if is_end && let Ok(number) = u16::try_from(number) {
-            let unjoined = unjoined_at(wiring, id, number);
-            point.unjoined = point.unjoined.saturating_add(unjoined);
+        let points = diagram.points.as_mut_slice();
+        if let Some(point) = points.get_mut(first.saturating_add(number)) {
+            count_at(point, wiring, id, number);
         }
     }
 }
@@ -262,14 +324,9 @@ fn count_slot(
     slot: &Slot,
     block: usize,
 ) {
-    let is_copy = match slot.parent {
-        Some(parent) => {
-            let parent = usize::from(parent.0);
-            number_at(&actors.shown_as, parent) == parent
-        }
-        None => true,
-    };
-    if is_copy && let Some(block) = diagram.blocks.as_mut_slice().get_mut(block) {
+    if actors.is_copy(slot)
+        && let Some(block) = diagram.blocks.as_mut_slice().get_mut(block)
+    {
         block.copies = block.copies.saturating_add(1);
     }
     if let Some(owners) = actors.owners.as_mut_slice().get_mut(block) {
@@ -293,9 +350,7 @@ fn add_slot(
     } else {
         number_at(&actors.blocks, twin)
     };
-    actors.shown_as.push(twin)?;
-    actors.blocks.push(block)?;
-    actors.last_parts.push(0)?;
+    actors.keep_slot(twin, block)?;
     count_slot(diagram, actors, wiring, id, slot, block);
     Ok(())
 }
@@ -311,18 +366,49 @@ fn others_of(
     for number in 0..wiring.controller_count() {
         let owns = owners & bit_of(ControllerId(number)) != 0;
         if owns && colour != Some(number) {
-            others.extend_from_slice(if others.is_empty() {
-                b"also on "
-            } else {
-                b", "
-            })?;
-            add_name(
-                &mut others,
-                naming::controller_name(wiring, usize::from(number)),
-            )?;
+            add_other(&mut others, wiring, number)?;
         }
     }
     Ok(others)
+}
+
+fn add_other(others: &mut Vec<u8>, wiring: &Wiring, number: u8) -> Result<(), AllocError> {
+    others.extend_from_slice(if others.is_empty() {
+        b"also on "
+    } else {
+        b", "
+    })?;
+    let name = naming::controller_name(wiring, usize::from(number));
+    add_name(others, name)
+}
+
+/// Says behind the title of a block how many it stands for, where these are several.
+fn add_copies(block: &mut Block) -> Result<(), AllocError> {
+    if block.copies > 1 {
+        let mut number = itoa::Buffer::new();
+        let text = number.format(block.copies).as_bytes();
+        block.title.extend_from_slice(b" x ")?;
+        block.title.extend_from_slice(text)?;
+    }
+    Ok(())
+}
+
+/// What a block is beside an actor.
+fn kind_of(shape: Shape) -> &'static [u8] {
+    match shape {
+        Shape::OptionalActor => b"optional",
+        Shape::ImportedActor => b"imported",
+        Shape::Frame | Shape::Actor | Shape::State | Shape::Choice | Shape::Start => b"",
+    }
+}
+
+/// Adds a line below the title of a block, if there is something to say.
+fn add_note(alloc: Global, block: &mut Block, text: Vec<u8>) -> Result<(), AllocError> {
+    if text.is_empty() {
+        return Ok(());
+    }
+    let note = Label::of(alloc, text)?;
+    Ok(block.notes.push(note)?)
 }
 
 /// Says of a block what it is beside an actor of its class.
@@ -332,38 +418,64 @@ fn add_notes(
     block: &mut Block,
     owners: u64,
 ) -> Result<(), AllocError> {
-    if block.copies > 1 {
-        let mut number = itoa::Buffer::new();
-        block.title.extend_from_slice(b" x ")?;
-        block
-            .title
-            .extend_from_slice(number.format(block.copies).as_bytes())?;
-    }
-    let kind: &[u8] = match block.shape {
-        Shape::OptionalActor => b"optional",
-        Shape::ImportedActor => b"imported",
-        Shape::Frame | Shape::Actor | Shape::State | Shape::Choice | Shape::Start => b"",
-    };
-    if !kind.is_empty() {
-        let kind = Vec::from_slice(alloc, kind)?;
-        block.notes.push(Label::of(alloc, kind)?)?;
-    }
+    add_copies(block)?;
+    let kind = Vec::from_slice(alloc, kind_of(block.shape))?;
+    add_note(alloc, block, kind)?;
     let others = others_of(alloc, wiring, block.colour, owners)?;
-    if !others.is_empty() {
-        block.notes.push(Label::of(alloc, others)?)?;
+    add_note(alloc, block, others)
+}
+
+fn add_all_notes(
+    diagram: &mut Diagram,
+    actors: &Actors,
+    wiring: &Wiring,
+) -> Result<(), AllocError> {
+    let alloc = diagram.alloc;
+    let owners = actors.owners.as_slice();
+    for (block, owners) in diagram.blocks.as_mut_slice().iter_mut().zip(owners) {
+        add_notes(alloc, wiring, block, *owners)?;
     }
     Ok(())
+}
+
+/// A line of the legend for a controller.
+fn add_controller(diagram: &mut Diagram, wiring: &Wiring, number: u8) -> Result<(), AllocError> {
+    let mut text = Vec::from_slice(diagram.alloc, b"controller ")?;
+    let name = naming::controller_name(wiring, usize::from(number));
+    add_name(&mut text, name)?;
+    diagram.add_key(Sign::Colour(number), text.as_slice())
 }
 
 /// A line of the legend for each controller.
 fn add_controllers(diagram: &mut Diagram, wiring: &Wiring) -> Result<(), AllocError> {
     for number in 0..wiring.controller_count() {
-        let mut text = Vec::from_slice(diagram.alloc, b"controller ")?;
-        add_name(
-            &mut text,
-            naming::controller_name(wiring, usize::from(number)),
-        )?;
-        diagram.add_key(Sign::Colour(number), text.as_slice())?;
+        add_controller(diagram, wiring, number)?;
+    }
+    Ok(())
+}
+
+/// Adds the block of the subsystem, which has this title and so many references.
+fn add_frame(
+    diagram: &mut Diagram,
+    actors: &mut Actors,
+    title: Vec<u8>,
+    tops: usize,
+) -> Result<(), AllocError> {
+    let frame = Block::new(diagram.alloc, Shape::Frame, None, title);
+    let _frame = diagram.add_block(frame)?;
+    actors.add_block(None, tops)
+}
+
+fn add_slots(
+    diagram: &mut Diagram,
+    actors: &mut Actors,
+    wiring: &Wiring,
+) -> Result<(), AllocError> {
+    for number in 0..wiring.slot_count() {
+        let id = SlotId(number as u16);
+        if let Some(slot) = wiring.get_slot(id) {
+            add_slot(diagram, actors, wiring, id, slot)?;
+        }
     }
     Ok(())
 }
@@ -372,30 +484,13 @@ fn add_controllers(diagram: &mut Diagram, wiring: &Wiring) -> Result<(), AllocEr
 /// references.
 pub fn add_actors(
     diagram: &mut Diagram,
+    actors: &mut Actors,
     wiring: &Wiring,
     title: Vec<u8>,
     tops: usize,
-) -> Result<Actors, AllocError> {
-    let alloc = diagram.alloc;
-    let mut actors = Actors::new(alloc);
-    let mut frame = Block::new(alloc, Shape::Frame, None);
-    frame.title = title;
-    let _frame = diagram.add_block(frame)?;
-    actors.add_block(None, tops)?;
-    for number in 0..wiring.slot_count() {
-        let id = SlotId(number as u16);
-        if let Some(slot) = wiring.get_slot(id) {
-            add_slot(diagram, &mut actors, wiring, id, slot)?;
-        }
-    }
-    for (block, owners) in diagram
-        .blocks
-        .as_mut_slice()
-        .iter_mut()
-        .zip(actors.owners.as_slice())
-    {
-        add_notes(alloc, wiring, block, *owners)?;
-    }
-    add_controllers(diagram, wiring)?;
-    Ok(actors)
+) -> Result<(), AllocError> {
+    add_frame(diagram, actors, title, tops)?;
+    add_slots(diagram, actors, wiring)?;
+    add_all_notes(diagram, actors, wiring)?;
+    add_controllers(diagram, wiring)
 }

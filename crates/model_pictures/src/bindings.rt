@@ -19,6 +19,37 @@ struct Numbers<'a> {
     references: IndexMap<&'a [u8], usize>,
 }
 
+impl<'a> Numbers<'a> {
+    fn none(alloc: Global) -> Numbers<'a> {
+        Numbers {
+            ports: IndexMap::new(alloc),
+            references: IndexMap::new(alloc),
+        }
+    }
+
+    /// Adds the ports and references of a class.
+    fn add_class(&mut self, class: &'a ClassNames) -> Result<(), AllocError> {
+        for (number, port) in class.ports.as_slice().iter().enumerate() {
+            self.ports.insert(port.name.as_bytes(), number)?;
+        }
+        for (number, reference) in class.references.as_slice().iter().enumerate() {
+            self.references.insert(reference.name.as_bytes(), number)?;
+        }
+        Ok(())
+    }
+
+    /// Adds the references of a subsystem.
+    fn add_tops(&mut self, items: &'a [SubsystemItem]) -> Result<(), AllocError> {
+        for item in items {
+            if let SubsystemItem::Reference(reference) = item {
+                let number = self.references.len();
+                self.references.insert(reference.name.as_bytes(), number)?;
+            }
+        }
+        Ok(())
+    }
+}
+
 /// The parts of a model whose bindings are shown.
 #[derive(Drop)]
 pub struct Containers<'a> {
@@ -82,20 +113,26 @@ pub fn containers_of(alloc: Global, model: &Model) -> Result<Containers<'_>, All
         subsystem_name,
     };
     for class in model.classes.as_slice() {
-        match class {
-            Class::Actor(actor) => containers.actors.push(actor)?,
-            Class::Subsystem(subsystem) => {
-                if subsystem.name.is(subsystem_class) {
-                    containers.subsystem = Some(subsystem);
-                }
-            }
-            Class::System(_) | Class::Protocol(_) | Class::Data(_) => {}
-        }
+        containers.add(class, subsystem_class)?;
     }
     Ok(containers)
 }
 
 impl<'a> Containers<'a> {
+    /// Adds an actor class, or the subsystem if its class has this name.
+    fn add(&mut self, class: &'a Class, subsystem_class: &[u8]) -> Result<(), AllocError> {
+        match class {
+            Class::Actor(actor) => Ok(self.actors.push(actor)?),
+            Class::Subsystem(subsystem) => {
+                if subsystem.name.is(subsystem_class) {
+                    self.subsystem = Some(subsystem);
+                }
+                Ok(())
+            }
+            Class::System(_) | Class::Protocol(_) | Class::Data(_) => Ok(()),
+        }
+    }
+
     /// The title of the subsystem.
     pub fn title(&self, alloc: Global) -> Result<Vec<u8>, AllocError> {
         let mut title = name_of(alloc, self.subsystem_name)?;
@@ -121,19 +158,11 @@ impl<'a> Containers<'a> {
 
     /// The numbers of the references of the subsystem.
     fn top_numbers(&self, alloc: Global) -> Result<Numbers<'a>, AllocError> {
-        let mut references = IndexMap::new(alloc);
+        let mut numbers = Numbers::none(alloc);
         if let Some(subsystem) = self.subsystem {
-            for item in subsystem.items.as_slice() {
-                if let SubsystemItem::Reference(reference) = item {
-                    let number = references.len();
-                    references.insert(reference.name.as_bytes(), number)?;
-                }
-            }
+            numbers.add_tops(subsystem.items.as_slice())?;
         }
-        Ok(Numbers {
-            ports: IndexMap::new(alloc),
-            references,
-        })
+        Ok(numbers)
     }
 
     /// The bindings and layer connections of the subsystem.
@@ -149,6 +178,15 @@ impl<'a> Containers<'a> {
             }
         }
         Ok(joints)
+    }
+
+    /// All bindings and layer connections.
+    fn joints(&self, alloc: Global) -> Result<Joints<'a>, AllocError> {
+        let of_top = self.top_joints(alloc)?;
+        Ok(Joints {
+            of_top,
+            of_classes: self.all_joints(alloc)?,
+        })
     }
 
     /// The bindings and layer connections of each actor class.
@@ -178,18 +216,8 @@ fn joints_of<'a>(alloc: Global, actor: &'a ActorClass) -> Result<Vec<Joint<'a>>,
 
 /// The numbers of the ports and references of a class.
 fn numbers_of(alloc: Global, class: &ClassNames) -> Result<Numbers<'_>, AllocError> {
-    let mut numbers = Numbers {
-        ports: IndexMap::new(alloc),
-        references: IndexMap::new(alloc),
-    };
-    for (number, port) in class.ports.as_slice().iter().enumerate() {
-        numbers.ports.insert(port.name.as_bytes(), number)?;
-    }
-    for (number, reference) in class.references.as_slice().iter().enumerate() {
-        numbers
-            .references
-            .insert(reference.name.as_bytes(), number)?;
-    }
+    let mut numbers = Numbers::none(alloc);
+    numbers.add_class(class)?;
     Ok(numbers)
 }
 
@@ -277,23 +305,27 @@ fn add_side(text: &mut Vec<u8>, side: &Side) -> Result<(), AllocError> {
     Ok(())
 }
 
+fn add_binding(text: &mut Vec<u8>, binding: &Binding) -> Result<(), AllocError> {
+    add_side(text, &binding.left)?;
+    text.extend_from_slice(b" and ")?;
+    add_side(text, &binding.right)
+}
+
+fn add_layer(text: &mut Vec<u8>, layer: &LayerConnection) -> Result<(), AllocError> {
+    text.extend_from_slice(b"ref ")?;
+    add_name(text, layer.reference.as_bytes())?;
+    text.extend_from_slice(b" satisfied_by ")?;
+    add_name(text, layer.provider.as_bytes())?;
+    text.push(b'.')?;
+    add_name(text, layer.service.as_bytes())
+}
+
 /// A binding or a layer connection as it is written.
 fn written(alloc: Global, joint: Joint<'_>) -> Result<Vec<u8>, AllocError> {
     let mut text = Vec::new(alloc);
     match joint {
-        Joint::Binding(binding) => {
-            add_side(&mut text, &binding.left)?;
-            text.extend_from_slice(b" and ")?;
-            add_side(&mut text, &binding.right)?;
-        }
-        Joint::Layer(layer) => {
-            text.extend_from_slice(b"ref ")?;
-            add_name(&mut text, layer.reference.as_bytes())?;
-            text.extend_from_slice(b" satisfied_by ")?;
-            add_name(&mut text, layer.provider.as_bytes())?;
-            text.push(b'.')?;
-            add_name(&mut text, layer.service.as_bytes())?;
-        }
+        Joint::Binding(binding) => add_binding(&mut text, binding)?,
+        Joint::Layer(layer) => add_layer(&mut text, layer)?,
     }
     Ok(text)
 }
@@ -312,6 +344,21 @@ fn protocol_of<'a>(
     Some(port.protocol_name.as_ref()?.as_bytes())
 }
 
+/// The label of a binding or a layer connection that leads to an end: its protocol, and as a whole also its text.
+fn label_of(
+    diagram: &Diagram,
+    finder: Finder<'_, '_, '_>,
+    wiring: &Wiring,
+    joint: Joint<'_>,
+    to: End,
+) -> Result<Label, AllocError> {
+    let protocol = protocol_of(diagram, finder.actors, wiring, to).unwrap_or(b"");
+    let alloc = diagram.alloc;
+    let text = written(alloc, joint)?;
+    let shown = name_of(alloc, protocol)?;
+    Label::named(alloc, text.as_slice(), shown.as_slice())
+}
+
 /// Adds the link of a binding or a layer connection in a container.
 fn add_link(
     diagram: &mut Diagram,
@@ -323,19 +370,15 @@ fn add_link(
     let Some((from, to)) = finder.ends(diagram, inside, joint) else {
         return Ok(());
     };
-    let protocol = protocol_of(diagram, finder.actors, wiring, to).unwrap_or(b"");
-    let alloc = diagram.alloc;
-    let text = written(alloc, joint)?;
-    let shown = name_of(alloc, protocol)?;
-    let label = Label::named(alloc, text.as_slice(), shown.as_slice())?;
-    diagram.links.push(Link {
+    let label = label_of(diagram, finder, wiring, joint, to)?;
+    let link = Link {
         inside,
         from,
         to,
         label,
         is_dashed: matches!(joint, Joint::Layer(_)),
-    })?;
-    Ok(())
+    };
+    Ok(diagram.links.push(link)?)
 }
 
 /// Adds the links of a container; of layer connections at most so many. Gives how many more there may be.
@@ -360,6 +403,46 @@ fn add_joints(
     Ok(layers)
 }
 
+/// Adds the links of all containers; gives how many more layer connections there may be.
+fn add_all_joints(
+    diagram: &mut Diagram,
+    finder: Finder<'_, '_, '_>,
+    wiring: &Wiring,
+    joints: &Joints<'_>,
+) -> Result<usize, AllocError> {
+    let mut layers = MOST_LAYERS;
+    for block in 0..diagram.blocks.len() {
+        if let Some(here) = joints.of(finder.actors.class_of(block)) {
+            layers = add_joints(diagram, finder, wiring, block, here, layers)?;
+        }
+    }
+    Ok(layers)
+}
+
+/// Adds a line to the legend if layer connections are drawn. So many more of them could be.
+fn add_layer_key(diagram: &mut Diagram, layers: usize) -> Result<(), AllocError> {
+    if layers == MOST_LAYERS {
+        return Ok(());
+    }
+    let text: &[u8] = if layers == 0 {
+        b"layer connection, of which no more than 65536 are drawn"
+    } else {
+        b"layer connection"
+    };
+    diagram.add_key(Sign::Dashes, text)
+}
+
+fn add_links(
+    diagram: &mut Diagram,
+    finder: Finder<'_, '_, '_>,
+    wiring: &Wiring,
+    containers: &Containers<'_>,
+) -> Result<(), AllocError> {
+    let joints = containers.joints(diagram.alloc)?;
+    let layers = add_all_joints(diagram, finder, wiring, &joints)?;
+    add_layer_key(diagram, layers)
+}
+
 /// Adds the bindings and layer connections of each container to a picture that has the blocks of a wiring.
 pub fn add_bindings<'a>(
     diagram: &mut Diagram,
@@ -367,31 +450,12 @@ pub fn add_bindings<'a>(
     wiring: &'a Wiring,
     containers: &Containers<'a>,
 ) -> Result<(), AllocError> {
-    let alloc = diagram.alloc;
-    let classes = all_numbers(alloc, wiring)?;
-    let top = containers.top_numbers(alloc)?;
+    let classes = all_numbers(diagram.alloc, wiring)?;
+    let top = containers.top_numbers(diagram.alloc)?;
     let finder = Finder {
         actors,
         classes: classes.as_slice(),
         top: &top,
     };
-    let joints = Joints {
-        of_top: containers.top_joints(alloc)?,
-        of_classes: containers.all_joints(alloc)?,
-    };
-    let mut layers = MOST_LAYERS;
-    for block in 0..diagram.blocks.len() {
-        if let Some(here) = joints.of(actors.class_of(block)) {
-            layers = add_joints(diagram, finder, wiring, block, here, layers)?;
-        }
-    }
-    if layers < MOST_LAYERS {
-        let text: &[u8] = if layers == 0 {
-            b"layer connection, of which no more than 65536 are drawn"
-        } else {
-            b"layer connection"
-        };
-        diagram.add_key(Sign::Dashes, text)?;
-    }
-    Ok(())
+    add_links(diagram, finder, wiring, containers)
 }

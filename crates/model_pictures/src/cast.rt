@@ -72,14 +72,8 @@ impl Cast {
     fn seats(&self, alloc: Global, wiring: &Wiring) -> Result<Vec<Seat>, AllocError> {
         let mut seats = Vec::new(alloc);
         for (number, takes_part) in self.slots.as_slice().iter().enumerate() {
-            if *takes_part
-                && let Ok(slot) = u16::try_from(number)
-                && let Some(known) = wiring.get_slot(SlotId(slot))
-            {
-                seats.push(Seat {
-                    owner: known.owner.0,
-                    slot,
-                })?;
+            if *takes_part && let Some(seat) = seat_of(wiring, number) {
+                seats.push(seat)?;
             }
         }
         seats.sort()?;
@@ -94,23 +88,15 @@ impl Cast {
         wiring: &Wiring,
     ) -> Result<Columns, AllocError> {
         let alloc = sequence.alloc;
-        let mut columns = Columns {
-            slots: vec![in alloc; None; self.slots.len()]?,
-        };
+        let seats = self.seats(alloc, wiring)?;
         if self.has_environment || self.count == 0 {
             add_group(sequence, b"", b"", None)?;
             add_lifeline(sequence, b"environment")?;
         }
-        let mut owner = None;
-        for seat in self.seats(alloc, wiring)?.as_slice() {
-            if owner != Some(seat.owner) {
-                let name = naming::controller_name(wiring, usize::from(seat.owner));
-                add_group(sequence, b"controller ", name, Some(seat.owner))?;
-                owner = Some(seat.owner);
-            }
-            columns.sit(seat.slot, sequence.lifelines.len());
-            add_lifeline(sequence, naming::path(wiring, SlotId(seat.slot)))?;
-        }
+        let mut columns = Columns {
+            slots: vec![in alloc; None; self.slots.len()]?,
+        };
+        columns.sit_all(sequence, wiring, seats.as_slice())?;
         Ok(columns)
     }
 }
@@ -120,6 +106,25 @@ impl Columns {
         if let Some(place) = self.slots.as_mut_slice().get_mut(usize::from(slot)) {
             *place = Some(lifeline);
         }
+    }
+
+    /// Gives the slots their lifelines, those of a controller in a group.
+    fn sit_all(
+        &mut self,
+        sequence: &mut Sequence,
+        wiring: &Wiring,
+        seats: &[Seat],
+    ) -> Result<(), AllocError> {
+        let mut owner = None;
+        for seat in seats {
+            if owner != Some(seat.owner) {
+                add_controller(sequence, wiring, seat.owner)?;
+                owner = Some(seat.owner);
+            }
+            self.sit(seat.slot, sequence.lifelines.len());
+            add_lifeline(sequence, naming::path(wiring, SlotId(seat.slot)))?;
+        }
+        Ok(())
     }
 
     /// The lifeline of a slot, if it takes part.
@@ -139,6 +144,18 @@ impl Columns {
     }
 }
 
+/// Where the lifeline of the slot of this number stands.
+fn seat_of(wiring: &Wiring, number: usize) -> Option<Seat> {
+    let Ok(slot) = u16::try_from(number) else {
+        return None;
+    };
+    let known = wiring.get_slot(SlotId(slot))?;
+    Some(Seat {
+        owner: known.owner.0,
+        slot,
+    })
+}
+
 /// Adds a group, which has no lifelines yet.
 fn add_group(
     sequence: &mut Sequence,
@@ -149,6 +166,16 @@ fn add_group(
     let mut title = Vec::from_slice(sequence.alloc, kind)?;
     title.extend_from_slice(tail_of(name))?;
     Ok(sequence.groups.push(Group { title, colour })?)
+}
+
+/// Adds the group of a controller.
+fn add_controller(
+    sequence: &mut Sequence,
+    wiring: &Wiring,
+    controller: u8,
+) -> Result<(), AllocError> {
+    let name = naming::controller_name(wiring, usize::from(controller));
+    add_group(sequence, b"controller ", name, Some(controller))
 }
 
 /// Adds a lifeline to the group that was added last.

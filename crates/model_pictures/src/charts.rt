@@ -71,6 +71,22 @@ fn add_actions(alloc: Global, block: &mut Block, body: &StateBody) -> Result<(),
     add_action(alloc, block, b"exit / ", &body.exit)
 }
 
+/// The block of a state, which stands in this one.
+fn state_block(alloc: Global, inside: usize, state: &State) -> Result<Block, AllocError> {
+    let title = name_of(alloc, state.name.as_bytes())?;
+    let mut block = Block::new(alloc, Shape::State, Some(inside), title);
+    if let Some(body) = &state.body {
+        add_actions(alloc, &mut block, body)?;
+    }
+    Ok(block)
+}
+
+/// The block that holds the chart of a class.
+fn frame_of(alloc: Global, class: &[u8]) -> Result<Block, AllocError> {
+    let title = name_of(alloc, class)?;
+    Ok(Block::new(alloc, Shape::Frame, None, title))
+}
+
 fn is_initial(item: &GraphItem) -> bool {
     match item {
         GraphItem::Transition(transition) => matches!(transition.source, Source::Initial),
@@ -121,7 +137,8 @@ impl<'a> Sketch<'a> {
     /// Adds the place where the graph of a block begins, if it is ever entered anew.
     fn add_start(&mut self, block: usize, items: &'a [GraphItem]) -> Result<(), AllocError> {
         if items.iter().any(is_initial) {
-            let start = Block::new(self.alloc(), Shape::Start, Some(block));
+            let alloc = self.alloc();
+            let start = Block::new(alloc, Shape::Start, Some(block), Vec::new(alloc));
             let number = self.add_block(start, false)?;
             if let Some(place) = self.starts.as_mut_slice().get_mut(block) {
                 *place = Some(number);
@@ -132,35 +149,50 @@ impl<'a> Sketch<'a> {
 
     fn add_choice(&mut self, inside: usize, choice: &'a ChoicePoint) -> Result<(), AllocError> {
         let name = choice.name.as_bytes();
-        let mut block = Block::new(self.alloc(), Shape::Choice, Some(inside));
-        block.title = name_of(self.alloc(), name)?;
+        let alloc = self.alloc();
+        let title = name_of(alloc, name)?;
+        let block = Block::new(alloc, Shape::Choice, Some(inside), title);
         let number = self.add_block(block, false)?;
-        self.choices.insert(
-            Key {
-                block: inside,
-                name,
-            },
-            number,
-        )?;
+        let key = Key {
+            block: inside,
+            name,
+        };
+        self.choices.insert(key, number)?;
         Ok(())
     }
 
     /// Adds a state without what stands in it, and gives its number.
     fn add_state(&mut self, inside: usize, state: &'a State) -> Result<usize, AllocError> {
-        let name = state.name.as_bytes();
-        let alloc = self.alloc();
-        let mut block = Block::new(alloc, Shape::State, Some(inside));
-        block.title = name_of(alloc, name)?;
-        if let Some(body) = &state.body {
-            add_actions(alloc, &mut block, body)?;
-        }
+        let block = state_block(self.alloc(), inside, state)?;
         let number = self.add_block(block, graph_of(state).is_some())?;
         let key = Key {
             block: inside,
-            name,
+            name: state.name.as_bytes(),
         };
         self.states.insert(key, number)?;
         Ok(number)
+    }
+
+    /// Adds a state or a choice point. Gives the graph of a composite state, and the number of the block that it is of.
+    fn add_item(
+        &mut self,
+        block: usize,
+        item: &'a GraphItem,
+    ) -> Result<Option<(usize, &'a [GraphItem])>, AllocError> {
+        match item {
+            GraphItem::State(state) => {
+                let number = self.add_state(block, state)?;
+                match graph_of(state) {
+                    Some(graph) => Ok(Some((number, graph))),
+                    None => Ok(None),
+                }
+            }
+            GraphItem::Choice(choice) => {
+                self.add_choice(block, choice)?;
+                Ok(None)
+            }
+            GraphItem::Point(_) | GraphItem::Transition(_) | GraphItem::Refinement(_) => Ok(None),
+        }
     }
 
     /// Adds what stands in the graph of a block, and in the graphs inside, so deep at most.
@@ -173,17 +205,10 @@ impl<'a> Sketch<'a> {
         self.add_points(block, items)?;
         self.add_start(block, items)?;
         for item in items {
-            match item {
-                GraphItem::State(state) => {
-                    let number = self.add_state(block, state)?;
-                    if let Some(graph) = graph_of(state)
-                        && deep > 0
-                    {
-                        self.add_graph(number, graph, deep - 1)?;
-                    }
-                }
-                GraphItem::Choice(choice) => self.add_choice(block, choice)?,
-                GraphItem::Point(_) | GraphItem::Transition(_) | GraphItem::Refinement(_) => {}
+            if let Some((number, graph)) = self.add_item(block, item)?
+                && deep > 0
+            {
+                self.add_graph(number, graph, deep - 1)?;
             }
         }
         self.add_transitions(block, items)
@@ -212,15 +237,26 @@ impl<'a> Sketch<'a> {
         if let (Some(from), Some(to)) = (from, to) {
             self.enter(inside, to);
             let label = label_of(self.alloc(), transition, order)?;
-            self.diagram.links.push(Link {
-                inside,
-                from,
-                to,
-                label,
-                is_dashed: false,
-            })?;
+            self.add_link(inside, from, to, label)?;
         }
         Ok(())
+    }
+
+    fn add_link(
+        &mut self,
+        inside: usize,
+        from: End,
+        to: End,
+        label: Label,
+    ) -> Result<(), AllocError> {
+        let link = Link {
+            inside,
+            from,
+            to,
+            label,
+            is_dashed: false,
+        };
+        Ok(self.diagram.links.push(link)?)
     }
 
     /// Says of a composite state to which a transition leads by its name, or by a door of it, that it has a history.
@@ -297,6 +333,20 @@ impl<'a> Sketch<'a> {
             point: Some(point),
         })
     }
+
+    /// Adds a frame with what stands in the chart of a class.
+    fn add_chart(&mut self, class: &[u8], items: &'a [GraphItem]) -> Result<(), AllocError> {
+        let frame = frame_of(self.alloc(), class)?;
+        let number = self.add_block(frame, true)?;
+        self.add_graph(number, items, MOST_DEEP)?;
+        add_keys(&mut self.diagram)
+    }
+
+    /// What was drawn.
+    fn into_diagram(self) -> Diagram {
+        let Sketch { diagram, .. } = self;
+        diagram
+    }
 }
 
 /// What the legend of a chart tells, where it occurs.
@@ -307,12 +357,8 @@ fn add_keys(diagram: &mut Diagram) -> Result<(), AllocError> {
         (Mark::Door, b"transition point"),
     ];
     diagram.add_marks(&marks)?;
-    if diagram
-        .blocks
-        .as_slice()
-        .iter()
-        .any(|block| block.has_history)
-    {
+    let blocks = diagram.blocks.as_slice();
+    if blocks.iter().any(|block| block.has_history) {
         diagram.add_key(Sign::History, b"comes back to where it was left")?;
     }
     Ok(())
@@ -325,11 +371,6 @@ pub fn chart_picture(
     machine: &StateMachine,
 ) -> Result<Diagram, AllocError> {
     let mut sketch = Sketch::new(alloc);
-    let mut frame = Block::new(alloc, Shape::Frame, None);
-    frame.title = name_of(alloc, class)?;
-    let number = sketch.add_block(frame, true)?;
-    sketch.add_graph(number, machine.items.as_slice(), MOST_DEEP)?;
-    let Sketch { mut diagram, .. } = sketch;
-    add_keys(&mut diagram)?;
-    Ok(diagram)
+    sketch.add_chart(class, machine.items.as_slice())?;
+    Ok(sketch.into_diagram())
 }

@@ -33,6 +33,7 @@ pub struct Choice<'a> {
     pub numbers: IndexMap<Name, usize>,
     /// How many messages aren't drawn since one of their ends has no lifeline.
     pub undrawn: usize,
+    /// What is drawn, in the order in which it was chosen.
     happenings: Vec<Happening>,
     moments: Vec<Moment>,
 }
@@ -120,12 +121,17 @@ impl<'a> Choice<'a> {
             self.add_message(msg)?;
         }
         self.add(turn.stamp.0, turn.controller, Happening::Turn(number))?;
-        for note in turn.notes {
+        self.admit_all(turn.notes);
+        self.add_posts(turn.behind)
+    }
+
+    /// Admits those who come up or go down.
+    fn admit_all(&mut self, notes: &[Note]) {
+        for note in notes {
             if let Note::Up { who, .. } | Note::Down { who, .. } = note {
                 let _has_line = self.cast.admit(who.slot);
             }
         }
-        self.add_posts(turn.behind)
     }
 
     /// What is drawn, in order.

@@ -7,6 +7,7 @@ mod bindings;
 mod cast;
 mod charts;
 mod choice;
+mod drawing;
 mod orders;
 mod run_texts;
 mod runs;

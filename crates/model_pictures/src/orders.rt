@@ -1,6 +1,6 @@
 //! Which transitions of a graph are tried in an order that decides.
 use indexmap::IndexMap;
-use room_ast::{Event, EventMessage, GraphItem, Source, Target, Transition, Triggers};
+use room_ast::{Event, EventMessage, GraphItem, Source, Target, Transition, Trigger, Triggers};
 use std::alloc::{AllocError, Global};
 
 /// Transitions of a graph of which the first one that fits is taken: those of a state, those of a choice point, and
@@ -82,6 +82,19 @@ struct Waiting<'a> {
 }
 
 impl<'a> Waiting<'a> {
+    fn new(alloc: Global) -> Waiting<'a> {
+        Waiting {
+            first: IndexMap::new(alloc),
+            decides: Vec::new(alloc),
+        }
+    }
+
+    /// For each transition whether another one of its group waits for the same.
+    fn into_decides(self) -> Vec<bool> {
+        let Waiting { decides, .. } = self;
+        decides
+    }
+
     fn decide(&mut self, number: usize) {
         if let Some(decides) = self.decides.as_mut_slice().get_mut(number) {
             *decides = true;
@@ -117,6 +130,20 @@ impl<'a> Waiting<'a> {
         self.wait(number, wait)
     }
 
+    /// Notes that a transition waits for the events of a trigger.
+    fn wait_for_any(
+        &mut self,
+        number: usize,
+        group: Group<'a>,
+        trigger: &'a Trigger,
+    ) -> Result<(), AllocError> {
+        self.wait_for(number, group, &trigger.first)?;
+        for event in trigger.others.as_slice() {
+            self.wait_for(number, group, event)?;
+        }
+        Ok(())
+    }
+
     /// Notes what the triggers of a transition wait for.
     fn wait_for_all(
         &mut self,
@@ -124,15 +151,9 @@ impl<'a> Waiting<'a> {
         group: Group<'a>,
         triggers: &'a Triggers,
     ) -> Result<(), AllocError> {
-        self.wait_for(number, group, &triggers.first.first)?;
-        for event in triggers.first.others.as_slice() {
-            self.wait_for(number, group, event)?;
-        }
+        self.wait_for_any(number, group, &triggers.first)?;
         for trigger in triggers.others.as_slice() {
-            self.wait_for(number, group, &trigger.first)?;
-            for event in trigger.others.as_slice() {
-                self.wait_for(number, group, event)?;
-            }
+            self.wait_for_any(number, group, trigger)?;
         }
         Ok(())
     }
@@ -154,24 +175,26 @@ impl<'a> Waiting<'a> {
         }
         Ok(())
     }
+
+    /// Notes what all transitions of a graph wait for.
+    fn add_all(&mut self, items: &'a [GraphItem]) -> Result<(), AllocError> {
+        for item in items {
+            if let GraphItem::Transition(transition) = item {
+                let number = self.decides.len();
+                self.decides.push(false)?;
+                self.add(number, transition)?;
+            }
+        }
+        Ok(())
+    }
 }
 
 /// The order of the transitions of a graph.
 pub fn orders_of(alloc: Global, items: &[GraphItem]) -> Result<Orders<'_>, AllocError> {
-    let mut waiting = Waiting {
-        first: IndexMap::new(alloc),
-        decides: Vec::new(alloc),
-    };
-    for item in items {
-        if let GraphItem::Transition(transition) = item {
-            let number = waiting.decides.len();
-            waiting.decides.push(false)?;
-            waiting.add(number, transition)?;
-        }
-    }
-    let Waiting { decides, .. } = waiting;
+    let mut waiting = Waiting::new(alloc);
+    waiting.add_all(items)?;
     Ok(Orders {
-        decides,
+        decides: waiting.into_decides(),
         numbered: IndexMap::new(alloc),
         asked: 0,
     })

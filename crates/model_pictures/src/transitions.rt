@@ -92,6 +92,35 @@ fn add_action(text: &mut Vec<u8>, body: &TransitionBody) -> Result<(), AllocErro
     Ok(())
 }
 
+fn add_order(text: &mut Vec<u8>, order: Option<usize>) -> Result<(), AllocError> {
+    if let Some(order) = order {
+        let mut buffer = Buffer::new();
+        text.extend_from_slice(buffer.format(order as u64).as_bytes())?;
+        text.extend_from_slice(b". ")?;
+    }
+    Ok(())
+}
+
+/// Adds what a transition waits for, and what it does.
+fn add_shown(text: &mut Vec<u8>, transition: &Transition) -> Result<(), AllocError> {
+    if may_be_else(transition) {
+        text.extend_from_slice(b"[else]")?;
+    }
+    if let Some(body) = &transition.body {
+        add_body(text, body)?;
+        add_action(text, body)?;
+    }
+    Ok(())
+}
+
+/// The name of a transition; empty where it has none.
+fn name_of(transition: &Transition) -> &[u8] {
+    match &transition.name {
+        Some(name) => name.as_bytes(),
+        None => b"",
+    }
+}
+
 /// The label of a transition. It begins with its number, where it has one; its whole text with its name.
 pub fn label_of(
     alloc: Global,
@@ -99,21 +128,7 @@ pub fn label_of(
     order: Option<usize>,
 ) -> Result<Label, AllocError> {
     let mut text = Vec::new(alloc);
-    if let Some(order) = order {
-        let mut buffer = Buffer::new();
-        text.extend_from_slice(buffer.format(order as u64).as_bytes())?;
-        text.extend_from_slice(b". ")?;
-    }
-    if may_be_else(transition) {
-        text.extend_from_slice(b"[else]")?;
-    }
-    if let Some(body) = &transition.body {
-        add_body(&mut text, body)?;
-        add_action(&mut text, body)?;
-    }
-    let name = match &transition.name {
-        Some(name) => name.as_bytes(),
-        None => b"",
-    };
-    Label::named(alloc, name, text.as_slice())
+    add_order(&mut text, order)?;
+    add_shown(&mut text, transition)?;
+    Label::named(alloc, name_of(transition), text.as_slice())
 }

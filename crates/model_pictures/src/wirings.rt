@@ -1,6 +1,6 @@
 //! The picture of the actors of a model.
-use crate::actors::add_actors;
-use crate::bindings::{add_bindings, containers_of};
+use crate::actors::{Actors, add_actors};
+use crate::bindings::{Containers, add_bindings, containers_of};
 use picture_formats::{Diagram, Mark, Sign};
 use room_ast::Model;
 use room_wiring::Wiring;
@@ -24,6 +24,29 @@ fn add_keys(diagram: &mut Diagram) -> Result<(), AllocError> {
     Ok(())
 }
 
+/// Draws the actors of a wiring, and what of these containers joins their ports.
+fn draw<'a>(
+    diagram: &mut Diagram,
+    actors: &mut Actors,
+    wiring: &'a Wiring,
+    containers: &Containers<'a>,
+) -> Result<(), AllocError> {
+    let title = containers.title(diagram.alloc)?;
+    add_actors(diagram, actors, wiring, title, containers.top_count())?;
+    add_keys(diagram)?;
+    add_bindings(diagram, actors, wiring, containers)
+}
+
+fn add_picture<'a>(
+    diagram: &mut Diagram,
+    model: &'a Model,
+    wiring: &'a Wiring,
+) -> Result<(), AllocError> {
+    let containers = containers_of(diagram.alloc, model)?;
+    let mut actors = Actors::new(diagram.alloc);
+    draw(diagram, &mut actors, wiring, &containers)
+}
+
 /// The picture of the actors of a model, and of what joins their ports.
 pub fn wiring_picture<'a>(
     alloc: Global,
@@ -31,10 +54,6 @@ pub fn wiring_picture<'a>(
     wiring: &'a Wiring,
 ) -> Result<Diagram, AllocError> {
     let mut diagram = Diagram::new(alloc, false);
-    let containers = containers_of(alloc, model)?;
-    let title = containers.title(alloc)?;
-    let actors = add_actors(&mut diagram, wiring, title, containers.top_count())?;
-    add_keys(&mut diagram)?;
-    add_bindings(&mut diagram, &actors, wiring, &containers)?;
+    add_picture(&mut diagram, model, wiring)?;
     Ok(diagram)
 }

@@ -111,11 +111,12 @@ pub struct Diagram {
 }
 
 impl Block {
-    pub fn new(alloc: Global, shape: Shape, container: Option<usize>) -> Block {
+    /// A block without notes and points.
+    pub fn new(alloc: Global, shape: Shape, container: Option<usize>, title: Vec<u8>) -> Block {
         Block {
             container,
             shape,
-            title: Vec::new(alloc),
+            title,
             notes: Vec::new(alloc),
             colour: None,
             copies: 1,

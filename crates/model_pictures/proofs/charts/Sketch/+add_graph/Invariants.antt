@@ -1,4 +1,3 @@
-use Rattle.std.proofs.Common.{◌≡◌, ℕ, ◌+◌, ◌-◌, ◌*◌, ◌<◌, ◌≤◌, length}
 use Rattle.model_pictures.proofs.charts.Sketch.+add_graph.Given as goal
 
 -- graphs are drawn so deep in graphs at most
