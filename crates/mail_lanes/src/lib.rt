@@ -4,9 +4,11 @@
 mod address;
 mod close;
 pub mod ends;
+mod inlet;
 pub mod lane;
 pub mod mail;
 mod make;
+mod outlet;
 mod pair;
 mod places;
 mod rows;
@@ -14,5 +16,6 @@ pub mod rule;
 mod settle;
 mod steps;
 mod tables;
+pub mod waiting;
 
 pub use ends::MailLanes;
