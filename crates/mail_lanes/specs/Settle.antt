@@ -76,7 +76,8 @@ pub record RowSettled (s r p : ℕ) (g : ℕ → Option InLane) (rows rows' : Li
   pub lanes : ℕ → OutLane
   pub rows_are : rows' ≡ slice_set rows s row
   pub six : SixSet no_lane r (row_at rows s) lanes row
-  pub settles : Settles p (λ q. out_at (row_at rows s) (r * 6 + q)) g lanes
+  pub takes : (q : ℕ) → q < 6 → (lanes q).wire.takes ≡ true
+  pub others : (q : ℕ) → q < 6 → (q ≡ p → ⊥) → let o = out_at (row_at rows s) (r * 6 + q) in ((lanes q).posted ≡ o.posted) × ((lanes q).taken ≡ taken_in o (g q))
 
 -- the same of the other ends, of which one is gone
 pub record TabSettled (s r : ℕ) (tabs tabs' : List (List (Option InLane))) : Type 0 where
