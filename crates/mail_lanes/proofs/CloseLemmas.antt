@@ -121,11 +121,11 @@ module _ (ends : List MailLanes) (t : AreTied tt ends) where
             let takes : (out_wire (wiring_of e) r p).takes ≡ true = subst (λ k. (out_wire (wiring_of e) k p).takes ≡ true) own (e.wired.own_out p c) in
             let both : y.0 ≡ e = same_Some _ _ (sym y.1 ∙ ap (slice_get ends) (sym same) ∙ x.1) in
             let none : in_wire (wiring_of y.0) s p ≡ None = subst (λ z. in_wire (wiring_of z) s p ≡ None) (sym both) (subst (λ k. in_wire (wiring_of e) k p ≡ None) place_x.0 (e.wired.own_in p c)) in
-            own_settle _ _ (ap (λ (w : OutWire). w.takes) o ∙ takes) (i ∙ none)
+            own_settle (out_of rows tabs s r p).wire (in_wire_of (in_of rows tabs s r p)) (ap (λ (w : OutWire). w.takes) o ∙ takes) (i ∙ none)
         | inr other ↦
             let into : IsInOf s r p (in_wire (wiring_of y.0) s p) = subst (λ k. IsInOf s k p (in_wire (wiring_of y.0) s p)) place_y.0 (y.0.wired.ins s p (rw place_y.1 a) c (λ z. other (z ∙ place_y.0))) in
             let joined = t.joined s r p x.0 y.0 x.1 y.1 c other in
-            subst (λ w. CanSettle w (in_wire_of (in_of rows tabs s r p))) (sym o) (subst (λ w. CanSettle (out_wire (wiring_of x.0) r p) w) (sym i) (can_settle s r p _ _ other out into joined))
+            subst (λ w. CanSettle w (in_wire_of (in_of rows tabs s r p))) (sym o) (subst (λ w. CanSettle (out_wire (wiring_of x.0) r p) w) (sym i) (can_settle s r p (out_wire (wiring_of x.0) r p) (in_wire (wiring_of y.0) s p) other out into joined))
       ]
 
   -- what was taken of a lane, by its receiver's end
