@@ -1,16 +1,14 @@
 -- The lanes of one end at the close.
-use Rattle.std.proofs.Common.{◌≡◌, ◌≢◌, ℕ, ◌+◌, ◌-◌, ◌<◌, inl, inr, List, [], ◌∷◌, ◌++◌, length, map, drop, Option, Some, None, Result, Ok, Err, sym, ap, subst, refl, ◌∙◌, arith, true, append_assoc}
-use Rattle.std.proofs.lemmas.List.{append-nil, length-append}
+use Rattle.std.proofs.Common.{◌≡◌, ℕ, ◌-◌, ◌<◌, List, [], ◌∷◌, ◌++◌, length, Option, ap, ◌∙◌, arith}
+use Rattle.std.proofs.lemmas.List.{length-append}
 use Rattle.room_kinds.specs.declared.message.Msg.{Msg}
 use Rattle.mail_lanes.specs.declared.rule.LaneView.{LaneView}
-use Rattle.mail_lanes.specs.declared.lane.Inlet.{Inlet}
-use Rattle.mail_lanes.specs.Rule.{lane_view, OwnLaw}
-use Rattle.mail_lanes.specs.Waits.{Stays, Gains, CameLast, given}
-use Rattle.mail_lanes.specs.Lanes.{OutLane, InLane, in_side, AllStay}
-use Rattle.mail_lanes.specs.Ends.{taken_in}
+use Rattle.mail_lanes.specs.Rule.{lane_view}
+use Rattle.mail_lanes.specs.Waits.{Stays, Gains, CameLast}
+use Rattle.mail_lanes.specs.Lanes.{OutLane, InLane, AllStay}
 use Rattle.mail_lanes.specs.Settle.{Gathers}
 use Rattle.mail_lanes.proofs.RuleLemmas.{owns, finds, merges}
-use Rattle.mail_lanes.proofs.LaneLemmas.{shape_out, outs-stay, waits-came, waits-given}
+use Rattle.mail_lanes.proofs.LaneLemmas.{shape_out, outs-stay, waits-given}
 
 -- one more comes off the deque of an owner that takes
 module _ (v v' : LaneView) (f f' f'' : ℕ → List Msg) (c : CameLast v.got f) (st : Stays f f') (m : Msg) (e : v' ≡ lane_view v.pushes v.takes v.sent (v.got ++ m ∷ [])) (g : Gains f' f'' m) where

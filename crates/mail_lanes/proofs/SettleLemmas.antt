@@ -1,18 +1,17 @@
 -- One lane at the close.
-use Rattle.std.proofs.Common.{◌≡◌, ◌≢◌, ℕ, ◌+◌, ◌*◌, ◌<◌, ◌⊎◌, inl, inr, List, [], ◌++◌, length, set, map, get_or, drop, Option, Some, None, sym, ap, subst, refl, ◌∙◌, arith, true}
+use Rattle.std.proofs.Common.{◌≡◌, ◌≢◌, ℕ, ◌+◌, ◌*◌, ◌<◌, ◌⊎◌, inl, inr, List, [], ◌++◌, length, set, map, get_or, drop, Option, Some, None, sym, ap, subst, ◌∙◌, arith}
 use Rattle.std.specs.Global.{Vec}
 use Rattle.std.proofs.lemmas.Bool.{cases_eq}
-use Rattle.std.proofs.lemmas.List.{map-set, get_or-map, length-map, length-set, get_or-set_same, get_or-set_other}
+use Rattle.std.proofs.lemmas.List.{map-set, length-set, get_or-set_same, get_or-set_other}
 use lib.Seq.{drop-append_seam}
 use Rattle.room_kinds.specs.declared.message.Msg.{Msg}
 use Rattle.mail_lanes.specs.declared.lane.Outlet.{Outlet}
 use Rattle.mail_lanes.specs.declared.lane.Inlet.{Inlet}
-use Rattle.mail_lanes.specs.Wires.{OutWire, InWire}
-use Rattle.mail_lanes.specs.Lanes.{OutLane, InLane, out_lane, in_lane, in_side, out_lanes, in_lanes, out_at, in_at, no_lane}
+use Rattle.mail_lanes.specs.Lanes.{OutLane, InLane, out_lane, in_side, out_lanes, in_lanes, out_at, in_at, no_lane}
 use Rattle.mail_lanes.specs.Parts.{in_wire_of}
 use Rattle.mail_lanes.specs.Ends.{taken_in}
 use Rattle.mail_lanes.specs.Made.{row_at, tab_at, rows_of, tabs_of}
-use Rattle.mail_lanes.specs.Settle.{CanSettle, IsSettled, left_in, out_of, in_of, posted_of, taken_of, CanAt, left_at, SettledAt, IsTable, SixSet, RowSettled, TabSettled, Same, NotLane, Settles}
+use Rattle.mail_lanes.specs.Settle.{CanSettle, out_of, in_of, posted_of, taken_of, CanAt, IsTable, SixSet, RowSettled, TabSettled, Same, NotLane, Settles}
 use Rattle.mail_lanes.proofs.MadeLemmas.{row_at-here, tab_at-here}
 use Rattle.mail_lanes.proofs.SixLemmas.{lane-here, lanes-set}
 

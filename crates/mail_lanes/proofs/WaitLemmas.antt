@@ -1,13 +1,13 @@
 -- The queues after a step.
-use Rattle.std.proofs.Common.{◌≡◌, ◌≢◌, ℕ, ◌+◌, ◌<◌, ◌≤◌, inl, inr, List, [], ◌∷◌, ◌++◌, length, set, map, get_or, sym, ap, subst, refl, ◌∙◌, arith, append_assoc}
-use Rattle.std.proofs.Common.{eqb, Option, Some, None, MatchOption}
+use Rattle.std.proofs.Common.{◌≡◌, ◌≢◌, ℕ, ◌+◌, ◌<◌, ◌≤◌, inl, inr, List, [], ◌∷◌, ◌++◌, length, set, map, get_or, sym, ap, subst, refl, ◌∙◌, arith}
+use Rattle.std.proofs.Common.{Option, Some, None, MatchOption}
 use Rattle.std.specs.Prelude.{option_to_list}
 use Rattle.std.proofs.lemmas.Bool.{cases_eq, cases_lt, eq-eqb, ne_eqb}
 use Rattle.std.proofs.lemmas.List.{map-set, map_push, get_or-map, length-map, get_or-set_same, get_or-set_other, get_or_past, get_or_push, get_or_append_left, append-nil, length_push}
 use Rattle.std.specs.Global.{Global}
 use Rattle.std.specs.declared.collections.VecDeque.{VecDeque}
 use Rattle.room_kinds.specs.declared.message.Msg.{Msg}
-use Rattle.mail_lanes.specs.Waits.{rank, of_rank, queued, waits, Stays, Gains, Loses}
+use Rattle.mail_lanes.specs.Waits.{rank, of_rank, queued, Stays, Gains, Loses}
 
 abbrev items_of : VecDeque Msg Global → List Msg
 items_of q = q.items

@@ -1,5 +1,5 @@
 -- The two ends of the lanes from one party to another, as contracts see them: six lanes, by priority.
-use Rattle.std.specs.Prelude.{ℕ, ◌≡◌, false, true, List, [], ◌∷◌, ◌++◌, map, slice_index_or, Option, Some, None}
+use Rattle.std.specs.Prelude.{ℕ, ◌≡◌, false, List, [], ◌∷◌, ◌++◌, map, slice_index_or, Option, Some, None}
 use Rattle.room_kinds.specs.declared.message.Msg.{Msg}
 use Rattle.crossbeam_deque.specs.Handles.{worker_deque, worker_view, stealer_deque, view}
 use Rattle.mail_lanes.specs.declared.lane.Outlet.{Outlet}

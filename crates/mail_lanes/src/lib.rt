@@ -1,4 +1,4 @@
-//! Mail among threads: a deque for each lane.
+//! Mail among threads: a deque for the six lanes from one party to another.
 #![tactic(auto)]
 
 mod address;

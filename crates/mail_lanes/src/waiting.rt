@@ -110,7 +110,9 @@ impl Waiting {
         ensures { MatchOption result (Stays (waits self.old) (waits self.new) × (waits self.old prio ≡ [])) (λ m. Loses prio (waits self.old) (waits self.new) m) }
     {
         let spare = self.spare.take();
-        if let Some(m) = &spare && rank(m) == prio {
+        if let Some(m) = &spare
+            && rank(m) == prio
+        {
             return spare;
         }
         self.spare = spare;

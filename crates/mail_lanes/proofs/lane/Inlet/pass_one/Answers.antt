@@ -1,4 +1,4 @@
-use Rattle.std.proofs.Common.{ap, sym, ◌∙◌, ◌≡◌, true}
+use Rattle.std.proofs.Common.{ap, sym, ◌∙◌, ◌≡◌}
 use Rattle.crossbeam_deque.specs.Handles.{stealer_deque, view}
 use Rattle.mail_lanes.specs.declared.rule.LaneView.{LaneView}
 use Rattle.mail_lanes.specs.Waits.{waits, rank}

@@ -1,5 +1,5 @@
-use Rattle.std.proofs.Common.{ap, sym, subst, ◌∙◌, ◌≡◌, ◌∷◌, [], true}
-use Rattle.crossbeam_deque.specs.Handles.{worker_deque, worker_view}
+use Rattle.std.proofs.Common.{ap, sym, subst, ◌∙◌, ◌∷◌, []}
+use Rattle.crossbeam_deque.specs.Handles.{worker_view}
 use Rattle.mail_lanes.specs.declared.rule.LaneView.{LaneView}
 use Rattle.mail_lanes.specs.Waits.{waits}
 use Rattle.mail_lanes.specs.Lanes.{out_lane, sending, OneIs}

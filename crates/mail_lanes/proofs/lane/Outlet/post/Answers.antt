@@ -1,5 +1,5 @@
-use Rattle.std.proofs.Common.{ap, refl}
-use Rattle.crossbeam_deque.specs.Handles.{worker_deque, worker_view}
+use Rattle.std.proofs.Common.{ap}
+use Rattle.crossbeam_deque.specs.Handles.{worker_view}
 use Rattle.mail_lanes.specs.declared.rule.LaneView.{LaneView}
 use Rattle.mail_lanes.specs.Waits.{waits, given}
 use Rattle.mail_lanes.proofs.LaneLemmas.{outs-post}
