@@ -15,45 +15,43 @@ use Rattle.mail_lanes.specs.Wires.{OutWire, InWire, IsInOf, IsOutOf, out_wire, i
 use Rattle.mail_lanes.specs.Parts.{in_wire_of, out_wire_of}
 use Rattle.mail_lanes.specs.Ends.{outs_of, ins_of, wiring_of, log_of, taken_in, posted_at, taken_at, AreTied, Joined}
 use Rattle.mail_lanes.specs.Made.{row_at, tab_at}
-use Rattle.mail_lanes.specs.Settle.{CanSettle, left_in, out_of, in_of, left_at, CanAt, SettledAt, IsTable, Same}
+use Rattle.mail_lanes.specs.Settle.{CanSettle, out_of, in_of, posted_of, taken_of, left_at, CanAt, SettledAt, IsTable, Same}
 use Rattle.mail_lanes.proofs.EndLemmas.{by_six-within}
 use Rattle.mail_lanes.proofs.SetUpLemmas.{out_wire-row, in_wire-tab, some_within}
 
 pub Same-refl : {n : ℕ} {P : ℕ → ℕ → ℕ → Type 0} {rows : List (List OutLane)} {tabs : List (List (Option InLane))} → IsTable n rows tabs → Same n P rows rows tabs tabs
-Same-refl t = record { table = t; outs = λ s r p a b c h. refl; ins = λ s r p a b c h. refl }
+Same-refl t = record { table = t; posted = λ s r p a b c h. refl; taken = λ s r p a b c h. refl; can = λ s r p a b c h x. x }
 
 -- one change after another
 pub Same-step : {n : ℕ} {P Q : ℕ → ℕ → ℕ → Type 0} (R : ℕ → ℕ → ℕ → Type 0) {rows rows' rows'' : List (List OutLane)} {tabs tabs' tabs'' : List (List (Option InLane))} →
     Same n P rows rows' tabs tabs' → Same n Q rows' rows'' tabs' tabs'' → ((s r p : ℕ) → s < n → r < n → p < 6 → R s r p → P s r p × Q s r p) → Same n R rows rows'' tabs tabs''
 Same-step R x y both = record {
   table = y.table;
-  outs = λ s r p a b c h. let k = both s r p a b c h in y.outs s r p a b c k.1 ∙ x.outs s r p a b c k.0;
-  ins = λ s r p a b c h. let k = both s r p a b c h in y.ins s r p a b c k.1 ∙ x.ins s r p a b c k.0;
+  posted = λ s r p a b c h. let k = both s r p a b c h in y.posted s r p a b c k.1 ∙ x.posted s r p a b c k.0;
+  taken = λ s r p a b c h. let k = both s r p a b c h in y.taken s r p a b c k.1 ∙ x.taken s r p a b c k.0;
+  can = λ s r p a b c h z. let k = both s r p a b c h in y.can s r p a b c k.1 (x.can s r p a b c k.0 z);
 }
 
--- what is said of a lane that is as it was
-pub carried : {n : ℕ} {P : ℕ → ℕ → ℕ → Type 0} {rows rows' : List (List OutLane)} {tabs tabs' : List (List (Option InLane))} (F : OutLane → Option InLane → Type 0) (s r p : ℕ) → Same n P rows rows' tabs tabs' → s < n → r < n → p < 6 → P s r p →
-    F (out_of rows tabs s r p) (in_of rows tabs s r p) → F (out_of rows' tabs' s r p) (in_of rows' tabs' s r p)
-carried {rows = rows} {rows' = rows'} {tabs = tabs} {tabs' = tabs'} F s r p x a b c h f =
-    subst (λ o. F o (in_of rows' tabs' s r p)) (sym (x.outs s r p a b c h)) (subst (λ i. F (out_of rows tabs s r p) i) (sym (x.ins s r p a b c h)) f)
-
-pub carried_back : {n : ℕ} {P : ℕ → ℕ → ℕ → Type 0} {rows rows' : List (List OutLane)} {tabs tabs' : List (List (Option InLane))} (F : OutLane → Option InLane → Type 0) (s r p : ℕ) → Same n P rows rows' tabs tabs' → s < n → r < n → p < 6 → P s r p →
-    F (out_of rows' tabs' s r p) (in_of rows' tabs' s r p) → F (out_of rows tabs s r p) (in_of rows tabs s r p)
-carried_back {rows = rows} {rows' = rows'} {tabs = tabs} {tabs' = tabs'} F s r p x a b c h f =
-    subst (λ o. F o (in_of rows tabs s r p)) (x.outs s r p a b c h) (subst (λ i. F (out_of rows' tabs' s r p) i) (x.ins s r p a b c h) f)
+-- what is said of a lane's lists holds as it did
+pub settled_back : {n : ℕ} {P : ℕ → ℕ → ℕ → Type 0} {rows rows' : List (List OutLane)} {tabs tabs' : List (List (Option InLane))} (s r p : ℕ) → Same n P rows rows' tabs tabs' → s < n → r < n → p < 6 → P s r p →
+    SettledAt rows' tabs' s r p → SettledAt rows tabs s r p
+settled_back {rows = rows} {rows' = rows'} {tabs = tabs} {tabs' = tabs'} s r p x a b c h f =
+    subst (λ ms. taken_of rows tabs s r p ++ drop (length (taken_of rows tabs s r p)) ms ≡ ms) (x.posted s r p a b c h)
+    (subst (λ ms. ms ++ drop (length ms) (posted_of rows' tabs' s r p) ≡ posted_of rows' tabs' s r p) (x.taken s r p a b c h) f)
 
 pub left_stays : {n : ℕ} {P : ℕ → ℕ → ℕ → Type 0} {rows rows' : List (List OutLane)} {tabs tabs' : List (List (Option InLane))} (s r p : ℕ) → Same n P rows rows' tabs tabs' → s < n → r < n → p < 6 → P s r p → left_at rows' tabs' s r p ≡ left_at rows tabs s r p
-left_stays {rows = rows} {tabs = tabs} s r p x a b c h = carried (λ o i. left_in o i ≡ left_at rows tabs s r p) s r p x a b c h refl
+left_stays {rows = rows} {rows' = rows'} {tabs = tabs} {tabs' = tabs'} s r p x a b c h =
+    ap (λ ms. drop (length ms) (posted_of rows' tabs' s r p)) (x.taken s r p a b c h) ∙ ap (drop (length (taken_of rows tabs s r p))) (x.posted s r p a b c h)
 
 pub ruleset close_steps = (Same-refl)
 
 pub ruleset apart_steps = (map_push, append-nil, append_assoc)
 
-can_settle : (s r p : ℕ) (o : OutWire) (i : Option InWire) → IsOutOf s r p o → IsInOf s r p i → Joined o i → CanSettle o i
-can_settle s r p o None out into joined = absurd (none-some (s, r, p) into)
-can_settle s r p o (Some i) out into joined =
+can_settle : (s r p : ℕ) (o : OutWire) (i : Option InWire) → s ≢ r → IsOutOf s r p o → IsInOf s r p i → Joined o i → CanSettle o i
+can_settle s r p o None other out into joined = absurd (none-some (s, r, p) into)
+can_settle s r p o (Some i) other out into joined =
     let triple : ◌≡◌ {A = ℕ × ℕ × ℕ} (i.from, i.to, i.prio) (s, r, p) = same_Some _ _ into in
-    (joined, ap (λ x. x.0) triple ∙ sym out.0, ap (λ x. x.1) triple ∙ sym out.1, ap (λ x. x.2) triple ∙ sym out.2)
+    (joined, ap (λ x. x.0) triple ∙ sym out.0, ap (λ x. x.1) triple ∙ sym out.1, λ same. other (sym out.0 ∙ same ∙ out.1))
 
 taken_in-any : (s r p : ℕ) (o o' : OutLane) (i : Option InLane) → IsInOf s r p (in_wire_of i) → taken_in o i ≡ taken_in o' i
 taken_in-any s r p o o' None w = absurd (none-some (s, r, p) w)
@@ -123,11 +121,11 @@ module _ (ends : List MailLanes) (t : AreTied tt ends) where
             let takes : (out_wire (wiring_of e) r p).takes ≡ true = subst (λ k. (out_wire (wiring_of e) k p).takes ≡ true) own (e.wired.own_out p c) in
             let both : y.0 ≡ e = same_Some _ _ (sym y.1 ∙ ap (slice_get ends) (sym same) ∙ x.1) in
             let none : in_wire (wiring_of y.0) s p ≡ None = subst (λ z. in_wire (wiring_of z) s p ≡ None) (sym both) (subst (λ k. in_wire (wiring_of e) k p ≡ None) place_x.0 (e.wired.own_in p c)) in
-            own_settle _ _ (ap (λ (w : OutWire). w.takes) o ∙ takes) (i ∙ none)
+            own_settle (out_of rows tabs s r p).wire (in_wire_of (in_of rows tabs s r p)) (ap (λ (w : OutWire). w.takes) o ∙ takes) (i ∙ none)
         | inr other ↦
             let into : IsInOf s r p (in_wire (wiring_of y.0) s p) = subst (λ k. IsInOf s k p (in_wire (wiring_of y.0) s p)) place_y.0 (y.0.wired.ins s p (rw place_y.1 a) c (λ z. other (z ∙ place_y.0))) in
             let joined = t.joined s r p x.0 y.0 x.1 y.1 c other in
-            subst (λ w. CanSettle w (in_wire_of (in_of rows tabs s r p))) (sym o) (subst (λ w. CanSettle (out_wire (wiring_of x.0) r p) w) (sym i) (can_settle s r p _ _ out into joined))
+            subst (λ w. CanSettle w (in_wire_of (in_of rows tabs s r p))) (sym o) (subst (λ w. CanSettle (out_wire (wiring_of x.0) r p) w) (sym i) (can_settle s r p (out_wire (wiring_of x.0) r p) (in_wire (wiring_of y.0) s p) other out into joined))
       ]
 
   -- what was taken of a lane, by its receiver's end

@@ -1,5 +1,5 @@
 -- An end after a step on one lane.
-use Rattle.std.proofs.Common.{◌≡◌, ◌≢◌, ℕ, ◌+◌, ◌*◌, ◌<◌, ◌≤◌, inl, inr, List, [], ◌∷◌, ◌++◌, length, set, map, ltb, Option, Some, None, sym, ap, subst, refl, ◌∙◌, arith, true}
+use Rattle.std.proofs.Common.{◌≡◌, ◌≢◌, ℕ, ◌+◌, ◌*◌, ◌<◌, ◌≤◌, inl, inr, List, [], ◌∷◌, ◌++◌, length, set, map, ltb, Option, Some, None, sym, ap, subst, refl, ◌∙◌, arith}
 use Rattle.std.proofs.lemmas.Bool.{cases_eq, cases_lt, cond-true, cond-false, lt-ltb, le-ltb}
 use Rattle.std.proofs.lemmas.Nat.{same_from_place}
 use Rattle.std.proofs.lemmas.List.{map-set, get_or-map, set-get_or, length-map, get_or-set_same, get_or-set_other}
@@ -11,7 +11,10 @@ use Rattle.mail_core.specs.EndLog.{EndLog, gained}
 use Rattle.mail_core.specs.Lanes.{IsFor}
 use Rattle.mail_core.proofs.LaneLemmas.{gained-same, gained-other}
 use Rattle.mail_core.proofs.ListLemmas.{slice_index-look}
-use Rattle.mail_lanes.specs.Lanes.{OutLane, InLane, out_at, in_at, no_lane, sending, popping, stealing}
+use Rattle.mail_lanes.specs.Lanes.{OutLane, InLane, out_lane, in_side, out_lanes, in_lanes, out_at, in_at, no_lane, sending, popping, stealing}
+use Rattle.mail_lanes.specs.declared.lane.Outlet.{Outlet}
+use Rattle.mail_lanes.specs.declared.lane.Inlet.{Inlet}
+use Rattle.mail_lanes.proofs.SixLemmas.{by_end-length}
 use Rattle.mail_lanes.specs.Wires.{OutWire, IsWired, no_wire, out_wire, lane_of_in}
 use Rattle.mail_lanes.specs.Parts.{wiring, in_wire_of, out_wire_of}
 use Rattle.mail_lanes.specs.Ends.{by_six, posted_at, taken_in, taken_at, log_from}
@@ -106,8 +109,19 @@ module _ (a n : ℕ) (outs : List OutLane) (ins : List (Option InLane)) where
       let there = λ (f : OutWire → ℕ) (x : ℕ) (e : f (out_wire (wiring a n outs ins) r p) ≡ x). sym (ap f same) ∙ e in
       record { from = i.from ∙ there (λ x. x.from) a is_out.0; to = i.to ∙ there (λ x. x.to) r is_out.1; prio = i.prio ∙ there (λ x. x.prio) p is_out.2 }
 
-  pub own_takes : (p : ℕ) → IsWired (wiring a n outs ins) → p < 6 → (out_at outs (a * 6 + p)).wire.takes ≡ true
-  own_takes p w b = ap (λ (x : OutWire). x.takes) (sym (get_or-map out_wire_of outs (a * 6 + p) no_lane no_wire (outs-within a p w w.one_of b))) ∙ w.own_out p b
+  pub own_ends : (p : ℕ) → IsWired (wiring a n outs ins) → p < 6 → (let o = (out_at outs (a * 6 + p)).wire in o.from ≡ o.to)
+  own_ends p w b =
+      let same = get_or-map out_wire_of outs (a * 6 + p) no_lane no_wire (outs-within a p w w.one_of b) in
+      let is_out = w.outs a p w.one_of b in
+      ap (λ (x : OutWire). x.from) (sym same) ∙ is_out.0 ∙ sym is_out.1 ∙ ap (λ (x : OutWire). x.to) same
+
+-- an outlet for each party, and an inlet
+module _ (a n : ℕ) (os : List Outlet) (is : List (Option Inlet)) where
+  pub outlets-count : IsWired (wiring a n (out_lanes os) (in_lanes is)) → length os ≡ n
+  outlets-count w = omega (arith, w.all_outs, length-map (out_lanes os) out_wire_of, by_end-length out_lane os)
+
+  pub inlets-count : IsWired (wiring a n (out_lanes os) (in_lanes is)) → length is ≡ n
+  inlets-count w = omega (arith, w.all_ins, length-map (in_lanes is) in_wire_of, by_end-length in_side is)
 
 in_wire_of-none : (o : Option InLane) → in_wire_of o ≡ None → o ≡ None
 in_wire_of-none None e = refl

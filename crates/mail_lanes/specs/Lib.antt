@@ -6,4 +6,5 @@ pub mod Made
 pub mod Parts
 pub mod Rule
 pub mod Settle
+pub mod Waits
 pub mod Wires

@@ -14,3 +14,7 @@ Fits writer reader sent got port v = (v.pushes ≡ true → (port ≡ writer) ×
 abbrev pub InOrder : List Msg → List LaneView → Type 0
 InOrder items views = (writer : ℕ) × (reader : ℕ) × (sent : List Msg) × (got : List Msg) × (sent ≡ got ++ items)
     × ((port : ℕ) (v : LaneView) → get_elem? views port ≡ some v → Fits writer reader sent got port v)
+
+-- of the view of a deque whose owner takes, too: what was sent has come off it
+abbrev pub OwnLaw : LaneView → Type 0
+OwnLaw v = (v.takes ≡ true) × (v.sent ≡ v.got)

@@ -20,17 +20,16 @@ impl MailLanes {
     }
 
     #[tactic(auto, using(crate::proofs::EndLemmas::end_steps))]
-    pub(crate) fn post_to(&mut self, receiver: u8, prio: u8, m: Msg) -> Result<(), Msg>
+    pub(crate) fn post_to(&mut self, receiver: u8, m: Msg) -> Result<(), Msg>
         requires receiver { receiver < self.old.parties }
-        requires prio { prio < 6 }
-        requires is_for { IsFor self.old.party receiver prio m }
-        ensures ok { OnOk result (log_of self.new ≡ record (log_of self.old) { posted = gained (log_of self.old).posted receiver prio m }) }
+        requires prio { m.prio.0 < 6 }
+        requires is_for { IsFor self.old.party receiver m.prio.0 m }
+        ensures ok { OnOk result (log_of self.new ≡ record (log_of self.old) { posted = gained (log_of self.old).posted receiver m.prio.0 m }) }
         ensures err { OnErr result (log_of self.new ≡ log_of self.old) }
         ensures back { IfErr result (λ x. x ≡ m) }
         ensures wiring { wiring_of self.new ≡ wiring_of self.old }
     {
-        let at = usize::from(receiver) * 6 + usize::from(prio);
-        post_at(&mut self.outlets, at, m)
+        post_at(&mut self.outlets, usize::from(receiver), m)
     }
 
     #[tactic(auto, using(crate::proofs::EndLemmas::end_steps))]
@@ -40,8 +39,7 @@ impl MailLanes {
         ensures log { MatchOption found.new ((log_of self.new ≡ log_of self.old) × ((log_of self.old).posted self.old.party prio ≡ (log_of self.old).taken self.old.party prio)) (λ m. IsFor self.old.party self.old.party prio m × (log_of self.new ≡ record (log_of self.old) { taken = gained (log_of self.old).taken self.old.party prio m })) }
         ensures wiring { wiring_of self.new ≡ wiring_of self.old }
     {
-        let at = usize::from(self.party) * 6 + usize::from(prio);
-        pop_at(&mut self.outlets, at, found)
+        pop_at(&mut self.outlets, usize::from(self.party), prio, found)
     }
 
     #[tactic(auto, using(crate::proofs::EndLemmas::end_steps))]
@@ -53,7 +51,6 @@ impl MailLanes {
         ensures log { MatchOption found.new (log_of self.new ≡ log_of self.old) (λ m. IsFor sender self.old.party prio m × (log_of self.new ≡ record (log_of self.old) { taken = gained (log_of self.old).taken sender prio m })) }
         ensures wiring { wiring_of self.new ≡ wiring_of self.old }
     {
-        let at = usize::from(sender) * 6 + usize::from(prio);
-        steal_at(&mut self.inlets, at, found)
+        steal_at(&mut self.inlets, usize::from(sender), prio, found)
     }
 }

@@ -1,4 +1,4 @@
-//! Rounds of two to four controllers over a deque for each lane.
+//! Rounds of two to four controllers, each in a thread, over `MailLanes`.
 use crate::mail_tests::run;
 use mail_lanes::MailLanes;
 use room_kinds::Msg;

@@ -1,0 +1,161 @@
+//! Messages that came off a deque before somebody asked for their priority.
+ghost use Rattle.std.specs.Prelude.{◌≡◌, ◌<◌, ◌≤◌, ◌++◌, ◌∷◌, [], true, false, map, length, vec_len, slice_index_or, slice_set, OnOk, OnErr, IfErr, MatchOption, None, List};
+ghost use Rattle.mail_lanes.specs.Waits.{rank, queued, waits, Stays, Gains, Loses};
+
+use room_kinds::Msg;
+use std::alloc::Global;
+use std::collections::VecDeque;
+
+/// A queue for each priority, made at the first use. A message for which there is no memory in its
+/// queue is kept as the spare one, and no other comes off the deque until it has found room.
+#[derive(Drop)]
+pub struct Waiting {
+    pub(crate) queues: Vec<VecDeque<Msg>>,
+    pub(crate) spare: Option<Msg>,
+}
+
+/// The queue of a message. A priority above 5, which nobody posts, counts as 5.
+pub(crate) fn rank(m: &Msg) -> u8
+    ensures { result ≡ rank m.now }
+{
+    m.prio.0.min(5)
+}
+
+/// Whether there is a queue for each priority.
+#[tactic(auto, using(crate::proofs::WaitLemmas::queue_steps))]
+fn are_made(queues: &mut Vec<VecDeque<Msg>>) -> bool
+    ensures same { Stays (queued queues.old.items) (queued queues.new.items) }
+    ensures all { result ≡ true → 6 ≤ vec_len queues.new }
+{
+    while queues.len() < 6 {
+        let alloc = *queues.allocator();
+        if queues.push(VecDeque::new(alloc)).is_err() {
+            return false;
+        }
+    }
+    true
+}
+
+#[tactic(auto, using(crate::proofs::WaitLemmas::queue_steps))]
+fn push(queues: &mut Vec<VecDeque<Msg>>, m: Msg) -> Result<(), Msg>
+    requires { 6 ≤ vec_len queues.old }
+    ensures ok { OnOk result (Gains (queued queues.old.items) (queued queues.new.items) m) }
+    ensures err { OnErr result (Stays (queued queues.old.items) (queued queues.new.items)) }
+    ensures back { IfErr result (λ x. x ≡ m) }
+{
+    let queue = &mut queues[usize::from(rank(&m))];
+    match queue.push_back(m) {
+        Ok(()) => Ok(()),
+        Err(refused) => Err(refused.value),
+    }
+}
+
+#[tactic(auto, using(crate::proofs::WaitLemmas::queue_steps))]
+fn enqueue(queues: &mut Vec<VecDeque<Msg>>, m: Msg) -> Result<(), Msg>
+    ensures ok { OnOk result (Gains (queued queues.old.items) (queued queues.new.items) m) }
+    ensures err { OnErr result (Stays (queued queues.old.items) (queued queues.new.items)) }
+    ensures back { IfErr result (λ x. x ≡ m) }
+{
+    if !are_made(queues) {
+        return Err(m);
+    }
+    push(queues, m)
+}
+
+/// The oldest message of a queue.
+#[tactic(auto, using(crate::proofs::WaitLemmas::queue_steps))]
+fn pop(queues: &mut Vec<VecDeque<Msg>>, prio: u8) -> Option<Msg>
+    ensures { MatchOption result (Stays (queued queues.old.items) (queued queues.new.items) × (queued queues.old.items prio ≡ [])) (λ m. Loses prio (queued queues.old.items) (queued queues.new.items) m) }
+{
+    let at = usize::from(prio);
+    if at < queues.len() {
+        let queue = &mut queues[at];
+        return queue.pop_front();
+    }
+    None
+}
+
+impl Waiting {
+    ghost use Rattle.std.specs.Prelude.{◌≡◌, ◌<◌, ◌++◌, ◌∷◌, [], true, false, map, length, slice_index_or, slice_set, OnOk, OnErr, IfErr, MatchOption, None, List};
+    ghost use Rattle.mail_lanes.specs.Waits.{rank, queued, waits, Stays, Gains, Loses};
+
+    pub(crate) fn new(alloc: Global) -> Waiting
+        ensures { Stays (λ _. []) (waits result) }
+    {
+        Waiting {
+            queues: Vec::new(alloc),
+            spare: None,
+        }
+    }
+
+    /// Whether a message of this priority waits.
+    #[tactic(auto, using(crate::proofs::WaitLemmas::queue_steps))]
+    pub(crate) fn holds(&self, prio: u8) -> bool
+        ensures { result ≡ false → waits self.now prio ≡ [] }
+    {
+        let at = usize::from(prio);
+        if at < self.queues.len() && self.queues[at].len() > 0 {
+            return true;
+        }
+        match &self.spare {
+            Some(m) => rank(m) == prio,
+            None => false,
+        }
+    }
+
+    /// The spare message, where it is of a priority whose queue is empty.
+    #[tactic(auto, using(crate::proofs::WaitLemmas::queue_steps))]
+    fn pop_spare(&mut self, prio: u8) -> Option<Msg>
+        requires { queued self.old.queues.items prio ≡ [] }
+        ensures { MatchOption result (Stays (waits self.old) (waits self.new) × (waits self.old prio ≡ [])) (λ m. Loses prio (waits self.old) (waits self.new) m) }
+    {
+        let spare = self.spare.take();
+        if let Some(m) = &spare
+            && rank(m) == prio
+        {
+            return spare;
+        }
+        self.spare = spare;
+        None
+    }
+
+    /// The oldest message of a priority.
+    #[tactic(auto, using(crate::proofs::WaitLemmas::queue_steps))]
+    pub(crate) fn pop(&mut self, prio: u8) -> Option<Msg>
+        ensures { MatchOption result (Stays (waits self.old) (waits self.new) × (waits self.old prio ≡ [])) (λ m. Loses prio (waits self.old) (waits self.new) m) }
+    {
+        if let Some(m) = pop(&mut self.queues, prio) {
+            return Some(m);
+        }
+        self.pop_spare(prio)
+    }
+
+    /// Whether the next message can be put. The spare one goes to its queue first.
+    #[tactic(auto, using(crate::proofs::WaitLemmas::queue_steps))]
+    pub(crate) fn ready(&mut self) -> bool
+        ensures waits { Stays (waits self.old) (waits self.new) }
+        ensures room { result ≡ true → self.new.spare ≡ None }
+    {
+        let Some(m) = self.spare.take() else {
+            return true;
+        };
+        match enqueue(&mut self.queues, m) {
+            Ok(()) => true,
+            Err(m) => {
+                self.spare = Some(m);
+                false
+            }
+        }
+    }
+
+    /// A message more, at the end of those of its priority.
+    #[tactic(auto, using(crate::proofs::WaitLemmas::queue_steps))]
+    pub(crate) fn put(&mut self, m: Msg)
+        requires { self.old.spare ≡ None }
+        ensures { Gains (waits self.old) (waits self.new) m }
+    {
+        if let Err(m) = enqueue(&mut self.queues, m) {
+            self.spare = Some(m);
+        }
+    }
+}
