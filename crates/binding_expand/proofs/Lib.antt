@@ -1,3 +1,4 @@
+pub mod FewPorts
 pub mod Kept
 pub mod Limits
 pub mod Whole

@@ -1,5 +1,6 @@
 //! The places of slots, and whether their sockets may be joined so.
 ghost use Rattle.std.specs.Prelude.{◌≡◌, ◌^◌, ◌≤◌, length};
+ghost use Rattle.wiring_places.specs.place_rules.Parts.{HasFewPorts};
 ghost use Rattle.wiring_places.specs.place_rules.Partners.{has_socket_pair, has_socket_away};
 ghost use Rattle.binding_expand.specs.Steps.{FindsPlaces};
 
@@ -32,7 +33,8 @@ pub(crate) fn joined_places(
     plan: &StructurePlan,
     slots: &[Slot],
 ) -> Result<WiredPlaces, WiringFault>
-    requires { length slots.now ≤ 2 ^ 16 }
+    requires few { length slots.now ≤ 2 ^ 16 }
+    requires ports { HasFewPorts plan.now }
     ensures { FindsPlaces plan.now slots.now result }
 {
     let Some(places) = wired_places(alloc, plan, slots)? else {

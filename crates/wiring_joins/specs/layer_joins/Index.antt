@@ -1,5 +1,5 @@
 -- The layer connections of a class by reference and protocol.
-use Rattle.std.specs.Prelude.{◌≡◌, ℕ, ◌+◌, ◌*◌, ◌^◌, ◌<◌, nat_eq, List, Option, Some, find}
+use Rattle.std.specs.Prelude.{ℕ, ◌+◌, ◌*◌, nat_eq, List, Option, Some, find}
 use Rattle.std.specs.HashMap.{get}
 use Rattle.wiring_plan.specs.declared.structure_plan.plan.LayerPlan.{LayerPlan}
 use Rattle.wiring_plan.specs.declared.structure_plan.plan.ClassPlan.{ClassPlan}

@@ -2,6 +2,7 @@
 ghost use Rattle.std.specs.Prelude.{◌≡◌, ◌^◌, ◌≤◌, true, length, IfOk, MatchOption};
 ghost use Rattle.wiring_places.specs.place_rules.Counts.{counts};
 ghost use Rattle.wiring_places.specs.place_rules.Pairs.{lacks_place};
+ghost use Rattle.wiring_places.specs.place_rules.Parts.{HasFewPorts};
 ghost use Rattle.wiring_places.specs.place_spans.Containers.{AreContainers};
 ghost use Rattle.wiring_joins.specs.joined_places.Wired.{ArePlacesOf};
 
@@ -37,6 +38,7 @@ fn counts_of(
     joins: &[LayerJoin],
 ) -> Result<Vec<u32>, AllocError>
     requires few { length slots.now ≤ 2 ^ 16 }
+    requires ports { HasFewPorts plan.now }
     requires containers { AreContainers plan.now slots.now containers.now }
     ensures { IfOk result (λ v. v.items ≡ counts plan.now slots.now joins.now) }
 {
@@ -53,6 +55,7 @@ fn places_with(
     containers: &[ClassStretches],
 ) -> Result<WiredPlaces, AllocError>
     requires few { length slots.now ≤ 2 ^ 16 }
+    requires ports { HasFewPorts plan.now }
     requires containers { AreContainers plan.now slots.now containers.now }
     ensures { IfOk result (λ p. ArePlacesOf plan.now slots.now p) }
 {
@@ -87,7 +90,8 @@ pub fn wired_places(
     plan: &StructurePlan,
     slots: &[Slot],
 ) -> Result<Option<WiredPlaces>, AllocError>
-    requires { length slots.now ≤ 2 ^ 16 }
+    requires few { length slots.now ≤ 2 ^ 16 }
+    requires ports { HasFewPorts plan.now }
     ensures { IfOk result (λ o. MatchOption o (lacks_place plan.now slots.now ≡ true) (λ p. ArePlacesOf plan.now slots.now p)) }
 {
     let Some(containers) = container_stretches(alloc, plan, slots)? else {

@@ -1,6 +1,6 @@
 //! The joins of all service access points.
 ghost use Rattle.std.specs.Prelude.{◌≡◌, ℕ, ◌^◌, ◌≤◌, ◌++◌, Some, length, IfOk, OnOk};
-ghost use Rattle.wiring_places.specs.place_rules.Parts.{inside_of};
+ghost use Rattle.wiring_places.specs.place_rules.Parts.{HasFewPorts, inside_of};
 ghost use Rattle.wiring_places.specs.place_rules.Layers.{is_sap, join_of, port_join, port_joins, layer_joins};
 ghost use Rattle.wiring_places.specs.slot_children.Table.{IsTableOf};
 ghost use Rattle.wiring_joins.specs.layer_joins.Indexes.{AreIndexes};
@@ -81,21 +81,21 @@ fn add_port_joins(
 ) -> Result<(), AllocError>
     requires children { IsTableOf children.now slots.now }
     requires indexes { AreIndexes plan.now indexes.now }
+    requires few { length ports.now ≤ 65535 }
     ensures { OnOk result (joins.new.items ≡ joins.old.items ++ port_joins plan.now slots.now slot 0 ports.now) }
 {
     for (p, port) in ports.iter().enumerate() {
-        let Ok(sap) = u16::try_from(p) else {
-            return Err(AllocError);
-        };
         let to = service_of_port(plan, slots, children, indexes, slot, *port);
-        add_join(joins, slot, sap, to)?;
+        add_join(joins, slot, p as u16, to)?;
     }
     Ok(())
 }
 
 /// The ports inside a slot; an imported slot has no inside.
 fn inside_ports<'a>(plan: &'a StructurePlan, slot: &Slot) -> &'a [PortPlan]
-    ensures { result.now ≡ (inside_of plan.now (Some slot.now)).ports }
+    requires { HasFewPorts plan.now }
+    ensures ports { result.now ≡ (inside_of plan.now (Some slot.now)).ports }
+    ensures few { length result.now ≤ 65535 }
 {
     if slot.kind.is_imported() {
         return &[];
@@ -114,6 +114,7 @@ fn slot_joins(
     indexes: &Indexes,
 ) -> Result<Vec<LayerJoin>, AllocError>
     requires few { length slots.now ≤ 2 ^ 16 }
+    requires ports { HasFewPorts plan.now }
     requires children { IsTableOf children.now slots.now }
     requires indexes { AreIndexes plan.now indexes.now }
     ensures { IfOk result (λ joins. joins.items ≡ layer_joins plan.now slots.now) }
@@ -136,6 +137,7 @@ pub fn layer_joins(
     children: &Children,
 ) -> Result<Vec<LayerJoin>, AllocError>
     requires few { length slots.now ≤ 2 ^ 16 }
+    requires ports { HasFewPorts plan.now }
     requires children { IsTableOf children.now slots.now }
     ensures { IfOk result (λ joins. joins.items ≡ layer_joins plan.now slots.now) }
 {

@@ -1,5 +1,5 @@
 -- The classes of containers, and one more container.
-use Rattle.std.proofs.Common.{◌≡◌, ◌≢◌, ℕ, ◌+◌, ◌-◌, ◌<◌, ◌≤◌, List, [], ◌∷◌, ◌++◌, length, suc, zero, refl, sym, ap, ◌∙◌, subst, arith, append_assoc, append-nil, Option, Some, None}
+use Rattle.std.proofs.Common.{◌≡◌, ◌≢◌, ℕ, ◌+◌, ◌-◌, ◌<◌, ◌≤◌, List, [], ◌∷◌, ◌++◌, length, suc, zero, refl, sym, ap, ◌∙◌, arith, append_assoc, append-nil, Option, Some, None}
 use Rattle.std.specs.Prelude.{slice_get, slice_index_or}
 use Rattle.room_wiring.specs.declared.slot.Slot.{Slot}
 use Rattle.room_wiring.specs.declared.tables.PlaceSpan.{PlaceSpan}
@@ -12,7 +12,7 @@ use Rattle.wiring_places.specs.declared.place_rules.stretch.Stretch.{Stretch}
 use Rattle.wiring_places.specs.place_rules.Parts.{no_class, container_class, inside_of}
 use Rattle.wiring_places.specs.place_rules.Stretches.{stretch, stretches, stretches_from, taken_after}
 use Rattle.wiring_places.specs.place_rules.Pairs.{binding_pairs, container_pairs}
-use Rattle.wiring_places.specs.place_spans.Containers.{IsOfClass, AreStretchesFrom, AreContainers}
+use Rattle.wiring_places.specs.place_spans.Containers.{AreStretchesFrom, AreContainers}
 use Rattle.wiring_places.specs.place_pairs.Classes.{class_or_none}
 
 pub get_class : (xs : List ClassPlan) (k : ℕ) → class_or_none (slice_get xs k) ≡ slice_index_or xs k no_class

@@ -1,5 +1,5 @@
 -- The definitions computed on a relay chain: T has c: C and b[3]: B, bound c.r to b.p; C has a: A, its relay port r[2] bound to a.p[2].
-use Rattle.std.proofs.Common.{◌≡◌, ℕ, false, List, [], ◌∷◌, Some, None, refl}
+use Rattle.std.proofs.Common.{◌≡◌, ℕ, List, [], ◌∷◌, Some, None, refl}
 use Rattle.room_kinds.specs.declared.structure.ReferenceKind.TheVariants.{Fixed}
 use Rattle.room_kinds.specs.declared.structure.PortKind.{PortKind}
 use Rattle.room_kinds.specs.declared.structure.PortKind.TheVariants.{Frame, Relay, End}
@@ -13,11 +13,9 @@ use Rattle.wiring_plan.specs.declared.structure_plan.plan.PlacesPlan.{PlacesPlan
 use Rattle.wiring_plan.specs.declared.structure_plan.plan.PlacesPlan.TheVariants.{One, Number}
 use Rattle.wiring_plan.specs.declared.structure_plan.plan.PortPlan.{PortPlan}
 use Rattle.wiring_plan.specs.declared.structure_plan.plan.ReferencePlan.{ReferencePlan}
-use Rattle.wiring_plan.specs.declared.structure_plan.plan.ClassPlan.{ClassPlan}
 use Rattle.wiring_plan.specs.declared.structure_plan.plan.StructurePlan.{StructurePlan}
 use Rattle.number_graphs.specs.declared.face_chains.FacePair.{FacePair}
 use Rattle.number_graphs.specs.face_chains.Chains.{far_ends, far_ends_joined}
-use Rattle.wiring_places.specs.declared.place_rules.stretch.Stretch.{Stretch}
 use Rattle.wiring_places.specs.place_rules.Parts.{class_plan, children}
 use Rattle.wiring_places.specs.place_rules.Stretches.{stretches, stretches_from, taken_from}
 use Rattle.wiring_places.specs.place_rules.Counts.{counts, counts_of_slots, counts_of_ports, spans_from, first_ports_from}

@@ -11,10 +11,8 @@ use Rattle.wiring_plan.specs.declared.structure_plan.plan.PlacesPlan.{PlacesPlan
 use Rattle.wiring_plan.specs.declared.structure_plan.plan.PlacesPlan.TheVariants.{One, Number, Any}
 use Rattle.wiring_plan.specs.declared.structure_plan.plan.PortPlan.{PortPlan}
 use Rattle.wiring_plan.specs.declared.structure_plan.plan.ReferencePlan.{ReferencePlan}
-use Rattle.wiring_plan.specs.declared.structure_plan.plan.ClassPlan.{ClassPlan}
 use Rattle.wiring_plan.specs.declared.structure_plan.plan.StructurePlan.{StructurePlan}
 use Rattle.wiring_places.specs.declared.place_rules.place.LayerJoin.{LayerJoin}
-use Rattle.wiring_places.specs.declared.place_rules.stretch.Stretch.{Stretch}
 use Rattle.wiring_places.specs.place_rules.Parts.{class_plan}
 use Rattle.wiring_places.specs.place_rules.Layers.{layer_joins, slot_joins, port_joins, service}
 use Rattle.wiring_places.specs.place_rules.Stretches.{stretches, stretches_from, all_taken, taken_from, side_number}

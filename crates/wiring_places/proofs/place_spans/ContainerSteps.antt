@@ -1,12 +1,11 @@
 -- One more container.
-use Rattle.std.proofs.Common.{◌≡◌, ℕ, ◌+◌, ◌-◌, ◌<◌, ◌≤◌, ◌||◌, Bool, true, false, List, [], ◌∷◌, ◌++◌, length, suc, zero, refl, sym, ap, ◌∙◌, subst, arith, Some, length-append, eqb, add-zero}
+use Rattle.std.proofs.Common.{◌≡◌, ℕ, ◌+◌, ◌-◌, ◌<◌, ◌≤◌, ◌||◌, Bool, true, false, List, [], ◌∷◌, ◌++◌, length, suc, zero, refl, sym, ap, ◌∙◌, subst, arith, Some, length-append, add-zero}
 use Rattle.std.specs.Prelude.{slice_get, slice_index_or, if◌then◌else◌}
 use Rattle.std.proofs.lemmas.List.{get_or_past}
 use Rattle.std.specs.List.{list_any}
 use Rattle.room_wiring.specs.declared.slot.Slot.{Slot}
 use Rattle.wiring_plan.specs.declared.structure_plan.plan.ClassPlan.{ClassPlan}
 use Rattle.wiring_plan.specs.declared.structure_plan.plan.StructurePlan.{StructurePlan}
-use Rattle.wiring_places.specs.declared.place_rules.stretch.Stretch.{Stretch}
 use Rattle.wiring_places.specs.declared.binding_stretches.class.ClassStretches.{ClassStretches}
 use Rattle.wiring_places.specs.binding_stretches.Taken.{taken_in}
 use Rattle.room_kinds.specs.Structure.{is_imported}

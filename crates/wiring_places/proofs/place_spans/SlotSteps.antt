@@ -1,21 +1,19 @@
 -- One more slot.
-use Rattle.std.proofs.Common.{◌≡◌, ℕ, ◌+◌, ◌<◌, ◌≤◌, Bool, List, [], ◌∷◌, ◌++◌, length, drop, suc, zero, refl, sym, ap, ◌∙◌, subst, arith, append_assoc, append-nil, Option, Some, None}
+use Rattle.std.proofs.Common.{◌≡◌, ℕ, ◌+◌, ◌<◌, ◌≤◌, Bool, List, [], ◌∷◌, ◌++◌, length, drop, suc, zero, refl, sym, ap, ◌∙◌, subst, arith, append_assoc, append-nil, Some, None}
 use Rattle.std.proofs.lemmas.List.{at_drop_more, at_drop_all}
 use Rattle.std.specs.Prelude.{slice_get, slice_index_or}
-use Rattle.room_kinds.specs.declared.numbers.SlotId.{SlotId}
 use Rattle.room_wiring.specs.declared.slot.Slot.{Slot}
 use Rattle.wiring_plan.specs.declared.structure_plan.plan.PortPlan.{PortPlan}
-use Rattle.wiring_plan.specs.declared.structure_plan.plan.ClassPlan.{ClassPlan}
 use Rattle.wiring_plan.specs.declared.structure_plan.plan.StructurePlan.{StructurePlan}
 use Rattle.wiring_places.specs.declared.binding_stretches.class.ClassStretches.{ClassStretches}
 use Rattle.wiring_places.specs.declared.binding_stretches.taken.Taken.{Taken}
 use Rattle.wiring_places.specs.binding_stretches.Taken.{taken_in}
 use Rattle.wiring_places.specs.declared.place_rules.place.LayerJoin.{LayerJoin}
 use Rattle.room_kinds.specs.Structure.{is_imported}
-use Rattle.wiring_places.specs.place_rules.Parts.{no_class, class_plan, container_class, inside_of, container_of, container_of_parent}
+use Rattle.wiring_places.specs.place_rules.Parts.{no_class, class_plan, container_class, inside_of, container_of_parent}
 use Rattle.wiring_places.specs.place_rules.Stretches.{all_taken, none_taken, taken_from}
 use Rattle.wiring_places.specs.place_rules.Counts.{counts_of_ports, counts_of_slots, served_at}
-use Rattle.wiring_places.specs.place_spans.Containers.{IsOfClass, AreStretchesFrom, AreContainers}
+use Rattle.wiring_places.specs.place_spans.Containers.{AreStretchesFrom, AreContainers}
 
 there : (plan : StructurePlan) (slots : List Slot) (c k : ℕ) (ys : List ClassStretches) (y : ClassStretches) → AreStretchesFrom plan slots c ys → slice_get ys k ≡ Some y → taken_in y.taken ≡ all_taken plan (container_class plan slots (c + k))
 there plan slots c k [] y h e = absurd cc

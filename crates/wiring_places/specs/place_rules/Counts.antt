@@ -1,5 +1,5 @@
 -- How many places the ports of the slots have, and where they stand in the row of all places.
-use Rattle.std.specs.Prelude.{ℕ, ◌+◌, ◌*◌, ◌==◌, ◌&&◌, Bool, List, [], ◌∷◌, ◌++◌, length, slice_index, slice_index_or, if◌then◌else◌, count_by}
+use Rattle.std.specs.Prelude.{ℕ, ◌+◌, ◌*◌, ◌==◌, Bool, List, [], ◌∷◌, ◌++◌, length, slice_index, slice_index_or, if◌then◌else◌, count_by}
 use Rattle.room_kinds.specs.declared.structure.PortKind.{PortKind}
 use Rattle.room_kinds.specs.declared.structure.PortKind.TheVariants.{Frame, Relay, End, Internal, Sap, Spp}
 use Rattle.room_wiring.specs.declared.slot.Slot.{Slot}

@@ -1,5 +1,5 @@
 -- Which faces of places are paired. The places of all ports of all slots stand in one row; the place at i there has the outer face 2 i and the inner face 2 i + 1.
-use Rattle.std.specs.Prelude.{ℕ, zero, suc, ◌+◌, ◌*◌, ◌/◌, ◌%◌, ◌==◌, ◌&&◌, ◌||◌, ◌-◌, max, Bool, false, List, [], ◌∷◌, ◌++◌, Option, Some, None, length, slice_get, slice_index, count_by}
+use Rattle.std.specs.Prelude.{ℕ, zero, suc, ◌+◌, ◌*◌, ◌/◌, ◌%◌, ◌==◌, ◌||◌, ◌-◌, max, Bool, false, List, [], ◌∷◌, ◌++◌, Option, Some, None, length, slice_get, slice_index}
 use Rattle.std.specs.List.{list_any}
 use Rattle.room_kinds.specs.declared.structure.PortKind.{PortKind}
 use Rattle.room_kinds.specs.declared.structure.PortKind.TheVariants.{Frame, Relay, End, Internal, Sap, Spp}

@@ -1,5 +1,5 @@
 -- The parts of a structure by number, and the slots that stand for its references.
-use Rattle.std.specs.Prelude.{ℕ, zero, suc, ◌+◌, ◌==◌, ◌&&◌, Bool, List, [], ◌∷◌, Option, Some, None, slice_get, slice_index_or, if◌then◌else◌}
+use Rattle.std.specs.Prelude.{ℕ, zero, suc, ◌+◌, ◌≤◌, ◌==◌, ◌&&◌, Bool, List, [], ◌∷◌, Option, Some, None, length, slice_get, slice_index_or, if◌then◌else◌}
 use Rattle.room_kinds.specs.Structure.{is_imported}
 use Rattle.room_kinds.specs.declared.numbers.SlotId.{SlotId}
 use Rattle.room_wiring.specs.declared.slot.Slot.{Slot}
@@ -13,6 +13,10 @@ no_class = record { ports = []; references = []; bindings = []; layers = [] }
 -- the actor class of a number
 abbrev pub class_plan : StructurePlan → ℕ → ClassPlan
 class_plan plan n = slice_index_or plan.classes n no_class
+
+-- the ports of each class are so few that 16 bits number them, and 32 bits those of 65,536 slots
+abbrev pub HasFewPorts : StructurePlan → Type 0
+HasFewPorts plan = (class : ℕ) → length (class_plan plan class).ports ≤ 65535
 
 -- containers are numbered: the subsystem is 0, and the inside of slot s is s + 1
 abbrev pub container_of_parent : Option SlotId → ℕ

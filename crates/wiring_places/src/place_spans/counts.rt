@@ -71,13 +71,11 @@ pub(crate) fn add_counts(
     known: &Counting,
     ports: &[PortPlan],
 ) -> Result<(), AllocError>
+    requires { length ports.now ≤ 65535 }
     ensures { OnOk result (counts.new.items ≡ counts.old.items ++ counts_of_ports (taken_in known.now.outside.now) (taken_in known.now.inside.now) (taken_in known.now.served.now) known.now.slot known.now.imported known.now.reference 0 ports.now) }
 {
     for (p, port) in ports.iter().enumerate() {
-        let Ok(number) = u16::try_from(p) else {
-            return Err(AllocError);
-        };
-        let Ok(count) = u32::try_from(port_count(known, number, *port)) else {
+        let Ok(count) = u32::try_from(port_count(known, p as u16, *port)) else {
             return Err(AllocError);
         };
         counts.push(count)?;

@@ -1,6 +1,6 @@
 //! The row of all places.
 ghost use Rattle.std.specs.Prelude.{◌≡◌, ◌+◌, ◌^◌, ◌≤◌, ◌++◌, length, slice_index, IfOk, OnOk};
-ghost use Rattle.wiring_places.specs.place_rules.Parts.{class_plan};
+ghost use Rattle.wiring_places.specs.place_rules.Parts.{HasFewPorts, class_plan};
 ghost use Rattle.wiring_places.specs.place_rules.Partners.{role_of, places_of_port, places_of_ports, all_places};
 
 use crate::place_rules::{Place, Role};
@@ -67,12 +67,11 @@ fn add_port_places(
     row: u32,
     ports: &[PortPlan],
 ) -> Result<(), AllocError>
+    requires { length ports.now ≤ 65535 }
     ensures { OnOk result (places.new.items ≡ places.old.items ++ places_of_ports imported slot counts.now row 0 ports.now) }
 {
     for (p, port) in ports.iter().enumerate() {
-        let Ok(number) = u16::try_from(p) else {
-            return Err(AllocError);
-        };
+        let number = p as u16;
         let role = role_of(imported, port.kind);
         add_places(places, slot, number, role, count_at(counts, row, number))?;
     }
@@ -88,7 +87,8 @@ pub fn all_places(
     slots: &[Slot],
     counts: &[u32],
 ) -> Result<Vec<Place>, AllocError>
-    requires { length slots.now ≤ 2 ^ 16 }
+    requires few { length slots.now ≤ 2 ^ 16 }
+    requires ports { HasFewPorts plan.now }
     ensures { IfOk result (λ v. v.items ≡ all_places plan.now slots.now counts.now) }
 {
     let mut places = Vec::new(alloc);
@@ -97,13 +97,7 @@ pub fn all_places(
         let ports = class_ports(plan, slot.class);
         let imported = slot.kind.is_imported();
         add_port_places(&mut places, imported, s as u16, counts, row, ports)?;
-        let Ok(more) = u32::try_from(ports.len()) else {
-            return Err(AllocError);
-        };
-        let Some(next) = row.checked_add(more) else {
-            return Err(AllocError);
-        };
-        row = next;
+        row += ports.len() as u32;
     }
     Ok(places)
 }

@@ -5,7 +5,7 @@ ghost use Rattle.room_wiring.specs.declared.slot.Slot.{Slot as AnySlot};
 ghost use Rattle.wiring_plan.specs.declared.structure_plan.plan.StructurePlan.{StructurePlan as AnyPlan};
 ghost use Rattle.wiring_places.specs.declared.place_rules.place.LayerJoin.{LayerJoin as AnyJoin};
 ghost use Rattle.wiring_places.specs.binding_stretches.Taken.{taken_in};
-ghost use Rattle.wiring_places.specs.place_rules.Parts.{class_plan, container_class, container_of_parent};
+ghost use Rattle.wiring_places.specs.place_rules.Parts.{HasFewPorts, class_plan, container_class, container_of_parent};
 ghost use Rattle.wiring_places.specs.place_rules.Stretches.{none_taken, all_taken};
 ghost use Rattle.wiring_places.specs.place_rules.Counts.{served_at, counts};
 ghost use Rattle.wiring_places.specs.place_spans.Containers.{AreContainers};
@@ -65,6 +65,7 @@ pub fn port_counts(
     served: &Taken,
 ) -> Result<Vec<u32>, AllocError>
     requires few { length slots.now ≤ 2 ^ 16 }
+    requires ports { HasFewPorts plan.now }
     requires containers { AreContainers plan.now slots.now containers.now }
     ensures { IfOk result (λ v. (joins : List AnyJoin) → taken_in served.now ≡ served_at joins → v.items ≡ counts plan.now slots.now joins) }
 {

@@ -1,7 +1,6 @@
 //! Where the places of each port stand.
-ghost use Rattle.std.specs.Prelude.{◌≡◌, IfOk};
-ghost use Rattle.wiring_places.specs.place_rules.Parts.{class_plan};
-ghost use Rattle.std.specs.Prelude.{length};
+ghost use Rattle.std.specs.Prelude.{◌≡◌, ◌^◌, ◌≤◌, length, IfOk};
+ghost use Rattle.wiring_places.specs.place_rules.Parts.{HasFewPorts, class_plan};
 ghost use Rattle.wiring_places.specs.place_rules.Counts.{spans_from, first_ports_from};
 
 use room_wiring::{PlaceSpan, Slot};
@@ -29,11 +28,12 @@ pub fn spans_of(alloc: Global, counts: &[u32]) -> Result<Vec<PlaceSpan>, AllocEr
 }
 
 /// How many ports the class of a slot has.
-fn port_number(plan: &StructurePlan, slot: &Slot) -> usize
+fn port_number(plan: &StructurePlan, slot: &Slot) -> u32
+    requires { HasFewPorts plan.now }
     ensures { result ≡ length (class_plan plan.now slot.now.class).ports }
 {
     match plan.classes.as_slice().get(usize::from(slot.class)) {
-        Some(class) => class.ports.len(),
+        Some(class) => class.ports.len() as u32,
         None => 0,
     }
 }
@@ -45,19 +45,15 @@ pub fn first_ports(
     plan: &StructurePlan,
     slots: &[Slot],
 ) -> Result<Vec<u32>, AllocError>
+    requires few { length slots.now ≤ 2 ^ 16 }
+    requires ports { HasFewPorts plan.now }
     ensures { IfOk result (λ v. v.items ≡ first_ports_from plan.now 0 slots.now) }
 {
     let mut rows = Vec::new(alloc);
     let mut row = 0u32;
     for slot in slots {
         rows.push(row)?;
-        let Ok(ports) = u32::try_from(port_number(plan, slot)) else {
-            return Err(AllocError);
-        };
-        let Some(next) = row.checked_add(ports) else {
-            return Err(AllocError);
-        };
-        row = next;
+        row += port_number(plan, slot);
     }
     Ok(rows)
 }

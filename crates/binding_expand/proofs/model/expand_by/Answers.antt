@@ -1,7 +1,11 @@
+use Rattle.std.proofs.Common.{subst, sym}
 use Rattle.std.proofs.lemmas.Result.{err_from_is_err_and}
 use Rattle.room_ast.specs.Trees.{model_view}
 use Rattle.structure_check.proofs.KeptRules.{all_finite, all_few}
 use Rattle.wiring_slots.proofs.wired_laws.Few.{numbered_from_few}
+use Rattle.wiring_places.specs.place_rules.Parts.{HasFewPorts}
+use Rattle.wiring_slots.specs.declared.model_slots.slots.WiredSlots.{WiredSlots}
+use Rattle.binding_expand.proofs.FewPorts.{has_few_ports}
 use Rattle.binding_expand.proofs.Whole.{are_wired, places_told, wiring_told}
 use Rattle.binding_expand.proofs.model.expand_by.Goals as goal
 
@@ -10,6 +14,11 @@ slots_within-requires-clause-finite c = all_finite (model_view c.args.model.now)
 
 pub slots_within-requires-clause-numbered : goal.slots_within-requires-clause-numbered
 slots_within-requires-clause-numbered c = numbered_from_few (model_view c.args.model.now) (all_few (model_view c.args.model.now) c.requires.rules)
+
+pub joined_places-requires-clause-ports : goal.joined_places-requires-clause-ports
+joined_places-requires-clause-ports c =
+    let m = model_view c.args.model.now in
+    subst (λ (w : WiredSlots). HasFewPorts w.plan) (sym c.in_ok-slots.ensures.0) (has_few_ports m (all_few m c.requires.rules))
 
 pub returns-in_err-places : goal.returns-in_err-places
 returns-in_err-places c =

@@ -1,4 +1,4 @@
-use Rattle.std.proofs.Common.{◌≡◌, take}
+use Rattle.std.proofs.Common.{take}
 use Rattle.wiring_joins.specs.layer_joins.Indexes.{AreClassIndexes}
 use Rattle.wiring_joins.proofs.layer_joins.indexes.class_indexes.Given as goal
 

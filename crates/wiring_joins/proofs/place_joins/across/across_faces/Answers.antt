@@ -1,4 +1,4 @@
-use Rattle.std.proofs.Common.{◌≡◌, ℕ, List, sym, subst}
+use Rattle.std.proofs.Common.{ℕ, List, sym, subst}
 use Rattle.number_graphs.specs.face_chains.Chains.{IsInvolution}
 use Rattle.wiring_joins.proofs.place_joins.AcrossLaw.{across_is_involution}
 use Rattle.wiring_joins.proofs.place_joins.across.across_faces.Goals as goal

@@ -1,4 +1,3 @@
-use Rattle.std.proofs.Common.{◌≡◌}
 use Rattle.wiring_places.specs.place_spans.Containers.{AreSoFar}
 use Rattle.wiring_places.proofs.place_spans.containers.container_stretches.Given as goal
 

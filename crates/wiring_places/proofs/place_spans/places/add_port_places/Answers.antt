@@ -1,5 +1,5 @@
-use Rattle.std.proofs.Common.{◌∙◌, sym, rules}
-use Rattle.wiring_places.proofs.place_spans.RowSteps.{port_more, port_end}
+use Rattle.std.proofs.Common.{◌∙◌, sym}
+use Rattle.wiring_places.proofs.place_spans.RowSteps.{port_end}
 use Rattle.wiring_places.proofs.place_spans.places.add_port_places.Goals as goal
 
 pub returns : goal.returns

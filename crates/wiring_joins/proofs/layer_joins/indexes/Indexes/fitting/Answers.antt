@@ -1,4 +1,4 @@
-use Rattle.std.proofs.Common.{◌≡◌, ◌∙◌, sym, ap, Some}
+use Rattle.std.proofs.Common.{◌∙◌, sym, ap, Some}
 use Rattle.std.specs.Option.{option_copied}
 use Rattle.wiring_places.specs.place_rules.Layers.{fitting}
 use Rattle.wiring_places.specs.place_rules.Parts.{container_class}

@@ -1,4 +1,4 @@
-use Rattle.std.proofs.Common.{◌≡◌, ◌∙◌, sym}
+use Rattle.std.proofs.Common.{◌∙◌, sym}
 use Rattle.wiring_joins.proofs.layer_joins.Lookups.{fitting_there, fitting_missing}
 use Rattle.wiring_joins.proofs.layer_joins.indexes.Indexes.fitting_in.Goals as goal
 
