@@ -1,8 +1,9 @@
 //! Laws that say definitions which go along a list or a tree again, in the words of their subject: which
 //! program a text has, which places a binding pairs, who owns what stands at the end of a way, and which ports an
-//! imported slot has. `message_forms` says which forms system messages have on their way.
+//! imported slot has. `message_forms` says which forms system messages have on their way; `worked_examples` has
+//! the definitions of charts and worlds computed on small models.
 //!
-//! No code: the laws.
+//! No code: the laws, and the examples.
 #![tactic(auto)]
 
 ghost use Rattle.definition_laws.specs.Codes.{CodesHaveOneProgram};
@@ -11,6 +12,7 @@ ghost use Rattle.definition_laws.specs.Owners.{OwnersHaveTheLongestMapping, Slot
 ghost use Rattle.definition_laws.specs.Places.{BindingsTakeFreePlaces};
 
 pub mod message_forms;
+pub mod worked_examples;
 
 /// The program of a code is the one whose tokens are those of its text, within the limits of the language; there
 /// is none exactly where the text has none. So it is of conditions.

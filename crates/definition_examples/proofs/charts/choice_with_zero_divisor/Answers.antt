@@ -1,7 +1,0 @@
-use Rattle.std.proofs.Common.{refl}
-use Rattle.definition_examples.proofs.charts.Computing.{computing}
-use Rattle.definition_examples.proofs.charts.choice_with_zero_divisor.Goals as goal
-
-pub returns : goal.returns
-unfolding computing
-returns c = record { zero = refl; one = refl; stop = refl }
