@@ -10,35 +10,19 @@ use std::alloc::{AllocError, Global};
 /// How deep states nest at most, with the top graph.
 const MOST_DEEP: usize = 17;
 
-/// A state: its key, which is that of the state that holds it, a dot and its name; the number of that state, none in
-/// the top graph; and its part of the text.
+/// A part of a graph, as a transition or a point: the number of the state whose graph has it, none in the top graph, and
+/// its part of the text.
+#[derive(Clone, Copy, Drop)]
+pub struct Part {
+    pub owner: Option<usize>,
+    pub item: Item,
+}
+
+/// A state: its key, which is that of the state that holds it, a dot and its name; and where it stands.
 #[derive(Drop)]
 pub struct State {
     pub key: Vec<u8>,
-    pub owner: Option<usize>,
-    pub item: Item,
-}
-
-/// A transition: the number of the state whose graph has it, none in the top graph, and its part of the text.
-#[derive(Clone, Copy, Drop)]
-pub struct Arrow {
-    pub owner: Option<usize>,
-    pub item: Item,
-}
-
-/// A point or a choice point: the number of the state whose graph has it, none in the top graph, and its part of the
-/// text.
-#[derive(Clone, Copy, Drop)]
-pub(crate) struct Point {
-    pub owner: Option<usize>,
-    pub item: Item,
-}
-
-/// The items of a graph, or some of them, as they stand in a part of the text.
-#[derive(Clone, Copy, Drop)]
-struct Graph {
-    owner: Option<usize>,
-    body: Item,
+    pub part: Part,
 }
 
 /// What a chart has, in the order in which charts have it.
@@ -46,10 +30,10 @@ struct Graph {
 pub struct Chart {
     states: Vec<State>,
     by_key: IndexMap<Vec<u8>, usize>,
-    points: Vec<Point>,
+    points: Vec<Part>,
     /// The keys of the transition points.
     doors: IndexSet<Vec<u8>>,
-    arrows: Vec<Arrow>,
+    arrows: Vec<Part>,
     /// The entry, exit and action codes.
     codes: Vec<Item>,
     /// The messages that transitions name, by ports.
@@ -106,12 +90,12 @@ impl Chart {
     }
 
     /// The points and choice points.
-    pub(crate) fn points(&self) -> &[Point] {
+    pub(crate) fn points(&self) -> &[Part] {
         self.points.as_slice()
     }
 
     /// The transitions.
-    pub fn arrows(&self) -> &[Arrow] {
+    pub fn arrows(&self) -> &[Part] {
         self.arrows.as_slice()
     }
 
@@ -150,14 +134,14 @@ impl Chart {
         source: Source<'_>,
         item: Item,
         number: usize,
-        below: &mut Vec<Graph>,
+        below: &mut Vec<Part>,
     ) -> Result<(), AllocError> {
         for part in source.parts(item)?.as_slice() {
             match source.word(*part) {
                 Some(Word::Entry | Word::Exit) => self.codes.push(*part)?,
-                Some(Word::Subgraph) => below.push(Graph {
+                Some(Word::Subgraph) => below.push(Part {
                     owner: Some(number),
-                    body: *part,
+                    item: *part,
                 })?,
                 _ => (),
             }
@@ -166,18 +150,13 @@ impl Chart {
     }
 
     /// Adds a state without what is in it; gives its number.
-    fn add_name(
-        &mut self,
-        source: Source<'_>,
-        owner: Option<usize>,
-        item: Item,
-    ) -> Result<usize, AllocError> {
+    fn add_name(&mut self, source: Source<'_>, part: Part) -> Result<usize, AllocError> {
         let number = self.states.len();
-        let name = source.name(item).unwrap_or(&[]);
-        let known = named(source.alloc, self.key_of(owner), b'.', name)?;
+        let name = source.name(part.item).unwrap_or(&[]);
+        let known = named(source.alloc, self.key_of(part.owner), b'.', name)?;
         let key = Vec::from_slice(source.alloc, known.as_slice())?;
         self.by_key.insert(known, number)?;
-        self.states.push(State { key, owner, item })?;
+        self.states.push(State { key, part })?;
         Ok(number)
     }
 
@@ -185,12 +164,11 @@ impl Chart {
     fn add_state(
         &mut self,
         source: Source<'_>,
-        owner: Option<usize>,
-        item: Item,
-        below: &mut Vec<Graph>,
+        part: Part,
+        below: &mut Vec<Part>,
     ) -> Result<(), AllocError> {
-        let number = self.add_name(source, owner, item)?;
-        self.add_body(source, item, number, below)
+        let number = self.add_name(source, part)?;
+        self.add_body(source, part.item, number, below)
     }
 
     /// Adds what refines a state.
@@ -198,7 +176,7 @@ impl Chart {
         &mut self,
         source: Source<'_>,
         item: Item,
-        below: &mut Vec<Graph>,
+        below: &mut Vec<Part>,
     ) -> Result<(), AllocError> {
         let key = refined_key(source, item)?;
         match self.by_key.get(key.as_slice()).copied() {
@@ -208,30 +186,16 @@ impl Chart {
     }
 
     /// Adds a transition point.
-    fn add_transition_point(
-        &mut self,
-        source: Source<'_>,
-        owner: Option<usize>,
-        item: Item,
-    ) -> Result<(), AllocError> {
-        let name = source.name(item).unwrap_or(&[]);
-        let key = named(source.alloc, self.key_of(owner), b':', name)?;
+    fn add_transition_point(&mut self, source: Source<'_>, part: Part) -> Result<(), AllocError> {
+        let name = source.name(part.item).unwrap_or(&[]);
+        let key = named(source.alloc, self.key_of(part.owner), b':', name)?;
         self.doors.insert(key)?;
-        self.add_point(owner, item)
+        Ok(self.points.push(part)?)
     }
 
-    fn add_point(&mut self, owner: Option<usize>, item: Item) -> Result<(), AllocError> {
-        Ok(self.points.push(Point { owner, item })?)
-    }
-
-    fn add_transition(
-        &mut self,
-        source: Source<'_>,
-        owner: Option<usize>,
-        item: Item,
-    ) -> Result<(), AllocError> {
-        self.arrows.push(Arrow { owner, item })?;
-        self.add_deeds(source, item)
+    fn add_transition(&mut self, source: Source<'_>, part: Part) -> Result<(), AllocError> {
+        self.arrows.push(part)?;
+        self.add_deeds(source, part.item)
     }
 
     /// Adds the events of the triggers of a transition.
@@ -258,43 +222,42 @@ impl Chart {
         Ok(())
     }
 
-    /// Adds an item of a graph; the graphs in it are added to those below.
-    fn add_item(
+    /// Adds a part of a graph; the graphs in it are added to those below.
+    fn add_part(
         &mut self,
         source: Source<'_>,
-        owner: Option<usize>,
-        item: Item,
-        below: &mut Vec<Graph>,
+        part: Part,
+        below: &mut Vec<Part>,
     ) -> Result<(), AllocError> {
-        match source.word(item) {
-            Some(Word::State) => self.add_state(source, owner, item, below),
-            Some(Word::RefinedState) => self.add_refined_state(source, item, below),
-            Some(Word::TransitionPoint) => self.add_transition_point(source, owner, item),
+        match source.word(part.item) {
+            Some(Word::State) => self.add_state(source, part, below),
+            Some(Word::RefinedState) => self.add_refined_state(source, part.item, below),
+            Some(Word::TransitionPoint) => self.add_transition_point(source, part),
             Some(Word::EntryPoint | Word::ExitPoint | Word::ChoicePoint) => {
-                self.add_point(owner, item)
+                Ok(self.points.push(part)?)
             }
-            Some(Word::Transition) => self.add_transition(source, owner, item),
-            Some(Word::RefinedTransition) => self.add_deeds(source, item),
+            Some(Word::Transition) => self.add_transition(source, part),
+            Some(Word::RefinedTransition) => self.add_deeds(source, part.item),
             _ => Ok(()),
         }
     }
 
-    /// Adds the items of a graph, or of a part of it; the graphs in them are added to those below.
+    /// Adds the parts of a graph that stand in a part of the text; the graphs in them are added to those below.
     fn add_graph(
         &mut self,
         source: Source<'_>,
-        graph: Graph,
-        below: &mut Vec<Graph>,
+        graph: Part,
+        below: &mut Vec<Part>,
     ) -> Result<(), AllocError> {
-        let items = source.parts(graph.body)?;
-        for item in items.as_slice() {
-            self.add_item(source, graph.owner, *item, below)?;
+        let owner = graph.owner;
+        for item in source.parts(graph.item)?.as_slice() {
+            self.add_part(source, Part { owner, item: *item }, below)?;
         }
         Ok(())
     }
 
     /// Adds the graphs of a level; gives those of the level below.
-    fn add_level(&mut self, source: Source<'_>, level: &[Graph]) -> Result<Vec<Graph>, AllocError> {
+    fn add_level(&mut self, source: Source<'_>, level: &[Part]) -> Result<Vec<Part>, AllocError> {
         let mut below = Vec::new(source.alloc);
         for graph in level {
             self.add_graph(source, *graph, &mut below)?;
@@ -305,9 +268,9 @@ impl Chart {
     /// Adds the state machine of a class, which stands in a part of the text. That of its base is added before it.
     fn add_machine(&mut self, source: Source<'_>, machine: Item) -> Result<(), AllocError> {
         let mut level = Vec::new(source.alloc);
-        level.push(Graph {
+        level.push(Part {
             owner: None,
-            body: machine,
+            item: machine,
         })?;
         for _deep in 0..MOST_DEEP {
             level = self.add_level(source, level.as_slice())?;
@@ -317,8 +280,7 @@ impl Chart {
 
     /// Adds the state machine in the Behavior of a class.
     fn add_behavior(&mut self, source: Source<'_>, behavior: Item) -> Result<(), AllocError> {
-        let machines = source.parts(behavior)?;
-        for machine in machines.as_slice() {
+        for machine in source.parts(behavior)?.as_slice() {
             self.add_machine(source, *machine)?;
         }
         Ok(())
@@ -326,8 +288,7 @@ impl Chart {
 
     /// Adds what a class says of its chart beyond its base.
     fn add_class(&mut self, source: Source<'_>, class: Item) -> Result<(), AllocError> {
-        let parts = source.parts(class)?;
-        for part in parts.as_slice() {
+        for part in source.parts(class)?.as_slice() {
             if source.word(*part) == Some(Word::Behavior) {
                 self.add_behavior(source, *part)?;
             }

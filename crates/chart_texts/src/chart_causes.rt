@@ -1,5 +1,5 @@
 //! Which of the causes of a fault of a chart fits where it was found.
-use crate::chart::{Arrow, Chart};
+use crate::chart::{Chart, Part};
 use crate::classes::ClassItems;
 use crate::code_causes::{Cause, code_cause, trigger_cause};
 use crate::ends::{Ends, ends_of, is_word};
@@ -47,7 +47,7 @@ fn is_triggered(ends: Ends<'_>, is_choice: bool, is_door: bool) -> bool {
 }
 
 /// Whether a transition is the initial one of its graph.
-fn is_initial(source: Source<'_>, arrow: Arrow) -> bool {
+fn is_initial(source: Source<'_>, arrow: Part) -> bool {
     match ends_of(source, arrow) {
         Some(ends) => match ends.source {
             [only] => is_word(only, Word::Initial),
@@ -69,14 +69,14 @@ impl<'a> Suspect<'a> {
 
     /// The number of a state of a graph with a name.
     fn state(&self, owner: Option<usize>, name: &[u8]) -> Option<usize> {
-        self.chart.states().iter().position(|state| state.owner == owner
-            && self.source.name(state.item) == Some(name))
+        self.chart.states().iter().position(|state| state.part.owner == owner
+            && self.source.name(state.part.item) == Some(name))
     }
 
     /// How many states and points of a graph have a name.
     fn named(&self, owner: Option<usize>, name: &[u8]) -> usize {
         let states = self.chart.states().iter().filter(|state| {
-            state.owner == owner && self.source.name(state.item) == Some(name)
+            state.part.owner == owner && self.source.name(state.part.item) == Some(name)
         });
         let points = self.chart.points().iter().filter(|point| {
             point.owner == owner
@@ -145,7 +145,7 @@ impl<'a> Suspect<'a> {
     }
 
     /// Which cause fits at a transition.
-    fn cause_at_arrow(&self, arrow: Arrow) -> Result<Option<&'static str>, AllocError> {
+    fn cause_at_arrow(&self, arrow: Part) -> Result<Option<&'static str>, AllocError> {
         let Some(ends) = ends_of(self.source, arrow) else {
             return Ok(None);
         };
@@ -181,7 +181,7 @@ impl<'a> Suspect<'a> {
     /// Which cause fits at the parts of a transition that begins and leads where it may.
     fn cause_of_parts(
         &self,
-        arrow: Arrow,
+        arrow: Part,
         ends: Ends<'_>,
     ) -> Result<Option<&'static str>, AllocError> {
         let is_choice = self.begins_at_choice(arrow.owner, ends.source);
@@ -199,13 +199,13 @@ impl<'a> Suspect<'a> {
     }
 
     /// Which cause fits at a state or a point of a graph.
-    fn cause_at_name(&self, owner: Option<usize>, item: Item) -> Option<&'static str> {
-        let name = self.source.name(item)?;
-        if self.named(owner, name) > 1 {
+    fn cause_at_name(&self, part: Part) -> Option<&'static str> {
+        let name = self.source.name(part.item)?;
+        if self.named(part.owner, name) > 1 {
             return Some("another state or point of its graph has this name");
         }
-        match self.source.word(item) {
-            Some(Word::EntryPoint | Word::ExitPoint) if owner.is_none() => {
+        match self.source.word(part.item) {
+            Some(Word::EntryPoint | Word::ExitPoint) if part.owner.is_none() => {
                 Some("the top graph has no border, and so no entry or exit point")
             }
             Some(Word::EntryPoint) => Some(
@@ -221,10 +221,14 @@ impl<'a> Suspect<'a> {
     /// Which cause of fault 2 fits at a state or a point, if a part is one.
     fn cause_at_part(&self, item: Item) -> Option<&'static str> {
         if let Some(point) = self.chart.points().iter().find(|point| point.item == item) {
-            return self.cause_at_name(point.owner, item);
+            return self.cause_at_name(*point);
         }
-        let state = self.chart.states().iter().find(|state| state.item == item)?;
-        self.cause_at_name(state.owner, item)
+        let state = self
+            .chart
+            .states()
+            .iter()
+            .find(|state| state.part.item == item)?;
+        self.cause_at_name(state.part)
     }
 
     /// Whether the top graph has an initial transition.

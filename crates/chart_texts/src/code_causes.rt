@@ -1,5 +1,5 @@
 //! Which fault a code or a trigger has that a class refuses, and where in it.
-use crate::chart::{Arrow, Chart, event_in};
+use crate::chart::{Chart, Part, event_in};
 use crate::code::Code;
 use crate::source::Source;
 use action_lang::{ActionFault, ServiceNames, check_action, check_cond, parse_action, parse_cond};
@@ -53,18 +53,14 @@ impl<'a> Judge<'a> {
     fn action_fault(&self, text: &[u8]) -> Result<(), ActionFault> {
         let program = parse_action(self.source.alloc, text)?;
         let mut names = ServiceNames::new(self.source.alloc);
-        match check_action(self.source.alloc, &program, self.scope, &mut names) {
-            Ok(_bound) => Ok(()),
-            Err(fault) => Err(fault),
-        }
+        check_action(self.source.alloc, &program, self.scope, &mut names)?;
+        Ok(())
     }
 
     fn condition_fault(&self, text: &[u8]) -> Result<(), ActionFault> {
         let condition = parse_cond(self.source.alloc, text)?;
-        match check_cond(self.source.alloc, &condition, self.scope) {
-            Ok(_bound) => Ok(()),
-            Err(fault) => Err(fault),
-        }
+        check_cond(self.source.alloc, &condition, self.scope)?;
+        Ok(())
     }
 
     /// The fault of a text, if it has one.
@@ -207,9 +203,8 @@ fn cause_in(judge: &Judge<'_>, code: &Code) -> Result<Option<Cause>, AllocError>
     }
 }
 
-/// The codes of the guards in the triggers of a transition.
-fn guards_in(source: Source<'_>, triggers: Item) -> Result<Vec<Item>, AllocError> {
-    let mut guards = Vec::new(source.alloc);
+/// Adds the codes of the guards in the triggers of a transition.
+fn add_guards(source: Source<'_>, triggers: Item, codes: &mut Vec<Item>) -> Result<(), AllocError> {
     let mut first: Option<usize> = None;
     for (at, token) in source.tokens_of(triggers).iter().enumerate() {
         let place = triggers.first.saturating_add(at);
@@ -217,29 +212,41 @@ fn guards_in(source: Source<'_>, triggers: Item) -> Result<Vec<Item>, AllocError
             TokenKind::Ident(Some(Word::Guard)) => first = Some(place),
             TokenKind::Mark(Mark::Greater) => {
                 if let Some(first) = first {
-                    guards.push(Item { first, end: place })?;
+                    codes.push(Item { first, end: place })?;
                 }
                 first = None;
             }
             _ => (),
         }
     }
-    Ok(guards)
+    Ok(())
 }
 
-/// The conditions of a transition: that of a branch, and the guards of triggers.
-fn conditions_of(source: Source<'_>, arrow: Item) -> Result<Vec<Item>, AllocError> {
-    let mut conditions = Vec::new(source.alloc);
+/// Adds the conditions of a transition: that of a branch, and the guards of triggers.
+fn add_conditions(
+    source: Source<'_>,
+    arrow: Item,
+    codes: &mut Vec<Item>,
+) -> Result<(), AllocError> {
     for part in source.parts(arrow)?.as_slice() {
         match source.word(*part) {
-            Some(Word::Cond) => conditions.push(*part)?,
-            Some(Word::Triggers) => {
-                conditions.append(&mut guards_in(source, *part)?)?;
-            }
+            Some(Word::Cond) => codes.push(*part)?,
+            Some(Word::Triggers) => add_guards(source, *part, codes)?,
             _ => (),
         }
     }
-    Ok(conditions)
+    Ok(())
+}
+
+/// The conditions of transitions that meet a part of the text.
+fn conditions_at(source: Source<'_>, arrows: &[Part], item: Item) -> Result<Vec<Item>, AllocError> {
+    let mut codes = Vec::new(source.alloc);
+    for arrow in arrows {
+        if meet(arrow.item, item) {
+            add_conditions(source, arrow.item, &mut codes)?;
+        }
+    }
+    Ok(codes)
 }
 
 /// What is wrong with a code in a part of the text.
@@ -256,34 +263,6 @@ fn cause_among(judge: &Judge<'_>, codes: &[Item], item: Item) -> Result<Option<C
             if cause.is_some() {
                 return Ok(cause);
             }
-        }
-    }
-    Ok(None)
-}
-
-/// What is wrong with the conditions of a transition that meet a part of the text.
-fn cause_at_arrow(
-    judge: &Judge<'_>,
-    arrow: Arrow,
-    item: Item,
-) -> Result<Option<Cause>, AllocError> {
-    if !meet(arrow.item, item) {
-        return Ok(None);
-    }
-    let codes = conditions_of(judge.source, arrow.item)?;
-    cause_among(judge, codes.as_slice(), item)
-}
-
-/// What is wrong with the conditions of transitions that meet a part of the text.
-fn condition_cause(
-    judge: &Judge<'_>,
-    arrows: &[Arrow],
-    item: Item,
-) -> Result<Option<Cause>, AllocError> {
-    for arrow in arrows {
-        let cause = cause_at_arrow(judge, *arrow, item)?;
-        if cause.is_some() {
-            return Ok(cause);
         }
     }
     Ok(None)
@@ -310,7 +289,8 @@ pub(crate) fn code_cause(
         scope,
         is_condition: true,
     };
-    condition_cause(&conditions, chart.arrows(), item)
+    let codes = conditions_at(source, chart.arrows(), item)?;
+    cause_among(&conditions, codes.as_slice(), item)
 }
 
 /// What is wrong with an event of a trigger, if something is.

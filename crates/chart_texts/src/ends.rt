@@ -1,5 +1,5 @@
 //! Where transitions begin and lead to.
-use crate::chart::Arrow;
+use crate::chart::Part;
 use crate::source::Source;
 use room_lexer::{Mark, Token, TokenKind, Word};
 
@@ -24,7 +24,7 @@ fn before_body(tokens: &[Token]) -> &[Token] {
     }
 }
 
-pub(crate) fn ends_of<'a>(source: Source<'a>, arrow: Arrow) -> Option<Ends<'a>> {
+pub(crate) fn ends_of<'a>(source: Source<'a>, arrow: Part) -> Option<Ends<'a>> {
     let head = before_body(source.tokens_of(arrow.item));
     let colon = position_of(head, Mark::Colon)?;
     let mark = position_of(head, Mark::Arrow)?;

@@ -20,7 +20,7 @@ mod source;
 mod ways;
 
 pub use by_port::ByPort;
-pub use chart::{Arrow, Chart, State};
+pub use chart::{Chart, Part, State};
 pub use chart_causes::{ChartFault, chart_cause};
 pub use classes::ClassItems;
 pub use code::Code;

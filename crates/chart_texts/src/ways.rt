@@ -4,7 +4,7 @@
 //! top graph, `>` is the beginning of its graph, `*` says that some state of its graph is active, `?` and a name is a
 //! choice point of its graph, `:` and a name a point of its border; `!` behind the key of a state says that it is
 //! entered by its name, so that its graph begins.
-use crate::chart::{Arrow, Chart, State};
+use crate::chart::{Chart, Part, State};
 use crate::ends::{Ends, ends_of, is_word};
 use crate::keys::{marked, named};
 use crate::source::Source;
@@ -186,7 +186,7 @@ impl Ways {
         for state in states {
             let key = state.key.as_slice();
             self.add_entry(walk.source.alloc, key)?;
-            self.add_activity(walk.source.alloc, key, walk.chart.key_of(state.owner))?;
+            self.add_activity(walk.source.alloc, key, walk.chart.key_of(state.part.owner))?;
         }
         Ok(())
     }
@@ -250,7 +250,7 @@ impl Ways {
     }
 
     /// Adds transitions.
-    fn add_arrows(&mut self, walk: &Walk<'_>, arrows: &[Arrow]) -> Result<(), AllocError> {
+    fn add_arrows(&mut self, walk: &Walk<'_>, arrows: &[Part]) -> Result<(), AllocError> {
         for (number, arrow) in arrows.iter().enumerate() {
             if let Some(ends) = ends_of(walk.source, *arrow) {
                 self.add_ends(walk, number, walk.chart.key_of(arrow.owner), ends)?;
@@ -279,22 +279,12 @@ impl Ways {
         &self.choices
     }
 
-    /// Goes one step on from a node; adds the nodes that weren't reached before.
-    fn step_from(
-        &self,
-        from: usize,
-        reached: &mut [bool],
-        next: &mut Vec<usize>,
-    ) -> Result<(), AllocError> {
-        let Some(steps) = self.edges.as_slice().get(from) else {
-            return Ok(());
-        };
-        for to in steps.as_slice() {
-            if reach(*to, reached) {
-                next.push(*to)?;
-            }
+    /// The nodes to which steps lead from a node.
+    fn steps_from(&self, node: usize) -> &[usize] {
+        match self.edges.as_slice().get(node) {
+            Some(steps) => steps.as_slice(),
+            None => &[],
         }
-        Ok(())
     }
 
     /// Goes one step on from each of some nodes; gives those that weren't reached before.
@@ -306,7 +296,11 @@ impl Ways {
     ) -> Result<Vec<usize>, AllocError> {
         let mut next = Vec::new(alloc);
         for node in from {
-            self.step_from(*node, reached, &mut next)?;
+            for to in self.steps_from(*node) {
+                if reach(*to, reached) {
+                    next.push(*to)?;
+                }
+            }
         }
         Ok(next)
     }

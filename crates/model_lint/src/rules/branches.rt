@@ -1,7 +1,7 @@
 //! Branches of choice points that are never taken.
 use crate::conditions::always;
 use crate::finding::{Finding, Kind};
-use chart_texts::{Arrow, Code, Source, Ways};
+use chart_texts::{Code, Part, Source, Ways};
 use fault_places::Item;
 use indexmap::IndexMap;
 use room_lexer::Word;
@@ -131,7 +131,7 @@ impl Branches {
     fn add_all(
         &mut self,
         source: Source<'_>,
-        arrows: &[Arrow],
+        arrows: &[Part],
         numbers: &[usize],
         findings: &mut Vec<Finding>,
     ) -> Result<(), AllocError> {
@@ -164,7 +164,7 @@ const NEVER: &[u8] = b"its condition never holds";
 /// Adds a finding for each branch of a choice point that is never taken.
 fn add_choice(
     source: Source<'_>,
-    arrows: &[Arrow],
+    arrows: &[Part],
     numbers: &[usize],
     findings: &mut Vec<Finding>,
 ) -> Result<(), AllocError> {
@@ -176,7 +176,7 @@ fn add_choice(
 /// Adds a finding for each branch of a choice point of a class that is never taken.
 pub(crate) fn add_dead_branches(
     source: Source<'_>,
-    arrows: &[Arrow],
+    arrows: &[Part],
     ways: &Ways,
     findings: &mut Vec<Finding>,
 ) -> Result<(), AllocError> {

@@ -28,7 +28,8 @@ fn at_head(source: Source<'_>, kind: Kind, item: Item, detail: Vec<u8>) -> Findi
 
 /// Whether a state is never entered, but for those inside such a state.
 fn is_unentered(ways: &Ways, reached: &[bool], chart: &Chart, state: &State) -> bool {
-    let holds = state.owner.is_none() || is_reached(ways, reached, chart.key_of(state.owner));
+    let holds = state.part.owner.is_none()
+        || is_reached(ways, reached, chart.key_of(state.part.owner));
     holds && !is_reached(ways, reached, state.key.as_slice())
 }
 
@@ -56,7 +57,7 @@ pub(crate) fn add_unentered_states(
                 state.key.as_slice(),
                 class.names.name.as_bytes(),
             )?;
-            findings.push(at_head(source, Kind::UnenteredState, state.item, detail))?;
+            findings.push(at_head(source, Kind::UnenteredState, state.part.item, detail))?;
         }
     }
     Ok(())
