@@ -1,41 +1,37 @@
 -- Actors that stand at states of their classes, through turns and starts.
-use Rattle.std.proofs.Common.{◌≡◌, ℕ, zero, suc, ◌+◌, ◌<◌, ◌≤◌, ◌==◌, ◌&&◌, ◌||◌, Bool, true, false, not, if◌then◌else◌, List, [], ◌∷◌, ◌++◌, map, filter, reverse, length, Option, Some, None, IfSome, slice_get, refl, sym, ap, ◌∙◌, subst, eqb-true, append_assoc, arith, ℤ, pos, negsuc, cond}
+use Rattle.std.proofs.Common.{◌≡◌, ℕ, zero, suc, ◌+◌, ◌<◌, ◌≤◌, ◌==◌, ◌&&◌, ◌||◌, Bool, true, false, not, if◌then◌else◌, List, [], ◌∷◌, ◌++◌, map, filter, reverse, length, Option, Some, None, IfSome, slice_get, refl, sym, subst, eqb-true, append_assoc, arith, ℤ, pos, negsuc, cond}
 use Rattle.std.specs.List.{AllByRecursion as Each, list_all, range_with_len}
-use Rattle.std.proofs.lemmas.Bool.{and_parts, true≢false}
+use Rattle.std.proofs.lemmas.Bool.{and_parts}
 use Rattle.std.proofs.lemmas.List.{reverse-append}
 use Rattle.std.proofs.lemmas.Option.{same_Some}
 use Rattle.room_kinds.specs.declared.message.Msg.{Msg}
 use Rattle.room_kinds.specs.declared.note.Note.{Note}
 use Rattle.room_kinds.specs.declared.note.Note.TheVariants as notes
-use Rattle.room_kinds.specs.declared.command.Command.{Command}
 use Rattle.room_kinds.specs.declared.numbers.Endpoint.{Endpoint}
 use Rattle.room_kinds.specs.declared.numbers.Incarnation.{Incarnation}
-use Rattle.room_kinds.specs.declared.numbers.SlotId.{SlotId}
 use Rattle.room_kinds.specs.declared.system.SysKind.{SysKind}
 use Rattle.room_kinds.specs.declared.system.SysKind.TheVariants as kinds
 use Rattle.room_wiring.specs.declared.tables.Tables.{Tables}
-use Rattle.journal.specs.Fits.{FitsIncarnation, FitsState, FitsStanding, FitsNotes}
+use Rattle.journal.specs.Fits.{FitsState, FitsStanding, FitsNotes}
 use Rattle.journal.specs.Lines.{is_duty, speaker_of}
-use Rattle.journal.specs.declared.entry.Did.{Did}
 use Rattle.journal.specs.declared.entry.Did.TheVariants as did
 use Rattle.journal.specs.declared.entry.Entry.{Entry}
 use Rattle.journal.specs.declared.entry.Entry.TheVariants as entry
-use Rattle.actor_merge.specs.Parties.{State, Line, Plant as RunPlant, Taken, Treated, next_of, fetch, turn, turn_with, turned, post, post_front, Does, Replays}
+use Rattle.actor_merge.specs.Parties.{State, Line, Taken, Treated, next_of, fetch, turn, turn_with, post, post_front, Does, Replays}
 use Rattle.actor_duties.specs.Messages.{reply, coded, NotHere, Occupied}
 use Rattle.actor_duties.specs.Words.{updated, incarnation, frame_at, frame_of, whose, slots_of, is_own}
 use Rattle.actor_duties.specs.State.{Lives, Frame}
 use Rattle.actor_duties.specs.Lives.{last_of, counts_as_live, made_slots, lives_made, ended_slots, comes_up, goes_down, Lived, answered, part_make, made, create}
 use Rattle.actor_duties.specs.Frame.{FrameDone, nothing, plainly, with_number, of_natural, end_set_ended, destroy, part_end, frame_duty_of, frame_duty_from, frame_duty}
-use Rattle.actor_duties.specs.Links.{end_of}
 use Rattle.actor_world.proofs.Slots.{own_in_range}
 use Rattle.actor_world.specs.Behaviour.{Behaviour, Handling, Handled, Deferred, Unhandled}
-use Rattle.actor_world.specs.Body.{Body, Doing, naming, apply_all}
-use Rattle.actor_world.specs.Turns.{all_kinds, doing, treated, begun, all_begun, gone, all_gone, closing, with_frame, duty, system_done, handled_as, moved, nobody_there, handled, dispatched, is_meant, dispatch, treat}
+use Rattle.actor_world.specs.Body.{Body, Doing, apply_all}
+use Rattle.actor_world.specs.Turns.{all_kinds, doing, treated, begun, all_begun, gone, all_gone, closing, with_frame, duty, system_done, handled_as, nobody_there, handled, dispatched, is_meant, dispatch, treat}
 use Rattle.actor_world.specs.Start.{lives_from_start, first_body, first_actors, Starting, started, all_started, starting, start_entries, first_state, plant_of}
 use Rattle.chart_behaviour.specs.chart_asks.Laws.{is_zero}
 use Rattle.named_runs.proofs.Doings.{apply_all_machines}
 use Rattle.room_run.specs.fitting_journals.Actors.{FitsActor, TellsOfActors}
-use Rattle.room_run.proofs.fitting_journals.Speaking.{speaker_then, Speaks, speaks_on, up_speaks, fits_both, said_zeros, AsksAt, all_applied}
+use Rattle.room_run.proofs.fitting_journals.Speaking.{Speaks, speaks_on, up_speaks, fits_both, said_zeros, AsksAt, all_applied}
 
 -- ---- slots
 

@@ -1,16 +1,14 @@
 -- Controllers post from places of the wiring to such places.
-use Rattle.std.proofs.Common.{◌≡◌, ℕ, zero, suc, ◌<◌, ◌==◌, ◌&&◌, nat_lt, Bool, true, false, if◌then◌else◌, List, [], ◌∷◌, map, length, Option, Some, None, option_map, slice_get, refl, sym, ap, ◌∙◌, subst, ltb-true, arith}
+use Rattle.std.proofs.Common.{◌≡◌, ℕ, ◌<◌, ◌==◌, ◌&&◌, nat_lt, Bool, true, false, if◌then◌else◌, List, [], ◌∷◌, length, Option, Some, None, option_map, slice_get, refl, sym, ap, ◌∙◌, subst, ltb-true, arith}
 use Rattle.std.specs.List.{AllByRecursion as Each}
 use Rattle.std.proofs.lemmas.Bool.{and_parts}
 use Rattle.std.proofs.lemmas.List.Elements.{All-from_recursion}
 use Rattle.std.proofs.lemmas.Option.{slice_get_within, slice_get-map}
-use Rattle.room_kinds.specs.declared.numbers.SlotId.{SlotId}
 use Rattle.room_ast.specs.Trees.{ModelTree, ActorTree}
 use Rattle.room_ast.specs.model_parts.Classes.{actors}
 use Rattle.room_ast.specs.model_parts.Ports.{names_in, ports_in as entries_in}
 use Rattle.room_wiring.specs.Places.{port_count, place_count, partner_at}
 use Rattle.room_wiring.specs.declared.names.ClassNames.{ClassNames}
-use Rattle.room_wiring.specs.declared.slot.Partner.{Partner}
 use Rattle.room_wiring.specs.declared.slot.Partner.TheVariants as partners
 use Rattle.room_wiring.specs.declared.tables.Tables.{Tables}
 use Rattle.wiring_plan.specs.wiring_classes.Classes.{class_names, classes_of, ports_in}
@@ -18,7 +16,7 @@ use Rattle.journal.specs.declared.entry.Entry.{Entry}
 use Rattle.journal.specs.declared.entry.Entry.TheVariants as entry
 use Rattle.journal.specs.declared.entry.Journals.{Journals}
 use Rattle.inject_reader.specs.declared.inject_lines.accepted.Line.{Line}
-use Rattle.actor_duties.specs.Words.{is_imported, is_joined, joined_at, container_of}
+use Rattle.actor_duties.specs.Words.{is_imported, is_joined, joined_at}
 use Rattle.actor_merge.specs.Merge.{entries_of}
 use Rattle.actor_merge.specs.World.{Placed}
 use Rattle.actor_world.specs.Journals.{lines_of}

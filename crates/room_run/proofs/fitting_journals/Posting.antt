@@ -1,9 +1,8 @@
 -- All that is posted in a run goes from a port of the wiring to one: so it is of what waits for its turn, of what
 -- is kept, of what is on its way, and of what a controller keeps of places, plugs, links and names.
-use Rattle.std.proofs.Common.{◌≡◌, ℕ, zero, suc, ◌+◌, ◌<◌, ◌≤◌, ◌==◌, ◌&&◌, Bool, true, false, not, if◌then◌else◌, cond, List, [], ◌∷◌, ◌++◌, drop, filter, length, Option, Some, None, IfSome, slice_get, ℤ, refl, sym, ap, ◌∙◌, subst, arith}
+use Rattle.std.proofs.Common.{◌≡◌, ℕ, zero, suc, ◌+◌, ◌<◌, ◌==◌, ◌&&◌, Bool, true, false, not, if◌then◌else◌, List, [], ◌∷◌, ◌++◌, drop, filter, length, Option, Some, None, IfSome, slice_get, refl, sym, subst}
 use Rattle.std.specs.Option.{option_map_or, option_and_then}
 use Rattle.std.specs.List.{AllByRecursion as Each}
-use Rattle.std.proofs.lemmas.Bool.{and_parts}
 use Rattle.std.proofs.lemmas.Option.{same_Some, slice_get_within}
 use Rattle.room_kinds.specs.declared.message.Msg.{Msg}
 use Rattle.room_kinds.specs.declared.command.Command.{Command}
@@ -29,21 +28,20 @@ use Rattle.actor_merge.specs.Parties.{State, Environment, Line, Plant as RunPlan
 use Rattle.actor_merge.specs.World.{World, Placed, start, Runs, put_lane, caught_up, controller_does, environment_does, lanes_after}
 use Rattle.actor_merge.proofs.Back.{Happened, controller, environment, happened, fetch_front_from}
 use Rattle.actor_duties.specs.Commands.{Kept, defer, recall, recall_all}
-use Rattle.actor_duties.specs.Frame.{FrameDone, frame_duty, frame_request}
+use Rattle.actor_duties.specs.Frame.{FrameDone, frame_duty}
 use Rattle.actor_duties.specs.Lives.{is_live, last_of}
-use Rattle.actor_duties.specs.Links.{end_of, links_duty}
+use Rattle.actor_duties.specs.Links.{links_duty}
 use Rattle.actor_duties.specs.Names.{table_duty}
 use Rattle.actor_duties.specs.Words.{updated, whose, is_own}
-use Rattle.actor_world.proofs.Slots.{own_in_range}
 use Rattle.actor_world.specs.Behaviour.{Behaviour, Handling, Handled, Deferred, Unhandled}
 use Rattle.actor_world.specs.Body.{Body, Doing, apply, apply_all}
-use Rattle.actor_world.specs.Journals.{lines_from, lines_of}
+use Rattle.actor_world.specs.Journals.{lines_from}
 use Rattle.actor_world.specs.Turns.{all_kinds, doing, treated, begun, all_begun, gone, all_gone, closing, with_frame, duty, system_done, handled_as, nobody_there, handled, dispatched, is_meant, dispatch, treat}
-use Rattle.actor_world.specs.Start.{first_body, first_actors, Starting, started, all_started, starting, first_state, plant_of}
+use Rattle.actor_world.specs.Start.{first_body, first_actors, Starting, started, all_started, starting, plant_of}
 use Rattle.model_run.specs.part_posts.Items.{item_of, items_of}
-use Rattle.run_promises.specs.run_journals.Outside.{NamesPlace, WhatNames, LinesName}
+use Rattle.run_promises.specs.run_journals.Outside.{WhatNames, LinesName}
 use Rattle.room_run.specs.fitting_journals.Places.{FitsNobody}
-use Rattle.room_run.proofs.fitting_journals.Acting.{AreThere, FrameThere, frame_duty_there, first_actors_there}
+use Rattle.room_run.proofs.fitting_journals.Acting.{AreThere, FrameThere, frame_duty_there}
 use Rattle.room_run.proofs.fitting_journals.Speaking.{AsksAt}
 use Rattle.room_run.proofs.fitting_journals.Sending.{IsWired, IsNamed, AreNamed, LastNamed, FrameNamed, LinksNamed, TableNamed, FrameDoneNamed, each_both, each_kept, frame_duty_named, request_named, register_command_named, withdraw_command_named, end_of_named, links_duty_named, table_duty_named, send_named, broadcast_named}
 

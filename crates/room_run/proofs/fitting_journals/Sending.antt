@@ -1,6 +1,6 @@
 -- Whatever duties and commands send goes from a port of the wiring to one: each message's source and target are
 -- those of messages that came, of slots of the wiring, or of what places are joined to.
-use Rattle.std.proofs.Common.{◌≡◌, ℕ, zero, suc, ◌+◌, ◌<◌, ◌≤◌, ◌==◌, nat_lt, nat_le, Bool, true, false, not, ◌&&◌, ◌||◌, if◌then◌else◌, cond, is_some, List, [], ◌∷◌, ◌++◌, map, filter, find, length, Option, Some, None, IfSome, slice_get, option_and_then, option_map, ℤ, pos, negsuc, refl, sym, ap, ◌∙◌, subst, eqb-true, ltb-true, arith}
+use Rattle.std.proofs.Common.{◌≡◌, ℕ, ◌+◌, ◌<◌, ◌==◌, nat_lt, Bool, true, false, not, ◌&&◌, ◌||◌, if◌then◌else◌, cond, is_some, List, [], ◌∷◌, ◌++◌, map, filter, find, length, Option, Some, None, IfSome, slice_get, option_and_then, option_map, ℤ, pos, negsuc, refl, sym, ap, ◌∙◌, subst, eqb-true, ltb-true, arith}
 use Rattle.std.specs.Option.{option_map_or}
 use Rattle.std.specs.List.{AllByRecursion as Each, flat_map, position, position_or_len}
 use Rattle.std.proofs.lemmas.Bool.{and_parts}
@@ -13,8 +13,6 @@ use Rattle.room_kinds.specs.declared.system.SysKind.{SysKind}
 use Rattle.room_kinds.specs.declared.system.SysKind.TheVariants as kinds
 use Rattle.room_kinds.specs.declared.command.FrameCommand.{FrameCommand}
 use Rattle.room_kinds.specs.declared.command.FrameCommand.TheVariants as frames
-use Rattle.room_kinds.specs.declared.command.NameCommand.{NameCommand}
-use Rattle.room_kinds.specs.declared.command.NameCommand.TheVariants as names
 use Rattle.room_wiring.specs.declared.tables.Tables.{Tables}
 use Rattle.room_wiring.specs.declared.names.ClassNames.{ClassNames}
 use Rattle.room_wiring.specs.declared.slot.Partner.{Partner}
@@ -25,15 +23,15 @@ use Rattle.room_wiring.specs.Slots.{class_at, class_of}
 use Rattle.journal.specs.Fits.{FitsEndpoint, FitsSource}
 use Rattle.actor_duties.specs.Words.{updated, incarnation, is_incarnation, is_endpoint, endpoint, frame_at, frame_of, whose, part_at, of_id, is_spp, is_sap, is_optional, is_imported, is_home, is_part_of, is_slot_for, container_of, class_number, protocol_of, joined_at, is_joined, slots_of, ports_of}
 use Rattle.actor_duties.specs.State.{Lives, Frame, Links, Link, ImportPlace, Empty, Asking, Held, Leaving, Registration, Unnamed, Asked, Registered, Leaving as LeavingName, User, Provider, Service, NameTable, Done}
-use Rattle.actor_duties.specs.Messages.{Code, coded, system, reply, to_owner, is_code, Occupied, NotHere, StaleId, PortTaken, WrongClass}
+use Rattle.actor_duties.specs.Messages.{Code, coded, system, reply, to_owner, is_code, Occupied, NotHere, StaleId, WrongClass}
 use Rattle.actor_duties.specs.Lives.{is_live, counts_as_live, last_of, Lived, answered, create, create_done, create_refused, destroy_done, announces, announce_to, part_told_to, told_controllers, part_controllers, part_make, made, made_slots, lives_made, goes_down, ended_slots, parts_told}
-use Rattle.actor_duties.specs.Imports.{is_asking, is_held, is_leaving, tied_home, container_frame, is_port_taken, heard, import, import_done, import_refused, import_ended, deport, deport_done, is_container_live, imported_parts, ended_plugs, given_back}
+use Rattle.actor_duties.specs.Imports.{is_asking, container_frame, is_port_taken, heard, import, import_done, import_refused, import_ended, deport, deport_done, is_container_live, imported_parts, ended_plugs, given_back}
 use Rattle.actor_duties.specs.Frame.{FrameDone, only_sends, nothing, end_messages, part_ends, is_place_ended, frame_ended, end_set_ended, destroy, part_end, plainly, with_number, of_natural, frame_duty_of, frame_duty_from, frame_duty, asked_of, incarnate, destroy_command, is_same_class, busy_code, import_code, asks_for, import_with, import_into, import_command, deport_from, deport_of, deport_command, frame_request}
-use Rattle.actor_duties.specs.Names.{same_table, Linking, linked_users, linked_first, meet_with, meet, provide, use_service, in_service, register_spp, register_sap, links_ended, link_ended, user_ended, is_user, waiting, leave, is_provider, stands_in, withdraw, register, is_name_request, table_duty_of, table_duty_from, table_duty, both_told, at_place}
-use Rattle.actor_duties.specs.Links.{updated_at, with_link, is_link, bound, unbound, same_links, name_reply, replied, links_duty_of, links_duty_from, links_duty, register_from, register_command, withdraw_from, withdraw_command, name_request, is_entered, point_of, end_of, is_own_point}
+use Rattle.actor_duties.specs.Names.{Linking, linked_users, linked_first, meet_with, meet, provide, use_service, in_service, register_spp, register_sap, links_ended, link_ended, user_ended, is_user, waiting, leave, is_provider, stands_in, withdraw, register, is_name_request, table_duty_of, table_duty_from, table_duty, both_told, at_place}
+use Rattle.actor_duties.specs.Links.{updated_at, with_link, is_link, bound, unbound, name_reply, replied, links_duty_of, links_duty_from, links_duty, register_from, register_command, withdraw_from, withdraw_command, is_entered, point_of, end_of, is_own_point}
 use Rattle.actor_duties.specs.Peers.{known, known_end, held_end, fitting_plug, end_of_partner, through_plug, peer_by, frame_peer, link_at, link_peer, or_else, peer}
 use Rattle.actor_duties.specs.Commands.{Content, send, send_to, send_each, broadcast, broadcast_places}
-use Rattle.room_run.proofs.fitting_journals.Acting.{AreThere, Below, numbers_below, filter_below, slots_below, made_below, ended_below, last_there}
+use Rattle.room_run.proofs.fitting_journals.Acting.{AreThere, numbers_below, filter_below, slots_below, made_below, ended_below, last_there}
 
 -- ---- wirings
 
