@@ -17,7 +17,7 @@ use Rattle.run_promises.proofs.run_journals.TiedLaw.{tied}
 use Rattle.run_promises.proofs.PromisesLaw.{promises}
 use Rattle.room_run.specs.Agreement.{AllAgree}
 use Rattle.run_promises.specs.run_texts.Texts.{TextTells}
-use Rattle.room_run.proofs.settled.Fitting.{settles_of, actors_of}
+use Rattle.room_run.proofs.settled.Fitting.{settles_of, in_place_of}
 use Rattle.room_run.proofs.settled.Runs.{runs_agree}
 use Rattle.run_promises.specs.run_texts.Fetches.{FetchesFit}
 use Rattle.room_run.proofs.settled.Told.{text_tells, model_fetches_fit}
@@ -27,6 +27,7 @@ use Rattle.room_run.specs.Words.{Files, Made, asked_by, usual_fuel}
 use Rattle.room_run.specs.MadeShelf.{made_files, made_shelf}
 use Rattle.room_run.specs.Models.{IsModel, IsSoundText}
 use Rattle.room_run.specs.Causes.{AreOf, Causes, IsInjections}
+use Rattle.room_run.specs.fitting_journals.Fitting.{FittingRunsAreInPlace}
 use Rattle.room_run.specs.Finished.{Finishes, Summarizes}
 use Rattle.room_run.specs.Outcome.{Answers, says_made, IsByCharts, IsRunOfFiles, status_of_run, Outcome, Prints, written, cut, Tells, told, broken, whole, cut_short, refused, refused_unheard}
 use Rattle.room_run.specs.declared.prepare.Recorded.{Recorded}
@@ -64,8 +65,8 @@ of_texts (Some text) None p lines P h k make = tt
 of_texts (Some text) (Some injected) p lines P h k make = make text h k.fit
 
 -- what a run of a plant is of the texts that it comes from
-pub run_of : (shelf : Shown) (files : Files) (fuel : ℕ) (p : Plant) (lines : List Line) (j : Journals) → AreOf shelf files p lines → IsRun p lines fuel j → IsRunOfFiles shelf files fuel p lines j
-run_of shelf files fuel p lines j texts run = record {
+pub run_of : FittingRunsAreInPlace → (shelf : Shown) (files : Files) (fuel : ℕ) (p : Plant) (lines : List Line) (j : Journals) → AreOf shelf files p lines → IsRun p lines fuel j → IsRunOfFiles shelf files fuel p lines j
+run_of law shelf files fuel p lines j texts run = record {
   texts = texts;
   run = run;
   promises = promises p lines fuel j run;
@@ -76,15 +77,15 @@ run_of shelf files fuel p lines j texts run = record {
   determined = of_texts (shelf.text files.model) (shelf.text files.injections) p lines (TextTells p lines j) texts.model_accepted texts.lines_accepted
       (λ text model fit. text_tells text p lines fuel j model fit run);
   settled = settles_of (shelf.text files.model) (shelf.text files.injections) p lines fuel j texts.model_accepted texts.lines_accepted run;
-  actors = actors_of (shelf.text files.model) p lines fuel j texts.model_accepted run;
+  wired = in_place_of law (shelf.text files.model) (shelf.text files.injections) p lines fuel j texts.model_accepted texts.lines_accepted run;
   in_place = in_place p lines fuel j run;
   tied = tied p lines fuel j run;
 }
 
 -- what is told of a run of a made model
-pub sum_answers : (shelf : Shown) (words : List (List ℕ)) (actors : ℕ) (s : Summary) → asked_by words ≡ Some (Made actors) → Summarizes actors s → Answers shelf words (summary_text s) (status_of_run s.done)
-sum_answers shelf words actors s asked h =
-    says_made actors h.plant h.lines h.journals asked (run_of (made_shelf actors) made_files usual_fuel h.plant h.lines h.journals h.texts h.run)
+pub sum_answers : FittingRunsAreInPlace → (shelf : Shown) (words : List (List ℕ)) (actors : ℕ) (s : Summary) → asked_by words ≡ Some (Made actors) → Summarizes actors s → Answers shelf words (summary_text s) (status_of_run s.done)
+sum_answers law shelf words actors s asked h =
+    says_made actors h.plant h.lines h.journals asked (run_of law (made_shelf actors) made_files usual_fuel h.plant h.lines h.journals h.texts h.run)
     (ap summary_text h.is) (ap (λ (x : Summary). status_of_run x.done) h.is)
 
 -- the answer was written

@@ -6,8 +6,7 @@ use Rattle.journal.specs.declared.entry.Journals.{Journals}
 use Rattle.inject_reader.specs.declared.inject_lines.accepted.Line.{Line}
 use Rattle.controller_actors.specs.declared.plant.Plant.{Plant}
 use Rattle.model_run.specs.run_ends.Runs.{IsRun}
-use Rattle.run_promises.specs.run_journals.InPlace.{OfControllers}
-use Rattle.room_run.specs.fitting_journals.Actors.{TellsOfActors}
+use Rattle.room_run.specs.fitting_journals.Fitting.{JournalsInPlace}
 use Rattle.room_run.specs.fitting_plants.Runs.{Settles}
 use Rattle.room_run.specs.Words.{Files}
 use Rattle.room_run.specs.Causes.{TextIs}
@@ -17,6 +16,6 @@ abbrev pub SettlesWhenTold : (shelf : Shown) (files : Files) (plant : Plant) (li
 SettlesWhenTold shelf files plant lines fuel j run =
     TextIs shelf files.model (λ text. TextIs shelf files.injections (λ injected. Settles plant lines fuel j run))
 
--- who starts, acts, comes up or goes down is an actor of the wiring, in a state of its class, and the notes of who speaks name its own ports
-abbrev pub TellsActorsWhenTold : Shown → Files → Plant → Journals → Type 0
-TellsActorsWhenTold shelf files plant j = TextIs shelf files.model (λ text. OfControllers j (λ c. TellsOfActors plant.wiring))
+-- the journals are in place; the environment's fits the wiring; and what controllers tell of actors, and from where to where they post, is so of the wiring
+abbrev pub InPlaceWhenTold : Shown → Files → Plant → Journals → Type 0
+InPlaceWhenTold shelf files plant j = TextIs shelf files.model (λ text. TextIs shelf files.injections (λ injected. JournalsInPlace plant.wiring j))

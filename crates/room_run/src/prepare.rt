@@ -14,6 +14,7 @@ ghost use Rattle.room_run.specs.Finished.{Finishes};
 
 use crate::asked::{Asked, Files, asked_by};
 use crate::convert::convert;
+use crate::fitting_journals::fitting_runs_journals;
 use crate::judge::{read_plant, sound_model};
 use crate::made::run_made;
 use crate::refusal::Refusal;
@@ -207,6 +208,8 @@ pub(crate) fn prepare<S: Shelf, G: Gate + Sync, R: Threads + Sync>(
     ensures err { IfErr result (λ why. Causes (S.shown shelf.old) (S.shown shelf.new) (map string_bytes words.now) why) }
     ensures keeps { Keeps (S.shown shelf.old) (S.shown shelf.new) }
 {
+    // A law, and no code: what is so of the journals of each run.
+    fitting_runs_journals();
     match asked_by(words) {
         None => Err(Refusal::Words),
         Some(Asked::Check(name)) => match read_wiring(alloc, shelf, name) {

@@ -1,41 +1,37 @@
 -- Actors that stand at states of their classes, through turns and starts.
-use Rattle.std.proofs.Common.{◌≡◌, ℕ, zero, suc, ◌+◌, ◌<◌, ◌≤◌, ◌==◌, ◌&&◌, ◌||◌, Bool, true, false, not, if◌then◌else◌, List, [], ◌∷◌, ◌++◌, map, filter, reverse, length, Option, Some, None, IfSome, slice_get, refl, sym, ap, ◌∙◌, subst, eqb-true, append_assoc, arith, ℤ, pos, negsuc, cond}
+use Rattle.std.proofs.Common.{◌≡◌, ℕ, zero, suc, ◌+◌, ◌<◌, ◌≤◌, ◌==◌, ◌&&◌, ◌||◌, Bool, true, false, not, if◌then◌else◌, List, [], ◌∷◌, ◌++◌, map, filter, reverse, length, Option, Some, None, IfSome, slice_get, refl, sym, subst, eqb-true, append_assoc, arith, ℤ, pos, negsuc, cond}
 use Rattle.std.specs.List.{AllByRecursion as Each, list_all, range_with_len}
-use Rattle.std.proofs.lemmas.Bool.{and_parts, true≢false}
+use Rattle.std.proofs.lemmas.Bool.{and_parts}
 use Rattle.std.proofs.lemmas.List.{reverse-append}
 use Rattle.std.proofs.lemmas.Option.{same_Some}
 use Rattle.room_kinds.specs.declared.message.Msg.{Msg}
 use Rattle.room_kinds.specs.declared.note.Note.{Note}
 use Rattle.room_kinds.specs.declared.note.Note.TheVariants as notes
-use Rattle.room_kinds.specs.declared.command.Command.{Command}
 use Rattle.room_kinds.specs.declared.numbers.Endpoint.{Endpoint}
 use Rattle.room_kinds.specs.declared.numbers.Incarnation.{Incarnation}
-use Rattle.room_kinds.specs.declared.numbers.SlotId.{SlotId}
 use Rattle.room_kinds.specs.declared.system.SysKind.{SysKind}
 use Rattle.room_kinds.specs.declared.system.SysKind.TheVariants as kinds
 use Rattle.room_wiring.specs.declared.tables.Tables.{Tables}
-use Rattle.journal.specs.Fits.{FitsIncarnation, FitsState, FitsStanding, FitsNotes}
+use Rattle.journal.specs.Fits.{FitsState, FitsStanding, FitsNotes}
 use Rattle.journal.specs.Lines.{is_duty, speaker_of}
-use Rattle.journal.specs.declared.entry.Did.{Did}
 use Rattle.journal.specs.declared.entry.Did.TheVariants as did
 use Rattle.journal.specs.declared.entry.Entry.{Entry}
 use Rattle.journal.specs.declared.entry.Entry.TheVariants as entry
-use Rattle.actor_merge.specs.Parties.{State, Line, Plant as RunPlant, Taken, Treated, next_of, fetch, turn, turn_with, turned, post, post_front, Does, Replays}
+use Rattle.actor_merge.specs.Parties.{State, Line, Taken, Treated, next_of, fetch, turn, turn_with, post, post_front, Does, Replays}
 use Rattle.actor_duties.specs.Messages.{reply, coded, NotHere, Occupied}
 use Rattle.actor_duties.specs.Words.{updated, incarnation, frame_at, frame_of, whose, slots_of, is_own}
 use Rattle.actor_duties.specs.State.{Lives, Frame}
 use Rattle.actor_duties.specs.Lives.{last_of, counts_as_live, made_slots, lives_made, ended_slots, comes_up, goes_down, Lived, answered, part_make, made, create}
 use Rattle.actor_duties.specs.Frame.{FrameDone, nothing, plainly, with_number, of_natural, end_set_ended, destroy, part_end, frame_duty_of, frame_duty_from, frame_duty}
-use Rattle.actor_duties.specs.Links.{end_of}
 use Rattle.actor_world.proofs.Slots.{own_in_range}
 use Rattle.actor_world.specs.Behaviour.{Behaviour, Handling, Handled, Deferred, Unhandled}
-use Rattle.actor_world.specs.Body.{Body, Doing, naming, apply_all}
-use Rattle.actor_world.specs.Turns.{all_kinds, doing, treated, begun, all_begun, gone, all_gone, closing, with_frame, duty, system_done, handled_as, moved, nobody_there, handled, dispatched, is_meant, dispatch, treat}
+use Rattle.actor_world.specs.Body.{Body, Doing, apply_all}
+use Rattle.actor_world.specs.Turns.{all_kinds, doing, treated, begun, all_begun, gone, all_gone, closing, with_frame, duty, system_done, handled_as, nobody_there, handled, dispatched, is_meant, dispatch, treat}
 use Rattle.actor_world.specs.Start.{lives_from_start, first_body, first_actors, Starting, started, all_started, starting, start_entries, first_state, plant_of}
 use Rattle.chart_behaviour.specs.chart_asks.Laws.{is_zero}
 use Rattle.named_runs.proofs.Doings.{apply_all_machines}
 use Rattle.room_run.specs.fitting_journals.Actors.{FitsActor, TellsOfActors}
-use Rattle.room_run.proofs.fitting_journals.Speaking.{speaker_then, Speaks, speaks_on, up_speaks, fits_both, said_zeros, AsksAt, all_applied}
+use Rattle.room_run.proofs.fitting_journals.Speaking.{Speaks, speaks_on, up_speaks, fits_both, said_zeros, AsksAt, all_applied}
 
 -- ---- slots
 
@@ -43,17 +39,17 @@ use Rattle.room_run.proofs.fitting_journals.Speaking.{speaker_then, Speaks, spea
 abbrev pub AreThere : Tables → List Incarnation → Type 0
 AreThere t xs = Each (λ (x : Incarnation). x.slot.0 < length t.slots) xs
 
-abbrev Below : ℕ → List ℕ → Type 0
+abbrev pub Below : ℕ → List ℕ → Type 0
 Below k ss = Each (λ (s : ℕ). s < k) ss
 
-numbers_below : (k low n : ℕ) → low + n ≤ k → Below k (range_with_len low n)
+pub numbers_below : (k low n : ℕ) → low + n ≤ k → Below k (range_with_len low n)
 numbers_below k low zero h = tt
 numbers_below k low (suc n) h = (omega (arith, h), numbers_below k (low + 1) n (omega (arith, h)))
 
-slots_below : (t : Tables) → Below (length t.slots) (slots_of t)
+pub slots_below : (t : Tables) → Below (length t.slots) (slots_of t)
 slots_below t = numbers_below (length t.slots) 0 (length t.slots) (omega arith)
 
-filter_below : (k : ℕ) (test : ℕ → Bool) (ss : List ℕ) → Below k ss → Below k (filter test ss)
+pub filter_below : (k : ℕ) (test : ℕ → Bool) (ss : List ℕ) → Below k ss → Below k (filter test ss)
 filter_below k test [] h = tt
 filter_below k test (s ∷ ss) h = go (test s) (filter_below k test ss h.1)
   where
@@ -69,37 +65,37 @@ reverse_below : (k : ℕ) (ss : List ℕ) → Below k ss → Below k (reverse ss
 reverse_below k [] h = tt
 reverse_below k (s ∷ ss) h = subst (Below k) (sym (reverse-append (s ∷ []) ss)) (both_below k (reverse ss) (s ∷ []) (reverse_below k ss h.1) (h.0, tt))
 
-last_there : (t : Tables) (l : Lives) (ss : List ℕ) → Below (length t.slots) ss → AreThere t (map (last_of l) ss)
+pub last_there : (t : Tables) (l : Lives) (ss : List ℕ) → Below (length t.slots) ss → AreThere t (map (last_of l) ss)
 last_there t l [] h = tt
 last_there t l (s ∷ ss) h = (h.0, last_there t l ss h.1)
 
-first_there : (t : Tables) (ss : List ℕ) → Below (length t.slots) ss → AreThere t (map (λ s. incarnation s 1) ss)
+pub first_there : (t : Tables) (ss : List ℕ) → Below (length t.slots) ss → AreThere t (map (λ s. incarnation s 1) ss)
 first_there t [] h = tt
 first_there t (s ∷ ss) h = (h.0, first_there t ss h.1)
 
 -- what a duty of the frame service makes and ends is there
-record FrameThere (t : Tables) (r : FrameDone) : Type 0 where
-  made : AreThere t r.made
-  ended : AreThere t r.ended
+pub record FrameThere (t : Tables) (r : FrameDone) : Type 0 where
+  pub made : AreThere t r.made
+  pub ended : AreThere t r.ended
 
-record LivedThere (t : Tables) (r : Lived) : Type 0 where
-  made : AreThere t r.made
-  ended : AreThere t r.ended
+pub record LivedThere (t : Tables) (r : Lived) : Type 0 where
+  pub made : AreThere t r.made
+  pub ended : AreThere t r.ended
 
 module _ (t : Tables) (me : ℕ) where
   nothing_there : (f : Frame) → FrameThere t (nothing f)
   nothing_there f = record { made = tt; ended = tt }
 
-  made_below : (l : Lives) (o : ℕ) → Below (length t.slots) (made_slots t me l o)
+  pub made_below : (l : Lives) (o : ℕ) → Below (length t.slots) (made_slots t me l o)
   unfolding made_slots
   made_below l o = filter_below (length t.slots) (comes_up t me l o) (slots_of t) (slots_below t)
 
-  ended_below : (l : Lives) (o : ℕ) → Below (length t.slots) (ended_slots t me l o)
+  pub ended_below : (l : Lives) (o : ℕ) → Below (length t.slots) (ended_slots t me l o)
   unfolding ended_slots
   ended_below l o =
       reverse_below (length t.slots) (filter (goes_down t me l o) (slots_of t)) (filter_below (length t.slots) (goes_down t me l o) (slots_of t) (slots_below t))
 
-  part_there : (l : Lives) (o : ℕ) → LivedThere t (part_make t me l o)
+  pub part_there : (l : Lives) (o : ℕ) → LivedThere t (part_make t me l o)
   unfolding part_make
   part_there l o = record { made = last_there t (lives_made t me o l) (made_slots t me l o) (made_below l o); ended = tt }
 
@@ -176,7 +172,7 @@ module _ (t : Tables) (me : ℕ) where
   frame_duty_from_there f m kind None = nothing_there f
   frame_duty_from_there f m kind (Some a) = frame_duty_of_there f m kind a m.target
 
-  frame_duty_there : (f : Frame) (kind : SysKind) (m : Msg) → FrameThere t (frame_duty t me f kind m)
+  pub frame_duty_there : (f : Frame) (kind : SysKind) (m : Msg) → FrameThere t (frame_duty t me f kind m)
   unfolding frame_duty
   frame_duty_there f kind m = frame_duty_from_there f m kind m.source
 
@@ -427,7 +423,7 @@ module _ {M : Type 0} (t : Tables) (P : ℕ → M → Type 0) (model : Behaviour
   all_started_well [] s there h = h
   all_started_well (x ∷ xs) s there h = all_started_well xs (started model t me s x) there.1 (started_well s x there.0 h)
 
-  first_actors_there : AreThere t (first_actors t me)
+  pub first_actors_there : AreThere t (first_actors t me)
   unfolding first_actors
   first_actors_there =
       first_there t (filter (λ s. is_own t me s && lives_from_start t s) (slots_of t))

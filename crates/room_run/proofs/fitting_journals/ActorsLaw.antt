@@ -1,14 +1,15 @@
 -- What the journals of a run of a plant that fits tell of actors is so of the wiring.
 use Rattle.std.proofs.Common.{◌≡◌, ℕ, zero, suc, ◌<◌, ◌&&◌, Bool, true, false, List, [], ◌∷◌, ◌++◌, map, length, Option, Some, None, option_and_then, slice_get, refl, sym, ap, ◌∙◌, subst, arith, ◌⊎◌, inl, inr}
-use Rattle.std.specs.Prelude.{All, nat_le}
+use Rattle.std.specs.Prelude.{nat_le}
 use Rattle.std.specs.List.{AllByRecursion as Each, list_all}
 use Rattle.std.specs.Option.{option_map_or}
 use Rattle.std.proofs.lemmas.Bool.{and_parts}
 use Rattle.std.proofs.lemmas.List.{length-map}
 use Rattle.std.proofs.lemmas.List.Elements.{All-from_recursion}
-use Rattle.std.proofs.lemmas.Option.{same_Some, slice_get_within}
+use Rattle.std.proofs.lemmas.Option.{slice_get_within}
 use Rattle.room_kinds.specs.declared.command.Command.{Command}
 use Rattle.room_kinds.specs.declared.command.Command.TheVariants as commands
+use Rattle.room_kinds.specs.declared.command.NameCommand.TheVariants as names
 use Rattle.room_kinds.specs.declared.message.Msg.{Msg}
 use Rattle.room_kinds.specs.declared.numbers.Incarnation.{Incarnation}
 use Rattle.room_ast.specs.Trees.{ModelTree, ActorTree}
@@ -43,7 +44,7 @@ use Rattle.chart_behaviour.specs.chart_asks.Laws.{is_zero}
 use Rattle.controller_actors.specs.Plants.{model_of}
 use Rattle.controller_actors.specs.declared.plant.Plant.{Plant}
 use Rattle.model_laws.proofs.settled_models.Wired.{wiring_consistent}
-use Rattle.model_laws.specs.class_laws.Commands.{can_ask, can_send_at}
+use Rattle.model_laws.specs.class_laws.Commands.{can_ask, can_send_at, can_register}
 use Rattle.model_run.specs.part_posts.Items.{items_of}
 use Rattle.model_run.specs.run_ends.Runs.{journal_of, IsRun}
 use Rattle.named_runs.specs.Charts.{ShowsChart, ShowCharts}
@@ -132,7 +133,7 @@ nothing_handled : (x : Incarnation) (m : Msg) (a : Actor) (t : Wired) → Each (
 unfolding handles
 nothing_handled x m a t = tt
 
-ports_many : (t : Wired) (s : ℕ) (c : ClassNames) → class_of t s ≡ Some c → port_count t s ≡ length c.ports
+pub ports_many : (t : Wired) (s : ℕ) (c : ClassNames) → class_of t s ≡ Some c → port_count t s ≡ length c.ports
 unfolding port_count
 ports_many t s c is = ap (λ (o : Option ClassNames). option_map_or (λ (c : ClassNames). length c.ports) o 0) is
 
@@ -142,6 +143,13 @@ held_there f None h = absurd cc
 held_there f (Some x) h = (x, refl)
 
 module _ (t : Wired) (s : ℕ) (c : ClassNames) (is : class_of t s ≡ Some c) where
+  own_port : (port : ℕ) → can_register c port ≡ true → port < port_count t s
+  own_port port h =
+      let has = held_there _ (slice_get c.ports port) h in
+      let within : port < length c.ports = slice_get_within c.ports port has.0 has.1 in
+      let many = ports_many t s c is in
+      omega (arith, within, many)
+
   one_asks : (x : Command) → can_ask c x ≡ true → AsksAt t s x
   one_asks (commands.Send port place signal payload prio) h =
       let sends = (and_parts (can_send_at c port signal) (nat_le 1 prio.0 && nat_le prio.0 5) h).0 in
@@ -153,7 +161,8 @@ module _ (t : Wired) (s : ℕ) (c : ClassNames) (is : class_of t s ≡ Some c) w
   one_asks commands.Recall h = tt
   one_asks commands.RecallAll h = tt
   one_asks (commands.Frame f) h = tt
-  one_asks (commands.Name n) h = tt
+  one_asks (commands.Name (names.Register port name)) h = own_port port h
+  one_asks (commands.Name (names.Withdraw port)) h = own_port port h
 
   all_ask : (xs : List Command) → list_all (can_ask c) xs ≡ true → Each (AsksAt t s) xs
   all_ask [] h = tt
@@ -162,7 +171,7 @@ module _ (t : Wired) (s : ℕ) (c : ClassNames) (is : class_of t s ≡ Some c) w
 -- ---- the actors of a plant
 
 module _ (plant : Plant) (fits : PlantFits plant) where
-  fitting : IsFitting plant
+  pub fitting : IsFitting plant
   fitting = plants_fit plant fits
 
   consistent : IsConsistent plant.wiring
@@ -174,16 +183,16 @@ module _ (plant : Plant) (fits : PlantFits plant) where
       ∙ sym (ap length fits.wired.classes ∙ as_many_classes fits.model)
 
   -- the class of a slot, with its tables
-  record ClassOf (s : ℕ) : Type 0 where
-    number : ℕ
-    class : ClassNames
-    tables : Option Tables
-    class_is : class_of plant.wiring s ≡ Some class
-    there : slice_get plant.wiring.classes number ≡ Some class
-    has : slice_get plant.tables.items number ≡ Some tables
-    tables_are : tables_at plant.wiring plant.tables.items s ≡ tables
+  pub record ClassOf (s : ℕ) : Type 0 where
+    pub number : ℕ
+    pub class : ClassNames
+    pub tables : Option Tables
+    pub class_is : class_of plant.wiring s ≡ Some class
+    pub there : slice_get plant.wiring.classes number ≡ Some class
+    pub has : slice_get plant.tables.items number ≡ Some tables
+    pub tables_are : tables_at plant.wiring plant.tables.items s ≡ tables
 
-  class_has : (s : ℕ) → s < length plant.wiring.slots → ClassOf s
+  pub class_has : (s : ℕ) → s < length plant.wiring.slots → ClassOf s
   unfolding class_of tables_at
   class_has s low =
       let slot = item_there plant.wiring.slots s low in
@@ -214,7 +223,7 @@ module _ (plant : Plant) (fits : PlantFits plant) where
       go (Some x) e = inl (slice_get_within plant.wiring.slots s x e)
 
   -- an actor of a slot stands at a state of its class's chart
-  abbrev StandsThere : ℕ → Actor → Type 0
+  abbrev pub StandsThere : ℕ → Actor → Type 0
   StandsThere s a = Stands (tables_at plant.wiring plant.tables.items s) a
 
   state_fits : (s : ℕ) (a : Actor) → s < length plant.wiring.slots → StandsThere s a → FitsState plant.wiring s (state_number a)
@@ -259,7 +268,7 @@ module _ (plant : Plant) (fits : PlantFits plant) where
           subst (λ (o : Option Tables). Each (AsksAt plant.wiring x.slot.0) (handles x m o a).commands) (sym none) (nothing_handled x m a plant.wiring)
 
   -- the actors of the plant stand where they may
-  stand_well : StandsWell plant.wiring StandsThere (model_of plant)
+  pub stand_well : StandsWell plant.wiring StandsThere (model_of plant)
   stand_well = record {
     begin = λ x. begin_stands x (tables_at plant.wiring plant.tables.items x.slot.0) (slot_compiled plant.wiring plant.tables.items fits.charts fits.tables x.slot.0);
     handle = λ x a m h. handle_stands x m (tables_at plant.wiring plant.tables.items x.slot.0) a h;

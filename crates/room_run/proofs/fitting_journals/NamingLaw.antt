@@ -20,7 +20,7 @@ use Rattle.actor_world.specs.world_laws.Counting.{count, of_priority}
 use Rattle.actor_world.specs.world_laws.Whereabouts.{fetched}
 use Rattle.controller_actors.specs.Plants.{model_of}
 use Rattle.controller_actors.specs.declared.plant.Plant.{Plant}
-use Rattle.model_laws.specs.settled_models.Wirings.{ModelsHaveOwners}
+use Rattle.model_laws.specs.settled_models.Wirings.{ModelsHaveOwners, ModelsAreMutual}
 use Rattle.model_run.specs.part_posts.Items.{items_of}
 use Rattle.model_run.specs.run_ends.Runs.{journal_of, IsRun}
 use Rattle.run_promises.specs.Mail.{posted}
@@ -38,7 +38,8 @@ use Rattle.room_run.specs.fitting_plants.Lines.{LinesFit}
 use Rattle.room_run.specs.fitting_plants.Plants.{PlantFits}
 use Rattle.room_run.specs.fitting_journals.Fitting.{JournalsInPlace}
 use Rattle.room_run.specs.fitting_journals.Actors.{FitsActor, TellsOfActors}
-use Rattle.room_run.specs.fitting_journals.Naming.{FitsNobody, NamesWhatIsThere, ControllersName, NamedJournalsFit}
+use Rattle.room_run.specs.fitting_journals.Places.{FitsNobody, NamesItsPlaces}
+use Rattle.room_run.specs.fitting_journals.Naming.{NamesSignal, ControllersName, NamedJournalsFit}
 use Rattle.room_run.proofs.fitting_journals.FittingLaw.{fitting_in_place}
 use Rattle.room_run.proofs.fitting_journals.Testing.{passes, passed, is_fit, none_counted_at}
 
@@ -60,7 +61,7 @@ did_fits t (outcomes.Unhandled who state) a n = a
 did_fits t (outcomes.Stale target) a n = a
 did_fits t (outcomes.Empty target) a n = n
 
-one_fits : (t : Tables) (c : ℕ) (e : Entry) → IsFetchedBy c e → ComesFromParty t e → IsPostedBy c e → TellsOfActors t e → NamesWhatIsThere t e → MessageFits t e → FitsEntry t c e
+one_fits : (t : Tables) (c : ℕ) (e : Entry) → IsFetchedBy c e → ComesFromParty t e → IsPostedBy c e → TellsOfActors t e → NamesItsPlaces t e → MessageFits t e → FitsEntry t c e
 one_fits t c (entry.Start who state notes) f p o a n m = a
 one_fits t c (entry.Fetch stamp x) f p o a n m = (f, m)
 one_fits t c (entry.Turn stamp from sent did notes) f p o a n m = (p, did_fits t did a.0 n, a.1)
@@ -75,22 +76,22 @@ messages_fit t (entry.Fetch stamp m ∷ es) f p = (f m (as_first m (fetched es))
 messages_fit t (entry.Post stamp m ∷ es) f p = (p m (as_first m (posted es)), messages_fit t es f (λ x there. p x (as_later m (posted es) x there)))
 
 -- what a controller posts fits, where it names what is there
-posts_fit : (t : Tables) (c : ℕ) → c < length t.controllers → (es : List Entry) → Each (IsPostedBy c) es → Each (NamesReceiver t) es → Each (NamesWhatIsThere t) es
-    → Each (FitsMessage t) (posted es)
-posts_fit t c below [] o r n = tt
-posts_fit t c below (entry.Start who state notes ∷ es) o r n = posts_fit t c below es o.1 r.1 n.1
-posts_fit t c below (entry.Turn stamp from sent did notes ∷ es) o r n = posts_fit t c below es o.1 r.1 n.1
-posts_fit t c below (entry.Fetch stamp m ∷ es) o r n = posts_fit t c below es o.1 r.1 n.1
-posts_fit t c below (entry.Post stamp m ∷ es) o r n =
+posts_fit : (t : Tables) (c : ℕ) → c < length t.controllers → (es : List Entry) → Each (IsPostedBy c) es → Each (NamesReceiver t) es → Each (NamesItsPlaces t) es
+    → Each (NamesSignal t) es → Each (FitsMessage t) (posted es)
+posts_fit t c below [] o r p n = tt
+posts_fit t c below (entry.Start who state notes ∷ es) o r p n = posts_fit t c below es o.1 r.1 p.1 n.1
+posts_fit t c below (entry.Turn stamp from sent did notes ∷ es) o r p n = posts_fit t c below es o.1 r.1 p.1 n.1
+posts_fit t c below (entry.Fetch stamp m ∷ es) o r p n = posts_fit t c below es o.1 r.1 p.1 n.1
+posts_fit t c below (entry.Post stamp m ∷ es) o r p n =
     let own : m.from.0 ≡ c = o.0.0 in (
       record {
         from = record { known = omega (arith, own, below) };
         to = r.0.controller;
-        source = n.0.source;
-        target = n.0.target;
-        signal = n.0.signal;
+        source = p.0.source;
+        target = p.0.target;
+        signal = n.0;
       },
-      posts_fit t c below es o.1 r.1 n.1,
+      posts_fit t c below es o.1 r.1 p.1 n.1,
     )
 
 -- what the environment posts
@@ -121,10 +122,10 @@ missing [] c b e = omega (arith, b)
 missing (x ∷ xs) zero b e = absurd cc
 missing (x ∷ xs) (suc c) b e = missing xs c (omega (arith, b)) e
 
-module _ (owned : ModelsHaveOwners) (plant : Plant) (lines : List Line) (fuel : ℕ) (j : Journals) (fits : PlantFits plant) (fit : LinesFit plant.wiring lines)
+module _ (owned : ModelsHaveOwners) (joined : ModelsAreMutual) (plant : Plant) (lines : List Line) (fuel : ℕ) (j : Journals) (fits : PlantFits plant) (fit : LinesFit plant.wiring lines)
     (run : IsRun plant lines fuel j) (names : ControllersName plant.wiring j) where
   so_far : JournalsInPlace plant.wiring j
-  so_far = fitting_in_place owned plant lines fuel j fits fit run
+  so_far = fitting_in_place owned joined plant lines fuel j fits fit run
 
   -- the journal of a controller stands among them
   stands : (c : ℕ) → c < length plant.wiring.controllers → slice_get j.controllers c ≡ Some (journal_of j c)
@@ -152,7 +153,8 @@ module _ (owned : ModelsHaveOwners) (plant : Plant) (lines : List Line) (fuel : 
       go (inr (inl below)) =
           each_has (FitsMessage plant.wiring) (posted (journal_of j party)) m
           (posts_fit plant.wiring party below (journal_of j party) (of_one IsPostedBy so_far.in_place.posted_by_sender party below)
-          (of_one (λ c. NamesReceiver plant.wiring) so_far.receivers party below) (of_one (λ c. NamesWhatIsThere plant.wiring) names party below)) there
+          (of_one (λ c. NamesReceiver plant.wiring) so_far.receivers party below) (of_one (λ c. NamesItsPlaces plant.wiring) so_far.places party below)
+          (of_one (λ c. NamesSignal plant.wiring) names party below)) there
       go (inr (inr above)) = absurd (none_in m (subst (λ (z : List Entry). Contains (posted z) m) (nobody plant lines fuel j run party above) there))
 
   fetched_fit : (party : ℕ) (m : Msg) → Contains (fetched (journal_of j party)) m → FitsMessage plant.wiring m
@@ -166,7 +168,7 @@ module _ (owned : ModelsHaveOwners) (plant : Plant) (lines : List Line) (fuel : 
       (λ m h. fetched_fit c m (subst (λ (z : List Entry). Contains (fetched z) m) (sym same) h))
       (λ m h. posted_fit c m (subst (λ (z : List Entry). Contains (posted z) m) (sym same) h))) in
       one_fits plant.wiring c (slice_index_or es k d) (so_far.in_place.fetched_by_receiver c es there k d low) (so_far.in_place.sent_by_parties c es there k d low)
-      (so_far.in_place.posted_by_sender c es there k d low) (so_far.actors c es there k d low) (names c es there k d low) (messages k d low)
+      (so_far.in_place.posted_by_sender c es there k d low) (so_far.actors c es there k d low) (so_far.places c es there k d low) (messages k d low)
 
   -- ---- what is left
 
@@ -242,5 +244,5 @@ module _ (owned : ModelsHaveOwners) (plant : Plant) (lines : List Line) (fuel : 
     left_in_order = so_far.in_place.left_in_order;
   }
 
-pub named_fit : ModelsHaveOwners → NamedJournalsFit
-named_fit owned plant lines fuel j fits fit run names = fitted owned plant lines fuel j fits fit run names
+pub named_fit : ModelsHaveOwners → ModelsAreMutual → NamedJournalsFit
+named_fit owned joined plant lines fuel j fits fit run names = fitted owned joined plant lines fuel j fits fit run names

@@ -7,6 +7,7 @@ use Rattle.room_kinds.specs.declared.note.Note.{Note}
 use Rattle.room_kinds.specs.declared.note.Note.TheVariants as notes
 use Rattle.room_kinds.specs.declared.command.Command.{Command}
 use Rattle.room_kinds.specs.declared.command.Command.TheVariants as commands
+use Rattle.room_kinds.specs.declared.command.NameCommand.TheVariants as names
 use Rattle.room_kinds.specs.declared.numbers.Endpoint.{Endpoint}
 use Rattle.room_kinds.specs.declared.numbers.Incarnation.{Incarnation}
 use Rattle.room_kinds.specs.declared.numbers.SlotId.{SlotId}
@@ -124,14 +125,15 @@ up_speaks t from ns x state h stands = record {
 
 -- ---- commands
 
--- a send names a port of who asks for it
+-- a send names a port of who asks for it, and so does a request on a service name
 abbrev pub AsksAt : Tables → ℕ → Command → Type 0
 AsksAt t s (commands.Send port place signal payload prio) = port < port_count t s
 AsksAt t s commands.Defer = Unit {0}
 AsksAt t s commands.Recall = Unit {0}
 AsksAt t s commands.RecallAll = Unit {0}
 AsksAt t s (commands.Frame c) = Unit {0}
-AsksAt t s (commands.Name c) = Unit {0}
+AsksAt t s (commands.Name (names.Register port name)) = port < port_count t s
+AsksAt t s (commands.Name (names.Withdraw port)) = port < port_count t s
 
 module _ (t : Tables) (me : ℕ) (x : Incarnation) where
   said_send_to : (source : Endpoint) (c : Content) → source.port < port_count t x.slot.0 → (o : Option Endpoint) → AreSaid t x (send_to t me source c o).notes

@@ -8,11 +8,9 @@ use Rattle.inject_reader.specs.declared.inject_lines.accepted.Line.{Line}
 use Rattle.controller_actors.specs.declared.plant.Plant.{Plant}
 use Rattle.model_run.specs.run_ends.Runs.{IsRun}
 use Rattle.named_runs.specs.Charts.{ShowCharts}
-use Rattle.run_promises.specs.run_journals.InPlace.{OfControllers}
-use Rattle.room_run.specs.fitting_journals.Actors.{TellsOfActors}
+use Rattle.room_run.specs.fitting_journals.Fitting.{JournalsInPlace, FittingRunsAreInPlace}
 use Rattle.room_run.specs.fitting_plants.Plants.{PlantFits}
 use Rattle.room_run.specs.fitting_plants.Runs.{Settles}
-use Rattle.room_run.proofs.fitting_journals.ActorsLaw.{actors_told}
 use Rattle.room_run.proofs.fitting_plants.Lines.{read_fit}
 use Rattle.room_run.proofs.fitting_plants.Runs.{runs_settle}
 use Rattle.room_run.specs.Models.{IsSoundText, IsModel}
@@ -40,8 +38,11 @@ settles_of None injections p lines fuel j h k run = tt
 settles_of (Some text) None p lines fuel j h k run = tt
 settles_of (Some text) (Some injected) p lines fuel j h k run = runs_settle p lines fuel j (text_fits text p.wiring h.charts p h.is refl h.tables) (read_fit p.wiring lines k.fit) run
 
--- where the model's text is told, what the journals tell of actors is so of its wiring
-pub actors_of : (model : Option (List ℕ)) (p : Plant) (lines : List Line) (fuel : ℕ) (j : Journals) → IfSome model (λ text. IsModel text p) → IsRun p lines fuel j
-    → IfSome model (λ text. OfControllers j (λ c. TellsOfActors p.wiring))
-actors_of None p lines fuel j h run = tt
-actors_of (Some text) p lines fuel j h run = actors_told p (text_fits text p.wiring h.charts p h.is refl h.tables) lines fuel j run
+-- and its journals are in place
+pub in_place_of : FittingRunsAreInPlace → (model injections : Option (List ℕ)) (p : Plant) (lines : List Line) (fuel : ℕ) (j : Journals)
+    → IfSome model (λ text. IsModel text p) → IfSome injections (λ text. IsInjections p.wiring text lines) → IsRun p lines fuel j
+    → IfSome model (λ text. IfSome injections (λ injected. JournalsInPlace p.wiring j))
+in_place_of law None injections p lines fuel j h k run = tt
+in_place_of law (Some text) None p lines fuel j h k run = tt
+in_place_of law (Some text) (Some injected) p lines fuel j h k run =
+    law p lines fuel j (text_fits text p.wiring h.charts p h.is refl h.tables) (read_fit p.wiring lines k.fit) run

@@ -2,7 +2,7 @@
 -- `TellsOfActors`: who starts, who handled a message and who came up is an actor of the wiring, in a state of its
 -- class; who went down and whose message was stale, too; and each note `unbound` names a port of who speaks. It
 -- is so of every run of a plant that fits (`fitting_runs_journals`). Of a message that found nobody it isn't said
--- here that its slot is there: that is so where what is posted names what is there (`Naming`).
+-- here that its slot is there, but in `Places`.
 use Rattle.std.specs.Prelude.{Some, false}
 use Rattle.room_wiring.specs.declared.tables.Tables.{Tables}
 use Rattle.journal.specs.Fits.{FitsIncarnation, FitsStanding, FitsNotes}

@@ -1,8 +1,8 @@
 -- The journals of a run of a plant that fits, over lines that fit.
 -- Of the definition of journals that fit a wiring (`Fits` of `journal`) these points are so: the number of
 -- journals, the senders, receivers and stamps of messages, what is left and its order, all of the environment's
--- journal, and what controllers tell of actors: their slots, their states and the ports in their notes. That the
--- places and signals of what controllers post are those of the wiring isn't said here.
+-- journal, what controllers tell of actors (their slots, their states and the ports in their notes), and the
+-- places from which and to which they post. That the signals are those of the ports isn't said here.
 use Rattle.std.specs.Prelude.{ℕ, List, All}
 use Rattle.room_wiring.specs.declared.tables.Tables.{Tables}
 use Rattle.journal.specs.Fits.{FitsEnvironment}
@@ -14,6 +14,7 @@ use Rattle.model_run.specs.run_ends.Runs.{IsRun}
 use Rattle.run_promises.specs.run_journals.InPlace.{OfControllers, AreInPlace}
 use Rattle.run_promises.specs.run_journals.Reaching.{NamesReceiver}
 use Rattle.room_run.specs.fitting_journals.Actors.{TellsOfActors}
+use Rattle.room_run.specs.fitting_journals.Places.{NamesItsPlaces}
 use Rattle.room_run.specs.fitting_plants.Lines.{LinesFit}
 use Rattle.room_run.specs.fitting_plants.Plants.{PlantFits}
 
@@ -29,6 +30,8 @@ pub record JournalsInPlace (t : Tables) (j : Journals) : Type 0 where
   pub environment : All (FitsEnvironment t) j.environment
   -- who starts, acts and comes up is an actor of the wiring, in a state of its class; and who speaks names its ports
   pub actors : OfControllers j (λ c. TellsOfActors t)
+  -- controllers post from places of the wiring to such places
+  pub places : OfControllers j (λ c. NamesItsPlaces t)
 
 -- over every run of a plant that fits, over lines that fit
 abbrev pub FittingRunsAreInPlace : Type 0

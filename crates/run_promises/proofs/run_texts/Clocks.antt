@@ -1,9 +1,8 @@
 -- In a run that begins with all clocks at 0 no stamp is greater than the number of things that happened: each
 -- event is stamped one more than its party's clock, than the stamp of the message that it fetches, or than the
 -- greatest clock of all.
-use Rattle.std.proofs.Common.{◌≡◌, ℕ, zero, suc, max, ◌+◌, ◌<◌, ◌≤◌, ◌==◌, Bool, true, false, if◌then◌else◌, List, [], ◌∷◌, ◌++◌, drop, length, Option, Some, None, slice_get, refl, sym, ap, subst, arith, ◌⊎◌, inl, inr}
+use Rattle.std.proofs.Common.{◌≡◌, ℕ, zero, suc, ◌+◌, ◌<◌, ◌≤◌, ◌==◌, Bool, true, false, if◌then◌else◌, List, [], ◌∷◌, ◌++◌, drop, length, Option, Some, None, slice_get, refl, sym, subst, arith}
 use Rattle.std.specs.List.{AllByRecursion as Each}
-use Rattle.std.proofs.lemmas.Bool.{cases_eq}
 use Rattle.std.proofs.lemmas.Option.{same_Some}
 use Rattle.room_kinds.specs.declared.message.Msg.{Msg}
 use Rattle.journal.specs.declared.entry.Entry.{Entry}

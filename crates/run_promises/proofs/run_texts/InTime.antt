@@ -1,9 +1,7 @@
 -- What is posted in a run whose text has fewer than 2^64 bytes has a stamp of 64 bits: no stamp is greater than
 -- the number of events, and the text has a byte for each.
-use Rattle.std.proofs.Common.{◌≡◌, ℕ, suc, ◌+◌, ◌<◌, ◌≤◌, ◌==◌, nat_lt, Bool, true, false, if◌then◌else◌, List, [], ◌∷◌, ◌++◌, length, slice_index_or, refl, sym, ap, ◌∙◌, subst, eqb-true, eq-eqb, length-append, arith, ◌⊎◌, inl, inr}
+use Rattle.std.proofs.Common.{◌≡◌, ℕ, suc, ◌<◌, ◌≤◌, ◌==◌, nat_lt, Bool, true, false, if◌then◌else◌, List, [], ◌∷◌, ◌++◌, length, slice_index_or, refl, sym, ap, subst, eqb-true, length-append, arith}
 use Rattle.std.specs.List.{AllByRecursion as Each}
-use Rattle.std.proofs.lemmas.Bool.{cases_eq, ne_eqb}
-use Rattle.room_kinds.specs.declared.message.Msg.{Msg}
 use Rattle.journal.specs.declared.entry.Entry.{Entry}
 use Rattle.journal.specs.declared.entry.Entry.TheVariants as entry
 use Rattle.journal.specs.declared.entry.Journals.{Journals}
@@ -16,9 +14,7 @@ use Rattle.actor_merge.specs.Parties.{Plant as RunPlant}
 use Rattle.actor_merge.specs.World.{World, Placed, start, Runs}
 use Rattle.actor_merge.specs.Merge.{entries_of}
 use Rattle.actor_merge.proofs.Back.{Happened, controller, environment, happened}
-use Rattle.actor_world.specs.Body.{Body}
 use Rattle.actor_world.specs.Start.{start_entries}
-use Rattle.chart_behaviour.specs.ModelCharts.{Actor}
 use Rattle.controller_actors.specs.Plants.{model_of}
 use Rattle.controller_actors.specs.declared.plant.Plant.{Plant}
 use Rattle.model_run.specs.run_ends.Runs.{journal_of, IsRun}

@@ -19,7 +19,7 @@ use Rattle.journal.specs.Text.{title_of, journal_text}
 use Rattle.tied_journals.specs.Text.{sent_parts, fetches_end, tied_fetch_text, tied_entries_text, tied_journal_text, tied_controller_text, tied_controllers_text, below_text, rest_text, tied_text_of}
 use Rattle.actor_merge.specs.World.{Placed}
 use Rattle.actor_merge.specs.Merge.{entries_of}
-use Rattle.run_promises.proofs.run_texts.Rows.{Told, told}
+use Rattle.run_promises.proofs.run_texts.Rows.{told}
 
 -- ---- texts
 

@@ -25,8 +25,8 @@ use Rattle.model_run.specs.part_posts.Items.{items_of}
 use Rattle.model_run.specs.run_ends.Runs.{journal_of, IsRun}
 use Rattle.run_promises.specs.run_texts.Texts.{AtSixPriorities}
 use Rattle.run_promises.proofs.run_texts.OneRun.{one_run}
-use Rattle.run_promises.proofs.run_texts.Rows.{word, told, SameTold, same_told}
-use Rattle.run_promises.proofs.run_texts.Told.{OneFetch, PostsInTime, same_sender, same_sent, same_priority, same_events}
+use Rattle.run_promises.proofs.run_texts.Rows.{told, SameTold, same_told}
+use Rattle.run_promises.proofs.run_texts.Told.{OneFetch, same_sender, same_sent, same_priority, same_events}
 use Rattle.run_promises.proofs.run_texts.Party.{plan, did, starts, nobody, outside, inside, is_party, journal_is, happened_with, told_is}
 use Rattle.run_promises.proofs.run_texts.InTime.{posts_in_time}
 use Rattle.run_promises.proofs.run_journals.OneRun.{environment_posts}

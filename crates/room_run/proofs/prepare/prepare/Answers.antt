@@ -35,7 +35,7 @@ returns-in-Ok-run_files-clause-ok g c =
     let journals = c.in-Ok-run_files.finished.journals in
     let is : c.in-Some-Run.field-0 ≡ code.Run c.in-Some-Run.files c.in-Some-Run.fuel = cc in
     says_run (files_view c.in-Some-Run.files) c.in-Some-Run.fuel x.0 x.1 journals (sym c.in-Some-Run.ensures ∙ ap (λ (a : Asked). Some (asked_view a)) is)
-    (run_of (g.S.Shelf.shown c.args.shelf.now) (files_view c.in-Some-Run.files) c.in-Some-Run.fuel x.0 x.1 journals x.2 x.3.run)
+    (run_of c.fitting_runs_journals.ensures (g.S.Shelf.shown c.args.shelf.now) (files_view c.in-Some-Run.files) c.in-Some-Run.fuel x.0 x.1 journals x.2 x.3.run)
     (text_is x.0 x.1 c.in-Some-Run.fuel c.in-Ok-run_files.finished x.3) refl
 
 pub returns-in-Err-run_files-clause-err : goal.returns-in-Err-run_files-clause-err
@@ -60,7 +60,7 @@ returns-in-Err-convert-clause-err g c =
 pub returns-in-Ok-run_made-clause-ok : goal.returns-in-Ok-run_made-clause-ok
 returns-in-Ok-run_made-clause-ok g c =
     let is : c.in-Some-Made.field-0 ≡ code.Made c.in-Some-Made.actors = cc in
-    sum_answers (g.S.Shelf.shown c.args.shelf.now) _ c.in-Some-Made.actors c.in-Ok-run_made.summary (sym c.in-Some-Made.ensures ∙ ap (λ (a : Asked). Some (asked_view a)) is) c.in-Ok-run_made.ensures.ok
+    sum_answers c.fitting_runs_journals.ensures (g.S.Shelf.shown c.args.shelf.now) _ c.in-Some-Made.actors c.in-Ok-run_made.summary (sym c.in-Some-Made.ensures ∙ ap (λ (a : Asked). Some (asked_view a)) is) c.in-Ok-run_made.ensures.ok
 
 pub returns-in-Err-run_made-clause-err : goal.returns-in-Err-run_made-clause-err
 returns-in-Err-run_made-clause-err g c =
