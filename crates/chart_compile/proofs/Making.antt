@@ -6,6 +6,7 @@ use Rattle.std.specs.Option.{option_map_or}
 use Rattle.std.proofs.lemmas.Bool.Decides.{nat_tests}
 use Rattle.std.proofs.lemmas.List.{append-nil, drop_more, length-map, map-append, take-append-drop}
 use Rattle.std.proofs.lemmas.List.Quantifiers.{position-Some}
+use Rattle.std.proofs.lemmas.List.Sums.{sum_by_push}
 use Rattle.name_tables.specs.name_numbers.Names.{same, AreDistinct}
 use Rattle.number_graphs.specs.class_containment.Containment.{NoneContainsItself}
 use Rattle.chart_model.specs.chart_plan.Plan.{Kind, Simple}
@@ -18,6 +19,8 @@ use Rattle.chart_run.specs.declared.chart_tables.tables.Arrow.{Arrow}
 use Rattle.chart_run.specs.declared.chart_tables.tables.Node.{Node as CodeNode}
 use Rattle.chart_run.specs.declared.chart_tables.tables.Node.TheVariants as nodes
 use Rattle.chart_run.specs.declared.chart_tables.tables.Tables.{Tables}
+use Rattle.chart_reading.specs.chart_graphs.Views.{graph_view}
+use Rattle.chart_reading.specs.declared.chart_graphs.Graph.{Graph as CodeGraph}
 use Rattle.chart_reader.specs.chart_nodes.Keys.{codes}
 use Rattle.chart_reader.specs.chart_nodes.Steps.{StepTree, steps_of}
 use Rattle.chart_reader.specs.chart_nodes.Circles.{parts_of}
@@ -80,6 +83,11 @@ are_made states keys steps targets count made whole numbers keyed_ e same_ size_
   lower = λ n. subst (λ k. leads_lower n k ≡ true) (sym (same_ n)) (lead_lower states keys steps targets made numbers keyed_ e n);
   size = size_;
 }
+
+-- the nodes of one more graph
+pub nodes_more : (gs : List CodeGraph) (i : ℕ) (g : CodeGraph) → i < length gs → g ≡ get_or gs i g → sum (map nodes_in (map graph_view (take (i + 1) gs))) ≡ sum (map nodes_in (map graph_view (take i gs))) + nodes_in (graph_view g)
+nodes_more gs i g h is =
+    ap (λ l. sum (map nodes_in l)) (made_more graph_view gs i g h is) ∙ ap sum (map-append nodes_in (map graph_view (take i gs)) (graph_view g ∷ [])) ∙ sum_by_push (λ (k : ℕ). k) (map nodes_in (map graph_view (take i gs))) (nodes_in (graph_view g))
 
 -- ---- tables
 

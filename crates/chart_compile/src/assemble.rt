@@ -1,7 +1,9 @@
 //! Tables from the steps and the states of a chart.
-ghost use Rattle.std.specs.Prelude.{◌≡◌, ◌<◌, ◌≤◌, ◌∷◌, [], ℕ, List, length, map, IfOk};
+ghost use Rattle.std.specs.Prelude.{◌≡◌, ◌<◌, ◌≤◌, ◌∷◌, [], ℕ, List, length, map, sum, IfOk};
 ghost use Rattle.number_graphs.specs.class_containment.Containment.{NoneContainsItself};
 ghost use Rattle.chart_model.specs.chart_plan.Same.{Each};
+ghost use Rattle.chart_model.specs.Named.{nodes_in};
+ghost use Rattle.chart_reading.specs.chart_graphs.Views.{graph_view};
 ghost use Rattle.chart_reader.specs.chart_nodes.Keys.{codes};
 ghost use Rattle.chart_reader.specs.chart_nodes.Steps.{step_view};
 ghost use Rattle.chart_reader.specs.chart_nodes.Circles.{parts_of};
@@ -16,6 +18,7 @@ use crate::chart_rows::{rows_of, shared_of};
 use crate::nodes::{fill_up, nodes_of};
 use crate::start::initial_arrow;
 use chart_reader::Step;
+use chart_reading::Graph;
 use chart_run::{Arrow, Node, Row, Tables};
 use name_tables::NameIndex;
 use room_kinds::Sequence;
@@ -60,26 +63,26 @@ fn shared_rows<'b, 'g, 'n>(
     Ok(shared)
 }
 
-/// The nodes that the steps with some numbers lead to, and then nodes to which nothing leads, so many
-/// in all.
+/// The nodes that the steps with some numbers lead to, and then nodes to which nothing leads, as many
+/// in all as graphs have.
 fn node_rows<'b, 's, 'n>(
     alloc: Global,
     states: &NameIndex<'s>,
     nodes: &NameIndex<'n>,
     steps: &[Step<'b>],
     targets: &[usize],
-    count: usize,
+    all: &[Graph],
 ) -> Result<Vec<Node>, AllocError>
     requires numbered { AreNumbered (map step_view steps.now) nodes.now targets.now }
     requires keyed { AreKeyed (map step_view steps.now) }
     requires go_on { AllGoOn states.now (map step_view steps.now) }
     requires lead { LeadTo nodes.now (map step_view steps.now) }
-    requires enough { length nodes.now ≤ count }
-    ensures { IfOk result (λ made. AreMade states.now nodes.now (map step_view steps.now) targets.now count made.items) }
+    requires enough { length nodes.now ≤ sum (map nodes_in (map graph_view all.now)) }
+    ensures { IfOk result (λ made. AreMade states.now nodes.now (map step_view steps.now) targets.now (sum (map nodes_in (map graph_view all.now))) made.items) }
 {
     let groups = group_by(alloc, nodes, targets.len(), steps)?;
     let mut made = nodes_of(alloc, states, nodes, steps, groups.as_slice(), targets)?;
-    fill_up(&mut made, count)?;
+    fill_up(&mut made, all)?;
     Ok(made)
 }
 
@@ -98,7 +101,7 @@ fn numbered<'a, 'b>(alloc: Global, steps: &'a [Step<'b>]) -> Result<NodeOrder<'a
     Ok(nodes)
 }
 
-/// The tables of steps and states, with so many nodes. It answers as where memory runs out where the
+/// The tables of steps and states, with as many nodes as graphs have. It answers as where memory runs out where the
 /// steps lead to more than 65,535 nodes.
 pub fn assemble<'b, 'p, 's, 'g>(
     alloc: Global,
@@ -107,7 +110,7 @@ pub fn assemble<'b, 'p, 's, 'g>(
     keys: &[Sequence<u8>],
     steps: &[Step<'b>],
     places: &[Place<'p>],
-    count: usize,
+    all: &[Graph],
     values: &[i64],
 ) -> Result<Tables, AllocError>
     requires states_are { states.now ≡ map key_of (map place_view places.now) }
@@ -116,16 +119,16 @@ pub fn assemble<'b, 'p, 's, 'g>(
     requires placed { ArePlaced states.now graphs.now (map place_view places.now) }
     requires go_on { AllGoOn states.now (map step_view steps.now) }
     requires no_circle { NoneContainsItself (parts_of (map step_view steps.now)) }
-    requires enough { (keys : List (List ℕ)) (targets : List ℕ) → AreNumbered (map step_view steps.now) keys targets → length keys ≤ count }
+    requires enough { (keys : List (List ℕ)) (targets : List ℕ) → AreNumbered (map step_view steps.now) keys targets → length keys ≤ sum (map nodes_in (map graph_view all.now)) }
     requires starts { 0 < length (from_key (0 ∷ codes []) (map step_view steps.now)) }
-    ensures tables { IfOk result (λ v. AreOf states.now graphs.now (map step_view steps.now) (map place_view places.now) count v) }
+    ensures tables { IfOk result (λ v. AreOf states.now graphs.now (map step_view steps.now) (map place_view places.now) (sum (map nodes_in (map graph_view all.now))) v) }
     ensures values { IfOk result (λ v. v.values.items ≡ values.now) }
 {
     let nodes = numbered(alloc, steps)?;
     let rows = state_rows(alloc, states, graphs, &nodes.keys, steps, places)?;
     let shared = shared_rows(alloc, graphs, &nodes.keys, steps, keys)?;
     let targets = nodes.targets.as_slice();
-    let made = node_rows(alloc, states, &nodes.keys, steps, targets, count)?;
+    let made = node_rows(alloc, states, &nodes.keys, steps, targets, all)?;
     let initial = initial_arrow(alloc, &nodes.keys, steps)?;
     let copies = Vec::from_slice(alloc, values)?;
     Ok(Tables {

@@ -6,5 +6,5 @@
 mod keys;
 mod order;
 
-pub use keys::{count_nodes, state_keys};
+pub use keys::state_keys;
 pub use order::{NodeOrder, number_nodes};

@@ -1,7 +1,9 @@
 //! The nodes of the tables.
-ghost use Rattle.std.specs.Prelude.{◌≡◌, ◌≤◌, true, Some, length, map, slice_get, IfOk, OnOk};
+ghost use Rattle.std.specs.Prelude.{◌≡◌, ◌+◌, ◌-◌, ◌≤◌, true, Some, length, map, slice_get, sum, IfOk, OnOk};
 ghost use Rattle.name_tables.specs.name_numbers.Names.{is_among};
 ghost use Rattle.chart_model.specs.chart_plan.Same.{Each};
+ghost use Rattle.chart_model.specs.Named.{nodes_in};
+ghost use Rattle.chart_reading.specs.chart_graphs.Views.{graph_view};
 ghost use Rattle.chart_reader.specs.chart_nodes.Steps.{StepTree, step_view};
 ghost use Rattle.chart_reader.specs.chart_nodes.Circles.{targets_of};
 ghost use Rattle.chart_compile.specs.chart_places.Groups.{IsGrouped, picked};
@@ -12,6 +14,7 @@ ghost use Rattle.chart_compile.specs.Joined.{AddsNode, AllGoOn, AreKeyed, SameNo
 use crate::chart_kinds::make_node;
 use crate::chart_rows::{step_at, steps_at};
 use chart_reader::Step;
+use chart_reading::Graph;
 use chart_run::Node;
 use name_tables::NameIndex;
 use room_kinds::Sequence;
@@ -86,14 +89,40 @@ pub fn nodes_of<'b, 's, 'n>(
     Ok(made)
 }
 
-/// Adds nodes to which nothing leads, until there are so many.
-pub fn fill_up(nodes: &mut Vec<Node>, count: usize) -> Result<(), AllocError>
-    requires { length nodes.old.items ≤ count }
+/// Goes on through so many nodes of a graph, of which the first `there` are there already: for each of
+/// the others it adds one to which nothing leads. It answers how many of the next ones are there.
+fn fill_more(nodes: &mut Vec<Node>, there: usize, many: usize) -> Result<usize, AllocError>
     ensures same { OnOk result (SameNodes nodes.old.items nodes.new.items) }
-    ensures size { OnOk result (length nodes.new.items ≡ count) }
+    ensures size { OnOk result (length nodes.new.items ≡ length nodes.old.items + (many - there)) }
+    ensures there { IfOk result (λ left. left ≡ there - many) }
 {
-    for _i in nodes.len()..count {
+    let known = many.min(there);
+    for _i in known..many {
         nodes.push(Node::Simple(0))?;
+    }
+    Ok(there - known)
+}
+
+/// Goes on through the nodes of a graph.
+fn fill_graph(nodes: &mut Vec<Node>, there: usize, graph: &Graph) -> Result<usize, AllocError>
+    ensures same { OnOk result (SameNodes nodes.old.items nodes.new.items) }
+    ensures size { OnOk result (length nodes.new.items ≡ length nodes.old.items + (nodes_in (graph_view graph.now) - there)) }
+    ensures there { IfOk result (λ left. left ≡ there - nodes_in (graph_view graph.now)) }
+{
+    let there = fill_more(nodes, there, graph.states.len())?;
+    let there = fill_more(nodes, there, graph.points.len())?;
+    fill_more(nodes, there, graph.choices.len())
+}
+
+/// Adds nodes to which nothing leads, until there are as many as graphs have.
+pub fn fill_up(nodes: &mut Vec<Node>, graphs: &[Graph]) -> Result<(), AllocError>
+    requires { length nodes.old.items ≤ sum (map nodes_in (map graph_view graphs.now)) }
+    ensures same { OnOk result (SameNodes nodes.old.items nodes.new.items) }
+    ensures size { OnOk result (length nodes.new.items ≡ sum (map nodes_in (map graph_view graphs.now))) }
+{
+    let mut there = nodes.len();
+    for graph in graphs {
+        there = fill_graph(nodes, there, graph)?;
     }
     Ok(())
 }

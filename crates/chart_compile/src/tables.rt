@@ -5,7 +5,7 @@ ghost use Rattle.chart_reader.specs.Whole.{IsWhole};
 ghost use Rattle.chart_compile.specs.chart_parts.Compiled.{Compiles};
 
 use crate::assemble::{MOST_NUMBERS, assemble};
-use crate::chart_numbers::{count_nodes, state_keys};
+use crate::chart_numbers::state_keys;
 use crate::chart_places::{graph_keys, index_of, places_of};
 use chart_reader::steps_of;
 use chart_reading::Chart;
@@ -22,9 +22,6 @@ pub fn compile(alloc: Global, chart: &Chart) -> Result<Tables, AllocError>
     requires { IsWhole (chart_view chart.now) }
     ensures { IfOk result (λ t. Compiles t (chart_view chart.now)) }
 {
-    let Some(count) = count_nodes(&chart.graphs) else {
-        return Err(AllocError);
-    };
     let steps = steps_of(alloc, chart)?;
     let graph_keys = graph_keys(alloc, &chart.graphs)?;
     let graphs = index_of(alloc, graph_keys.as_slice())?;
@@ -44,7 +41,7 @@ pub fn compile(alloc: Global, chart: &Chart) -> Result<Tables, AllocError>
         graph_keys.as_slice(),
         steps.as_slice(),
         places.as_slice(),
-        count,
+        &chart.graphs,
         chart.values.as_slice(),
     )?;
     Ok(tables)

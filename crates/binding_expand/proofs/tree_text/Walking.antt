@@ -1,5 +1,5 @@
 -- How far a loop over numbers has come.
-use Rattle.std.proofs.Common.{◌≡◌, ℕ, suc, ◌+◌, ◌-◌, ◌<◌, ◌≤◌, List, [], ◌++◌, refl, sym, ap, ◌∙◌, arith}
+use Rattle.std.proofs.Common.{◌≡◌, ℕ, suc, ◌+◌, ◌-◌, ◌<◌, ◌≤◌, List, ◌++◌, ap, ◌∙◌, arith}
 use Rattle.room_outside.specs.line_text.Output.{Output, Put}
 use Rattle.room_outside.proofs.line_text.Going.{Going, going_begin, going_end}
 use Rattle.binding_expand.specs.tree_text.Walk.{texts_from}

@@ -1,5 +1,5 @@
 -- The text of a wiring: its slots, then its joined places, then its sockets.
-use Rattle.std.specs.Prelude.{ℕ, List, [], ◌∷◌, ◌++◌, ◌&&◌, ◌||◌, ◌==◌, nat_lt, min, not, Bool, true, false, if◌then◌else◌, Option, Some, None, length, codes, decimal}
+use Rattle.std.specs.Prelude.{ℕ, List, [], ◌∷◌, ◌++◌, ◌&&◌, ◌||◌, ◌==◌, nat_lt, min, not, Bool, false, if◌then◌else◌, length, codes, decimal}
 use Rattle.std.specs.Option.{option_map_or}
 use Rattle.room_kinds.specs.Structure.{is_imported}
 use Rattle.room_wiring.specs.declared.tables.Tables.{Tables}
@@ -12,7 +12,7 @@ use Rattle.room_outside.specs.line_text.Lines.{line}
 use Rattle.binding_expand.specs.declared.tree_text.place.Place.{Place}
 use Rattle.binding_expand.specs.declared.tree_text.place.Tie.{Tie}
 use Rattle.binding_expand.specs.declared.tree_text.place.Tie.TheVariants as ties
-use Rattle.binding_expand.specs.tree_text.Names.{path_text, class_text, kind_text, place_parts}
+use Rattle.binding_expand.specs.tree_text.Names.{class_text, kind_text, place_parts}
 use Rattle.binding_expand.specs.tree_text.Walk.{texts_from}
 
 -- `slot <number> <owner> <kind> <path> <class>`

@@ -1,5 +1,5 @@
 //! Pairs of faces, and what is joined by them.
-ghost use Rattle.std.specs.Prelude.{◌≡◌, ◌+◌, ◌^◌, ◌≤◌, length, IfOk};
+ghost use Rattle.std.specs.Prelude.{◌≡◌, ◌+◌, ◌^◌, ◌<◌, ◌≤◌, length, IfOk};
 ghost use Rattle.wiring_places.specs.place_rules.Partners.{partners};
 ghost use Rattle.wiring_places.specs.slot_children.Table.{IsTableOf};
 ghost use Rattle.wiring_places.specs.place_spans.Containers.{AreContainers};
@@ -56,6 +56,7 @@ pub(crate) fn partners_by(
     places: &[Place],
     pairs: &[FacePair],
 ) -> Result<Vec<Partner>, AllocError>
+    requires { length places.now < 2 ^ 31 }
     ensures { IfOk result (λ v. v.items ≡ partners_by places.now pairs.now) }
 {
     let across = across_faces(alloc, places)?;

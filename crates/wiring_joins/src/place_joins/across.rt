@@ -1,5 +1,5 @@
 //! What lies across each face.
-ghost use Rattle.std.specs.Prelude.{◌≡◌, IfOk, if◌then◌else◌};
+ghost use Rattle.std.specs.Prelude.{◌≡◌, ◌^◌, ◌<◌, length, IfOk, if◌then◌else◌};
 ghost use Rattle.number_graphs.specs.face_chains.Chains.{IsInvolution};
 ghost use Rattle.wiring_places.specs.place_rules.Partners.{is_relay_role, across_places};
 
@@ -15,22 +15,18 @@ fn across_face(role: Role, face: u32, other: u32) -> u32
 
 /// The faces across all faces.
 fn across_row(alloc: Global, places: &[Place]) -> Result<Vec<u32>, AllocError>
+    requires { length places.now < 2 ^ 31 }
     ensures { IfOk result (λ v. v.items ≡ across_places places.now) }
 {
     let mut across = Vec::new(alloc);
     let mut face = 0u32;
     for place in places {
-        let Some(inner) = face.checked_add(1) else {
-            return Err(AllocError);
-        };
-        let Some(next) = face.checked_add(2) else {
-            return Err(AllocError);
-        };
+        let inner = face + 1;
         let outside = across_face(place.role, face, inner);
         let inside = across_face(place.role, inner, face);
         across.push(outside)?;
         across.push(inside)?;
-        face = next;
+        face += 2;
     }
     Ok(across)
 }
@@ -38,6 +34,7 @@ fn across_row(alloc: Global, places: &[Place]) -> Result<Vec<u32>, AllocError>
 /// For each face of each place the face across it: the place's other face where the place passes
 /// messages on, and itself elsewhere. It takes time in proportion to the places.
 pub fn across_faces(alloc: Global, places: &[Place]) -> Result<Vec<u32>, AllocError>
+    requires { length places.now < 2 ^ 31 }
     ensures row { IfOk result (λ v. v.items ≡ across_places places.now) }
     ensures involution { IfOk result (λ v. IsInvolution v.items) }
 {

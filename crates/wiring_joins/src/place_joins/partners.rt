@@ -1,5 +1,5 @@
 //! The partner of each place.
-ghost use Rattle.std.specs.Prelude.{◌≡◌, ◌/◌, List, slice_get, slice_index, Some, IfOk};
+ghost use Rattle.std.specs.Prelude.{◌≡◌, ◌/◌, ◌^◌, ◌<◌, List, length, slice_get, slice_index, Some, IfOk};
 ghost use Rattle.std.specs.Option.{option_copied};
 ghost use Rattle.number_graphs.specs.declared.face_chains.FacePair.{FacePair as AnyPair};
 ghost use Rattle.number_graphs.specs.face_chains.Chains.{ShowsChains};
@@ -61,18 +61,15 @@ fn partner_at_end(places: &[Place], far: &[u32], face: u32, place: Place) -> Par
 }
 
 /// The partners of all places.
-#[tactic(auto, using(crate::proofs::place_joins::PlaceSteps::partners_more, crate::proofs::place_joins::PlaceSteps::partners_end))]
 fn partner_row(alloc: Global, places: &[Place], far: &[u32]) -> Result<Vec<Partner>, AllocError>
+    requires { length places.now < 2 ^ 31 }
     ensures { IfOk result (λ v. v.items ≡ partners places.now far.now) }
 {
     let mut all = Vec::new(alloc);
     let mut face = 0u32;
     for place in places {
         all.push(partner_at_end(places, far, face, *place))?;
-        let Some(next) = face.checked_add(2) else {
-            return Err(AllocError);
-        };
-        face = next;
+        face += 2;
     }
     Ok(all)
 }
@@ -82,6 +79,7 @@ fn partner_row(alloc: Global, places: &[Place], far: &[u32]) -> Result<Vec<Partn
 /// their inner faces paired, then each place is told the one that it is joined to by them. It takes
 /// time in proportion to the places.
 pub fn partners_of(alloc: Global, places: &[Place], far: &[u32]) -> Result<Vec<Partner>, AllocError>
+    requires { length places.now < 2 ^ 31 }
     ensures row { IfOk result (λ v. v.items ≡ partners places.now far.now) }
     ensures joins { IfOk result (λ v. (pairs : List AnyPair) → ShowsChains (across_places places.now) pairs far.now → PairsInnerFacesOfRelays places.now pairs → ShowsJoins places.now pairs v.items) }
 {

@@ -29,7 +29,7 @@ assemble-requires-clause-go_on c =
     c.in_ok-states.ensures ∙ c.as_slice-3.ensures.value ∙ c.in_ok-state_keys.ensures ∙ ap (λ (l : List Place). map key_of (map place_view l)) (c.as_slice-2.ensures.value ∙ sym c.as_slice-6.ensures.value)
     in
     let few : length places ≤ 65535 = omega (arith, c.if-len-gt-MOST_NUMBERS-2.false, c.len-2.ensures, ap length c.as_slice-6.ensures.value, length-map c.as_slice-6.result.now place_view) in
-    let are_graphs : c.in_ok-graphs.graphs ≡ keys_of chart.graphs = c.in_ok-graphs.ensures ∙ c.as_slice.ensures.value ∙ c.in_ok-graph_keys.ensures ∙ ap (λ (l : List CodeGraph). keys_of (map graph_view l)) c.deref-2.ensures.value in
+    let are_graphs : c.in_ok-graphs.graphs ≡ keys_of chart.graphs = c.in_ok-graphs.ensures ∙ c.as_slice.ensures.value ∙ c.in_ok-graph_keys.ensures ∙ ap (λ (l : List CodeGraph). keys_of (map graph_view l)) c.deref.ensures.value in
     let few_graphs : length c.in_ok-graphs.graphs ≤ 65535 = omega (arith, c.if-len-gt-MOST_NUMBERS.false, c.len.ensures) in
     go_on chart (map step_view c.as_slice-5.result.now) c.in_ok-states.states c.requires (ap (map step_view) c.as_slice-5.ensures.value ∙ c.in_ok-steps.ensures) (state_numbered chart places c.in_ok-states.states c.in_ok-graphs.graphs are_places are_states are_graphs few few_graphs)
 
@@ -42,7 +42,7 @@ assemble-requires-clause-placed c =
     c.in_ok-states.ensures ∙ c.as_slice-3.ensures.value ∙ c.in_ok-state_keys.ensures ∙ ap (λ (l : List Place). map key_of (map place_view l)) (c.as_slice-2.ensures.value ∙ sym c.as_slice-6.ensures.value)
     in
     let few : length places ≤ 65535 = omega (arith, c.if-len-gt-MOST_NUMBERS-2.false, c.len-2.ensures, ap length c.as_slice-6.ensures.value, length-map c.as_slice-6.result.now place_view) in
-    let are_graphs : c.in_ok-graphs.graphs ≡ keys_of chart.graphs = c.in_ok-graphs.ensures ∙ c.as_slice.ensures.value ∙ c.in_ok-graph_keys.ensures ∙ ap (λ (l : List CodeGraph). keys_of (map graph_view l)) c.deref-2.ensures.value in
+    let are_graphs : c.in_ok-graphs.graphs ≡ keys_of chart.graphs = c.in_ok-graphs.ensures ∙ c.as_slice.ensures.value ∙ c.in_ok-graph_keys.ensures ∙ ap (λ (l : List CodeGraph). keys_of (map graph_view l)) c.deref.ensures.value in
     let few_graphs : length c.in_ok-graphs.graphs ≤ 65535 = omega (arith, c.if-len-gt-MOST_NUMBERS.false, c.len.ensures) in
     are_placed chart places c.in_ok-states.states c.in_ok-graphs.graphs are_places are_states are_graphs few few_graphs
 
@@ -51,8 +51,8 @@ assemble-requires-clause-no_circle c = no_circle (chart_view c.args.chart.now) (
 
 pub assemble-requires-clause-enough : goal.assemble-requires-clause-enough
 assemble-requires-clause-enough c =
-    enough (chart_view c.args.chart.now) (map step_view c.as_slice-5.result.now) c.in-Some.count c.requires.valid (ap (map step_view) c.as_slice-5.ensures.value ∙ c.in_ok-steps.ensures)
-    (c.in-Some.ensures ∙ ap (λ (l : List CodeGraph). sum (map nodes_in (map graph_view l))) c.deref.ensures.value)
+    enough (chart_view c.args.chart.now) (map step_view c.as_slice-5.result.now) (sum (map nodes_in (map graph_view c.deref-2.result.now))) c.requires.valid (ap (map step_view) c.as_slice-5.ensures.value ∙ c.in_ok-steps.ensures)
+    (ap (λ (l : List CodeGraph). sum (map nodes_in (map graph_view l))) c.deref-2.ensures.value)
 
 pub assemble-requires-clause-starts : goal.assemble-requires-clause-starts
 assemble-requires-clause-starts c = starts (chart_view c.args.chart.now) (map step_view c.as_slice-5.result.now) c.requires.valid (ap (map step_view) c.as_slice-5.ensures.value ∙ c.in_ok-steps.ensures)
@@ -66,6 +66,6 @@ returns c =
     c.in_ok-states.ensures ∙ c.as_slice-3.ensures.value ∙ c.in_ok-state_keys.ensures ∙ ap (λ (l : List Place). map key_of (map place_view l)) (c.as_slice-2.ensures.value ∙ sym c.as_slice-6.ensures.value)
     in
     let few : length places ≤ 65535 = omega (arith, c.if-len-gt-MOST_NUMBERS-2.false, c.len-2.ensures, ap length c.as_slice-6.ensures.value, length-map c.as_slice-6.result.now place_view) in
-    tables_of chart c.in_ok-tables.tables (map step_view c.as_slice-5.result.now) places c.in_ok-states.states c.in_ok-graphs.graphs c.in-Some.count c.requires.valid (ap (map step_view) c.as_slice-5.ensures.value ∙ c.in_ok-steps.ensures) are_places are_states
-    (c.in_ok-graphs.ensures ∙ c.as_slice.ensures.value ∙ c.in_ok-graph_keys.ensures ∙ ap (λ (l : List CodeGraph). keys_of (map graph_view l)) c.deref-2.ensures.value) (c.in-Some.ensures ∙ ap (λ (l : List CodeGraph). sum (map nodes_in (map graph_view l))) c.deref.ensures.value)
+    tables_of chart c.in_ok-tables.tables (map step_view c.as_slice-5.result.now) places c.in_ok-states.states c.in_ok-graphs.graphs (sum (map nodes_in (map graph_view c.deref-2.result.now))) c.requires.valid (ap (map step_view) c.as_slice-5.ensures.value ∙ c.in_ok-steps.ensures) are_places are_states
+    (c.in_ok-graphs.ensures ∙ c.as_slice.ensures.value ∙ c.in_ok-graph_keys.ensures ∙ ap (λ (l : List CodeGraph). keys_of (map graph_view l)) c.deref.ensures.value) (ap (λ (l : List CodeGraph). sum (map nodes_in (map graph_view l))) c.deref-2.ensures.value)
     c.in_ok-tables.ensures.tables (states_distinct_as chart places c.in_ok-states.states c.requires.valid are_places are_states) few (c.in_ok-tables.ensures.values ∙ c.as_slice-7.ensures.value)
