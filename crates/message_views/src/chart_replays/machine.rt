@@ -1,4 +1,5 @@
 //! An actor's chart, whose attributes can be looked at.
+ghost use Rattle.std.specs.Prelude.{◌≡◌, length, IfOk, OnOk};
 ghost use Rattle.chart_run.specs.chart_tables.Tables.{IsSound};
 
 use crate::chart_replays::trace::{Passed, steps_of};
@@ -17,9 +18,11 @@ pub(crate) struct Replay {
 }
 
 /// No history for each of some states.
-fn no_past(alloc: Global, states: &[Row]) -> Result<Vec<Option<u16>>, AllocError> {
+fn no_past(alloc: Global, states: &[Row]) -> Result<Vec<Option<u16>>, AllocError>
+    ensures { IfOk result (λ past. length past.items ≡ length states.now) }
+{
     let mut past = Vec::new(alloc);
-    for _state in states {
+    for _i in 0..states.len() {
         past.push(None)?;
     }
     Ok(past)
@@ -55,6 +58,7 @@ impl Replay {
         me: Incarnation,
     ) -> Result<Replay, AllocError>
         requires { IsSound tables.now }
+        ensures { IfOk result (λ r. length r.mind.past.items ≡ length tables.now.states.items) }
     {
         let at = Moment {
             payload: Payload::empty(alloc),
@@ -67,9 +71,6 @@ impl Replay {
             vars: Vars::new(alloc, tables.values.as_slice())?,
             effects: Effects::new(alloc),
         };
-        if mind.past.len() != tables.states.len() {
-            return Err(AllocError);
-        }
         let leaf = mind.chain(alloc, tables, None, &tables.initial, &at)?;
         Ok(Replay { me, leaf, mind })
     }
@@ -86,20 +87,16 @@ impl Replay {
         tables: &Tables,
         msg: &Msg,
     ) -> Result<(), AllocError>
-        requires { IsSound tables.now }
+        requires sound { IsSound tables.now }
+        requires size { length self.old.mind.past.items ≡ length tables.now.states.items }
+        ensures { OnOk result (length self.new.mind.past.items ≡ length tables.now.states.items) }
     {
         let at = self.moment_of(alloc, msg)?;
         let leaf = self.leaf;
         let Some(taken) = self.mind.enabled(tables, leaf, event_of(msg), &at)? else {
             return Ok(());
         };
-        if self.mind.past.len() != tables.states.len() {
-            return Err(AllocError);
-        }
         self.mind.leave_all(alloc, tables, leaf, taken.leaves, &at)?;
-        if self.mind.past.len() != tables.states.len() {
-            return Err(AllocError);
-        }
         self.leaf = self
             .mind
             .chain(alloc, tables, Some(leaf), taken.arrow, &at)?;
@@ -114,7 +111,9 @@ impl Replay {
         tables: &Tables,
         msg: &Msg,
     ) -> Result<Vec<Passed>, AllocError>
-        requires { IsSound tables.now }
+        requires sound { IsSound tables.now }
+        requires size { length self.old.mind.past.items ≡ length tables.now.states.items }
+        ensures { OnOk result (length self.new.mind.past.items ≡ length tables.now.states.items) }
     {
         let at = self.moment_of(alloc, msg)?;
         let leaf = self.leaf;

@@ -1,4 +1,5 @@
 //! The turns of one message at its actor.
+ghost use Rattle.std.specs.Prelude.{◌≡◌, length, OnOk};
 ghost use Rattle.chart_run.specs.chart_tables.Tables.{IsSound};
 
 use crate::Replayed;
@@ -40,7 +41,9 @@ fn replay_turn(
     tables: &Tables,
     msg: &Msg,
 ) -> Result<Replayed, AllocError>
-    requires { IsSound tables.now }
+    requires sound { IsSound tables.now }
+    requires size { length replay.old.mind.past.items ≡ length tables.now.states.items }
+    ensures { OnOk result (length replay.new.mind.past.items ≡ length tables.now.states.items) }
 {
     let before = replay.numbers(alloc)?;
     let holds = replay.tries(alloc, tables, msg)?;
