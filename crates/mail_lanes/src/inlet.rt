@@ -55,6 +55,7 @@ impl Inlet {
     }
 
     /// The oldest message that waits.
+    #[inline(never)]
     fn take(&mut self, prio: u8) -> Option<Msg>
         ensures lanes { MatchOption result (AllStay (in_lane self.old) (in_lane self.new)) (λ m. OneIs prio (stealing (in_lane self.old prio) m) (in_lane self.old) (in_lane self.new)) }
         ensures is_for { MatchOption result (Unit {0}) (λ m. IsFor self.old.from self.old.to prio m) }

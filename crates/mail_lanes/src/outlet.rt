@@ -11,6 +11,7 @@ impl Outlet {
     ghost use Rattle.mail_lanes.specs.Waits.{waits};
 
     /// A message to the sender itself.
+    #[inline(never)]
     #[tactic(auto, using(crate::proofs::LaneLemmas::lane_steps))]
     fn keep(&mut self, m: Msg) -> Result<(), Msg>
         requires own { self.old.from ≡ self.old.to }
@@ -50,6 +51,7 @@ impl Outlet {
     }
 
     /// The oldest message that waits.
+    #[inline(never)]
     #[tactic(auto, using(crate::proofs::LaneLemmas::lane_steps))]
     pub(crate) fn take(&mut self, prio: u8) -> Option<Msg>
         ensures lanes { MatchOption result (AllStay (out_lane self.old) (out_lane self.new) × (waits self.old.waiting prio ≡ [])) (λ m. OneIs prio (popping (out_lane self.old prio) m) (out_lane self.old) (out_lane self.new)) }

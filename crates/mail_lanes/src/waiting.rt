@@ -130,9 +130,10 @@ impl Waiting {
         self.pop_spare(prio)
     }
 
-    /// Whether the next message can be put. The spare one goes to its queue first.
+    /// Whether the spare message has found room in its queue.
+    #[inline(never)]
     #[tactic(auto, using(crate::proofs::WaitLemmas::queue_steps))]
-    pub(crate) fn ready(&mut self) -> bool
+    fn place_spare(&mut self) -> bool
         ensures waits { Stays (waits self.old) (waits self.new) }
         ensures room { result ≡ true → self.new.spare ≡ None }
     {
@@ -148,7 +149,19 @@ impl Waiting {
         }
     }
 
+    /// Whether the next message can be put. The spare one goes to its queue first.
+    pub(crate) fn ready(&mut self) -> bool
+        ensures waits { Stays (waits self.old) (waits self.new) }
+        ensures room { result ≡ true → self.new.spare ≡ None }
+    {
+        if self.spare.is_none() {
+            return true;
+        }
+        self.place_spare()
+    }
+
     /// A message more, at the end of those of its priority.
+    #[inline(never)]
     #[tactic(auto, using(crate::proofs::WaitLemmas::queue_steps))]
     pub(crate) fn put(&mut self, m: Msg)
         requires { self.old.spare ≡ None }
