@@ -1,13 +1,41 @@
 //! Steps of the receiver's end.
+ghost use Rattle.std.specs.Prelude.{◌≡◌, true, false, MatchOption, None};
+ghost use Rattle.mail_lanes.specs.Addressed.{addressed};
+ghost use Rattle.mail_lanes.specs.Waits.{rank, waits, Gains, Stays};
+
 use crate::address::addressed;
 use crate::lane::Inlet;
 use crate::rule::Got;
-use crate::waiting::rank;
+use crate::waiting::{Waiting, rank};
 use crossbeam_deque::Steal;
 use room_kinds::Msg;
 
 /// How many messages of other priorities a look passes at most. The next look goes on behind them.
 const PASSED: u32 = 1_024;
+
+/// A message that came off the deque goes to an empty place where it is of this priority; else it
+/// waits. Answers whether it waits.
+#[inline(never)]
+#[tactic(auto, using(crate::proofs::LaneLemmas::lane_steps))]
+fn give_or_keep(
+    waiting: &mut Waiting,
+    m: Msg,
+    from: u8,
+    to: u8,
+    prio: u8,
+    found: &mut Option<Msg>,
+) -> bool
+    requires empty { found.old ≡ None }
+    requires room { waiting.old.spare ≡ None }
+    ensures { MatchOption found.new ((result ≡ true) × Gains (waits waiting.old) (waits waiting.new) m × (rank m ≡ prio → ⊥)) (λ x. (result ≡ false) × Stays (waits waiting.old) (waits waiting.new) × (rank m ≡ prio) × (x ≡ addressed from to prio m)) }
+{
+    if rank(&m) == prio {
+        *found = Some(addressed(m, from, to, prio));
+        return false;
+    }
+    waiting.put(m);
+    true
+}
 
 impl Inlet {
     ghost use Rattle.std.specs.Prelude.{◌≡◌, true, [], MatchOption, None};
@@ -32,12 +60,7 @@ impl Inlet {
         let Steal::Success(m) = self.thief.steal_as::<Got>(&mut self.pass) else {
             return false;
         };
-        if rank(&m) == prio {
-            *found = Some(addressed(m, self.from, self.to, prio));
-            return false;
-        }
-        self.waiting.put(m);
-        true
+        give_or_keep(&mut self.waiting, m, self.from, self.to, prio, found)
     }
 
     /// The first message of this priority that the deque gives at once.
@@ -55,7 +78,6 @@ impl Inlet {
     }
 
     /// The oldest message that waits.
-    #[inline(never)]
     fn take(&mut self, prio: u8) -> Option<Msg>
         ensures lanes { MatchOption result (AllStay (in_lane self.old) (in_lane self.new)) (λ m. OneIs prio (stealing (in_lane self.old prio) m) (in_lane self.old) (in_lane self.new)) }
         ensures is_for { MatchOption result (Unit {0}) (λ m. IsFor self.old.from self.old.to prio m) }
@@ -66,6 +88,16 @@ impl Inlet {
         Some(addressed(m, self.from, self.to, prio))
     }
 
+    /// The same, to an empty place.
+    #[inline(never)]
+    fn give(&mut self, prio: u8, found: &mut Option<Msg>)
+        requires { found.old ≡ None }
+        ensures lanes { MatchOption found.new (AllStay (in_lane self.old) (in_lane self.new)) (λ m. OneIs prio (stealing (in_lane self.old prio) m) (in_lane self.old) (in_lane self.new)) }
+        ensures is_for { MatchOption found.new (Unit {0}) (λ m. IsFor self.old.from self.old.to prio m) }
+    {
+        *found = self.take(prio);
+    }
+
     /// What waits, or else what the deque gives at once, goes to an empty place. Most looks find
     /// nothing, and no room for a message is made for them.
     pub(crate) fn take_to(&mut self, prio: u8, found: &mut Option<Msg>)
@@ -74,7 +106,7 @@ impl Inlet {
         ensures is_for { MatchOption found.new (Unit {0}) (λ m. IsFor self.old.from self.old.to prio m) }
     {
         if self.waiting.holds(prio) {
-            *found = self.take(prio);
+            self.give(prio, found);
             return;
         }
         self.steal_to(prio, found);

@@ -51,7 +51,6 @@ impl Outlet {
     }
 
     /// The oldest message that waits.
-    #[inline(never)]
     #[tactic(auto, using(crate::proofs::LaneLemmas::lane_steps))]
     pub(crate) fn take(&mut self, prio: u8) -> Option<Msg>
         ensures lanes { MatchOption result (AllStay (out_lane self.old) (out_lane self.new) × (waits self.old.waiting prio ≡ [])) (λ m. OneIs prio (popping (out_lane self.old prio) m) (out_lane self.old) (out_lane self.new)) }
@@ -66,6 +65,16 @@ impl Outlet {
         Some(addressed(m, self.from, self.to, prio))
     }
 
+    /// The same, to an empty place.
+    #[inline(never)]
+    fn give(&mut self, prio: u8, found: &mut Option<Msg>)
+        requires { found.old ≡ None }
+        ensures lanes { MatchOption found.new (AllStay (out_lane self.old) (out_lane self.new) × (waits self.old.waiting prio ≡ [])) (λ m. OneIs prio (popping (out_lane self.old prio) m) (out_lane self.old) (out_lane self.new)) }
+        ensures is_for { MatchOption found.new (Unit {0}) (λ m. IsFor self.old.from self.old.to prio m) }
+    {
+        *found = self.take(prio);
+    }
+
     /// What waits for the sender itself goes to an empty place. Most looks find nothing, and no room
     /// for a message is made for them.
     #[tactic(auto, using(crate::proofs::LaneLemmas::lane_steps))]
@@ -76,7 +85,7 @@ impl Outlet {
         ensures is_for { MatchOption found.new (Unit {0}) (λ m. IsFor self.old.from self.old.to prio m) }
     {
         if self.waiting.holds(prio) {
-            *found = self.take(prio);
+            self.give(prio, found);
         }
     }
 }
