@@ -1,4 +1,5 @@
 pub mod Ends
+pub mod Handed
 pub mod Laws
 pub mod Lanes
 pub mod Addressed

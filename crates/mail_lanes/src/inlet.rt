@@ -1,7 +1,7 @@
 //! Steps of the receiver's end.
-ghost use Rattle.std.specs.Prelude.{◌≡◌, true, false, MatchOption, None};
-ghost use Rattle.mail_lanes.specs.Addressed.{addressed};
-ghost use Rattle.mail_lanes.specs.Waits.{rank, waits, Gains, Stays};
+ghost use Rattle.std.specs.Prelude.{◌≡◌, None};
+ghost use Rattle.mail_lanes.specs.Waits.{waits};
+ghost use Rattle.mail_lanes.specs.Handed.{Handed};
 
 use crate::address::addressed;
 use crate::lane::Inlet;
@@ -14,12 +14,12 @@ use room_kinds::Msg;
 const PASSED: u32 = 1_024;
 
 /// A message that came off the deque goes to an empty place where it is of this priority; else it
-/// waits. Answers whether it waits.
+/// waits. Answers whether one waits now.
 #[inline(never)]
 #[tactic(auto, using(crate::proofs::LaneLemmas::lane_steps))]
 fn give_or_keep(
     waiting: &mut Waiting,
-    m: Msg,
+    stolen: Steal<Msg>,
     from: u8,
     to: u8,
     prio: u8,
@@ -27,8 +27,11 @@ fn give_or_keep(
 ) -> bool
     requires empty { found.old ≡ None }
     requires room { waiting.old.spare ≡ None }
-    ensures { MatchOption found.new ((result ≡ true) × Gains (waits waiting.old) (waits waiting.new) m × (rank m ≡ prio → ⊥)) (λ x. (result ≡ false) × Stays (waits waiting.old) (waits waiting.new) × (rank m ≡ prio) × (x ≡ addressed from to prio m)) }
+    ensures { Handed from to prio stolen (waits waiting.old) (waits waiting.new) result found.new }
 {
+    let Steal::Success(m) = stolen else {
+        return false;
+    };
     if rank(&m) == prio {
         *found = Some(addressed(m, from, to, prio));
         return false;
@@ -57,10 +60,11 @@ impl Inlet {
         if !self.waiting.ready() {
             return false;
         }
-        let Steal::Success(m) = self.thief.steal_as::<Got>(&mut self.pass) else {
+        let stolen = self.thief.steal_as::<Got>(&mut self.pass);
+        if !stolen.is_success() {
             return false;
-        };
-        give_or_keep(&mut self.waiting, m, self.from, self.to, prio, found)
+        }
+        give_or_keep(&mut self.waiting, stolen, self.from, self.to, prio, found)
     }
 
     /// The first message of this priority that the deque gives at once.
