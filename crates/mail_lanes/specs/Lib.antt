@@ -1,5 +1,4 @@
 pub mod Ends
-pub mod Handed
 pub mod Laws
 pub mod Lanes
 pub mod Addressed

@@ -1,44 +1,13 @@
 //! Steps of the receiver's end.
-ghost use Rattle.std.specs.Prelude.{◌≡◌, None};
-ghost use Rattle.mail_lanes.specs.Waits.{waits};
-ghost use Rattle.mail_lanes.specs.Handed.{Handed};
-
 use crate::address::addressed;
 use crate::lane::Inlet;
 use crate::rule::Got;
-use crate::waiting::{Waiting, rank};
+use crate::waiting::rank;
 use crossbeam_deque::Steal;
 use room_kinds::Msg;
 
 /// How many messages of other priorities a look passes at most. The next look goes on behind them.
 const PASSED: u32 = 1_024;
-
-/// A message that came off the deque goes to an empty place where it is of this priority; else it
-/// waits. Answers whether one waits now.
-#[inline(never)]
-#[tactic(auto, using(crate::proofs::LaneLemmas::lane_steps))]
-fn give_or_keep(
-    waiting: &mut Waiting,
-    stolen: Steal<Msg>,
-    from: u8,
-    to: u8,
-    prio: u8,
-    found: &mut Option<Msg>,
-) -> bool
-    requires empty { found.old ≡ None }
-    requires room { waiting.old.spare ≡ None }
-    ensures { Handed from to prio stolen (waits waiting.old) (waits waiting.new) result found.new }
-{
-    let Steal::Success(m) = stolen else {
-        return false;
-    };
-    if rank(&m) == prio {
-        *found = Some(addressed(m, from, to, prio));
-        return false;
-    }
-    waiting.put(m);
-    true
-}
 
 impl Inlet {
     ghost use Rattle.std.specs.Prelude.{◌≡◌, true, [], MatchOption, None};
@@ -60,11 +29,15 @@ impl Inlet {
         if !self.waiting.ready() {
             return false;
         }
-        let stolen = self.thief.steal_as::<Got>(&mut self.pass);
-        if !stolen.is_success() {
+        let Steal::Success(m) = self.thief.steal_as::<Got>(&mut self.pass) else {
+            return false;
+        };
+        if rank(&m) == prio {
+            *found = Some(addressed(m, self.from, self.to, prio));
             return false;
         }
-        give_or_keep(&mut self.waiting, stolen, self.from, self.to, prio, found)
+        self.waiting.put(m);
+        true
     }
 
     /// The first message of this priority that the deque gives at once.

@@ -37,6 +37,7 @@ fn are_made(queues: &mut Vec<VecDeque<Msg>>) -> bool
 }
 
 /// Whether a queue has room for a message more.
+#[inline(never)]
 #[tactic(auto, using(crate::proofs::WaitLemmas::queue_steps))]
 fn has_room(queues: &mut Vec<VecDeque<Msg>>, at: usize) -> bool
     requires { at < 6 }

@@ -1,40 +1,44 @@
-use Rattle.std.proofs.Common.{◌∙◌}
+use Rattle.std.proofs.Common.{ap, sym, ◌∙◌, ◌≡◌}
 use Rattle.crossbeam_deque.specs.Handles.{stealer_deque, view}
-use Rattle.mail_lanes.specs.Waits.{waits}
-use Rattle.mail_lanes.proofs.LaneLemmas.{is-stolen, stolen-takes, handed-came, handed-lanes, handed-for, handed-passed}
+use Rattle.mail_lanes.specs.declared.rule.LaneView.{LaneView}
+use Rattle.mail_lanes.specs.Waits.{waits, rank}
+use Rattle.mail_lanes.proofs.LaneLemmas.{once-came, once-lanes, waits-came, waits-lanes}
 use Rattle.mail_lanes.proofs.lane.Inlet.pass_one.Goals as goal
+
+pub invariant_of-self-then-rank-prio : goal.invariant_of-self-then-rank-prio
+invariant_of-self-then-rank-prio c =
+    let s = c.args.self.now in
+    let same = c.steal_as.ensures.same in
+    let step = c.in-Success.ensures.rule in
+    let is : rank c.in-Success.m ≡ c.args.prio = sym c.rank.ensures ∙ c.if-rank-prio.true in
+    record {
+      fits = (same.0 ∙ s.fits.0, same.1 ∙ s.fits.1, same.3, same.4);
+      fifo = s.fifo;
+      takes = ap (λ (w : LaneView). w.takes) step ∙ s.takes;
+      came = once-came (view s.pass) (view c.steal_as.new.pass) (waits s.waiting) (waits c.ready.new.self) s.came c.ready.ensures.waits c.in-Success.m step c.args.prio is c.requires.none;
+    }
+
+pub returns-then-rank-prio-clause-lanes : goal.returns-then-rank-prio-clause-lanes
+returns-then-rank-prio-clause-lanes c =
+    let s = c.args.self.now in
+    let is : rank c.in-Success.m ≡ c.args.prio = sym c.rank.ensures ∙ c.if-rank-prio.true in
+    once-lanes (view s.pass) (view c.steal_as.new.pass) (waits s.waiting) (waits c.ready.new.self) s.came c.ready.ensures.waits c.in-Success.m c.in-Success.ensures.rule c.args.prio is c.requires.none
+    s.from s.to (stealer_deque s.thief).0 c.addressed.result c.addressed.ensures
 
 pub invariant_of-self-2 : goal.invariant_of-self-2
 invariant_of-self-2 c =
     let s = c.args.self.now in
-    let same = c.steal_as-stolen.ensures.same in
-    let v = view s.pass in
-    let v' = view c.steal_as-stolen.new.pass in
-    let rule = is-stolen _ _ v v' c.steal_as-stolen.result c.steal_as-stolen.ensures.rule in
+    let same = c.steal_as.ensures.same in
+    let step = c.in-Success.ensures.rule in
     record {
       fits = (same.0 ∙ s.fits.0, same.1 ∙ s.fits.1, same.3, same.4);
       fifo = s.fifo;
-      takes = stolen-takes s.from s.to c.args.prio v v' (waits s.waiting) (waits c.ready.new.self) (waits c.give_or_keep.new.waiting) s.came c.ready.ensures.waits c.requires.none c.give_or_keep.result c.steal_as-stolen.result rule ∙ s.takes;
-      came = handed-came s.from s.to c.args.prio v v' (waits s.waiting) (waits c.ready.new.self) (waits c.give_or_keep.new.waiting) s.came c.ready.ensures.waits c.requires.none c.give_or_keep.result
-          c.steal_as-stolen.result c.give_or_keep.new.found rule c.give_or_keep.ensures;
+      takes = ap (λ (w : LaneView). w.takes) step ∙ s.takes;
+      came = waits-came (view s.pass) (view c.steal_as.new.pass) (waits s.waiting) (waits c.ready.new.self) s.came c.ready.ensures.waits c.in-Success.m step (waits c.put.new.self) c.put.ensures;
     }
 
 pub returns-clause-lanes : goal.returns-clause-lanes
 returns-clause-lanes c =
     let s = c.args.self.now in
-    let v = view s.pass in
-    let v' = view c.steal_as-stolen.new.pass in
-    handed-lanes s.from s.to c.args.prio v v' (waits s.waiting) (waits c.ready.new.self) (waits c.give_or_keep.new.waiting) s.came c.ready.ensures.waits c.requires.none c.give_or_keep.result
-    (stealer_deque s.thief).0 c.steal_as-stolen.result c.give_or_keep.new.found (is-stolen _ _ v v' c.steal_as-stolen.result c.steal_as-stolen.ensures.rule) c.give_or_keep.ensures
-
-pub returns-clause-is_for : goal.returns-clause-is_for
-returns-clause-is_for c =
-    let s = c.args.self.now in
-    handed-for s.from s.to c.args.prio (view s.pass) (view c.steal_as-stolen.new.pass) (waits s.waiting) (waits c.ready.new.self) (waits c.give_or_keep.new.waiting) s.came c.ready.ensures.waits c.requires.none c.give_or_keep.result
-    c.steal_as-stolen.result c.give_or_keep.new.found c.give_or_keep.ensures
-
-pub returns-clause-passed : goal.returns-clause-passed
-returns-clause-passed c =
-    let s = c.args.self.now in
-    handed-passed s.from s.to c.args.prio (view s.pass) (view c.steal_as-stolen.new.pass) (waits s.waiting) (waits c.ready.new.self) (waits c.give_or_keep.new.waiting) s.came c.ready.ensures.waits c.requires.none c.give_or_keep.result
-    c.steal_as-stolen.result c.give_or_keep.new.found c.give_or_keep.ensures
+    rw c.requires.empty (waits-lanes (view s.pass) (view c.steal_as.new.pass) (waits s.waiting) (waits c.ready.new.self) s.came c.ready.ensures.waits c.in-Success.m c.in-Success.ensures.rule
+    (waits c.put.new.self) c.put.ensures s.from s.to (stealer_deque s.thief).0)
