@@ -36,7 +36,8 @@ impl Inlet {
             *found = Some(addressed(m, self.from, self.to, prio));
             return false;
         }
-        self.waiting.put(m);
+        *found = Some(m);
+        self.waiting.put_from(found);
         true
     }
 

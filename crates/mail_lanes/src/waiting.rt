@@ -151,7 +151,7 @@ impl Waiting {
     }
 
     /// A message more, at the end of those of its priority.
-    #[inline(never)]
+    #[inline(always)]
     #[tactic(auto, using(crate::proofs::WaitLemmas::queue_steps))]
     pub(crate) fn put(&mut self, m: Msg)
         requires { self.old.spare ≡ None }
@@ -164,5 +164,17 @@ impl Waiting {
         }
         let queue = &mut self.queues[at];
         queue.push_back_reserved(m);
+    }
+
+    /// The same, out of a place, which it leaves empty.
+    #[inline(never)]
+    pub(crate) fn put_from(&mut self, place: &mut Option<Msg>)
+        requires { self.old.spare ≡ None }
+        ensures waits { MatchOption place.old (Unit {0}) (λ m. Gains (waits self.old) (waits self.new) m) }
+        ensures empty { place.new ≡ None }
+    {
+        if let Some(m) = place.take() {
+            self.put(m);
+        }
     }
 }
