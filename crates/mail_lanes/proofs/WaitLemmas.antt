@@ -7,7 +7,7 @@ use Rattle.std.proofs.lemmas.List.{map-set, map_push, get_or-map, length-map, ge
 use Rattle.std.specs.Global.{Global}
 use Rattle.std.specs.declared.collections.VecDeque.{VecDeque}
 use Rattle.room_kinds.specs.declared.message.Msg.{Msg}
-use Rattle.mail_lanes.specs.Waits.{rank, of_rank, queued, Stays, Gains, Loses}
+use Rattle.mail_lanes.specs.Waits.{rank, of_rank, spare_of, queued, Stays, Gains, Loses}
 
 abbrev items_of : VecDeque Msg Global → List Msg
 items_of q = q.items
@@ -74,5 +74,18 @@ queued-popped qs at p q q' (Some m) a h e g z = queued-loses qs at p q q' m a h 
 pub count_of : (q : VecDeque Msg Global) (r : Option Msg) (n : ℕ) → MatchOption r ((q.len ≡ 0) × (n ≡ 0)) (λ m. n + 1 ≡ q.len) → MatchOption r (length q.items ≡ 0) (λ m. Unit {0})
 count_of q None n e = sym q.ok.0 ∙ e.0
 count_of q (Some m) n e = tt
+
+-- a message goes to the end of its queue, which has got room
+module _ (qs qs' qs'' : List (VecDeque Msg Global)) (m : Msg) (st : Stays (queued qs) (queued qs')) (g : Gains (queued qs') (queued qs'') m) where
+  gains-since : Gains (queued qs) (queued qs'') m
+  gains-since = λ p. g p ∙ ap (λ l. l ++ of_rank p (m ∷ [])) (st p)
+
+  pub put-gains : (spare : Option Msg) → spare ≡ None → (p : ℕ) → queued qs'' p ++ of_rank p (spare_of spare) ≡ (queued qs p ++ of_rank p (spare_of spare)) ++ of_rank p (m ∷ [])
+  put-gains spare e = subst (λ o. (p : ℕ) → queued qs'' p ++ of_rank p (spare_of o) ≡ (queued qs p ++ of_rank p (spare_of o)) ++ of_rank p (m ∷ [])) (sym e)
+      (λ p. append-nil (queued qs'' p) ∙ gains-since p ∙ ap (λ l. l ++ of_rank p (m ∷ [])) (sym (append-nil (queued qs p))))
+
+  pub place-stays : (spare spare' : Option Msg) → spare ≡ Some m → spare' ≡ None → (p : ℕ) → queued qs'' p ++ of_rank p (spare_of spare') ≡ queued qs p ++ of_rank p (spare_of spare)
+  place-stays spare spare' e e' p =
+      ap (λ o. queued qs'' p ++ of_rank p (spare_of o)) e' ∙ append-nil (queued qs'' p) ∙ gains-since p ∙ ap (λ o. queued qs p ++ of_rank p (spare_of o)) (sym e)
 
 pub ruleset queue_steps = (queued-more, queued-past, queued-gains, queued-stays)

@@ -1,6 +1,7 @@
 -- Messages by priority, and those that wait for a look.
-use Rattle.std.specs.Prelude.{ℕ, ◌≡◌, ◌-◌, ◌==◌, min, if◌then◌else◌, List, [], ◌∷◌, ◌++◌, map, take, length, slice_index_or, Option, Some, None}
+use Rattle.std.specs.Prelude.{ℕ, ◌≡◌, ◌<◌, ◌-◌, ◌==◌, min, if◌then◌else◌, List, [], ◌∷◌, ◌++◌, map, take, length, slice_index_or, Option, Some, None}
 use Rattle.std.specs.Global.{Global}
+use Rattle.std.specs.VecDeque.{deque_len, deque_capacity}
 use Rattle.std.specs.declared.collections.VecDeque.{VecDeque}
 use Rattle.room_kinds.specs.declared.message.Msg.{Msg}
 use Rattle.mail_lanes.specs.declared.waiting.Waiting.{Waiting}
@@ -21,6 +22,10 @@ spare_of (Some m) = m ∷ []
 -- which messages of a priority wait, oldest first
 abbrev pub queued : List (VecDeque Msg Global) → ℕ → List Msg
 queued qs p = slice_index_or (map (λ q. q.items) qs) p []
+
+-- a queue with a free place
+abbrev pub HasRoom : List (VecDeque Msg Global) → ℕ → Type 0
+HasRoom qs at = (at < length qs) × ((q : VecDeque Msg Global) → q ≡ slice_index_or qs at q → deque_len q < deque_capacity q)
 
 abbrev pub waits : Waiting → ℕ → List Msg
 waits w p = queued w.queues.items p ++ of_rank p (spare_of w.spare)

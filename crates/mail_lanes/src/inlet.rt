@@ -36,7 +36,8 @@ impl Inlet {
             *found = Some(addressed(m, self.from, self.to, prio));
             return false;
         }
-        self.waiting.put(m);
+        *found = Some(m);
+        self.waiting.put_from(found);
         true
     }
 
@@ -65,6 +66,16 @@ impl Inlet {
         Some(addressed(m, self.from, self.to, prio))
     }
 
+    /// The same, to an empty place.
+    #[inline(never)]
+    fn give(&mut self, prio: u8, found: &mut Option<Msg>)
+        requires { found.old ≡ None }
+        ensures lanes { MatchOption found.new (AllStay (in_lane self.old) (in_lane self.new)) (λ m. OneIs prio (stealing (in_lane self.old prio) m) (in_lane self.old) (in_lane self.new)) }
+        ensures is_for { MatchOption found.new (Unit {0}) (λ m. IsFor self.old.from self.old.to prio m) }
+    {
+        *found = self.take(prio);
+    }
+
     /// What waits, or else what the deque gives at once, goes to an empty place. Most looks find
     /// nothing, and no room for a message is made for them.
     pub(crate) fn take_to(&mut self, prio: u8, found: &mut Option<Msg>)
@@ -73,7 +84,7 @@ impl Inlet {
         ensures is_for { MatchOption found.new (Unit {0}) (λ m. IsFor self.old.from self.old.to prio m) }
     {
         if self.waiting.holds(prio) {
-            *found = self.take(prio);
+            self.give(prio, found);
             return;
         }
         self.steal_to(prio, found);

@@ -11,6 +11,7 @@ impl Outlet {
     ghost use Rattle.mail_lanes.specs.Waits.{waits};
 
     /// A message to the sender itself.
+    #[inline(never)]
     #[tactic(auto, using(crate::proofs::LaneLemmas::lane_steps))]
     fn keep(&mut self, m: Msg) -> Result<(), Msg>
         requires own { self.old.from ≡ self.old.to }
@@ -64,6 +65,16 @@ impl Outlet {
         Some(addressed(m, self.from, self.to, prio))
     }
 
+    /// The same, to an empty place.
+    #[inline(never)]
+    fn give(&mut self, prio: u8, found: &mut Option<Msg>)
+        requires { found.old ≡ None }
+        ensures lanes { MatchOption found.new (AllStay (out_lane self.old) (out_lane self.new) × (waits self.old.waiting prio ≡ [])) (λ m. OneIs prio (popping (out_lane self.old prio) m) (out_lane self.old) (out_lane self.new)) }
+        ensures is_for { MatchOption found.new (Unit {0}) (λ m. IsFor self.old.from self.old.to prio m) }
+    {
+        *found = self.take(prio);
+    }
+
     /// What waits for the sender itself goes to an empty place. Most looks find nothing, and no room
     /// for a message is made for them.
     #[tactic(auto, using(crate::proofs::LaneLemmas::lane_steps))]
@@ -74,7 +85,7 @@ impl Outlet {
         ensures is_for { MatchOption found.new (Unit {0}) (λ m. IsFor self.old.from self.old.to prio m) }
     {
         if self.waiting.holds(prio) {
-            *found = self.take(prio);
+            self.give(prio, found);
         }
     }
 }

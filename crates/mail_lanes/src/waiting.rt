@@ -1,6 +1,6 @@
 //! Messages that came off a deque before somebody asked for their priority.
 ghost use Rattle.std.specs.Prelude.{◌≡◌, ◌<◌, ◌≤◌, ◌++◌, ◌∷◌, [], true, false, map, length, vec_len, slice_index_or, slice_set, OnOk, OnErr, IfErr, MatchOption, None, List};
-ghost use Rattle.mail_lanes.specs.Waits.{rank, queued, waits, Stays, Gains, Loses};
+ghost use Rattle.mail_lanes.specs.Waits.{rank, queued, waits, HasRoom, Stays, Gains, Loses};
 
 use room_kinds::Msg;
 use std::alloc::Global;
@@ -36,30 +36,19 @@ fn are_made(queues: &mut Vec<VecDeque<Msg>>) -> bool
     true
 }
 
+/// Whether a queue has room for a message more.
+#[inline(never)]
 #[tactic(auto, using(crate::proofs::WaitLemmas::queue_steps))]
-fn push(queues: &mut Vec<VecDeque<Msg>>, m: Msg) -> Result<(), Msg>
-    requires { 6 ≤ vec_len queues.old }
-    ensures ok { OnOk result (Gains (queued queues.old.items) (queued queues.new.items) m) }
-    ensures err { OnErr result (Stays (queued queues.old.items) (queued queues.new.items)) }
-    ensures back { IfErr result (λ x. x ≡ m) }
-{
-    let queue = &mut queues[usize::from(rank(&m))];
-    match queue.push_back(m) {
-        Ok(()) => Ok(()),
-        Err(refused) => Err(refused.value),
-    }
-}
-
-#[tactic(auto, using(crate::proofs::WaitLemmas::queue_steps))]
-fn enqueue(queues: &mut Vec<VecDeque<Msg>>, m: Msg) -> Result<(), Msg>
-    ensures ok { OnOk result (Gains (queued queues.old.items) (queued queues.new.items) m) }
-    ensures err { OnErr result (Stays (queued queues.old.items) (queued queues.new.items)) }
-    ensures back { IfErr result (λ x. x ≡ m) }
+fn has_room(queues: &mut Vec<VecDeque<Msg>>, at: usize) -> bool
+    requires { at < 6 }
+    ensures same { Stays (queued queues.old.items) (queued queues.new.items) }
+    ensures room { result ≡ true → HasRoom queues.new.items at }
 {
     if !are_made(queues) {
-        return Err(m);
+        return false;
     }
-    push(queues, m)
+    let queue = &mut queues[at];
+    queue.try_reserve(1).is_ok()
 }
 
 /// The oldest message of a queue.
@@ -77,7 +66,7 @@ fn pop(queues: &mut Vec<VecDeque<Msg>>, prio: u8) -> Option<Msg>
 
 impl Waiting {
     ghost use Rattle.std.specs.Prelude.{◌≡◌, ◌<◌, ◌++◌, ◌∷◌, [], true, false, map, length, slice_index_or, slice_set, OnOk, OnErr, IfErr, MatchOption, None, List};
-    ghost use Rattle.mail_lanes.specs.Waits.{rank, queued, waits, Stays, Gains, Loses};
+    ghost use Rattle.mail_lanes.specs.Waits.{rank, queued, waits, HasRoom, Stays, Gains, Loses};
 
     pub(crate) fn new(alloc: Global) -> Waiting
         ensures { Stays (λ _. []) (waits result) }
@@ -130,32 +119,62 @@ impl Waiting {
         self.pop_spare(prio)
     }
 
-    /// Whether the next message can be put. The spare one goes to its queue first.
+    /// Whether the spare message has found room in its queue.
+    #[inline(never)]
     #[tactic(auto, using(crate::proofs::WaitLemmas::queue_steps))]
-    pub(crate) fn ready(&mut self) -> bool
+    fn place_spare(&mut self) -> bool
         ensures waits { Stays (waits self.old) (waits self.new) }
         ensures room { result ≡ true → self.new.spare ≡ None }
     {
         let Some(m) = self.spare.take() else {
             return true;
         };
-        match enqueue(&mut self.queues, m) {
-            Ok(()) => true,
-            Err(m) => {
-                self.spare = Some(m);
-                false
-            }
+        let at = usize::from(rank(&m));
+        if !has_room(&mut self.queues, at) {
+            self.spare = Some(m);
+            return false;
         }
+        let queue = &mut self.queues[at];
+        queue.push_back_reserved(m);
+        true
+    }
+
+    /// Whether the next message can be put. The spare one goes to its queue first.
+    pub(crate) fn ready(&mut self) -> bool
+        ensures waits { Stays (waits self.old) (waits self.new) }
+        ensures room { result ≡ true → self.new.spare ≡ None }
+    {
+        if self.spare.is_none() {
+            return true;
+        }
+        self.place_spare()
     }
 
     /// A message more, at the end of those of its priority.
+    #[inline(always)]
     #[tactic(auto, using(crate::proofs::WaitLemmas::queue_steps))]
     pub(crate) fn put(&mut self, m: Msg)
         requires { self.old.spare ≡ None }
         ensures { Gains (waits self.old) (waits self.new) m }
     {
-        if let Err(m) = enqueue(&mut self.queues, m) {
+        let at = usize::from(rank(&m));
+        if !has_room(&mut self.queues, at) {
             self.spare = Some(m);
+            return;
+        }
+        let queue = &mut self.queues[at];
+        queue.push_back_reserved(m);
+    }
+
+    /// The same, out of a place, which it leaves empty.
+    #[inline(never)]
+    pub(crate) fn put_from(&mut self, place: &mut Option<Msg>)
+        requires { self.old.spare ≡ None }
+        ensures waits { MatchOption place.old (Unit {0}) (λ m. Gains (waits self.old) (waits self.new) m) }
+        ensures empty { place.new ≡ None }
+    {
+        if let Some(m) = place.take() {
+            self.put(m);
         }
     }
 }

@@ -34,11 +34,11 @@ invariant_of-self-2 c =
       fits = (same.0 ∙ s.fits.0, same.1 ∙ s.fits.1, same.3, same.4);
       fifo = s.fifo;
       takes = ap (λ (w : LaneView). w.takes) step ∙ s.takes;
-      came = waits-came (view s.pass) (view c.steal_as.new.pass) (waits s.waiting) (waits c.ready.new.self) s.came c.ready.ensures.waits c.in-Success.m step (waits c.put.new.self) c.put.ensures;
+      came = waits-came (view s.pass) (view c.steal_as.new.pass) (waits s.waiting) (waits c.ready.new.self) s.came c.ready.ensures.waits c.in-Success.m step (waits c.put_from.new.self) c.put_from.ensures.waits;
     }
 
 pub returns-clause-lanes : goal.returns-clause-lanes
 returns-clause-lanes c =
     let s = c.args.self.now in
-    rw c.requires.empty (waits-lanes (view s.pass) (view c.steal_as.new.pass) (waits s.waiting) (waits c.ready.new.self) s.came c.ready.ensures.waits c.in-Success.m c.in-Success.ensures.rule
-    (waits c.put.new.self) c.put.ensures s.from s.to (stealer_deque s.thief).0)
+    rw c.put_from.ensures.empty (waits-lanes (view s.pass) (view c.steal_as.new.pass) (waits s.waiting) (waits c.ready.new.self) s.came c.ready.ensures.waits c.in-Success.m c.in-Success.ensures.rule
+    (waits c.put_from.new.self) c.put_from.ensures.waits s.from s.to (stealer_deque s.thief).0)
