@@ -1,6 +1,6 @@
 //! The two ends of the lanes from one party to another.
-ghost use Rattle.std.specs.Prelude.{◌≡◌, true, false, [], ◌∷◌, ◌++◌, ◌<◌, length, OnOk, OnErr, IfOk, IfErr, MatchOption, None};
-ghost use Rattle.crossbeam_deque.specs.Handles.{worker_deque, worker_view, worker_flavor, stealer_deque, stealer_flavor, view, IsPassOf};
+ghost use Rattle.std.specs.Prelude.{◌≡◌, true};
+ghost use Rattle.crossbeam_deque.specs.Handles.{worker_view, worker_flavor, stealer_deque, stealer_flavor, view, IsPassOf};
 ghost use Rattle.mail_lanes.specs.Waits.{waits, CameLast};
 ghost use Rattle.mail_lanes.specs.Rule.{OwnLaw};
 

@@ -5,7 +5,7 @@ use crate::rule::{Own, Sent};
 use room_kinds::Msg;
 
 impl Outlet {
-    ghost use Rattle.std.specs.Prelude.{◌≡◌, ◌+◌, true, [], length, ◌<◌, OnOk, OnErr, IfErr, MatchOption, None};
+    ghost use Rattle.std.specs.Prelude.{◌≡◌, ◌+◌, [], length, ◌<◌, OnOk, OnErr, IfErr, MatchOption, None};
     ghost use Rattle.mail_core.specs.Lanes.{IsFor};
     ghost use Rattle.mail_lanes.specs.Lanes.{out_lane, sending, popping, AllStay, OneIs};
     ghost use Rattle.mail_lanes.specs.Waits.{waits};

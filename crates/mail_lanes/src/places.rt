@@ -1,5 +1,5 @@
 //! A step at one place of an end's lanes.
-ghost use Rattle.std.specs.Prelude.{◌≡◌, ◌<◌, ◌≤◌, ◌+◌, ◌*◌, true, map, length, slice_set, OnOk, OnErr, IfErr, MatchOption, Option, Some, None};
+ghost use Rattle.std.specs.Prelude.{◌≡◌, ◌<◌, ◌+◌, ◌*◌, length, slice_set, OnOk, OnErr, IfErr, MatchOption, Some, None};
 ghost use Rattle.mail_core.specs.Lanes.{IsFor};
 ghost use Rattle.mail_lanes.specs.Lanes.{InLane, out_lanes, in_lanes, out_at, in_at, sending, popping, stealing};
 

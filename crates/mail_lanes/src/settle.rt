@@ -5,10 +5,9 @@ use room_kinds::Msg;
 use std::alloc::AllocError;
 
 impl Outlet {
-    ghost use Rattle.std.specs.Prelude.{ℕ, ◌≡◌, ◌+◌, ◌-◌, ◌<◌, ◌++◌, true, false, [], List, OnOk, IfOk, length, Option};
+    ghost use Rattle.std.specs.Prelude.{ℕ, ◌≡◌, ◌+◌, ◌<◌, ◌++◌, true, false, List, OnOk, IfOk};
     ghost use Rattle.crossbeam_deque.specs.Handles.{worker_view};
     ghost use Rattle.mail_lanes.specs.Lanes.{out_lane, in_side, in_lane, AllStay};
-    ghost use Rattle.mail_lanes.specs.Waits.{waits};
     ghost use Rattle.mail_lanes.specs.Parts.{in_wire_of};
     ghost use Rattle.mail_lanes.specs.Rule.{OwnLaw};
     ghost use Rattle.mail_lanes.specs.Settle.{CanSettle, IsSettled, left_in, Gathers, Settles, toll};

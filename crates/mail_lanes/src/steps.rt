@@ -4,8 +4,8 @@ use crate::places::{pop_at, post_at, steal_at};
 use room_kinds::Msg;
 
 impl MailLanes {
-    ghost use Rattle.std.specs.Prelude.{◌≡◌, ◌+◌, ◌*◌, ◌<◌, OnOk, OnErr, IfErr, MatchOption, None};
-    ghost use Rattle.mail_core.specs.EndLog.{gained, looked, posting};
+    ghost use Rattle.std.specs.Prelude.{◌≡◌, ◌*◌, ◌<◌, OnOk, OnErr, IfErr, MatchOption, None};
+    ghost use Rattle.mail_core.specs.EndLog.{gained, looked};
     ghost use Rattle.mail_core.specs.Lanes.{IsFor};
     ghost use Rattle.mail_lanes.specs.Ends.{log_of, wiring_of};
 

@@ -1,6 +1,6 @@
 //! Messages that came off a deque before somebody asked for their priority.
-ghost use Rattle.std.specs.Prelude.{◌≡◌, ◌<◌, ◌≤◌, ◌++◌, ◌∷◌, [], true, false, map, length, vec_len, slice_index_or, slice_set, OnOk, OnErr, IfErr, MatchOption, None, List};
-ghost use Rattle.mail_lanes.specs.Waits.{rank, queued, waits, HasRoom, Stays, Gains, Loses};
+ghost use Rattle.std.specs.Prelude.{◌≡◌, ◌<◌, ◌≤◌, [], true, vec_len, MatchOption};
+ghost use Rattle.mail_lanes.specs.Waits.{rank, queued, HasRoom, Stays, Loses};
 
 use room_kinds::Msg;
 use std::alloc::Global;
@@ -65,8 +65,8 @@ fn pop(queues: &mut Vec<VecDeque<Msg>>, prio: u8) -> Option<Msg>
 }
 
 impl Waiting {
-    ghost use Rattle.std.specs.Prelude.{◌≡◌, ◌<◌, ◌++◌, ◌∷◌, [], true, false, map, length, slice_index_or, slice_set, OnOk, OnErr, IfErr, MatchOption, None, List};
-    ghost use Rattle.mail_lanes.specs.Waits.{rank, queued, waits, HasRoom, Stays, Gains, Loses};
+    ghost use Rattle.std.specs.Prelude.{◌≡◌, [], true, false, MatchOption, None};
+    ghost use Rattle.mail_lanes.specs.Waits.{queued, waits, Stays, Gains, Loses};
 
     pub(crate) fn new(alloc: Global) -> Waiting
         ensures { Stays (λ _. []) (waits result) }
