@@ -7,12 +7,13 @@ use fault_places::{
     rule_meaning, wiring_meaning,
 };
 use journal_views::view_pages::{Named, Page};
+use room_ast::Scope;
 use room_lexer::{LexFault, Token, lex};
 use room_outside::MAX_TEXT;
 use room_run::{ModelFault, read_wiring};
 use room_wiring::Wiring;
 use std::alloc::{AllocError, Global};
-use structure_check::check;
+use structure_check::{Checked, check};
 
 /// What a fault is and how it is mended.
 pub(crate) fn tell_meaning(page: &mut Page, meaning: Meaning) -> Result<(), AllocError> {
@@ -140,6 +141,25 @@ fn tell_chart_cause(
     }
 }
 
+/// What the actions of an actor class can name.
+fn scope_in<'a>(checked: &'a Checked<'_>, class: &[u8]) -> Option<&'a Scope> {
+    let place = checked
+        .classes
+        .iter()
+        .position(|other| other.name.is(class))?;
+    checked.scopes.get(place)
+}
+
+/// A fault of the chart of a class.
+fn fault_in<'a>(checked: &'a Checked<'_>, class: &'a [u8], number: u8) -> ChartFault<'a> {
+    let scope = scope_in(checked, class);
+    ChartFault {
+        class,
+        number,
+        scope,
+    }
+}
+
 /// The parts of a text in which the causes of a fault of a chart stand.
 fn tell_chart_causes(
     alloc: Global,
@@ -154,18 +174,7 @@ fn tell_chart_causes(
     let Ok(checked) = check(alloc, &tree) else {
         return tell_items(page, named, tokens, found);
     };
-    let place = checked
-        .classes
-        .iter()
-        .position(|other| other.name.is(class));
-    let fault = ChartFault {
-        class,
-        number,
-        scope: match place {
-            Some(place) => checked.scopes.get(place),
-            None => None,
-        },
-    };
+    let fault = fault_in(&checked, class, number);
     for item in found {
         tell_chart_cause(alloc, page, named, tokens, fault, *item)?;
     }
