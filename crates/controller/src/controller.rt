@@ -3,6 +3,7 @@ ghost use Rattle.std.specs.Prelude.{◌≡◌, ◌+◌, ◌<◌, ◌==◌, ◌�
 ghost use Rattle.std.specs.List.{list_any};
 ghost use Rattle.controller_mail.specs.MailState.{HasPriority, has_messages, messages_in};
 ghost use Rattle.controller_mail.specs.Steps.{Fetches, Posts};
+ghost use Rattle.controller_mail.specs.Within.{IsAnswerable};
 ghost use Rattle.mail_core.specs.Tied.{IsTied, StaysTied};
 ghost use Rattle.controller.specs.Controllers.{IsOf, Begins};
 ghost use Rattle.controller.specs.Calls.{PostsAll, Polls, FetchesLeft, Turns};
@@ -156,8 +157,7 @@ impl Controller {
     {
         self.refuse_if_failed()?;
         let alloc = self.allocator();
-        let controllers = plant.wiring.controller_count();
-        match poll_boxes(alloc, self, controllers, office, end) {
+        match poll_boxes(alloc, self, office, end) {
             Ok(count) => Ok(count),
             Err(refused) => {
                 self.fail();
@@ -166,17 +166,19 @@ impl Controller {
         }
     }
 
-    /// Fetches messages that were left in the mail, in order.
+    /// Fetches messages that were left in the mail, in order. Those of the system level, to which services
+    /// reply, come from controllers.
     pub fn fetch_left(&mut self, plant: &Plant, left: Vec<Msg>) -> Result<(), AllocError>
         requires of { IsOf plant.now self.old }
         requires prio { All HasPriority left.items }
+        requires answerable { All (IsAnswerable (length plant.now.wiring.controllers)) left.items }
         ensures ok { OnOk result (FetchesLeft plant.now self.old self.new left.items) }
         ensures of { IsOf plant.now self.new }
         ensures failed { self.old.failed ≡ true → IsErr result }
         ensures err { OnErr result (self.new.failed ≡ true) }
     {
         self.refuse_if_failed()?;
-        match fetch_all(self, plant.wiring.controller_count(), left) {
+        match fetch_all(self, left) {
             Ok(()) => Ok(()),
             Err(refused) => {
                 self.fail();

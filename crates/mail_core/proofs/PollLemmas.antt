@@ -4,7 +4,7 @@ use Rattle.std.proofs.lemmas.List.{append-nil, length_push}
 use Rattle.std.proofs.lemmas.List.Elements.{All-nil, All-push}
 use Rattle.room_kinds.specs.declared.message.Msg.{Msg}
 use Rattle.mail_core.specs.EndLog.{EndLog, taking}
-use Rattle.mail_core.specs.Takes.{IsOfBox, OwnIsTaken, taking_all, PollsBox, PollsBoxes}
+use Rattle.mail_core.specs.Takes.{IsOfBox, KeepsToLevel, OwnIsTaken, taking_all, PollsBox, PollsBoxes}
 
 taking_all-push : (log : EndLog) (b : ℕ) (ms : List Msg) (m : Msg) → taking_all log b (ms ++ m ∷ []) ≡ taking (taking_all log b ms) b (Some m)
 taking_all-push log b [] m = refl
@@ -27,10 +27,11 @@ pub record Looked (in_box : ℕ → ℕ → ℕ → ℕ → Type 0) (b k : ℕ) 
   pub count : length gave ≡ k
   pub list : ms' ≡ ms ++ gave
   pub each : All (IsOfBox in_box log b) gave
+  pub levels : All (KeepsToLevel log.parties) gave
   pub logged : log' ≡ taking_all log b gave
 
 pub Looked-none : {in_box : ℕ → ℕ → ℕ → ℕ → Type 0} {b : ℕ} {log : EndLog} {ms : List Msg} → Looked in_box b 0 log log ms ms
-Looked-none {in_box = in_box} {b = b} {log = log} {ms = ms} = record { gave = []; count = refl; list = sym (append-nil ms); each = All-nil (IsOfBox in_box log b); logged = refl }
+Looked-none {in_box = in_box} {b = b} {log = log} {ms = ms} = record { gave = []; count = refl; list = sym (append-nil ms); each = All-nil (IsOfBox in_box log b); levels = All-nil (KeepsToLevel log.parties); logged = refl }
 
 IsOfBox-earlier : {in_box : ℕ → ℕ → ℕ → ℕ → Type 0} {b : ℕ} {log log' : EndLog} {m : Msg} → IsOfBox in_box log' b m → log'.party ≡ log.party → log'.parties ≡ log.parties → IsOfBox in_box log b m
 IsOfBox-earlier {in_box = in_box} {b = b} {m = m} i e f = record {
@@ -40,13 +41,14 @@ IsOfBox-earlier {in_box = in_box} {b = b} {m = m} i e f = record {
   lane = subst (λ n. in_box n b m.from.0 m.prio.0) f i.lane;
 }
 
-pub Looked-found : {in_box : ℕ → ℕ → ℕ → ℕ → Type 0} {b k : ℕ} {log log' log'' : EndLog} {ms ms' ms'' : List Msg} (m : Msg) → Looked in_box b k log log' ms ms' → IsOfBox in_box log' b m →
+pub Looked-found : {in_box : ℕ → ℕ → ℕ → ℕ → Type 0} {b k : ℕ} {log log' log'' : EndLog} {ms ms' ms'' : List Msg} (m : Msg) → Looked in_box b k log log' ms ms' → IsOfBox in_box log' b m → KeepsToLevel log'.parties m →
     log'.party ≡ log.party → log'.parties ≡ log.parties → log'' ≡ taking log' b (Some m) → ms'' ≡ ms' ++ m ∷ [] → Looked in_box b (k + 1) log log'' ms ms''
-Looked-found {in_box = in_box} {b = b} {log = log} {ms = ms} m l i e f t g = record {
+Looked-found {in_box = in_box} {b = b} {log = log} {ms = ms} m l i v e f t g = record {
   gave = l.gave ++ m ∷ [];
   count = omega (arith, length_push l.gave m, l.count);
   list = g ∙ ap (λ xs. xs ++ m ∷ []) l.list ∙ append_assoc ms l.gave (m ∷ []);
   each = All-push (IsOfBox in_box log b) l.gave m l.each (IsOfBox-earlier i e f);
+  levels = All-push (KeepsToLevel log.parties) l.gave m l.levels (subst (λ n. KeepsToLevel n m) f v);
   logged = t ∙ ap (λ x. taking x b (Some m)) l.logged ∙ sym (taking_all-push log b l.gave m);
 }
 
@@ -55,7 +57,7 @@ unfolding taking
 OwnIsTaken-look b log o = record { own = o.own }
 
 pub polls_full : {in_box : ℕ → ℕ → ℕ → ℕ → Type 0} {b k : ℕ} {log log' : EndLog} {ms ms' : List Msg} → Looked in_box b k log log' ms ms' → k ≡ 64 → (gave : List Msg) × (ms' ≡ ms ++ gave) × PollsBox in_box b log log' gave
-polls_full l e = (l.gave, l.list, record { each = l.each; looks = inl (l.count ∙ e, l.logged) })
+polls_full l e = (l.gave, l.list, record { each = l.each; levels = l.levels; looks = inl (l.count ∙ e, l.logged) })
 
 pub polls_fewer : {in_box : ℕ → ℕ → ℕ → ℕ → Type 0} {b k : ℕ} {log log' log'' : EndLog} {ms ms' : List Msg} → Looked in_box b k log log' ms ms' → k < 64 → log'' ≡ taking log' b None → OwnIsTaken in_box log' b →
     (gave : List Msg) × (ms' ≡ ms ++ gave) × PollsBox in_box b log log'' gave
@@ -64,6 +66,7 @@ polls_fewer {in_box = in_box} {b = b} {log' = log'} l h t o = (
   l.list,
   record {
     each = l.each;
+    levels = l.levels;
     looks = inr (rw (← l.count) at h, t ∙ ap (λ x. taking x b None) l.logged, subst (λ x. OwnIsTaken in_box x b) (sym t) (OwnIsTaken-look b log' o));
   },
 )

@@ -1,12 +1,25 @@
 //! One box for each lane, in the order of a poll.
-ghost use Rattle.std.specs.Prelude.{◌≡◌, ◌*◌, ◌<◌};
+ghost use Rattle.std.specs.Prelude.{◌≡◌, ◌+◌, ◌*◌, ◌<◌, true, false};
 ghost use Rattle.mail_core.specs.Boxes.{IsLaneBox, lane_boxes};
+ghost use Rattle.mail_core.specs.Takes.{MayPostAt};
 
 /// Whose messages go into a box, and at which priority.
 #[derive(Clone, Copy)]
 pub struct BoxLane {
     pub sender: u8,
     pub prio: u8,
+}
+
+impl BoxLane {
+    /// Whether messages go into the box: the environment, the last of so many parties, posts nothing at
+    /// the system level.
+    pub fn is_in_use(&self, parties: u8) -> bool
+        requires { self.now.sender < parties }
+        ensures used { result ≡ true → MayPostAt parties self.now.sender self.now.prio }
+        ensures unused { result ≡ false → (self.now.prio ≡ 0) × (self.now.sender + 1 ≡ parties) }
+    {
+        self.prio != 0 || self.sender + 1 != parties
+    }
 }
 
 /// The lane of a box, where each lane has one.

@@ -4,7 +4,7 @@ ghost use Rattle.room_kinds.specs.declared.message.Msg.{Msg};
 ghost use Rattle.mail_core.specs.EndLog.{EndLog, posting, taking, fresh};
 ghost use Rattle.mail_core.specs.SetUp.{AreFresh, IsLeft};
 ghost use Rattle.mail_core.specs.Boxes.{poll_place};
-ghost use Rattle.mail_core.specs.Takes.{IsOfBox, OwnIsTaken};
+ghost use Rattle.mail_core.specs.Takes.{IsOfBox, KeepsToLevel, OwnIsTaken};
 ghost use Rattle.mail_core.specs.Tied.{IsTied, StaysTied};
 
 use room_kinds::Msg;
@@ -70,13 +70,15 @@ pub trait Mail: Sized {
 
     /// Looks at a box once, and takes the oldest message of one of its lanes if it finds one. It may
     /// miss a message that another party posts; it finds nothing only where the end has taken all
-    /// that it posted into this box itself.
+    /// that it posted into this box itself. It never gives a message of the environment at the system
+    /// level, priority 0, where the environment posts nothing.
     fn take(&mut self, office: &mut Self::Office, b: u32) -> Option<Msg>
         requires in_range { b < box_count (log self.old).party (log self.old).parties }
         requires tied { IsTied tied (log self.old).party office.old self.old }
 
         ensures log { log self.new ≡ taking (log self.old) b result }
         ensures some { IfSome result (IsOfBox in_box (log self.old) b) }
+        ensures level { IfSome result (KeepsToLevel (log self.old).parties) }
         ensures none { IfNone result (OwnIsTaken in_box (log self.old) b) }
         ensures tied { StaysTied tied (log self.old).party office.old office.new self.old self.new };
 

@@ -57,7 +57,11 @@ impl Mail for MailLanes {
     #[tactic(auto, using(crate::proofs::TiedLemmas::tied_steps), unfolding(mail_core::specs::EndLog::taking))]
     fn take(&mut self, _office: &mut (), b: u32) -> Option<Msg> {
         let lane = lane_in(self.parties, b);
+        let in_use = lane.is_in_use(self.parties);
         self.add_look(b);
+        if !in_use {
+            return None;
+        }
         let mut found = None;
         if lane.sender == self.party {
             self.take_own(lane.prio, &mut found);

@@ -1,10 +1,11 @@
 -- What looks at boxes change of an end, lane by lane.
-use Rattle.std.proofs.Common.{◌≡◌, ℕ, zero, suc, ◌==◌, ◌&&◌, Bool, true, false, if◌then◌else◌, List, [], ◌∷◌, ◌++◌, All, Some, None, inl, inr, refl, sym, ap, ◌∙◌, subst, append_assoc, append-nil}
+use Rattle.std.proofs.Common.{◌≡◌, ℕ, zero, suc, ◌+◌, ◌==◌, ◌&&◌, Bool, true, false, if◌then◌else◌, List, [], ◌∷◌, ◌++◌, All, Some, None, inl, inr, refl, sym, ap, ◌∙◌, subst, arith, append_assoc, append-nil}
 use Rattle.std.proofs.lemmas.List.Elements.{All-nil, All-append, All-weaker}
 use Rattle.room_kinds.specs.declared.message.Msg.{Msg}
 use Rattle.mail_core.specs.EndLog.{EndLog, taking}
-use Rattle.mail_core.specs.Takes.{IsOfBox, taking_all, PollsBox, PollsBoxes}
+use Rattle.mail_core.specs.Takes.{IsOfBox, KeepsToLevel, taking_all, PollsBox, PollsBoxes}
 use Rattle.controller_mail.specs.MailState.{HasPriority}
+use Rattle.controller_mail.specs.Within.{IsAnswerable}
 
 -- the message, if it is from this sender at this priority
 abbrev pub if_of : ℕ → ℕ → Msg → List Msg
@@ -83,6 +84,16 @@ PollsBoxes-priorities in_box zero log log' gave p = subst (λ ms. All HasPriorit
 PollsBoxes-priorities in_box (suc k) log log' gave p =
     subst (λ ms. All HasPriority ms) (sym p.5)
     (All-append HasPriority p.1 p.2 (PollsBoxes-priorities in_box k log p.0 p.1 p.3) (All-weaker (IsOfBox in_box p.0 k) HasPriority (λ m i. i.prio) p.2 p.4.each))
+
+-- what boxes give may be answered: among one party more than so many controllers, what is of the system level
+-- comes from a controller
+pub PollsBoxes-answerable : (in_box : ℕ → ℕ → ℕ → ℕ → Type 0) (n k : ℕ) (log log' : EndLog) (gave : List Msg) → log.parties ≡ n + 1 → PollsBoxes in_box k log log' gave → All (IsAnswerable n) gave
+PollsBoxes-answerable in_box n zero log log' gave e p = subst (λ ms. All (IsAnswerable n) ms) (sym p.1) (All-nil (IsAnswerable n))
+PollsBoxes-answerable in_box n (suc k) log log' gave e p =
+    let same : p.0.parties ≡ n + 1 = (Took-boxes in_box k log p.0 p.1 p.3).parties ∙ e in
+    subst (λ ms. All (IsAnswerable n) ms) (sym p.5)
+    (All-append (IsAnswerable n) p.1 p.2 (PollsBoxes-answerable in_box n k log p.0 p.1 e p.3)
+    (All-weaker (KeepsToLevel p.0.parties) (IsAnswerable n) (λ m level system. let from = level system in omega (arith, from, same)) p.2 p.4.levels))
 
 -- what was added to an empty list is all of it
 pub PollsBoxes-whole : (in_box : ℕ → ℕ → ℕ → ℕ → Type 0) (k : ℕ) (log log' : EndLog) (old new : List Msg) → old ≡ [] → (gave : List Msg) × (new ≡ old ++ gave) × PollsBoxes in_box k log log' gave

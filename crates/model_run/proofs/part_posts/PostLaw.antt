@@ -1,5 +1,5 @@
 -- One line more is posted.
-use Rattle.std.proofs.Common.{◌≡◌, ℕ, ℤ, zero, suc, ◌+◌, ◌<◌, ◌==◌, ◌&&◌, Bool, true, false, if◌then◌else◌, List, [], ◌∷◌, ◌++◌, length, drop, slice_get, get_or, Some, refl, sym, ap, ◌∙◌, subst, arith, append_assoc, append-nil, length-append, eq-eqb}
+use Rattle.std.proofs.Common.{◌≡◌, ℕ, ℤ, zero, suc, ◌+◌, ◌<◌, ◌≤◌, ◌==◌, ◌&&◌, Bool, true, false, if◌then◌else◌, List, [], ◌∷◌, ◌++◌, length, drop, slice_get, get_or, Some, refl, sym, ap, ◌∙◌, subst, arith, append_assoc, append-nil, length-append, eq-eqb}
 use Rattle.std.specs.Option.{option_map_or}
 use Rattle.std.proofs.lemmas.Bool.{true≢false}
 use Rattle.std.proofs.lemmas.List.{drop_all, length-map}
@@ -28,7 +28,7 @@ use Rattle.controller.specs.Controllers.{EndGoes, run_plant}
 use Rattle.controller.specs.Calls.{PostsLine}
 use Rattle.controller.proofs.Going.{end_goes_none, end_goes_then}
 use Rattle.model_run.specs.part_source.Parts.{is_message, IsPart}
-use Rattle.model_run.proofs.run_rounds.LaneLists.{posts_append}
+use Rattle.model_run.proofs.run_rounds.LaneLists.{above_append, posts_append}
 use Rattle.model_run.specs.part_posts.Items.{injected, item_of, items_of}
 use Rattle.model_run.specs.part_posts.Posting.{PostsUpTo}
 
@@ -63,11 +63,12 @@ module _ (plant : Plant) (lines : List Line) where
     count = refl;
     end = end_goes_none (length plant.wiring.controllers) log;
     within = tt;
+    above = tt;
     posts = λ whole rest q cut. (posts_nothing (run_plant plant (lines_of whole)) (environment_of env) q, cut);
   }
 
   module _ (at number : ℕ) (old mid : EnvironmentState) (log log' : EndLog) (m : Msg) (s : PostsUpTo plant lines at old mid log log')
-      (here : drop at items ≡ Message number m ∷ drop (at + 1) items) (to : m.to.0 < length plant.wiring.controllers) (prio : m.prio.0 < 6) where
+      (here : drop at items ≡ Message number m ∷ drop (at + 1) items) (to : m.to.0 < length plant.wiring.controllers) (prio : m.prio.0 < 6) (least : 1 ≤ m.prio.0) where
     abbrev sent : Msg
     sent = stamped (length plant.wiring.controllers) (mid.clock + 1) m
 
@@ -108,6 +109,7 @@ module _ (plant : Plant) (lines : List Line) where
           count = length-append s.entries (last ∷ []) ∙ ap (λ (z : ℕ). z + 1) s.count;
           end = end_goes_then s.end (subst (λ (z : EndLog). EndGoes (length plant.wiring.controllers) log' z (last ∷ [])) (sym p.end) (end_posts (length plant.wiring.controllers) log' sent));
           within = posts_append (length plant.wiring.controllers) s.entries (last ∷ []) s.within ((to, prio), tt);
+          above = above_append s.entries (last ∷ []) s.above (least, tt);
           posts = posts_on;
         })
 

@@ -43,6 +43,7 @@ module _ {E : Type 0} (log : E → EndLog) (plant : Plant) (lines : List Line) (
             ∙ f.each c (omega arith);
         environment = subst (λ (z : EndLog). EndDid n z p.entries) (sym is) (did p);
         within = p.within;
+        above = p.above;
       }
 
   pub posted_at_last : PostsThePart plant lines old new (log e) (log e') → PartPosted plant lines old new logs

@@ -42,6 +42,7 @@ nothing_posted n logs f = record {
     took = λ s p. ap (λ (z : EndLog). z.taken s p) (f.each n (omega arith));
   };
   within = tt;
+  above = tt;
 }
 
 pub rests_outbox : (fuel : ℕ) (k : Controller) → rests fuel k ≡ true → k.mail.outbox ≡ []

@@ -10,7 +10,7 @@ use Rattle.actor_merge.specs.Parties.{State, Environment, Line, Plant, post, pos
 use Rattle.actor_merge.proofs.Lanes.{is_lane-true, is_lane-receiver, is_lane-sender}
 use Rattle.actor_merge.proofs.Steps.{same_entry}
 use Rattle.actor_world.specs.Journals.{is_turn}
-use Rattle.model_run.specs.run_rounds.Rounds.{IsFetchWithin, FetchesWithin, Fetched, OnlyTurns}
+use Rattle.model_run.specs.run_rounds.Rounds.{IsFetchWithin, FetchesWithin, PostsAbove, Fetched, OnlyTurns}
 use Rattle.controller.specs.Calls.{IsPostWithin, PostsWithin}
 
 -- another priority is another lane
@@ -164,6 +164,11 @@ module _ {B : Type 0} (plant : Plant B) where
 pub posts_append : (n : ℕ) (a b : List Entry) → PostsWithin n a → PostsWithin n b → PostsWithin n (a ++ b)
 posts_append n [] b h k = k
 posts_append n (e ∷ a) b h k = (h.0, posts_append n a b h.1 k)
+
+-- posts of some entries, and then of others, are above the system level
+pub above_append : (a b : List Entry) → PostsAbove a → PostsAbove b → PostsAbove (a ++ b)
+above_append [] b h k = k
+above_append (e ∷ a) b h k = (h.0, above_append a b h.1 k)
 
 -- turns post nothing
 turn_posts : (n : ℕ) (e : Entry) → is_turn e ≡ true → IsPostWithin n e

@@ -1,5 +1,5 @@
 -- A run from round to round.
-use Rattle.std.specs.Prelude.{◌≡◌, ℕ, Bool, true, false, [], not, List}
+use Rattle.std.specs.Prelude.{◌≡◌, ℕ, Bool, true, false, [], not, List, length}
 use Rattle.std.specs.List.{list_any}
 use Rattle.room_kinds.specs.declared.message.Msg.{Msg}
 use Rattle.inject_reader.specs.declared.inject_lines.accepted.Line.{Line}
@@ -24,7 +24,7 @@ pub record StandsBetween (plant : Plant) (given part : List Line) (fuel : ℕ) (
 pub record IsInRound (plant : Plant) (gone : List Item) (fuel : ℕ) (run : Run) (logs : List EndLog) : Type 0 where
   pub stand : AllStand plant run.controllers.items
   pub in_part : run.in_part ≡ true
-  pub by_priority : AreByPriority logs
+  pub by_priority : AreByPriority (length plant.wiring.controllers) logs
   pub goes_on : (news : List Controller) (logs' : List EndLog) (answer : List (List Msg)) → RoundDone plant run.controllers.items news logs logs' answer
       → InPart plant gone fuel news run.environment
 

@@ -3,7 +3,7 @@
 -- takes a turn or none.
 -- `AreParts` says of each party by itself what it does in a round. The law `parts_are_a_round`:
 -- then the journals are a round of the world, after which no lane holds a message.
-use Rattle.std.specs.Prelude.{◌≡◌, ℕ, ◌+◌, ◌<◌, ◌⊎◌, true, false, List, [], ◌∷◌, ◌++◌, length, slice_index_or}
+use Rattle.std.specs.Prelude.{◌≡◌, ℕ, ◌+◌, ◌<◌, ◌≤◌, ◌⊎◌, true, false, List, [], ◌∷◌, ◌++◌, length, slice_index_or}
 use Rattle.room_kinds.specs.declared.message.Msg.{Msg}
 use Rattle.room_kinds.specs.declared.numbers.Stamp.{Stamp}
 use Rattle.journal.specs.declared.entry.Entry.{Entry}
@@ -29,6 +29,17 @@ IsFetchWithin n (entry.Post stamp m) = Unit {0}
 abbrev pub FetchesWithin : ℕ → List Entry → Type 0
 FetchesWithin n [] = Unit {0}
 FetchesWithin n (e ∷ es) = IsFetchWithin n e × FetchesWithin n es
+
+-- what an entry posts is above the system level, priority 0
+abbrev pub IsPostAbove : Entry → Type 0
+IsPostAbove (entry.Start who state notes) = Unit {0}
+IsPostAbove (entry.Fetch stamp m) = Unit {0}
+IsPostAbove (entry.Turn stamp from sent did notes) = Unit {0}
+IsPostAbove (entry.Post stamp m) = 1 ≤ m.prio.0
+
+abbrev pub PostsAbove : List Entry → Type 0
+PostsAbove [] = Unit {0}
+PostsAbove (e ∷ es) = IsPostAbove e × PostsAbove es
 
 -- these entries fetch these messages, one each, in order
 abbrev pub Fetched : List Msg → List Entry → Type 0

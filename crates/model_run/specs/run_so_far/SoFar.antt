@@ -18,7 +18,7 @@ use Rattle.actor_world.specs.Body.{Body}
 use Rattle.actor_world.specs.Journals.{Item, lines_of}
 use Rattle.actor_world.specs.Start.{start_entries}
 use Rattle.chart_behaviour.specs.ModelCharts.{Actor}
-use Rattle.model_run.specs.run_rounds.Rounds.{EndDid}
+use Rattle.model_run.specs.run_rounds.Rounds.{EndDid, PostsAbove}
 use Rattle.model_run.specs.run_rounds.Prompts.{PromptFrom, OwnFetched}
 use Rattle.controller_actors.specs.Plants.{model_of}
 use Rattle.controller_actors.specs.declared.plant.Plant.{Plant}
@@ -56,12 +56,13 @@ pub record RunSoFar (plant : Plant) (gone : List Item) (fuel : ℕ) (ks : List C
   pub sound : (rest : List Item) → IsSound plant (lines_of (gone ++ rest)) events (world_of plant ks v)
 
 -- the ends of a round before its workers: the environment posted these entries to controllers that there are,
--- the controllers did nothing
+-- above the system level; the controllers did nothing
 pub record EndsPosted (n : ℕ) (logs : List EndLog) (es : List Entry) : Type 0 where
   pub count : length logs ≡ n + 1
   pub controllers : (c : ℕ) → c < n → log_at logs c ≡ fresh (n + 1) c
   pub environment : EndDid n (log_at logs n) es
   pub within : PostsWithin n es
+  pub above : PostsAbove es
 
 -- the environment's posts in a round, from this world on
 pub record EnvironmentPosts (plant : Plant) (lines : List Line) (w : World (Body Actor)) (es : List Entry) (v : Environment) : Type 0 where

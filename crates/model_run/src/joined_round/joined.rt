@@ -3,7 +3,7 @@ ghost use Rattle.std.specs.Prelude.{◌≡◌, ℕ, [], map, false, length, slic
 ghost use Rattle.model_run.specs.run_rounds.OneByOne.{StepsBelow};
 ghost use Rattle.controller.specs.Controllers.{IsOf};
 ghost use Rattle.controller.specs.View.{Controller as Seated};
-ghost use Rattle.model_run.specs.joined_round.ByPriority.{HavePriorities};
+ghost use Rattle.model_run.specs.joined_round.ByPriority.{AreAnswerable, HavePriorities};
 ghost use Rattle.model_run.specs.joined_round.Joined.{FetchedAt, TurnedAt, LastTurn, IsReady};
 
 use controller::{Controller, Plant};
@@ -21,6 +21,7 @@ pub(crate) fn fetch_all(
     requires of { (c : ℕ) (k : Seated) → slice_get controllers.old.items c ≡ Some k → IsOf plant.now k }
     requires count { length left.items ≡ length controllers.old.items }
     requires priorities { HavePriorities (map (λ v. v.items) left.items) }
+    requires answerable { AreAnswerable (length plant.now.wiring.controllers) (map (λ v. v.items) left.items) }
     ensures ok { OnOk result (StepsBelow (FetchedAt plant.now (map (λ v. v.items) left.items)) (length controllers.old.items) (slice_get controllers.old.items) (slice_get controllers.new.items)) }
     ensures count { OnOk result (length controllers.new.items ≡ length controllers.old.items) }
 {

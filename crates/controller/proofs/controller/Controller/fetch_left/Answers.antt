@@ -1,5 +1,4 @@
-use Rattle.std.proofs.Common.{ap, sym, subst}
-use Rattle.controller_mail.specs.Within.{WaitsWithin}
+use Rattle.std.proofs.Common.{length, ap}
 use Rattle.controller.specs.View.{Controller}
 use Rattle.controller.proofs.Doing.{same_actors, fetches_left}
 use Rattle.controller.proofs.Keeping.{of_mail, of_failed}
@@ -15,9 +14,8 @@ pub returns-in-Ok-clause-of : goal.returns-in-Ok-clause-of
 returns-in-Ok-clause-of c =
     let old = c.args.self.now in
     let new = c.fetch_all.new.controller in
-    let count = c.controller_count.ensures.count in
     of_mail c.args.plant.now old new c.in-Ok.ensures.others c.requires.of
-    (λ works. subst (λ n. WaitsWithin n new.mail) count (c.in-Ok.ensures.waits (subst (λ n. WaitsWithin n old.mail) (sym count) (c.requires.of.waits works))))
+    (λ works. c.in-Ok.ensures.waits (length c.args.plant.now.wiring.controllers) c.requires.answerable (c.requires.of.waits works))
 
 pub returns-in-Err-clause-of : goal.returns-in-Err-clause-of
 returns-in-Err-clause-of c = of_failed c.args.plant.now c.args.self.now c.fetch_all.new.controller c.fail.new.self c.in-Err.ensures.me c.fail.ensures c.requires.of

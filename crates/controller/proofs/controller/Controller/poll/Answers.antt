@@ -1,9 +1,10 @@
-use Rattle.std.proofs.Common.{ap, sym, subst}
+use Rattle.std.proofs.Common.{length, ap, sym, subst}
 use Rattle.mail_core.proofs.Tied.{StaysTied-refl}
 use Rattle.controller_mail.specs.Within.{WaitsWithin}
 use Rattle.controller.specs.View.{Controller}
 use Rattle.controller.proofs.Doing.{same_actors, polls}
 use Rattle.controller.proofs.Keeping.{of_mail, of_failed}
+use Rattle.controller.proofs.Waits.{but_last}
 use Rattle.controller.proofs.controller.Controller.poll.Goals as goal
 
 pub returns-in_err-refuse_if_failed-clause-tied : goal.returns-in_err-refuse_if_failed-clause-tied
@@ -21,7 +22,7 @@ pub returns-in-Ok-clause-of : goal.returns-in-Ok-clause-of
 returns-in-Ok-clause-of g c =
     let old = c.args.self.now in
     let new = c.poll_boxes.new.controller in
-    let count = c.controller_count-controllers.ensures.count in
+    let count = but_last (g.M.Mail.log c.args.end.now).parties (length c.args.plant.now.wiring.controllers) c.requires.parties in
     of_mail c.args.plant.now old new c.in-Ok.ensures.others c.requires.of
     (λ works. subst (λ n. WaitsWithin n new.mail) count (c.in-Ok.ensures.waits (subst (λ n. WaitsWithin n old.mail) (sym count) (c.requires.of.waits works))))
 

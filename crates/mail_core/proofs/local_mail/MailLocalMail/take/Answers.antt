@@ -1,4 +1,5 @@
-use Rattle.std.proofs.Common.{arith, ◌≡◌, ◌+◌, ◌<◌, ◌^◌, length, sym, subst, Some}
+use Rattle.std.proofs.Common.{arith, ◌≡◌, ◌+◌, ◌<◌, ◌^◌, true, length, refl, sym, ◌∙◌, subst, Some}
+use Rattle.std.proofs.lemmas.Grind.{common_steps}
 use Rattle.mail_core.specs.BoxLaws.{one_lane}
 use Rattle.mail_core.specs.Local.{log_of}
 use Rattle.mail_core.specs.EndLog.{taking}
@@ -13,6 +14,10 @@ pop-found-requires-clause-sender c = let t = IsTied-parties c.requires.tied in o
 pub pop-found-requires-clause-receiver : goal.pop-found-requires-clause-receiver
 pop-found-requires-clause-receiver c = (IsTied-parties c.requires.tied).0
 
+pub returns-then-not-is_in_use-clause-tied : goal.returns-then-not-is_in_use-clause-tied
+unfolding taking
+returns-then-not-is_in_use-clause-tied c = StaysTied-look c.args.b refl refl c.add_look.ensures
+
 pub returns-in_default-clause-none : goal.returns-in_default-clause-none
 returns-in_default-clause-none c = record {
   own = λ p i.
@@ -21,13 +26,13 @@ returns-in_default-clause-none c = record {
 }
 
 pub returns-in_default-clause-exact : goal.returns-in_default-clause-exact
-returns-in_default-clause-exact c = λ s p i.
+returns-in_default-clause-exact c = λ s p i v.
     let same = one_lane c.args.self.now.parties c.args.b c.lane_in-lane.result.sender c.lane_in-lane.result.prio s p c.lane_in-lane.ensures i in
     rw (same.0, same.1) at c.in_default.ensures.none
 
 pub returns-in_default-clause-tied : goal.returns-in_default-clause-tied
 unfolding taking
-returns-in_default-clause-tied c = StaysTied-look c.args.b c.pop-found.ensures.parties c.in_default.ensures.same c.add_look.ensures
+returns-in_default-clause-tied c = StaysTied-look c.args.b c.pop-found.ensures.parties c.in_default.ensures.same c.add_look-2.ensures
 
 -- the front of the lane, as far as it was found
 front : (c : After-open-message) → IsFor c.lane_in-lane.result.sender c.args.self.now.party c.lane_in-lane.result.prio c.in-Some.entry × (length ((log_of c.args.self.now).taken c.lane_in-lane.result.sender c.lane_in-lane.result.prio) + 1 < 2 ^ 63)
@@ -37,14 +42,14 @@ front c =
 
 pub add_taken-requires-clause-short : goal.add_taken-requires-clause-short
 add_taken-requires-clause-short c =
-    subst (λ l. length (l.taken c.lane_in-lane.result.sender c.lane_in-lane.result.prio) + 1 < 2 ^ 63) (sym c.add_look.ensures) (front (goal.at.add_taken-requires-clause-short c).After-open-message).1
+    subst (λ l. length (l.taken c.lane_in-lane.result.sender c.lane_in-lane.result.prio) + 1 < 2 ^ 63) (sym c.add_look-2.ensures) (front (goal.at.add_taken-requires-clause-short c).After-open-message).1
 
 -- what the end did
 logged : (c : After-add_taken) → IsFor c.lane_in-lane.result.sender c.args.self.now.party c.lane_in-lane.result.prio c.in-Some.entry → log_of c.add_taken.new.self ≡ taking (log_of c.args.self.now) c.args.b (Some c.in-Some.entry)
 unfolding taking
 logged c f =
-    log_of-taken c.args.self.now c.add_look.new.self c.add_taken.new.self c.lane_in-lane.result.sender c.lane_in-lane.result.prio c.args.b c.in-Some.entry
-    c.add_look.ensures (c.add_taken.ensures c.in-Some.entry c.open-message.ensures.copy) f.from f.prio
+    log_of-taken c.args.self.now c.add_look-2.new.self c.add_taken.new.self c.lane_in-lane.result.sender c.lane_in-lane.result.prio c.args.b c.in-Some.entry
+    c.add_look-2.ensures (c.add_taken.ensures c.in-Some.entry c.open-message.ensures.copy) f.from f.prio
 
 pub returns-clause-log : goal.returns-clause-log
 returns-clause-log c = rw c.open-message.ensures.message (logged (goal.at.returns-clause-log c).After-add_taken (front (goal.at.returns-clause-log c).After-open-message).0)
@@ -59,8 +64,14 @@ returns-clause-some c =
       lane = rw (f.from, f.prio) c.lane_in-lane.ensures;
     }
 
+pub returns-clause-level : goal.returns-clause-level
+returns-clause-level c =
+    let f = (front (goal.at.returns-clause-level c).After-open-message).0 in
+    let used : c.is_in_use.result ≡ true = grind (arith, common_steps, c.if-not-is_in_use.false) in
+    rw c.open-message.ensures.message (λ system. let from = c.is_in_use.ensures.used used (sym f.prio ∙ system) in omega (arith, from, f.from))
+
 pub returns-clause-exact : goal.returns-clause-exact
-returns-clause-exact c = λ s p i.
+returns-clause-exact c = λ s p i v.
     let same = one_lane c.args.self.now.parties c.args.b c.lane_in-lane.result.sender c.lane_in-lane.result.prio s p c.lane_in-lane.ensures i in
     rw (c.open-message.ensures.message, c.pop-found.ensures.parties) (rw (same.0, same.1) at c.in-Some.ensures.front)
 

@@ -3,6 +3,7 @@ use Rattle.std.specs.Prelude.{All}
 use Rattle.std.proofs.lemmas.List.{length-set}
 use Rattle.room_kinds.specs.declared.message.Msg.{Msg}
 use Rattle.controller_mail.specs.MailState.{HasPriority}
+use Rattle.controller_mail.specs.Within.{IsAnswerable}
 use Rattle.model_run.specs.run_rounds.OneByOne.{StepsBelow}
 use Rattle.model_run.proofs.run_rounds.OneByOne.{slice_get-other}
 use Rattle.controller.specs.Controllers.{IsOf}
@@ -26,6 +27,14 @@ fetch_left-requires-clause-prio c =
     let same = list_at (λ (v : Vec Msg Global). v.items) c.loop-i.left.items c.args.left.items i c.index_mut.result.now (c.loop-i.invariant.rest i (omega arith)) c.index_mut.ensures.value in_lists in
     let list : c.replace-list.result.items ≡ slice_index_or (map (λ (v : Vec Msg Global). v.items) c.args.left.items) i [] = ap (λ (v : Vec Msg Global). v.items) c.replace-list.ensures.value ∙ same in
     subst (All HasPriority) (sym list) (c.requires.priorities i)
+
+pub fetch_left-requires-clause-answerable : goal.fetch_left-requires-clause-answerable
+fetch_left-requires-clause-answerable c =
+    let i = c.loop-i.i in
+    let in_lists : i < length c.loop-i.left.items = omega (arith, c.requires.count) in
+    let same = list_at (λ (v : Vec Msg Global). v.items) c.loop-i.left.items c.args.left.items i c.index_mut.result.now (c.loop-i.invariant.rest i (omega arith)) c.index_mut.ensures.value in_lists in
+    let list : c.replace-list.result.items ≡ slice_index_or (map (λ (v : Vec Msg Global). v.items) c.args.left.items) i [] = ap (λ (v : Vec Msg Global). v.items) c.replace-list.ensures.value ∙ same in
+    subst (All (IsAnswerable (length c.args.plant.now.wiring.controllers))) (sym list) (c.requires.answerable i)
 
 pub loop-i-preserved : goal.loop-i-preserved
 loop-i-preserved c =

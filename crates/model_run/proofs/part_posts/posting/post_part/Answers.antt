@@ -37,12 +37,14 @@ pub loop-at-preserved : goal.loop-at-preserved
 loop-at-preserved g c =
     let here = message_read c.args.plant.now c.args.part.now c.loop-at.at c.index-part-at.result c.in-Message.target c.in-Message.signal c.in-Message.payload c.in-Message.prio c.in_ok-m.m
     c.index-part-at.is c.loop-at-test.true c.in-Message.is c.in_ok-m.ensures.ok in
-    let most = (message_fits c.args.plant.now.wiring c.args.part.now c.loop-at.at c.index-part-at.result c.in-Message.target c.in-Message.signal c.in-Message.payload c.in-Message.prio
-    c.index-part-at.is c.loop-at-test.true c.in-Message.is c.requires.fits).most in
+    let fits = message_fits c.args.plant.now.wiring c.args.part.now c.loop-at.at c.index-part-at.result c.in-Message.target c.in-Message.signal c.in-Message.payload c.in-Message.prio
+    c.index-part-at.is c.loop-at-test.true c.in-Message.is c.requires.fits in
+    let least = fits.least in
+    let most = fits.most in
     let same : c.in_ok-m.m.prio.0 ≡ c.in-Message.prio.0 = ap (λ (z : Msg). z.prio.0) c.in_ok-m.ensures.ok in
     record {
       posts = one_posted c.args.plant.now c.args.part.now c.loop-at.at c.index-part-at.result.number c.args.environment.now c.loop-at.environment
-          (g.M.Mail.log c.args.end.now) (g.M.Mail.log c.loop-at.end) c.in_ok-m.m c.loop-at.invariant.posts here c.in_ok-m.ensures.to (omega (arith, most, same)) c.post.new.self (g.M.Mail.log c.post.new.end)
+          (g.M.Mail.log c.args.end.now) (g.M.Mail.log c.loop-at.end) c.in_ok-m.m c.loop-at.invariant.posts here c.in_ok-m.ensures.to (omega (arith, most, same)) (omega (arith, least, same)) c.post.new.self (g.M.Mail.log c.post.new.end)
           c.in_ok-post.ensures.ok;
       tied = StaysTied-step c.loop-at.invariant.tied c.post.ensures.tied (sym c.loop-at.invariant.posts.end.party);
     }

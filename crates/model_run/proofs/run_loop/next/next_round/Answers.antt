@@ -15,7 +15,7 @@ returns-then-not-have_stopped-clause-begun g c =
     record {
       stand = part.so_far.stand;
       in_part = c.if-run.true;
-      by_priority = all_fresh (length plant.wiring.controllers + 1) (map g.M.Mail.log c.in_ok-open.field-0.1.items) c.in_ok-open.ensures.fresh;
+      by_priority = all_fresh (length plant.wiring.controllers) (length plant.wiring.controllers + 1) (map g.M.Mail.log c.in_ok-open.field-0.1.items) c.in_ok-open.ensures.fresh;
       goes_on = quiet_on plant c.args.fuel (items_of plant.wiring (g.S.PartSource.given c.args.source.now)) run.controllers.items run.environment
           (map g.M.Mail.log c.in_ok-open.field-0.1.items) part c.in_ok-open.ensures.fresh;
     }
