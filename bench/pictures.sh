@@ -6,11 +6,11 @@
 #   bench/pictures.sh FOLDER           leaves it in FOLDER, as FOLDER/index.html
 #
 # On Debian `apt-get install graphviz chromium` has what it takes; without `dot` the page has the
-# SVGs alone. ROOM_VIEW names the program; without it the proved one is taken.
+# SVGs alone. ROOM_VIEW_PROGRAM names the program; without it the proved one is taken.
 set -eu
 export LC_ALL=C
 top="$(cd "$(dirname "${BASH_SOURCE[0]}")/.." && pwd)"
-view="${ROOM_VIEW:-$top/crates/room_view/out/room_view}"
+view="${ROOM_VIEW_PROGRAM:-$top/crates/room_view/out/room_view}"
 [ -x "$view" ] || { echo "pictures.sh: there is no program $view; ./room --prove makes it" >&2; exit 1; }
 folder="${1:-$(mktemp -d)}"
 mkdir -p "$folder"
