@@ -80,9 +80,8 @@ impl Mail for MailLocal {
         Ok(())
     }
 
-    /// Looks at the lane of a box. It takes no memory, and misses no message: it gives the lane's
-    /// oldest, and nothing exactly where the lane is empty. At the environment's lane of the system level,
-    /// where the environment posts nothing, it gives nothing.
+    /// Looks at the lane of a box (`look`), but for the environment's lane of the system level, where the
+    /// environment posts nothing: there it gives nothing.
     #[tactic(auto, using(crate::proofs::LocalTied::local_steps), unfolding(crate::specs::EndLog::taking))]
     fn take(&mut self, office: &mut LocalOffice, b: u32) -> Option<Msg>
         requires in_range { b < lane_boxes self.old.party self.old.parties }
@@ -96,19 +95,11 @@ impl Mail for MailLocal {
 
         ensures exact { (s p : ℕ) → IsLaneBox self.old.parties b s p → MayPostAt self.old.parties s p → MatchOption result (lane_at office.old s self.old.party p ≡ []) (λ m. lane_at office.old s self.old.party p ≡ m ∷ lane_at office.new s self.old.party p) }
     {
-        let lane = lane_in(self.parties, b);
-        if !lane.is_in_use(self.parties) {
-            self.add_look(b);
-            return None;
+        if lane_in(self.parties, b).is_in_use(self.parties) {
+            return self.look(office, b);
         }
-        let found = office.pop(lane.sender, self.party, lane.prio);
         self.add_look(b);
-        let Some(entry) = found else {
-            return None;
-        };
-        let (message, copy) = entry.open();
-        self.add_taken(lane.sender, lane.prio, copy);
-        Some(message)
+        None
     }
 
     fn close(
@@ -123,5 +114,37 @@ impl Mail for MailLocal {
         drop(ends);
         let mut office = office;
         office.drain_all(alloc)
+    }
+}
+
+impl MailLocal {
+    ghost use Rattle.std.specs.Prelude.{ℕ, ◌≡◌, ◌<◌, ◌∷◌, [], IfSome, IfNone, MatchOption};
+    ghost use Rattle.mail_core.specs.Boxes.{IsLaneBox, lane_boxes};
+    ghost use Rattle.mail_core.specs.EndLog.{taking};
+    ghost use Rattle.mail_core.specs.Takes.{IsOfBox, OwnIsTaken};
+    ghost use Rattle.mail_core.specs.Tied.{IsTied, StaysTied};
+    ghost use Rattle.mail_core.specs.Local.{log_of, lane_at, AreTied};
+
+    /// Looks at the lane of any box. It takes no memory, and misses no message: it gives the lane's
+    /// oldest, and nothing exactly where the lane is empty.
+    #[tactic(auto, using(crate::proofs::LocalTied::local_steps), unfolding(crate::specs::EndLog::taking))]
+    pub fn look(&mut self, office: &mut LocalOffice, b: u32) -> Option<Msg>
+        requires in_range { b < lane_boxes self.old.party self.old.parties }
+        requires tied { IsTied AreTied self.old.party office.old self.old }
+        ensures log { log_of self.new ≡ taking (log_of self.old) b result }
+        ensures some { IfSome result (IsOfBox IsLaneBox (log_of self.old) b) }
+        ensures none { IfNone result (OwnIsTaken IsLaneBox (log_of self.old) b) }
+        ensures tied { StaysTied AreTied self.old.party office.old office.new self.old self.new }
+        ensures exact { (s p : ℕ) → IsLaneBox self.old.parties b s p → MatchOption result (lane_at office.old s self.old.party p ≡ []) (λ m. lane_at office.old s self.old.party p ≡ m ∷ lane_at office.new s self.old.party p) }
+    {
+        let lane = lane_in(self.parties, b);
+        let found = office.pop(lane.sender, self.party, lane.prio);
+        self.add_look(b);
+        let Some(entry) = found else {
+            return None;
+        };
+        let (message, copy) = entry.open();
+        self.add_taken(lane.sender, lane.prio, copy);
+        Some(message)
     }
 }
