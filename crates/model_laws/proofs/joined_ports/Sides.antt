@@ -17,7 +17,6 @@ use Rattle.check_mappings.specs.count_rules.Counts.{has_few_parts}
 use Rattle.check_scopes.specs.class_scopes.Signals.{is_frame}
 use Rattle.check_structure.specs.binding_rules.Ends.{is_any, own_end, inner_end, end_of}
 use Rattle.check_structure.specs.binding_rules.Parts.{port_named, reference_named, class_of, port_behind as port_behind_reference}
-use Rattle.check_structure.specs.declared.binding_rules.ends.BindingEnd.{BindingEnd}
 use Rattle.check_tables.specs.class_tables.Containers.{tables_of}
 use Rattle.check_tables.specs.declared.class_tables.container.Container.{Container}
 use Rattle.wiring_plan.specs.structure_plan.Parts.{number_of, port_plan, reference_plan, class_behind, port_behind, inner_side, side_plan}
@@ -33,6 +32,14 @@ use Rattle.wiring_joins.proofs.place_faces.Faces.{IsFace}
 use Rattle.wiring_joins.proofs.place_faces.Uses.{UsesOwn, UsesInner, Uses}
 use Rattle.binding_expand.proofs.plan_laws.Numbers.{actors_few, class_is, number_kept}
 use Rattle.model_laws.proofs.joined_ports.Entries.{entry_at, port_in, mapped_some, planned_entry, tables_are, known_of}
+
+-- the type that `binding_rules` keeps to itself, told by the function that gives it
+abbrev Found : {A B : Type 0} → (A → Option B) → Type 0
+Found {A} {B} f = B
+
+-- what a side of a binding names
+abbrev pub BindingEnd : Type 0
+BindingEnd = Found own_end
 
 -- whether a port is conjugated, as it is seen from a face of its places: from the inner one it is the reverse
 abbrev pub seen_from : ℕ → Bool → Bool

@@ -69,16 +69,13 @@ pair_within (Limited m) Growing i j most other k lt le le' = (omega (arith, lt),
 pair_within Growing (Limited n) i j most other k lt le le' = (omega (arith, lt, le), omega (arith, lt))
 pair_within Growing Growing i j most other k lt le le' = absurd (omega (arith, lt))
 
+counted : (same : Bool) (k many : ℕ) → k < cond same 0 many → cond same 0 many ≡ many
+counted true k many less = absurd (omega (arith, less))
+counted false k many less = refl
+
 pairs_counted : (plan : StructurePlan) (class : ClassPlan) (taken : ℕ → ℕ) (b : BindingPlan) (k : ℕ) → k < (stretch plan class taken b).count
     → (stretch plan class taken b).count ≡ pair_count (supply plan class b.left) (taken (side_number b.left)) (supply plan class b.right) (taken (side_number b.right))
-pairs_counted plan class taken b k lt = pick (side_number b.left == side_number b.right) lt
-  where
-    abbrev many : ℕ
-    many = pair_count (supply plan class b.left) (taken (side_number b.left)) (supply plan class b.right) (taken (side_number b.right))
-
-    pick : (same : Bool) → k < cond same 0 many → cond same 0 many ≡ many
-    pick true less = absurd (omega (arith, less))
-    pick false less = refl
+pairs_counted plan class taken b k lt = counted (side_number b.left == side_number b.right) k _ lt
 
 -- two faces are those of places of the sides of a container's binding, of which this is so
 pub record OfBinding (plan : StructurePlan) (slots : List Slot) (joins : List LayerJoin) (P : ℕ → BindingPlan → Type 0) (f g : ℕ) : Type 0 where
