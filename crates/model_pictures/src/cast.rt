@@ -1,8 +1,9 @@
 //! Who has a lifeline in the picture of a run.
 use journal::naming;
-use picture_formats::{Group, Lifeline, Sequence, tail_of};
+use picture_formats::tail_of;
 use room_kinds::{Endpoint, SlotId};
 use room_wiring::Wiring;
+use sequence_formats::{Group, Lifeline, Sequence};
 use std::alloc::{AllocError, Global};
 
 /// The most slots that have lifelines.

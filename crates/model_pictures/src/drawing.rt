@@ -5,8 +5,9 @@ use crate::run_texts::{message_label, note_label, state_label, turn_label};
 use indexmap::IndexMap;
 use journal::{Did, speaker_after};
 use journal_views::{Name, Start, Told, Turn, is_trouble_note};
-use picture_formats::{Event, Label, Lead, Row, Sequence, Way};
+use picture_formats::Label;
 use room_kinds::{Incarnation, Msg, Note, SlotId};
+use sequence_formats::{Event, Lead, Row, Sequence, Way};
 use std::alloc::{AllocError, Global};
 
 /// The most rows that are drawn, but for those of the last turn and those that tell of the end.

@@ -4,8 +4,8 @@ use crate::drawing::Drawing;
 use crate::run_texts::{end_text, gap_text, plain_label, undrawn_text};
 use journal::{Entry, Journals};
 use journal_views::{Start, Told, Turn, Wanted, starts_of, turns_of};
-use picture_formats::Sequence;
 use room_wiring::Wiring;
+use sequence_formats::Sequence;
 use std::alloc::{AllocError, Global};
 
 /// A run, and its starts and turns.

@@ -4,13 +4,11 @@ use crate::runs::{journals_of, knows, wanted_of};
 use crate::words::Options;
 use journal_views::view_pages::{Named, Page};
 use model_pictures::{chart_picture, machine_of, run_picture, tell_machines, wiring_picture};
-use picture_formats::{
-    Diagram, Sequence, put_dot, put_mermaid, put_sequence_dot, put_sequence_mermaid,
-    put_sequence_svg, put_svg,
-};
+use picture_formats::{Diagram, put_dot, put_mermaid, put_svg};
 use room_ast::Model;
 use room_run::Status;
 use room_wiring::Wiring;
+use sequence_formats::{Sequence, put_sequence_dot, put_sequence_mermaid, put_sequence_svg};
 use std::alloc::{AllocError, Global};
 
 /// The form of a picture.

@@ -1,6 +1,6 @@
 //! A run before it is drawn: lifelines side by side, what happens on them in rows below one another, and what leads
 //! from one row to a later one.
-use crate::plain::Label;
+use picture_formats::Label;
 use std::alloc::{AllocError, Global};
 
 /// Lifelines that stand side by side under a title.

@@ -1,8 +1,8 @@
 //! A run as a graph for Graphviz, in which each lifeline is a chain of rows, and rows of one time have one rank.
-use crate::colours::light;
-use crate::dot::{put_letters, put_name};
 use crate::sequence::{Event, Lead, Row, Sequence, Way};
 use journal_views::view_pages::Page;
+use picture_formats::colours::light;
+use picture_formats::dot::{put_letters, put_name};
 use std::alloc::AllocError;
 
 /// The lifelines' heads in boxes for their groups.

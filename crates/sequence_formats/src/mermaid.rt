@@ -1,8 +1,8 @@
 //! A run as a sequence diagram for Mermaid.
-use crate::colours::light;
-use crate::mermaid::{put_letters, put_name};
 use crate::sequence::{Event, Lead, Row, Sequence, Way};
 use journal_views::view_pages::Page;
+use picture_formats::colours::light;
+use picture_formats::mermaid::{put_letters, put_name};
 use std::alloc::AllocError;
 
 /// The value of a hexadecimal digit; 0 where it is none.

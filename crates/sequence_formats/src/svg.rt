@@ -1,12 +1,12 @@
 //! A run as SVG: lifelines in bands of the colours of their groups, time from above to below.
-use crate::colours::light;
-use crate::layout::{LETTER, PAD, ROW, sum, text_width};
 use crate::sequence::{Event, Lead, Row, Sequence, Way};
-use crate::shapes::{
+use journal_views::view_pages::Page;
+use picture_formats::colours::light;
+use picture_formats::layout::{LETTER, PAD, ROW, sum, text_width};
+use picture_formats::shapes::{
     Anchor, Area, BLACK, Ink, RED, WHITE, before, behind, plain_ink, put_area, put_circle,
     put_corners, put_head, put_line_to, put_path, put_tooltip, put_words,
 };
-use journal_views::view_pages::Page;
 use std::alloc::{AllocError, Global};
 
 /// The width of the column of stamps.
