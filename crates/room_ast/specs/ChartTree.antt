@@ -1,6 +1,6 @@
 -- A graph without where it lies in memory.
-use Rattle.std.specs.Prelude.{ℕ, List, [], ◌∷◌, map, Option, Some, None}
-use Rattle.std.specs.Global.{Vec}
+use Rattle.std.specs.Prelude.{ℕ, List, [], ◌∷◌, map, Option, Some, None, option_map}
+use Rattle.std.specs.Global.{Box, Vec}
 use Rattle.room_ast.specs.declared.chart.GraphItem.{GraphItem}
 use Rattle.room_ast.specs.declared.chart.Change.TheFolds.{fold-GraphItem, fold-State, fold-StateBody, fold-Refinement}
 use Rattle.room_ast.specs.declared.chart.Change.TheOpen.{GraphItem-F, State-F, StateBody-F, Refinement-F, Change-F}
@@ -61,15 +61,20 @@ abbrev pub body_of : Option BodyParts → BodyTree
 body_of None = no_body
 body_of (Some b) = body b.entry b.exit b.subgraph
 
+-- a body that stands in a box
+abbrev pub boxed_body : Option (Box BodyParts) → BodyTree
+boxed_body None = no_body
+boxed_body (Some b) = body b.value.entry b.value.exit b.value.subgraph
+
 abbrev pub item_step : GraphItem-F ChangeTree GraphItemTree GraphItemTree StateTree BodyParts → GraphItemTree
 item_step (GraphItem-F.GraphItem::State s) = AState s
 item_step (GraphItem-F.Choice c) = AChoice c
 item_step (GraphItem-F.Point p) = APoint p
-item_step (GraphItem-F.GraphItem::Transition t) = ATransition t
-item_step (GraphItem-F.Refinement r) = r
+item_step (GraphItem-F.GraphItem::Transition t) = ATransition t.value
+item_step (GraphItem-F.Refinement r) = r.value
 
 abbrev pub state_step : State-F ChangeTree GraphItemTree GraphItemTree StateTree BodyParts → StateTree
-state_step s = StateOf s.name (body_of s.body)
+state_step s = StateOf s.name (boxed_body s.body)
 
 abbrev pub body_step : StateBody-F ChangeTree GraphItemTree GraphItemTree StateTree BodyParts → BodyParts
 body_step b = record { entry = b.entry; exit = b.exit; subgraph = subgraph_of b.subgraph }
@@ -89,6 +94,10 @@ state_view = fold-State ChangeTree GraphItemTree GraphItemTree StateTree BodyPar
 
 abbrev pub body_view : StateBody → BodyParts
 body_view = fold-StateBody ChangeTree GraphItemTree GraphItemTree StateTree BodyParts change_step item_step refinement_step state_step body_step
+
+-- a state's body, which may be missing
+abbrev pub body_if_view : Option (Box StateBody) → BodyTree
+body_if_view o = body_of (option_map (λ b. body_view b.value) o)
 
 abbrev pub refinement_view : Refinement → GraphItemTree
 refinement_view = fold-Refinement ChangeTree GraphItemTree GraphItemTree StateTree BodyParts change_step item_step refinement_step state_step body_step

@@ -11,14 +11,16 @@ pub struct StateMachine {
     pub items: Vec<GraphItem>,
 }
 
+/// A graph has many items of a few words. What may be large stands in a box, so that a state without a
+/// body costs no more than its name.
 #[cycle(chart)]
 #[derive(Drop)]
 pub enum GraphItem {
     State(State),
     Choice(ChoicePoint),
     Point(Point),
-    Transition(Transition),
-    Refinement(Refinement),
+    Transition(Box<Transition>),
+    Refinement(Box<Refinement>),
 }
 
 /// `State` name, and its body in braces
@@ -26,7 +28,7 @@ pub enum GraphItem {
 #[derive(Drop)]
 pub struct State {
     pub name: Name,
-    pub body: Option<StateBody>,
+    pub body: Option<Box<StateBody>>,
 }
 
 /// `entry` code, `exit` code, and `subgraph` `{` graph `}`. A state with a subgraph is composite.
