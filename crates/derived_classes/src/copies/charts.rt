@@ -96,10 +96,12 @@ pub(crate) fn copy_item(alloc: Global, item: &GraphItem) -> Result<GraphItem, Al
         GraphItem::Choice(choice) => Ok(GraphItem::Choice(copy_choice(alloc, choice)?)),
         GraphItem::Point(point) => Ok(GraphItem::Point(copy_point(alloc, point)?)),
         GraphItem::Transition(transition) => {
-            Ok(GraphItem::Transition(copy_transition(alloc, transition)?))
+            let copy = copy_transition(alloc, transition)?;
+            Ok(GraphItem::Transition(Box::new(alloc, copy)?))
         }
         GraphItem::Refinement(refinement) => {
-            Ok(GraphItem::Refinement(copy_refinement(alloc, refinement)?))
+            let copy = copy_refinement(alloc, refinement)?;
+            Ok(GraphItem::Refinement(Box::new(alloc, copy)?))
         }
     }
 }
@@ -112,6 +114,7 @@ pub(crate) fn copy_state(alloc: Global, state: &State) -> Result<State, AllocErr
     match &state.body {
         Some(body) => {
             let body = copy_body(alloc, body)?;
+            let body = Box::new(alloc, body)?;
             Ok(State {
                 name,
                 body: Some(body),
@@ -171,7 +174,7 @@ fn copy_refinement(alloc: Global, refinement: &Refinement) -> Result<Refinement,
 pub fn copy_items(alloc: Global, items: &Vec<GraphItem>) -> Result<Vec<GraphItem>, AllocError>
     ensures { IfOk result (λ copies. map item_view copies.items ≡ map item_view items.now.items) }
 {
-    let mut copies = Vec::new(alloc);
+    let mut copies = Vec::with_capacity(alloc, items.len())?;
     for item in items {
         let copy = copy_item(alloc, item)?;
         copies.push(copy)?;

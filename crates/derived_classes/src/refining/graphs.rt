@@ -1,6 +1,6 @@
 //! Graphs that get refinements, in their place: what no refinement leads to is neither copied nor moved.
-ghost use Rattle.std.specs.Prelude.{◌≡◌, IfOk, OnOk, option_map};
-ghost use Rattle.room_ast.specs.ChartTree.{AState, body_of, body_view, item_view, state_view, graph_view};
+ghost use Rattle.std.specs.Prelude.{◌≡◌, IfOk, OnOk};
+ghost use Rattle.room_ast.specs.ChartTree.{AState, body_view, body_if_view, item_view, state_view, graph_view};
 ghost use Rattle.derived_classes.specs.Refining.{GivesTheSame, refined, refined_item, refined_state, refined_body, refined_subgraph, widened, with_state, own_change};
 ghost use Rattle.derived_classes.specs.Views.{IsGrouped, refining_views};
 
@@ -14,10 +14,10 @@ use std::alloc::{AllocError, Global};
 /// What is added to a state itself, once its own graph has its refinements.
 fn with_own_change<'a>(
     alloc: Global,
-    body: Option<StateBody>,
+    body: Option<Box<StateBody>>,
     pending: &[Pending<'a>],
-) -> Result<Option<StateBody>, AllocError>
-    ensures { IfOk result (λ b. body_of (option_map body_view b) ≡ widened (own_change (refining_views pending.now)) (body_of (option_map body_view body))) }
+) -> Result<Option<Box<StateBody>>, AllocError>
+    ensures { IfOk result (λ b. body_if_view b ≡ widened (own_change (refining_views pending.now)) (body_if_view body)) }
 {
     match own_change(pending) {
         Some(change) => widened(alloc, body, change),
@@ -71,14 +71,15 @@ fn refine_state<'p, 'a>(
 #[cycle(refining)]
 fn refined_body<'a>(
     alloc: Global,
-    body: Option<StateBody>,
+    body: Option<Box<StateBody>>,
     pending: &[Pending<'a>],
-) -> Result<Option<StateBody>, AllocError>
-    ensures { IfOk result (λ b. body_of (option_map body_view b) ≡ refined_body (body_of (option_map body_view body)) (refining_views pending.now)) }
+) -> Result<Option<Box<StateBody>>, AllocError>
+    ensures { IfOk result (λ b. body_if_view b ≡ refined_body (body_if_view body) (refining_views pending.now)) }
 {
     match body {
         Some(body) => {
-            let inside = refined_inside(alloc, body, pending)?;
+            let inside = refined_inside(alloc, Box::into_inner(body), pending)?;
+            let inside = Box::new(alloc, inside)?;
             with_own_change(alloc, Some(inside), pending)
         }
         None => with_own_change(alloc, None, pending),

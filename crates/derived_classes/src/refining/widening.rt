@@ -1,6 +1,6 @@
 //! What refinements make of a state's body and of a transition.
 ghost use Rattle.std.specs.Prelude.{◌≡◌, ◌++◌, Some, IfOk, OnOk, map, option_map};
-ghost use Rattle.room_ast.specs.ChartTree.{body_of, body_view, item_view};
+ghost use Rattle.room_ast.specs.ChartTree.{body_of, body_view, body_if_view, item_view};
 ghost use Rattle.derived_classes.specs.Codes.{texts_of, joined, joined_if};
 ghost use Rattle.derived_classes.specs.Refining.{acting_also, action_for, joined_subgraph, new_body, refined_transition, widened};
 ghost use Rattle.derived_classes.specs.Views.{IsGrouped, of_state, refining_views, subgraph_tree};
@@ -153,27 +153,27 @@ fn widened_body(alloc: Global, body: StateBody, change: &StateBody) -> Result<St
 /// A state's body, which may be missing, with what a refinement adds.
 pub(super) fn widened(
     alloc: Global,
-    body: Option<StateBody>,
+    body: Option<Box<StateBody>>,
     change: &StateBody,
-) -> Result<Option<StateBody>, AllocError>
-    ensures { IfOk result (λ b. body_of (option_map body_view b) ≡ widened (Some (of_state (body_view change.now))) (body_of (option_map body_view body))) }
+) -> Result<Option<Box<StateBody>>, AllocError>
+    ensures { IfOk result (λ b. body_if_view b ≡ widened (Some (of_state (body_view change.now))) (body_if_view body)) }
 {
     if let Some(body) = body {
-        let body = widened_body(alloc, body, change)?;
-        return Ok(Some(body));
+        let body = widened_body(alloc, Box::into_inner(body), change)?;
+        return Ok(Some(Box::new(alloc, body)?));
     }
     new_body(alloc, change)
 }
 
 /// The body that a state without one gets.
-fn new_body(alloc: Global, change: &StateBody) -> Result<Option<StateBody>, AllocError>
-    ensures { IfOk result (λ b. body_of (option_map body_view b) ≡ new_body (body_view change.now).entry (body_view change.now).exit (body_view change.now).subgraph) }
+fn new_body(alloc: Global, change: &StateBody) -> Result<Option<Box<StateBody>>, AllocError>
+    ensures { IfOk result (λ b. body_if_view b ≡ new_body (body_view change.now).entry (body_view change.now).exit (body_view change.now).subgraph) }
 {
     match (&change.entry, &change.exit, &change.subgraph) {
         (None, None, None) => Ok(None),
         _ => {
             let body = copy_body(alloc, change)?;
-            Ok(Some(body))
+            Ok(Some(Box::new(alloc, body)?))
         }
     }
 }

@@ -1,22 +1,18 @@
 -- The grammar of states and graphs, read from left to right.
-use Rattle.std.specs.Prelude.{ℕ, zero, suc, List, length, Option, Some, None, option_map}
+use Rattle.std.specs.Prelude.{ℕ, zero, suc, List, length, Option, Some, None}
 use Rattle.std.specs.Global.{Vec}
 use Rattle.room_lexer.specs.declared.token.Mark.TheVariants as marks
 use Rattle.room_lexer.specs.declared.word.Word.{Word}
 use Rattle.room_lexer.specs.declared.word.Word.TheVariants as words
 use Rattle.room_ast.specs.Values.{TokenValue}
-use Rattle.room_ast.specs.ChartTree.{GraphItemTree, AState, AChoice, APoint, ATransition, ARefinement, OfState, OfTransition, StateTree, StateOf, BodyTree, BodyParts, body_of, SubgraphTree, no_subgraph, subgraph, GraphItems, items_of, body_view, graph_view}
+use Rattle.room_ast.specs.ChartTree.{GraphItemTree, AState, AChoice, APoint, ATransition, ARefinement, OfState, OfTransition, StateTree, StateOf, BodyTree, BodyParts, body_of, SubgraphTree, no_subgraph, subgraph, GraphItems, items_of, graph_view}
 use Rattle.room_ast.specs.declared.chart.GraphItem.{GraphItem}
-use Rattle.room_ast.specs.declared.chart.StateBody.{StateBody}
 use Rattle.token_reading.specs.Reader.{Reader, ◌⊕◌, ◌▹◌, ◌◃◌, reads_as, optional, all_while}
 use Rattle.token_reading.specs.Single.{comes, comes_word, mark, word, name_at, word_here, before_close}
 use Rattle.structure_parser.specs.value_parser.Names.{dotted_at}
 use Rattle.room_parser.specs.chart_parser.Codes.{word_code_at, transition_at, choice_point_at, point_at}
 
 -- ---- what the code's trees are seen as
-
-abbrev pub body_if_view : Option StateBody → BodyTree
-body_if_view o = body_of (option_map body_view o)
 
 abbrev pub subgraph_view : Option (Vec GraphItem) → SubgraphTree
 subgraph_view None = no_subgraph

@@ -1,9 +1,9 @@
 //! States, graphs and refinements.
 ghost use Rattle.std.specs.Prelude.{◌≡◌};
-ghost use Rattle.room_ast.specs.ChartTree.{item_view, item_views, state_view, body_view, refinement_view, graph_view};
+ghost use Rattle.room_ast.specs.ChartTree.{item_view, item_views, state_view, body_view, body_if_view, refinement_view, graph_view};
 ghost use Rattle.token_reading.specs.Reader.{Gives, all_while};
 ghost use Rattle.token_reading.specs.Single.{left, before_close as before_close_at};
-ghost use Rattle.room_parser.specs.chart_parser.Graphs.{body_if_view, subgraph_view, subgraph_at, body_at, body_if_at, state_at, refined_state_at, refined_transition_at, graph_below, item_to, graph_at, machine_at};
+ghost use Rattle.room_parser.specs.chart_parser.Graphs.{subgraph_view, subgraph_at, body_at, body_if_at, state_at, refined_state_at, refined_transition_at, graph_below, item_to, graph_at, machine_at};
 
 use crate::chart_parser::codes::{code_if, word_code};
 use crate::chart_parser::transitions::{choice_point, point, transition};
@@ -91,13 +91,14 @@ fn body_if<'a>(
     alloc: Global,
     depth: usize,
     rest: Rest<'a>,
-) -> Result<(Option<StateBody>, Rest<'a>), ReadFault>
+) -> Result<(Option<Box<StateBody>>, Rest<'a>), ReadFault>
     ensures { Gives (λ x. (body_if_view x.0, left x.1)) result (body_if_at (graph_below depth) (left rest.entry)) }
 {
     if !comes(rest, Mark::OpenBrace) {
         return Ok((None, rest));
     }
     let (found, rest) = body(alloc, depth, rest)?;
+    let found = Box::new(alloc, found)?;
     Ok((Some(found), rest))
 }
 
@@ -168,15 +169,15 @@ fn item<'a>(alloc: Global, depth: usize, rest: Rest<'a>) -> Result<(GraphItem, R
         }
         Some(Word::Transition) => {
             let (found, rest) = transition(alloc, rest)?;
-            Ok((GraphItem::Transition(found), rest))
+            Ok((GraphItem::Transition(Box::new(alloc, found)?), rest))
         }
         Some(Word::RefinedState) => {
             let (found, rest) = refined_state(alloc, depth, rest)?;
-            Ok((GraphItem::Refinement(found), rest))
+            Ok((GraphItem::Refinement(Box::new(alloc, found)?), rest))
         }
         Some(Word::RefinedTransition) => {
             let (found, rest) = refined_transition(alloc, rest)?;
-            Ok((GraphItem::Refinement(found), rest))
+            Ok((GraphItem::Refinement(Box::new(alloc, found)?), rest))
         }
         _ => Err(ReadFault::Syntax(place(rest))),
     }
