@@ -24,6 +24,7 @@ fn add_interface(
 ) -> Result<(), AllocError>
     ensures { OnOk result (items.new.items ≡ items.old.items ++ more.now) }
 {
+    items.reserve_exact(more.len())?;
     for item in more {
         let item = copy_interface_item(alloc, item)?;
         items.push(item)?;
@@ -65,6 +66,7 @@ fn add_structure(
 ) -> Result<(), AllocError>
     ensures { OnOk result (items.new.items ≡ items.old.items ++ more.now) }
 {
+    items.reserve_exact(more.len())?;
     for item in more {
         let item = copy_structure_item(alloc, item)?;
         items.push(item)?;
