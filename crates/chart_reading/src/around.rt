@@ -104,10 +104,15 @@ fn inner_entries<'a>(
     }
 }
 
-fn all_inner<'a>(alloc: Global, items: &'a [GraphItem]) -> Result<Vec<NameIndex<'a>>, AllocError>
+/// The entry points of the graph of each state, where there are so many states.
+fn all_inner<'a>(
+    alloc: Global,
+    items: &'a [GraphItem],
+    states: usize,
+) -> Result<Vec<NameIndex<'a>>, AllocError>
     ensures { IfOk result (λ v. v.items ≡ filter_map inner_entries (map item_view items.now)) }
 {
-    let mut inner = Vec::new(alloc);
+    let mut inner = Vec::with_capacity(alloc, states)?;
     for item in items {
         push_if(&mut inner, inner_entries(alloc, item)?)?;
     }
@@ -122,7 +127,7 @@ impl<'a> Around<'a> {
     {
         let states = states_of(alloc, items)?;
         let entries = entries_of(alloc, items)?;
-        let inner = all_inner(alloc, items)?;
+        let inner = all_inner(alloc, items, states.len())?;
         Ok(Around {
             states,
             entries,

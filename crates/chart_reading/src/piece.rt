@@ -115,7 +115,8 @@ pub(crate) fn add_state_actions(
     Ok(())
 }
 
-/// Adds the graph of a state, and the graphs of the states of that one.
+/// Adds the graph of a state, and the graphs of the states of that one. Many graphs have few parts, so
+/// that room for more would be most of what they take.
 pub(crate) fn add_inner(
     owner: Sequence<Name>,
     inner: Piece,
@@ -124,6 +125,8 @@ pub(crate) fn add_inner(
     ensures { OnOk result ((names before : List (List ℕ)) → piece_view piece.new names ≡ with_inner owner (piece_view inner names) (piece_view piece.old before)) }
 {
     let mut inner = inner;
+    inner.states.shrink_to_fit();
+    inner.transitions.shrink_to_fit();
     piece.inner.push(Graph {
         owner,
         states: inner.states,

@@ -50,7 +50,7 @@ pub(crate) fn border_keys(alloc: Global, chart: &Chart) -> Result<Vec<Sequence<u
 fn named_graphs<'a>(alloc: Global, chart: &'a Chart) -> Result<Vec<NamedGraph<'a>>, AllocError>
     ensures { IfOk result (λ named. map named_view named.items ≡ (chart_view chart.now).graphs) }
 {
-    let mut named = Vec::new(alloc);
+    let mut named = Vec::with_capacity(alloc, chart.graphs.len())?;
     for graph in &chart.graphs {
         let one = NamedGraph::of(alloc, graph)?;
         named.push(one)?;

@@ -50,7 +50,8 @@ fn port_table(
 ) -> Result<Sequence<PortEntry>, AllocError>
     ensures { IfOk result (λ ps. ps ≡ ports_in protocols.now interface.now structure.now) }
 {
-    let ports = port_entries(alloc, interface, structure, protocols)?;
+    let mut ports = port_entries(alloc, interface, structure, protocols)?;
+    ports.shrink_to_fit();
     Ok(Sequence::from(ports))
 }
 
@@ -71,7 +72,8 @@ fn reference_table(
 ) -> Result<Sequence<ReferenceEntry>, AllocError>
     ensures { IfOk result (λ rs. rs ≡ map (reference_entry actors.now) (references_in structure.now)) }
 {
-    let references = reference_entries(alloc, structure, actors)?;
+    let mut references = reference_entries(alloc, structure, actors)?;
+    references.shrink_to_fit();
     Ok(Sequence::from(references))
 }
 

@@ -158,7 +158,8 @@ fn actor_table<'a>(
 ) -> Result<Sequence<Container<'a>>, AllocError>
     ensures { IfOk result (λ t. t ≡ actor_containers protocols.now actors.now (map class_view classes.now)) }
 {
-    let containers = containers_of_actors(alloc, classes, protocols, actors)?;
+    let mut containers = containers_of_actors(alloc, classes, protocols, actors)?;
+    containers.shrink_to_fit();
     Ok(Sequence::from(containers))
 }
 
