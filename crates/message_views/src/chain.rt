@@ -80,6 +80,7 @@ fn begins_at(source: &Source, begins: Begins<'_>) -> bool {
 fn transition_from<'a>(items: &'a [GraphItem], begins: Begins<'_>) -> Option<&'a Transition> {
     for item in items {
         if let GraphItem::Transition(transition) = item {
+            let transition: &Transition = transition;
             if begins_at(&transition.source, begins) {
                 return Some(transition);
             }
@@ -110,6 +111,7 @@ fn branch_of<'a>(items: &'a [GraphItem], choice: &[u8], before: usize) -> Option
     let mut default = None;
     for item in items {
         if let GraphItem::Transition(transition) = item {
+            let transition: &Transition = transition;
             if is_branch(items, &transition.source, choice) {
                 match condition_of(transition) {
                     Some(_) if left == 0 => return Some(transition),

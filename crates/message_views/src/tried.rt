@@ -70,6 +70,7 @@ fn add_tried<'a>(
 ) -> Result<(), AllocError> {
     for item in level.items {
         if let GraphItem::Transition(transition) = item {
+            let transition: &Transition = transition;
             let begins = if from_state {
                 is_from_state(transition, level.state)
             } else {
