@@ -23,6 +23,9 @@ pub enum GraphItem {
     Refinement(Box<Refinement>),
 }
 
+/// A chart takes room in proportion to its text, however short its items are.
+const _: () = prove!(size_of::<GraphItem>() <= 48);
+
 /// `State` name, and its body in braces
 #[cycle(chart)]
 #[derive(Drop)]
