@@ -62,50 +62,50 @@ fn sizes_of(
 }
 
 /// Adds a class to those that extend one. The largest of them stands first.
-fn add_heir(heirs: &mut Vec<usize>, class: usize, sizes: &[usize]) -> Result<(), AllocError> {
-    let Some(first) = heirs.first().copied() else {
-        heirs.push(class)?;
+fn add_derived(derived: &mut Vec<usize>, class: usize, sizes: &[usize]) -> Result<(), AllocError> {
+    let Some(first) = derived.first().copied() else {
+        derived.push(class)?;
         return Ok(());
     };
     if size_at(sizes, first) < size_at(sizes, class) {
-        heirs[0] = class;
-        heirs.push(first)?;
+        derived[0] = class;
+        derived.push(first)?;
     } else {
-        heirs.push(class)?;
+        derived.push(class)?;
     }
     Ok(())
 }
 
 /// For each class those that extend it.
-fn heirs_of(
+fn derived_of(
     alloc: Global,
     bases: &[Sequence<usize>],
     order: &[usize],
     sizes: &[usize],
 ) -> Result<Vec<Vec<usize>>, AllocError> {
-    let mut heirs = Vec::new(alloc);
+    let mut derived = Vec::new(alloc);
     for _class in bases {
-        heirs.push(Vec::new(alloc))?;
+        derived.push(Vec::new(alloc))?;
     }
     for class in order {
         if let Some(base) = base_of(bases, *class) {
-            if base < heirs.len() {
-                add_heir(&mut heirs[base], *class, sizes)?;
+            if base < derived.len() {
+                add_derived(&mut derived[base], *class, sizes)?;
             }
         }
     }
-    Ok(heirs)
+    Ok(derived)
 }
 
 /// Adds the classes that extend a class to those that wait. The last is the next to be taken.
 fn add_waiting(
     waiting: &mut Vec<usize>,
-    heirs: &[Vec<usize>],
+    derived: &[Vec<usize>],
     class: usize,
 ) -> Result<(), AllocError> {
-    if let Some(more) = heirs.get(class) {
-        for heir in more {
-            waiting.push(*heir)?;
+    if let Some(more) = derived.get(class) {
+        for next in more {
+            waiting.push(*next)?;
         }
     }
     Ok(())
@@ -133,7 +133,7 @@ fn by_depth(
     order: &[usize],
 ) -> Result<Vec<usize>, AllocError> {
     let sizes = sizes_of(alloc, bases, order)?;
-    let heirs = heirs_of(alloc, bases, order, sizes.as_slice())?;
+    let derived = derived_of(alloc, bases, order, sizes.as_slice())?;
     let mut waiting = first_classes(alloc, bases, order)?;
     let mut deep = Vec::new(alloc);
     for _class in order {
@@ -141,7 +141,7 @@ fn by_depth(
             return Ok(deep);
         };
         deep.push(class)?;
-        add_waiting(&mut waiting, heirs.as_slice(), class)?;
+        add_waiting(&mut waiting, derived.as_slice(), class)?;
     }
     Ok(deep)
 }

@@ -186,6 +186,10 @@ impl LineBuffer {
             (record { written = K.written sink.new; held = self.new })
             (decimal number) }
     {
+        if number >= 100_000 {
+            return self.put_many_digits(sink, number);
+        }
+        let number = number as u32;
         if number < 100 {
             return self.put(sink, &two_digits(number));
         }
@@ -195,10 +199,7 @@ impl LineBuffer {
         if number < 10_000 {
             return self.put(sink, &four_digits(number));
         }
-        if number < 100_000 {
-            return self.put(sink, &five_digits(number));
-        }
-        self.put_many_digits(sink, number)
+        self.put(sink, &five_digits(number))
     }
 
     #[inline(never)]
