@@ -1,0 +1,9 @@
+pub mod Stretches
+pub mod Across
+pub mod Entries
+pub mod Ends
+pub mod Sides
+pub mod Rules
+pub mod Layers
+pub mod Pairs
+pub mod Joined
