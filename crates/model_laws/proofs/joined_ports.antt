@@ -6,4 +6,6 @@ pub mod Sides
 pub mod Rules
 pub mod Layers
 pub mod Pairs
+pub mod Named
+pub mod Points
 pub mod Joined

@@ -12,7 +12,7 @@ pub mod settled_models;
 pub mod wiring_laws;
 
 pub use class_laws::{actors_ask_what_they_can, charts_name_their_class, states_are_labelled};
-pub use joined_ports::joined_ports_have_one_protocol;
+pub use joined_ports::{joined_ports_have_one_protocol, linked_ports_have_one_protocol};
 pub use settled_models::{
     charts_are_open, charts_are_ranked, charts_send_worded, done_runs_agree, done_runs_are_agreed,
     models_register_points, others_live_from_start,

@@ -13,13 +13,11 @@ use Rattle.room_wiring.specs.declared.slot.Slot.{Slot}
 use Rattle.room_wiring.specs.declared.tables.Tables.{Tables}
 use Rattle.room_wiring.specs.Places.{port_count}
 use Rattle.room_wiring.specs.Slots.{class_of, port_at}
-use Rattle.room_wiring.specs.WellNamed.{signals_of}
 use Rattle.check_scopes.specs.class_scopes.Signals.{is_frame}
 use Rattle.check_structure.specs.binding_rules.Rules.{any_places_bind_once, binding_sides_agree, binding_sides_exist, layers_are_known}
 use Rattle.structure_check.specs.List.{name_rules, data_rules, end_rules, place_rules, binding_rules, thread_rules, joint_rules, outer_rules, part_rules, later_rules, single_rules, count_rules, all_rules}
 use Rattle.structure_check.specs.Rules.{first_broken}
 use Rattle.structure_check.proofs.KeptRules.{none_first, none_later, head_kept, tail_kept, all_few}
-use Rattle.wiring_plan.specs.structure_plan.Parts.{short}
 use Rattle.wiring_plan.specs.structure_plan.Plans.{plan_of}
 use Rattle.wiring_plan.specs.wiring_classes.Classes.{classes_of}
 use Rattle.wiring_slots.specs.model_slots.Answers.{slots_in}
@@ -35,7 +33,8 @@ use Rattle.binding_expand.proofs.pair_laws.Models.{model_slots}
 use Rattle.actor_duties.specs.Words.{joined_at}
 use Rattle.model_laws.specs.joined_ports.Protocols.{HasOneProtocol, ModelsJoinOneProtocol}
 use Rattle.model_laws.proofs.joined_ports.Ends.{IsEnd, ShareProtocol}
-use Rattle.model_laws.proofs.joined_ports.Entries.{entry_at, named_port, names_entry, same_signals}
+use Rattle.model_laws.proofs.joined_ports.Entries.{entry_at, names_entry}
+use Rattle.model_laws.proofs.joined_ports.Named.{IsNamed, named_alike}
 use Rattle.model_laws.proofs.joined_ports.Pairs.{led_share}
 use Rattle.model_laws.proofs.settled_models.Joins.{IsPlace, IsPartner, IsJoinedTo, index_of, ports_are, joins_end, joins_socket}
 use Rattle.model_laws.proofs.settled_models.Ports.{port_is}
@@ -62,16 +61,6 @@ module _ (m : ModelTree) (t : Tables) (keeps : first_broken all_rules m ≡ None
   are : AreSlotsOf (plan_of m) slots
   are = model_slots m (known m keeps) (finite m keeps) (layers m keeps) (all_few m keeps)
 
-  -- a port of a slot by its names, which isn't `frame`, and is of this protocol
-  record IsNamed (s p : ℕ) (protocol : Option ℕ) : Type 0 where
-    port : PortNames
-    port_is : port_at t s p ≡ Some port
-    name : List ℕ
-    entry : PortEntry
-    named : named_port m name entry ≡ port
-    protocol_is : entry.protocol ≡ protocol
-    plain : is_frame entry.kind ≡ false
-
   -- a port of a place has names
   some_port : (s p : ℕ) (x : Slot) → slice_get slots s ≡ Some x → p < length (class_plan (plan_of m) x.class).ports → (port : PortNames) × (port_at t s p ≡ Some port)
   some_port s p x at less =
@@ -92,7 +81,7 @@ module _ (m : ModelTree) (t : Tables) (keeps : first_broken all_rules m ≡ None
           (found.0, ap (λ (o : Option ClassNames). option_and_then (λ (c : ClassNames). slice_get c.ports p) o) e ∙ found.1)
 
   -- the port of the place of a face
-  named_of : (s p k : ℕ) (h : IsPlace m t keeps w flawless s p k) (protocol : Option ℕ) → IsEnd m slots joins (2 * index_of m t keeps w flawless s p k) protocol → IsNamed s p protocol
+  named_of : (s p k : ℕ) (h : IsPlace m t keeps w flawless s p k) (protocol : Option ℕ) → IsEnd m slots joins (2 * index_of m t keeps w flawless s p k) protocol → IsNamed m t s p protocol
   named_of s p k h protocol u =
       let f = 2 * index_of m t keeps w flawless s p k in
       let face : IsFace (plan_of m) slots joins f s p k 0 h.x h.port = record { at = h.of; within = h.below; outer_or_inner = omega arith; number = omega arith } in
@@ -111,23 +100,12 @@ module _ (m : ModelTree) (t : Tables) (keeps : first_broken all_rules m ≡ None
         plain = ap (λ (e : PortEntry). is_frame e.kind) one ∙ u.plain;
       }
 
-  named_alike : (s p x q : ℕ) (protocol : Option ℕ) → IsNamed s p protocol → IsNamed x q protocol → HasOneProtocol t s p x q
-  named_alike s p x q protocol a b =
-      record {
-        near = a.port;
-        far = b.port;
-        near_is = a.port_is;
-        far_is = b.port_is;
-        protocol = ap (λ (z : PortNames). z.protocol) (sym a.named) ∙ ap (option_and_then short) (a.protocol_is ∙ sym b.protocol_is) ∙ ap (λ (z : PortNames). z.protocol) b.named;
-        signals = ap signals_of (sym a.named) ∙ same_signals m a.name b.name a.entry b.entry protocol a.protocol_is b.protocol_is a.plain b.plain ∙ ap signals_of b.named;
-      }
-
   joined_alike : (s p k : ℕ) (partner : Partner) (to : IsJoinedTo m t keeps w flawless s p k partner) → HasOneProtocol t s p to.y.slot to.y.port
   joined_alike s p k partner to =
       let near = index_of m t keeps w flawless s p k in
       let far = index_of m t keeps w flawless to.y.slot to.y.port to.y.place in
       let share : ShareProtocol m slots joins (2 * near) (2 * far) = led_share m slots are (all_few m keeps) (sides_kept m (bindings_kept m keeps)) (2 * near) (2 * far) to.joined in
-      named_alike s p to.y.slot to.y.port share.protocol (named_of s p k to.here share.protocol share.left) (named_of to.y.slot to.y.port to.y.place to.there share.protocol share.right)
+      named_alike m t s p to.y.slot to.y.port share.protocol (named_of s p k to.here share.protocol share.left) (named_of to.y.slot to.y.port to.y.place to.there share.protocol share.right)
 
   ends_alike : (s p k : ℕ) (x : SlotId) (q j : ℕ) → joined_at t s p k ≡ partners.End x q j → HasOneProtocol t s p x.0 q
   ends_alike s p k x q j e =

@@ -2,8 +2,9 @@
 -- `HasOneProtocol`: the ports of two places are of one protocol, so that they have the same messages, under the same
 -- numbers. In the wiring of a model that keeps all rules and has no fault the ports of two places that are joined, by
 -- bindings or by layer connections, are so: the law `ModelsJoinOneProtocol`. What is joined to an imported slot is
--- joined to a place of a port of the slot's class.
-use Rattle.std.specs.Prelude.{◌≡◌, ℕ, Some, None}
+-- joined to a place of a port of the slot's class. So are service points whose protocols have one number: a service
+-- of the name table links no others. This is the law `ModelsLinkOneProtocol`.
+use Rattle.std.specs.Prelude.{◌≡◌, ℕ, true, Some, None}
 use Rattle.room_ast.specs.Trees.{ModelTree}
 use Rattle.room_kinds.specs.declared.numbers.SlotId.{SlotId}
 use Rattle.room_wiring.specs.Slots.{port_at}
@@ -15,7 +16,8 @@ use Rattle.structure_check.specs.List.{all_rules}
 use Rattle.structure_check.specs.Rules.{first_broken}
 use Rattle.binding_expand.specs.Faults.{HasNoFault}
 use Rattle.binding_expand.specs.Wirings.{IsWiringOf}
-use Rattle.actor_duties.specs.Words.{joined_at}
+use Rattle.actor_duties.specs.Words.{protocol_of, joined_at}
+use Rattle.name_agreement.specs.Registrations.{is_point_port}
 
 -- port p of slot s and port q of slot x are of one protocol, and have the same messages
 pub record HasOneProtocol (t : Tables) (s p x q : ℕ) : Type 0 where
@@ -35,3 +37,12 @@ pub record JoinsOneProtocol (t : Tables) : Type 0 where
 abbrev pub ModelsJoinOneProtocol : Type 0
 ModelsJoinOneProtocol =
     (m : ModelTree) (t : Tables) → first_broken all_rules m ≡ None → IsWiringOf m t → HasNoFault m → JoinsOneProtocol t
+
+-- so are two service points whose protocols have one number
+abbrev pub LinksOneProtocol : Tables → Type 0
+LinksOneProtocol t =
+    (s p x q : ℕ) → is_point_port t s p ≡ true → is_point_port t x q ≡ true → protocol_of t s p ≡ protocol_of t x q → HasOneProtocol t s p x q
+
+-- over every model that keeps all rules, and its wiring
+abbrev pub ModelsLinkOneProtocol : Type 0
+ModelsLinkOneProtocol = (m : ModelTree) (t : Tables) → first_broken all_rules m ≡ None → IsWiringOf m t → LinksOneProtocol t
