@@ -92,15 +92,12 @@ module _ (plan : StructurePlan) (slots : List Slot) where
     service_is (suc n) protocol (Some x) to e =
         go (fitting plan (container_class plan slots (container_of x)) x.reference protocol) refl e (service_is n protocol (slot_if slots (parent_number x.parent)) to)
       where
-        abbrev class : ClassPlan
-        class = container_class plan slots (container_of x)
-
-        abbrev above : Option (ℕ × ℕ)
-        above = service plan slots n protocol (slot_if slots (parent_number x.parent))
-
-        go : (layer : Option LayerPlan) → fitting plan class x.reference protocol ≡ layer → decided slots (container_of x) layer above ≡ Some to → (above ≡ Some to → Serves protocol to) → Serves protocol to
+        go : (layer : Option LayerPlan) → fitting plan (container_class plan slots (container_of x)) x.reference protocol ≡ layer
+            → decided slots (container_of x) layer (service plan slots n protocol (slot_if slots (parent_number x.parent))) ≡ Some to
+            → (service plan slots n protocol (slot_if slots (parent_number x.parent)) ≡ Some to → Serves protocol to) → Serves protocol to
         go None at is more = more is
         go (Some layer) at is more =
+            let class : ClassPlan = container_class plan slots (container_of x) in
             let found = found_in (GivesService plan class) (fits plan class x.reference protocol) class.layers layer (are.services (container_of x)) at in
             service_of (container_of x) x.reference protocol layer to found.0 found.1 is
 
@@ -113,15 +110,12 @@ module _ (plan : StructurePlan) (slots : List Slot) where
     port_serves : (s p : ℕ) (x : Slot) (port : PortPlan) → IsPort plan slots s p x port → is_imported x.kind ≡ false → Each JoinsService (port_join plan slots s p port)
     port_serves s p x port at present = pick port.kind refl
       where
-        abbrev to : Option (ℕ × ℕ)
-        to = service plan slots (length slots) port.protocol (slice_get slots s)
-
-        pick : (kind : PortKind) → port.kind ≡ kind → Each JoinsService (cond (is_sap kind) (join_of s p to) [])
+        pick : (kind : PortKind) → port.kind ≡ kind → Each JoinsService (cond (is_sap kind) (join_of s p (service plan slots (length slots) port.protocol (slice_get slots s))) [])
         pick Frame e = tt
         pick Relay e = tt
         pick End e = tt
         pick Internal e = tt
-        pick Sap e = one_join s p (record { x = x; port = port; at = at; present = present; kind_is = e }) to (λ t is. service_is (length slots) port.protocol (slice_get slots s) t is)
+        pick Sap e = one_join s p (record { x = x; port = port; at = at; present = present; kind_is = e }) (service plan slots (length slots) port.protocol (slice_get slots s)) (λ t is. service_is (length slots) port.protocol (slice_get slots s) t is)
         pick Spp e = tt
 
     ports_serve : (s p : ℕ) (x : Slot) (ports : List PortPlan) → slice_get slots s ≡ Some x → is_imported x.kind ≡ false → ((q : ℕ) → slice_get ports q ≡ slice_get (class_plan plan x.class).ports (p + q))
