@@ -34,7 +34,7 @@ use Rattle.actor_duties.specs.Words.{joined_at}
 use Rattle.model_laws.specs.joined_ports.Protocols.{HasOneProtocol, ModelsJoinOneProtocol}
 use Rattle.model_laws.proofs.joined_ports.Ends.{IsEnd, ShareProtocol}
 use Rattle.model_laws.proofs.joined_ports.Entries.{entry_at, names_entry}
-use Rattle.model_laws.proofs.joined_ports.Named.{IsNamed, named_alike}
+use Rattle.model_laws.proofs.joined_ports.Named.{duty_ports, IsNamed, named_alike}
 use Rattle.model_laws.proofs.joined_ports.Pairs.{led_share}
 use Rattle.model_laws.proofs.settled_models.Joins.{IsPlace, IsPartner, IsJoinedTo, index_of, ports_are, joins_end, joins_socket}
 use Rattle.model_laws.proofs.settled_models.Ports.{port_is}
@@ -63,6 +63,7 @@ module _ (m : ModelTree) (t : Tables) (keeps : first_broken all_rules m ≡ None
 
   -- a port of a place has names
   some_port : (s p : ℕ) (x : Slot) → slice_get slots s ≡ Some x → p < length (class_plan (plan_of m) x.class).ports → (port : PortNames) × (port_at t s p ≡ Some port)
+  unfolding port_at port_count
   some_port s p x at less =
       let many : port_count t s ≡ length (class_plan (plan_of m) x.class).ports = ports_are m t keeps w flawless s x at in
       go (class_of t s) refl (omega (arith, less, many))
@@ -73,7 +74,6 @@ module _ (m : ModelTree) (t : Tables) (keeps : first_broken all_rules m ≡ None
       there (x ∷ xs) (suc q) lt = there xs q (omega (arith, lt))
 
       go : (o : Option ClassNames) → class_of t s ≡ o → p < port_count t s → (port : PortNames) × (port_at t s p ≡ Some port)
-      unfolding port_at port_count
       go None e lt = let none = ap (λ (o : Option ClassNames). option_map_or (λ (c : ClassNames). length c.ports) o 0) e in absurd (omega (arith, lt, none))
       go (Some c) e lt =
           let many = ap (λ (o : Option ClassNames). option_map_or (λ (c : ClassNames). length c.ports) o 0) e in
@@ -88,7 +88,7 @@ module _ (m : ModelTree) (t : Tables) (keeps : first_broken all_rules m ≡ None
       let same = same_face (plan_of m) slots joins f s p k 0 h.x h.port u.s u.p u.k u.d u.x u.port face u.face in
       let entry_is : entry_at m h.x.class p ≡ Some u.entry = ap (λ (z : Slot). entry_at m z.class p) same.slot_is ∙ ap (entry_at m u.x.class) same.port_number ∙ u.entry_is in
       let some = some_port s p h.x h.of.slot (slice_get_within (class_plan (plan_of m) h.x.class).ports p h.port h.of.named) in
-      let back = names_entry m h.x.class p some.0 (sym (port_is m t keeps w flawless s p h.x h.of.slot) ∙ some.1) in
+      let back = names_entry m h.x.class p some.0 (sym (port_is m t keeps w flawless s p h.x h.of.slot) ∙ duty_ports t s p ∙ some.1) in
       let one : back.1 ≡ u.entry = same_Some back.1 u.entry (sym back.2 ∙ entry_is) in
       record {
         port = some.0;

@@ -1,5 +1,5 @@
 -- Two ports of slots whose entries have one protocol have one protocol by their names, and the same messages.
-use Rattle.std.proofs.Common.{◌≡◌, ◌∙◌, ℕ, false, List, Option, Some, option_and_then, sym, ap}
+use Rattle.std.proofs.Common.{◌≡◌, ◌∙◌, ℕ, false, List, Option, Some, option_and_then, refl, sym, ap}
 use Rattle.room_ast.specs.Trees.{ModelTree}
 use Rattle.room_ast.specs.declared.model_parts.entries.PortEntry.{PortEntry}
 use Rattle.room_wiring.specs.Slots.{port_at}
@@ -8,8 +8,14 @@ use Rattle.room_wiring.specs.declared.names.PortNames.{PortNames}
 use Rattle.room_wiring.specs.declared.tables.Tables.{Tables}
 use Rattle.check_scopes.specs.class_scopes.Signals.{is_frame}
 use Rattle.wiring_plan.specs.structure_plan.Parts.{short}
+use Rattle.actor_duties.specs.Words.{port_at as duty_port}
 use Rattle.model_laws.specs.joined_ports.Protocols.{HasOneProtocol}
 use Rattle.model_laws.proofs.joined_ports.Entries.{named_port, same_signals}
+
+-- a port of a slot, as the duties of actors have it
+pub duty_ports : (t : Tables) (s p : ℕ) → duty_port t s p ≡ port_at t s p
+unfolding duty_port port_at
+duty_ports t s p = refl
 
 -- a port of a slot by its names, which isn't `frame`, and is of this protocol
 pub record IsNamed (m : ModelTree) (t : Tables) (s p : ℕ) (protocol : Option ℕ) : Type 0 where

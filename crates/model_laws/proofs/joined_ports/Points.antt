@@ -35,11 +35,11 @@ use Rattle.wiring_plan.specs.structure_plan.Parts.{short}
 use Rattle.wiring_plan.specs.wiring_classes.Classes.{classes_of}
 use Rattle.binding_expand.specs.Wirings.{IsWiringOf}
 use Rattle.binding_expand.proofs.plan_laws.Numbers.{number_found, short_is}
-use Rattle.actor_duties.specs.Words.{is_sap_kind, is_spp_kind, is_sap, is_spp, protocol_of}
+use Rattle.actor_duties.specs.Words.{is_sap_kind, is_spp_kind, is_sap, is_spp, protocol_of, port_at as duty_port}
 use Rattle.name_agreement.specs.Registrations.{is_point_port}
 use Rattle.model_laws.specs.joined_ports.Protocols.{HasOneProtocol, ModelsLinkOneProtocol}
 use Rattle.model_laws.proofs.joined_ports.Entries.{entry_at, port_in, known_of, tables_are, named_port, names_at, names_entry}
-use Rattle.model_laws.proofs.joined_ports.Named.{IsNamed, named_alike}
+use Rattle.model_laws.proofs.joined_ports.Named.{duty_ports, IsNamed, named_alike}
 use Rattle.model_laws.proofs.settled_models.Charts.{each_both}
 
 -- ---- the rule on protocols
@@ -178,16 +178,16 @@ module _ (m : ModelTree) (t : Tables) (keeps : first_broken all_rules m ≡ None
       record {
         number = known.0;
         named = record { port = port; port_is = is; name = found.0; entry = found.1; named = found.3; protocol_is = known.1; plain = plain };
-        number_is = ap (λ (o : Option PortNames). option_map_or (λ (x : PortNames). option_map_or (λ n. n) x.protocol 0) o 0) is ∙ ap (λ (o : Option ℕ). option_map_or (λ n. n) o 0) protocol;
+        number_is = ap (λ (o : Option PortNames). option_map_or (λ (x : PortNames). option_map_or (λ n. n) x.protocol 0) o 0) (duty_ports t s p ∙ is) ∙ ap (λ (o : Option ℕ). option_map_or (λ n. n) o 0) protocol;
       }
 
   point_is : (s p : ℕ) → is_point_port t s p ≡ true → IsPoint s p
   unfolding is_sap is_spp
-  point_is s p h = go (port_at t s p) refl h
+  point_is s p h = go (duty_port t s p) refl h
     where
-      go : (o : Option PortNames) → port_at t s p ≡ o → (option_map_or (λ (x : PortNames). is_sap_kind x.kind) o false || option_map_or (λ (x : PortNames). is_spp_kind x.kind) o false) ≡ true → IsPoint s p
+      go : (o : Option PortNames) → duty_port t s p ≡ o → (option_map_or (λ (x : PortNames). is_sap_kind x.kind) o false || option_map_or (λ (x : PortNames). is_spp_kind x.kind) o false) ≡ true → IsPoint s p
       go None e k = absurd cc
-      go (Some port) e k = point_of s p port e k
+      go (Some port) e k = point_of s p port (sym (duty_ports t s p) ∙ e) k
 
   points_alike : (s p x q : ℕ) → is_point_port t s p ≡ true → is_point_port t x q ≡ true → protocol_of t s p ≡ protocol_of t x q → HasOneProtocol t s p x q
   points_alike s p x q a b e =
