@@ -1,5 +1,5 @@
 -- Across from a face lies the face itself or the other face of its place.
-use Rattle.std.proofs.Common.{◌≡◌, ◌≢◌, ◌∙◌, ℕ, zero, suc, ◌+◌, ◌*◌, ◌<◌, Bool, true, false, List, [], ◌∷◌, length, slice_index, refl, sym, arith}
+use Rattle.std.proofs.Common.{◌≡◌, ◌≢◌, ◌∙◌, ℕ, zero, suc, ◌+◌, ◌*◌, ◌<◌, Bool, true, false, List, [], ◌∷◌, length, slice_index, refl, arith}
 use Rattle.std.specs.Prelude.{if◌then◌else◌}
 use Rattle.wiring_places.specs.declared.place_rules.place.Place.{Place}
 use Rattle.wiring_places.specs.place_rules.Partners.{is_relay_role, across_from}

@@ -58,7 +58,15 @@ module _ (m : ModelTree) (slots : List Slot) (joins : List LayerJoin) where
       let own = u.face.number in
       let own_side = u.face.outer_or_inner in
       record {
-        s = u.s; p = u.p; k = u.k; d = 1 - u.d; x = u.x; port = u.port;
+        s = u.s;
+        p = u.p;
+        k = u.k;
+        d = 1 - u.d;
+        x = u.x;
+        port = u.port;
         face = record { at = u.face.at; within = u.face.within; outer_or_inner = omega arith; number = omega (arith, side, number, turn, own, own_side) };
-        entry = u.entry; entry_is = u.entry_is; protocol_is = u.protocol_is; plain = u.plain;
+        entry = u.entry;
+        entry_is = u.entry_is;
+        protocol_is = u.protocol_is;
+        plain = u.plain;
       }

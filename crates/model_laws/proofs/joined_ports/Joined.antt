@@ -1,5 +1,5 @@
 -- The ports of joined places have one protocol.
-use Rattle.std.proofs.Common.{◌≡◌, ◌∙◌, ℕ, zero, suc, ◌+◌, ◌*◌, ◌<◌, Bool, true, false, cond, List, [], ◌∷◌, length, Option, Some, None, option_and_then, slice_get, refl, sym, ap, subst, arith, inl, inr}
+use Rattle.std.proofs.Common.{◌≡◌, ◌∙◌, ℕ, zero, suc, ◌*◌, ◌<◌, true, List, [], ◌∷◌, length, Option, Some, None, option_and_then, slice_get, refl, sym, ap, subst, arith}
 use Rattle.std.specs.Option.{option_map_or}
 use Rattle.std.proofs.lemmas.Option.{same_Some, slice_get_within}
 use Rattle.room_ast.specs.Trees.{ModelTree}
@@ -14,12 +14,11 @@ use Rattle.room_wiring.specs.declared.tables.Tables.{Tables}
 use Rattle.room_wiring.specs.Places.{port_count}
 use Rattle.room_wiring.specs.Slots.{class_of, port_at}
 use Rattle.check_scopes.specs.class_scopes.Signals.{is_frame}
-use Rattle.check_structure.specs.binding_rules.Rules.{any_places_bind_once, binding_sides_agree, binding_sides_exist, layers_are_known}
+use Rattle.check_structure.specs.binding_rules.Rules.{binding_sides_agree, binding_sides_exist}
 use Rattle.structure_check.specs.List.{name_rules, data_rules, end_rules, place_rules, binding_rules, thread_rules, joint_rules, outer_rules, part_rules, later_rules, single_rules, count_rules, all_rules}
 use Rattle.structure_check.specs.Rules.{first_broken}
 use Rattle.structure_check.proofs.KeptRules.{none_first, none_later, head_kept, tail_kept, all_few}
 use Rattle.wiring_plan.specs.structure_plan.Plans.{plan_of}
-use Rattle.wiring_plan.specs.wiring_classes.Classes.{classes_of}
 use Rattle.wiring_slots.specs.model_slots.Answers.{slots_in}
 use Rattle.wiring_places.specs.declared.place_rules.place.LayerJoin.{LayerJoin}
 use Rattle.wiring_places.specs.place_rules.Layers.{layer_joins}
@@ -36,7 +35,7 @@ use Rattle.model_laws.proofs.joined_ports.Ends.{IsEnd, ShareProtocol}
 use Rattle.model_laws.proofs.joined_ports.Entries.{entry_at, names_entry}
 use Rattle.model_laws.proofs.joined_ports.Named.{duty_ports, IsNamed, named_alike}
 use Rattle.model_laws.proofs.joined_ports.Pairs.{led_share}
-use Rattle.model_laws.proofs.settled_models.Joins.{IsPlace, IsPartner, IsJoinedTo, index_of, ports_are, joins_end, joins_socket}
+use Rattle.model_laws.proofs.settled_models.Joins.{IsPlace, IsJoinedTo, index_of, ports_are, joins_end, joins_socket}
 use Rattle.model_laws.proofs.settled_models.Ports.{port_is}
 
 -- ---- the rule on the sides of bindings

@@ -1,11 +1,10 @@
 -- Two faces that are paired, and two to which a list of pairs leads, are those of places of ports of one protocol.
-use Rattle.std.proofs.Common.{◌≡◌, ◌∙◌, ◌⊎◌, inl, inr, ℕ, suc, ◌+◌, ◌*◌, ◌<◌, Bool, true, false, cond, ◌==◌, List, [], ◌∷◌, ◌++◌, append_assoc, length, Option, Some, None, option_and_then, slice_index, refl, sym, ap, subst, arith, eq-eqb}
+use Rattle.std.proofs.Common.{◌≡◌, ◌∙◌, inl, inr, ℕ, ◌+◌, ◌*◌, ◌<◌, Bool, true, false, cond, ◌==◌, List, [], ◌∷◌, ◌++◌, append_assoc, length, Option, Some, None, option_and_then, slice_index, refl, sym, ap, subst, arith, eq-eqb}
 use Rattle.std.specs.Prelude.{nat_eq, nat_le}
 use Rattle.std.specs.List.{AllByRecursion as Each}
 use Rattle.std.proofs.lemmas.Bool.{and_parts}
 use Rattle.std.proofs.lemmas.Bool.Decides.{nat_tests}
 use Rattle.std.proofs.lemmas.List.Sums.{sum_by-append, sum_by-cons}
-use Rattle.std.proofs.lemmas.Option.{same_Some}
 use Rattle.room_kinds.specs.declared.structure.PortKind.{PortKind}
 use Rattle.room_kinds.specs.declared.structure.PortKind.TheVariants.{Sap, Spp}
 use Rattle.room_ast.specs.Trees.{ModelTree}
@@ -20,7 +19,6 @@ use Rattle.wiring_plan.specs.structure_plan.Parts.{short}
 use Rattle.wiring_plan.specs.structure_plan.Plans.{plan_of}
 use Rattle.wiring_plan.specs.declared.structure_plan.plan.PortPlan.{PortPlan}
 use Rattle.wiring_plan.specs.declared.structure_plan.plan.StructurePlan.{StructurePlan}
-use Rattle.number_graphs.specs.declared.face_chains.FacePair.{FacePair}
 use Rattle.number_graphs.specs.face_chains.Chains.{IsPaired, Leads, paired, passes}
 use Rattle.wiring_places.specs.declared.place_rules.place.LayerJoin.{LayerJoin}
 use Rattle.wiring_places.specs.place_rules.Counts.{counts, spans_from, first_ports_from, span_of, served_at, service_key}
@@ -103,7 +101,15 @@ module _ (m : ModelTree) (slots : List Slot) (are : AreSlotsOf (plan_of m) slots
       let found = planned_entry m is.x.class p is.port is.at.named in
       let e = found.0 in
       record {
-        s = s; p = p; k = k; d = 0; x = is.x; port = is.port; face = face; entry = e; entry_is = found.1;
+        s = s;
+        p = p;
+        k = k;
+        d = 0;
+        x = is.x;
+        port = is.port;
+        face = face;
+        entry = e;
+        entry_is = found.1;
         protocol_is = short_known e.protocol n (ap (λ (q : PortPlan). q.protocol) found.2 ∙ known);
         plain = ap (λ (q : PortPlan). is_frame q.kind) found.2 ∙ ap is_frame is.kind_is ∙ plain;
       }

@@ -1,5 +1,5 @@
 -- Service points whose protocols have one number are of one protocol, which is a class of the model.
-use Rattle.std.proofs.Common.{◌≡◌, ◌∙◌, ℕ, zero, suc, ◌+◌, ◌<◌, ◌≤◌, nat_le, Bool, true, false, cond, List, [], ◌∷◌, ◌++◌, length, map, filter_map, Option, Some, None, option_and_then, slice_get, count_by, refl, sym, ap, subst, arith}
+use Rattle.std.proofs.Common.{◌≡◌, ◌∙◌, ℕ, zero, suc, ◌<◌, ◌≤◌, nat_le, true, false, cond, List, [], ◌∷◌, length, map, filter_map, Option, Some, None, option_and_then, slice_get, count_by, refl, sym, ap, subst, arith}
 use Rattle.std.specs.Prelude.{◌&&◌, ◌||◌}
 use Rattle.std.specs.List.{AllByRecursion as Each, list_all}
 use Rattle.std.specs.Option.{option_map_or}
@@ -38,7 +38,7 @@ use Rattle.binding_expand.proofs.plan_laws.Numbers.{number_found, short_is}
 use Rattle.actor_duties.specs.Words.{is_sap_kind, is_spp_kind, is_sap, is_spp, protocol_of, port_at as duty_port}
 use Rattle.name_agreement.specs.Registrations.{is_point_port}
 use Rattle.model_laws.specs.joined_ports.Protocols.{HasOneProtocol, ModelsLinkOneProtocol}
-use Rattle.model_laws.proofs.joined_ports.Entries.{entry_at, port_in, known_of, tables_are, named_port, names_at, names_entry}
+use Rattle.model_laws.proofs.joined_ports.Entries.{entry_at, port_in, known_of, tables_are, names_at, names_entry}
 use Rattle.model_laws.proofs.joined_ports.Named.{duty_ports, IsNamed, named_alike}
 use Rattle.model_laws.proofs.settled_models.Charts.{each_both}
 

@@ -1,6 +1,5 @@
 -- Each binding of a container is one of its class's, whose sides agree.
 use Rattle.std.proofs.Common.{◌≡◌, ◌∙◌, ◌⊎◌, inl, inr, ℕ, zero, suc, ◌+◌, Bool, true, false, cond, List, [], ◌∷◌, map, filter_map, Option, Some, None, slice_get, slice_index_or, refl, sym, ap, subst, arith}
-use Rattle.std.specs.Prelude.{◌&&◌}
 use Rattle.std.specs.List.{AllByRecursion as Each, list_all, cons_option}
 use Rattle.std.specs.Option.{option_map_or}
 use Rattle.std.proofs.lemmas.Bool.{and_parts}
@@ -12,7 +11,7 @@ use Rattle.room_ast.specs.declared.actor.Binding.{Binding}
 use Rattle.room_ast.specs.declared.actor.Side.{Side}
 use Rattle.room_ast.specs.declared.actor.StructureItem.{StructureItem}
 use Rattle.room_ast.specs.declared.actor.StructureItem.TheVariants as structures
-use Rattle.room_ast.specs.model_parts.Classes.{actors, subsystems, systems, wired_name, actor_names, protocol_names}
+use Rattle.room_ast.specs.model_parts.Classes.{actors, subsystems, systems, wired_name, actor_names}
 use Rattle.room_ast.specs.model_parts.Ports.{structure_of}
 use Rattle.room_wiring.specs.declared.slot.Slot.{Slot}
 use Rattle.check_structure.specs.binding_rules.Bindings.{where_both, ends_agree, sides_agree}
@@ -21,7 +20,7 @@ use Rattle.check_structure.specs.binding_rules.Rules.{item_passes, subsystem_ite
 use Rattle.check_tables.specs.class_tables.Containers.{subsystem_container, tables_of}
 use Rattle.check_tables.specs.declared.class_tables.container.Container.{Container}
 use Rattle.wiring_plan.specs.structure_plan.Parts.{reference_plan, side_plan, binding_plan, joined}
-use Rattle.wiring_plan.specs.structure_plan.Plans.{item_binding, subsystem_binding, subsystem_plan, no_plan, wired_subsystem, plan_of}
+use Rattle.wiring_plan.specs.structure_plan.Plans.{item_binding, subsystem_binding, subsystem_plan, no_plan, plan_of}
 use Rattle.wiring_plan.specs.structure_plan.Steps.{first_named}
 use Rattle.wiring_plan.specs.declared.structure_plan.plan.BindingPlan.{BindingPlan}
 use Rattle.wiring_plan.specs.declared.structure_plan.plan.ClassPlan.{ClassPlan}

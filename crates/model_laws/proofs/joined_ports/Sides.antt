@@ -1,10 +1,8 @@
 -- A face of a place that a side of a binding names is one of a port of the protocol that the rules on bindings see there.
-use Rattle.std.proofs.Common.{◌≡◌, ◌∙◌, ◌⊎◌, inl, inr, ℕ, zero, suc, ◌+◌, ◌<◌, ◌≤◌, Bool, true, false, not, List, length, map, Option, Some, None, position, option_map, option_and_then, slice_get, refl, sym, ap, subst, arith}
+use Rattle.std.proofs.Common.{◌≡◌, ◌∙◌, ◌⊎◌, inl, inr, ℕ, ◌+◌, Bool, true, false, not, List, length, map, Option, Some, option_map, option_and_then, slice_get, refl, sym, ap, arith}
 use Rattle.std.proofs.lemmas.Option.{same_Some, option_and_then_some, slice_get-map, slice_get_within}
 use Rattle.std.proofs.lemmas.List.{length-map}
-use Rattle.room_kinds.specs.declared.structure.PortKind.{PortKind}
 use Rattle.room_kinds.specs.declared.structure.PortKind.TheVariants as kinds
-use Rattle.name_tables.specs.name_numbers.Names.{same}
 use Rattle.room_ast.specs.Trees.{ModelTree}
 use Rattle.room_ast.specs.declared.actor.Side.{Side}
 use Rattle.room_ast.specs.declared.actor.Side.TheVariants as sides
@@ -19,14 +17,14 @@ use Rattle.check_structure.specs.binding_rules.Ends.{is_any, own_end, inner_end,
 use Rattle.check_structure.specs.binding_rules.Parts.{port_named, reference_named, class_of, port_behind as port_behind_reference}
 use Rattle.check_tables.specs.class_tables.Containers.{tables_of}
 use Rattle.check_tables.specs.declared.class_tables.container.Container.{Container}
-use Rattle.wiring_plan.specs.structure_plan.Parts.{number_of, port_plan, reference_plan, class_behind, port_behind, inner_side, side_plan}
+use Rattle.wiring_plan.specs.structure_plan.Parts.{number_of, reference_plan, class_behind, port_behind, inner_side, side_plan}
 use Rattle.wiring_plan.specs.structure_plan.Plans.{plan_of}
 use Rattle.wiring_plan.specs.declared.structure_plan.plan.PortPlan.{PortPlan}
 use Rattle.wiring_plan.specs.declared.structure_plan.plan.ReferencePlan.{ReferencePlan}
 use Rattle.wiring_plan.specs.declared.structure_plan.plan.SidePlan.{SidePlan}
 use Rattle.wiring_plan.specs.declared.structure_plan.plan.SidePlan.TheVariants.{Own, Inner}
 use Rattle.wiring_places.specs.declared.place_rules.place.LayerJoin.{LayerJoin}
-use Rattle.wiring_places.specs.place_rules.Parts.{class_plan, container_of, container_class}
+use Rattle.wiring_places.specs.place_rules.Parts.{container_of, container_class}
 use Rattle.wiring_joins.specs.place_faces.SlotsOf.{AreSlotsOf}
 use Rattle.wiring_joins.proofs.place_faces.Faces.{IsFace}
 use Rattle.wiring_joins.proofs.place_faces.Uses.{UsesOwn, UsesInner, Uses}
