@@ -4,7 +4,7 @@ mod Trails
 mod Mapped
 mod Kept
 mod Programs
-mod Charts
+pub mod Charts
 mod Plans
 pub mod Weaker
 pub mod Models
@@ -13,8 +13,8 @@ pub mod Runs
 mod Chains
 mod Located
 mod Owners
-mod Joins
-mod Ports
+pub mod Joins
+pub mod Ports
 mod Mutual
 mod Registers
 pub mod Settled

@@ -121,11 +121,11 @@ same_kinds kinds.Optional = refl
 same_kinds kinds.Imported = refl
 
 -- which place a partner is
-record IsPartner (y : Place) (role : Role) (x : SlotId) (q j : ℕ) : Type 0 where
-  is : y.role ≡ role
-  slot : y.slot ≡ x.0
-  port : y.port ≡ q
-  place : y.place ≡ j
+pub record IsPartner (y : Place) (role : Role) (x : SlotId) (q j : ℕ) : Type 0 where
+  pub is : y.role ≡ role
+  pub slot : y.slot ≡ x.0
+  pub port : y.port ≡ q
+  pub place : y.place ≡ j
 
 end_partner : (r : Role) (y : Place) (x : SlotId) (q j : ℕ) → y.role ≡ r → partner_of_role r y ≡ partners.End x q j → IsPartner y roles.End x q j
 end_partner roles.Relay y x q j is e = absurd cc
@@ -154,7 +154,7 @@ module _ (m : ModelTree) (t : Tables) (keeps : first_broken all_rules m ≡ None
   joins = layer_joins plan slots
 
   -- where the place at k of port p of slot s stands in the row
-  abbrev index_of : ℕ → ℕ → ℕ → ℕ
+  abbrev pub index_of : ℕ → ℕ → ℕ → ℕ
   index_of s p k = offset (counts plan slots joins) (row_of plan slots joins s p) + k
 
   -- ---- where places stand
@@ -175,7 +175,7 @@ module _ (m : ModelTree) (t : Tables) (keeps : first_broken all_rules m ≡ None
       go (Some x) = refl
 
   -- the ports of a slot are those of its class
-  ports_are : (s : ℕ) (x : Slot) → slice_get slots s ≡ Some x → port_count t s ≡ length (class_plan plan x.class).ports
+  pub ports_are : (s : ℕ) (x : Slot) → slice_get slots s ≡ Some x → port_count t s ≡ length (class_plan plan x.class).ports
   unfolding port_count class_of
   ports_are s x e =
       ap (λ (o : Option Slot). option_map_or (λ (c : ClassNames). length c.ports) (option_and_then (λ (z : Slot). class_at t z.class) o) 0) (slot_is s x e)
@@ -301,16 +301,16 @@ module _ (m : ModelTree) (t : Tables) (keeps : first_broken all_rules m ≡ None
   joined_back i j l = leads_back (across_places (places_of m)) (pairs_of m) (across_is_involution (places_of m)) pairs_below (2 * i) (2 * j) l
 
   -- what a place is joined to: another place of a port, which is joined to it
-  record IsJoinedTo (s p k : ℕ) (partner : Partner) : Type 0 where
-    y : Place
-    here : IsPlace s p k
-    there : IsPlace y.slot y.port y.place
-    role : y.role ≡ role_of (is_imported there.x.kind) there.port.kind
-    passes : is_relay_role (role_of (is_imported here.x.kind) here.port.kind) ≡ false
-    at : slice_get (places_of m) (index_of y.slot y.port y.place) ≡ Some y
-    is : partner ≡ partner_of_role y.role y
-    joined : IsJoined (places_of m) (pairs_of m) (index_of s p k) (index_of y.slot y.port y.place)
-    back : joined_at t y.slot y.port y.place ≡ seen_as t s p k
+  pub record IsJoinedTo (s p k : ℕ) (partner : Partner) : Type 0 where
+    pub y : Place
+    pub here : IsPlace s p k
+    pub there : IsPlace y.slot y.port y.place
+    pub role : y.role ≡ role_of (is_imported there.x.kind) there.port.kind
+    pub passes : is_relay_role (role_of (is_imported here.x.kind) here.port.kind) ≡ false
+    pub at : slice_get (places_of m) (index_of y.slot y.port y.place) ≡ Some y
+    pub is : partner ≡ partner_of_role y.role y
+    pub joined : IsJoined (places_of m) (pairs_of m) (index_of s p k) (index_of y.slot y.port y.place)
+    pub back : joined_at t y.slot y.port y.place ≡ seen_as t s p k
 
   found_place : (i : ℕ) (y : Place) → slice_get (places_of m) i ≡ Some y → IsAt plan slots joins i y
   unfolding places_in counts_in
@@ -340,10 +340,10 @@ module _ (m : ModelTree) (t : Tables) (keeps : first_broken all_rules m ≡ None
   -- ---- what partners are
 
   -- a place that is joined to an end place
-  record JoinsEnd (s p k : ℕ) (role : Role) (x : SlotId) (q j : ℕ) : Type 0 where
-    to : IsJoinedTo s p k (joined_at t s p k)
-    partner : IsPartner to.y role x q j
-    back : joined_at t x.0 q j ≡ seen_as t s p k
+  pub record JoinsEnd (s p k : ℕ) (role : Role) (x : SlotId) (q j : ℕ) : Type 0 where
+    pub to : IsJoinedTo s p k (joined_at t s p k)
+    pub partner : IsPartner to.y role x q j
+    pub back : joined_at t x.0 q j ≡ seen_as t s p k
 
   at_partner : (s p k : ℕ) (role : Role) (x : SlotId) (q j : ℕ) (to : IsJoinedTo s p k (joined_at t s p k)) → IsPartner to.y role x q j → JoinsEnd s p k role x q j
   at_partner s p k role x q j to is =
@@ -353,12 +353,12 @@ module _ (m : ModelTree) (t : Tables) (keeps : first_broken all_rules m ≡ None
         back = ap (λ n. joined_at t n q j) (sym is.slot) ∙ ap (λ n. joined_at t to.y.slot n j) (sym is.port) ∙ ap (λ n. joined_at t to.y.slot to.y.port n) (sym is.place) ∙ to.back;
       }
 
-  joins_end : (s p k : ℕ) (x : SlotId) (q j : ℕ) → joined_at t s p k ≡ partners.End x q j → JoinsEnd s p k roles.End x q j
+  pub joins_end : (s p k : ℕ) (x : SlotId) (q j : ℕ) → joined_at t s p k ≡ partners.End x q j → JoinsEnd s p k roles.End x q j
   joins_end s p k x q j e =
       let to = joined_to s p k (ap is_joined e) in
       at_partner s p k roles.End x q j to (end_partner to.y.role to.y x q j refl (sym to.is ∙ e))
 
-  joins_socket : (s p k : ℕ) (x : SlotId) (q j : ℕ) → joined_at t s p k ≡ partners.Socket x q j → JoinsEnd s p k roles.Socket x q j
+  pub joins_socket : (s p k : ℕ) (x : SlotId) (q j : ℕ) → joined_at t s p k ≡ partners.Socket x q j → JoinsEnd s p k roles.Socket x q j
   joins_socket s p k x q j e =
       let to = joined_to s p k (ap is_joined e) in
       at_partner s p k roles.Socket x q j to (socket_partner to.y.role to.y x q j refl (sym to.is ∙ e))

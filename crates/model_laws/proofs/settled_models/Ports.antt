@@ -83,7 +83,7 @@ module _ (m : ModelTree) where
 
 module _ (m : ModelTree) (t : Tables) (keeps : first_broken all_rules m ≡ None) (w : IsWiringOf m t) (flawless : HasNoFault m) where
   -- the port of a slot by its name
-  port_is : (s p : ℕ) (x : Slot) → slice_get (slots_in m) s ≡ Some x → port_at t s p ≡ option_and_then (λ (k : ClassNames). slice_get k.ports p) (slice_get (classes_of m) x.class)
+  pub port_is : (s p : ℕ) (x : Slot) → slice_get (slots_in m) s ≡ Some x → port_at t s p ≡ option_and_then (λ (k : ClassNames). slice_get k.ports p) (slice_get (classes_of m) x.class)
   unfolding port_at class_of
   port_is s p x e =
       ap (λ (o : Option Slot). option_and_then (λ (k : ClassNames). slice_get k.ports p) (option_and_then (λ (z : Slot). class_at t z.class) o)) (slot_is m t keeps w flawless s x e)

@@ -1,0 +1,11 @@
+pub mod Stretches
+pub mod Across
+pub mod Entries
+pub mod Ends
+pub mod Sides
+pub mod Rules
+pub mod Layers
+pub mod Pairs
+pub mod Named
+pub mod Points
+pub mod Joined
