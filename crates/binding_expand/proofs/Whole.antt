@@ -13,10 +13,12 @@ use Rattle.wiring_slots.specs.model_slots.Answers.{slots_in, wired}
 use Rattle.wiring_slots.specs.declared.model_slots.slots.WiredSlots.{WiredSlots}
 use Rattle.wiring_places.specs.place_rules.Pairs.{lacks_place}
 use Rattle.wiring_joins.specs.place_joins.Joined.{ShowsJoins}
-use Rattle.binding_expand.proofs.pair_laws.Models.{model_paired_once}
-use Rattle.wiring_joins.specs.joined_places.Wired.{counts_in, spans_in, places_in, pairs_in, partners_by, partners_in, HasSoundPairs}
+use Rattle.binding_expand.proofs.FewPorts.{has_few_ports}
+use Rattle.binding_expand.proofs.pair_laws.Models.{model_slots, model_paired_once}
+use Rattle.wiring_joins.specs.joined_places.Wired.{counts_in, spans_in, places_in, pairs_in, partners_by, partners_in, HasSoundPairs, HasFewPlaces}
 use Rattle.wiring_joins.proofs.joined_places.Counted.{places_counted, partners_counted}
 use Rattle.wiring_joins.proofs.joined_places.Shown.{pairs_shown}
+use Rattle.wiring_joins.proofs.place_bounds.Totals.{has_few_places}
 use Rattle.wiring_joins.specs.declared.joined_places.places.WiredPlaces.{WiredPlaces}
 use Rattle.wiring_joins.proofs.join_laws.Found.{sockets_found, no_sockets, away_found, none_away}
 use Rattle.wiring_joins.proofs.join_laws.Looks.{relay_told}
@@ -99,6 +101,12 @@ module _ (m : ModelTree) (keeps : first_broken all_rules m ≡ None) where
   -- slots of the model are sound
   pub are_wired : (w : WiredSlots) → FindsSlots m (Ok w) → AreWired w
   are_wired w h = record { model = m; known = known m keeps; threads = few_threads m keeps; is = h.0; few = h.1 }
+
+  -- within the limits the model has few places
+  pub places_few : (w : WiredSlots) (slots : List Slot) → FindsSlots m (Ok w) → slots ≡ w.slots → HasFewPlaces w.plan slots
+  places_few w slots h same =
+      let few : HasFewPlaces (plan_of m) (slots_in m) = has_few_places (plan_of m) (slots_in m) (model_slots m (known m keeps) (finite m keeps) (layers m keeps) (all_few m keeps)) (has_few_ports m (all_few m keeps)) h.2 h.1 sound.below in
+      subst (λ (xs : List Slot). HasFewPlaces w.plan xs) (sym same) (subst (λ (x : WiredSlots). HasFewPlaces x.plan x.slots) (sym h.0) few)
 
   pub places_told : (w : WiredSlots) (slots : List Slot) (e : WiringFault) → FindsSlots m (Ok w) → slots ≡ w.slots → FindsPlaces w.plan slots (Err e) → Expands m (Err e)
   places_told w slots e h same f = places_refused h.1 h.2 e (subst (λ (x : WiredSlots). FindsPlaces x.plan x.slots (Err e)) h.0 (subst (λ (xs : List Slot). FindsPlaces w.plan xs (Err e)) same f))

@@ -2,6 +2,7 @@
 ghost use Rattle.std.specs.Prelude.{◌≡◌, ◌^◌, ◌≤◌, length};
 ghost use Rattle.wiring_places.specs.place_rules.Parts.{HasFewPorts};
 ghost use Rattle.wiring_places.specs.place_rules.Partners.{has_socket_pair, has_socket_away};
+ghost use Rattle.wiring_joins.specs.joined_places.Wired.{HasFewPlaces};
 ghost use Rattle.binding_expand.specs.Steps.{FindsPlaces};
 
 use crate::fault::WiringFault;
@@ -35,6 +36,7 @@ pub(crate) fn joined_places(
 ) -> Result<WiredPlaces, WiringFault>
     requires few { length slots.now ≤ 2 ^ 16 }
     requires ports { HasFewPorts plan.now }
+    requires places { HasFewPlaces plan.now slots.now }
     ensures { FindsPlaces plan.now slots.now result }
 {
     let Some(places) = wired_places(alloc, plan, slots)? else {

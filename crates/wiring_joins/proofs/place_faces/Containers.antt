@@ -1,5 +1,5 @@
 -- The pairs of the bindings of containers are a matching.
-use Rattle.std.proofs.Common.{◌≡◌, ◌≢◌, ◌∙◌, ◌⊎◌, inl, inr, ℕ, zero, suc, ◌+◌, ◌<◌, ◌≤◌, Bool, true, false, cond, ◌==◌, List, [], ◌∷◌, refl, sym, ap, subst, arith, eq-eqb}
+use Rattle.std.proofs.Common.{◌≡◌, ◌≢◌, ◌∙◌, ◌⊎◌, inl, inr, ℕ, zero, suc, ◌+◌, ◌<◌, ◌≤◌, Bool, true, false, cond, ◌==◌, List, [], ◌∷◌, refl, sym, ap, subst, arith}
 use Rattle.std.proofs.lemmas.Bool.{eqb-false}
 use Rattle.room_wiring.specs.declared.slot.Slot.{Slot}
 use Rattle.wiring_plan.specs.declared.structure_plan.plan.SidePlan.{SidePlan}
@@ -15,49 +15,12 @@ use Rattle.wiring_places.specs.declared.place_rules.stretch.Stretch.{Stretch}
 use Rattle.wiring_places.specs.declared.place_rules.stretch.Supply.{Supply}
 use Rattle.wiring_places.specs.declared.place_rules.stretch.Supply.TheVariants.{Limited, Growing}
 use Rattle.wiring_places.specs.place_rules.Parts.{container_class}
-use Rattle.wiring_places.specs.place_rules.Stretches.{side_number, supply, pair_count, stretch, take_more, taken_after, stretches_from, taken_from, none_taken, stretches, all_taken}
+use Rattle.wiring_places.specs.place_rules.Stretches.{side_number, supply, pair_count, stretch, taken_after, stretches_from, taken_from, none_taken, stretches, all_taken}
 use Rattle.wiring_places.specs.place_rules.Counts.{counts, spans_from, first_ports_from}
 use Rattle.wiring_places.specs.place_rules.Pairs.{side_face, stretch_pair, stretch_pairs, binding_pairs, container_pairs}
+use Rattle.wiring_places.proofs.binding_stretches.Growing.{after_grows, taken_grows, left_after, right_after}
 use Rattle.wiring_joins.specs.place_faces.SlotsOf.{AreSlotsOf}
 use Rattle.wiring_joins.proofs.place_faces.Uses.{IsWithin, Uses, same_use, side_use}
-
--- ---- what is taken
-
-take_grows : (taken : ℕ → ℕ) (side n other : ℕ) → taken other ≤ take_more taken side n other
-take_grows taken side n other = pick (other == side)
-  where
-    pick : (b : Bool) → taken other ≤ cond b (taken other + n) (taken other)
-    pick true = omega arith
-    pick false = omega arith
-
-after_grows : (taken : ℕ → ℕ) (b : BindingPlan) (n other : ℕ) → taken other ≤ taken_after taken b n other
-after_grows taken b n other =
-    let one = take_grows taken (side_number b.left) n other in
-    let two = take_grows (take_more taken (side_number b.left) n) (side_number b.right) n other in
-    omega (arith, one, two)
-
-taken_grows : (plan : StructurePlan) (class : ClassPlan) (bs : List BindingPlan) (taken : ℕ → ℕ) (side : ℕ) → taken side ≤ taken_from plan class taken bs side
-unfolding taken_from
-taken_grows plan class [] taken side = omega arith
-taken_grows plan class (b ∷ bs) taken side =
-    let here = after_grows taken b (stretch plan class taken b).count side in
-    let more = taken_grows plan class bs (taken_after taken b (stretch plan class taken b).count) side in
-    omega (arith, here, more)
-
-take_here : (taken : ℕ → ℕ) (side n : ℕ) → take_more taken side n side ≡ taken side + n
-take_here taken side n = ap (λ b. cond b (taken side + n) (taken side)) (eq-eqb side side refl)
-
-left_after : (taken : ℕ → ℕ) (b : BindingPlan) (n : ℕ) → taken (side_number b.left) + n ≤ taken_after taken b n (side_number b.left)
-left_after taken b n =
-    let one = take_here taken (side_number b.left) n in
-    let two = take_grows (take_more taken (side_number b.left) n) (side_number b.right) n (side_number b.left) in
-    omega (arith, one, two)
-
-right_after : (taken : ℕ → ℕ) (b : BindingPlan) (n : ℕ) → taken (side_number b.right) + n ≤ taken_after taken b n (side_number b.right)
-right_after taken b n =
-    let one = take_here (take_more taken (side_number b.left) n) (side_number b.right) n in
-    let two = take_grows taken (side_number b.left) n (side_number b.right) in
-    omega (arith, one, two)
 
 -- ---- a stretch's places are those of its sides
 

@@ -1,5 +1,5 @@
 -- The places of a structure's slots, the pairs of their faces, and what each place is joined to.
-use Rattle.std.specs.Prelude.{◌≡◌, ℕ, ◌+◌, ◌*◌, false, List, [], ◌++◌, length}
+use Rattle.std.specs.Prelude.{◌≡◌, ℕ, ◌+◌, ◌*◌, ◌^◌, ◌<◌, false, List, [], ◌++◌, length}
 use Rattle.std.specs.List.{sum}
 use Rattle.number_graphs.specs.declared.face_chains.FacePair.{FacePair}
 use Rattle.number_graphs.specs.face_chains.Chains.{IsMatching, AreBelow, far_ends}
@@ -13,6 +13,7 @@ use Rattle.wiring_places.specs.place_rules.Counts.{counts, spans_from, first_por
 use Rattle.wiring_places.specs.place_rules.Layers.{layer_joins}
 use Rattle.wiring_places.specs.place_rules.Pairs.{container_pairs, layer_pairs, lacks_place}
 use Rattle.wiring_places.specs.place_rules.Partners.{all_places, across_places, partners}
+use Rattle.wiring_places.specs.place_spans.Containers.{TakesFew}
 use Rattle.wiring_joins.specs.place_joins.Joined.{PairsInnerFacesOfRelays}
 use Rattle.wiring_joins.specs.declared.joined_places.places.WiredPlaces.{WiredPlaces}
 
@@ -53,6 +54,12 @@ pub record AreSoundPairs (count : ℕ) (places : List Place) (pairs : List FaceP
 -- The places and pairs of a structure are so.
 abbrev pub HasSoundPairs : StructurePlan → List Slot → Type 0
 HasSoundPairs plan slots = AreSoundPairs (sum (counts_in plan slots)) (places_in plan slots) (pairs_in plan slots)
+
+-- The structure has so few places that each side's have numbers of 64 bits, and all faces of all places numbers of 32 bits; each face that is paired is one of these.
+pub record HasFewPlaces (plan : StructurePlan) (slots : List Slot) : Type 0 where
+  pub taken : TakesFew plan slots
+  pub few : sum (counts_in plan slots) < 2 ^ 31
+  pub below : AreBelow (2 * sum (counts_in plan slots)) (pairs_in plan slots)
 
 -- The tables of the places of a structure's slots, each of whose bindings pairs something.
 pub record ArePlacesOf (plan : StructurePlan) (slots : List Slot) (p : WiredPlaces) : Type 0 where

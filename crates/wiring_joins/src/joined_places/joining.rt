@@ -1,8 +1,9 @@
 //! Pairs of faces, and what is joined by them.
 ghost use Rattle.std.specs.Prelude.{◌≡◌, ◌+◌, ◌^◌, ◌<◌, ◌≤◌, length, IfOk};
+ghost use Rattle.number_graphs.specs.face_chains.Chains.{AreBelow};
 ghost use Rattle.wiring_places.specs.place_rules.Partners.{partners};
 ghost use Rattle.wiring_places.specs.slot_children.Table.{IsTableOf};
-ghost use Rattle.wiring_places.specs.place_spans.Containers.{AreContainers};
+ghost use Rattle.wiring_places.specs.place_spans.Containers.{AreContainers, TakesFew};
 ghost use Rattle.wiring_joins.specs.joined_places.Wired.{pairs_at, partners_by};
 
 use crate::place_joins::{across_faces, partners_of};
@@ -33,6 +34,9 @@ pub(crate) fn all_pairs(
     requires few { length known.slots.now ≤ 2 ^ 16 }
     requires children { IsTableOf known.children.now known.slots.now }
     requires containers { AreContainers known.plan.now known.slots.now known.containers.now }
+    requires taken { TakesFew known.plan.now known.slots.now }
+    requires faces { AreBelow (2 ^ 32) (pairs_at known.plan.now known.slots.now first_ports.now
+        spans.now known.joins.now) }
     ensures { IfOk result (λ v. v.items ≡ pairs_at known.entry.plan.now known.entry.slots.now first_ports.now spans.now known.entry.joins.now) }
 {
     let mut pairs = container_pairs(

@@ -1,10 +1,10 @@
 //! The places of all slots.
-ghost use Rattle.std.specs.Prelude.{◌≡◌, ◌^◌, ◌≤◌, true, length, IfOk, MatchOption};
+ghost use Rattle.std.specs.Prelude.{◌≡◌, ◌^◌, ◌<◌, ◌≤◌, true, length, sum, IfOk, MatchOption};
 ghost use Rattle.wiring_places.specs.place_rules.Counts.{counts};
 ghost use Rattle.wiring_places.specs.place_rules.Pairs.{lacks_place};
 ghost use Rattle.wiring_places.specs.place_rules.Parts.{HasFewPorts};
 ghost use Rattle.wiring_places.specs.place_spans.Containers.{AreContainers};
-ghost use Rattle.wiring_joins.specs.joined_places.Wired.{ArePlacesOf};
+ghost use Rattle.wiring_joins.specs.joined_places.Wired.{ArePlacesOf, HasFewPlaces};
 
 use crate::joined_places::joining::{Paired, all_pairs, partners_by};
 use crate::layer_joins::layer_joins;
@@ -40,6 +40,7 @@ fn counts_of(
     requires few { length slots.now ≤ 2 ^ 16 }
     requires ports { HasFewPorts plan.now }
     requires containers { AreContainers plan.now slots.now containers.now }
+    requires places { sum (counts plan.now slots.now joins.now) < 2 ^ 32 }
     ensures { IfOk result (λ v. v.items ≡ counts plan.now slots.now joins.now) }
 {
     let served = served_table(alloc, joins)?;
@@ -57,6 +58,7 @@ fn places_with(
     requires few { length slots.now ≤ 2 ^ 16 }
     requires ports { HasFewPorts plan.now }
     requires containers { AreContainers plan.now slots.now containers.now }
+    requires places { HasFewPlaces plan.now slots.now }
     ensures { IfOk result (λ p. ArePlacesOf plan.now slots.now p) }
 {
     let children = children_table(alloc, slots)?;
@@ -92,6 +94,7 @@ pub fn wired_places(
 ) -> Result<Option<WiredPlaces>, AllocError>
     requires few { length slots.now ≤ 2 ^ 16 }
     requires ports { HasFewPorts plan.now }
+    requires places { HasFewPlaces plan.now slots.now }
     ensures { IfOk result (λ o. MatchOption o (lacks_place plan.now slots.now ≡ true) (λ p. ArePlacesOf plan.now slots.now p)) }
 {
     let Some(containers) = container_stretches(alloc, plan, slots)? else {

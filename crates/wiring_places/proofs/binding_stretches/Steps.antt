@@ -1,5 +1,5 @@
 -- One more binding.
-use Rattle.std.proofs.Common.{◌≡◌, ℕ, ◌+◌, ◌<◌, ◌≤◌, List, [], ◌∷◌, ◌++◌, length, drop, sym, ap, ◌∙◌, append_assoc, append-nil}
+use Rattle.std.proofs.Common.{◌≡◌, ℕ, ◌+◌, ◌<◌, ◌≤◌, List, [], ◌∷◌, ◌++◌, length, drop, refl, sym, ap, ◌∙◌, arith, append_assoc, append-nil}
 use Rattle.std.proofs.lemmas.List.{at_drop_more, at_drop_all}
 use Rattle.std.proofs.Math.Path.{fun_ext}
 use Rattle.std.specs.Prelude.{slice_index_or}
@@ -8,6 +8,7 @@ use Rattle.wiring_plan.specs.declared.structure_plan.plan.ClassPlan.{ClassPlan}
 use Rattle.wiring_plan.specs.declared.structure_plan.plan.StructurePlan.{StructurePlan}
 use Rattle.wiring_places.specs.declared.place_rules.stretch.Stretch.{Stretch}
 use Rattle.wiring_places.specs.place_rules.Stretches.{stretch, taken_after, stretches_from, taken_from}
+use Rattle.wiring_places.proofs.binding_stretches.Growing.{taken_grows}
 
 module _ (plan : StructurePlan) (class : ClassPlan) where
   taken_next : (f g : ℕ → ℕ) (b : BindingPlan) (s : Stretch) → s ≡ stretch plan class f b → ((side : ℕ) → g side ≡ taken_after f b s.count side) → g ≡ taken_after f b (stretch plan class f b).count
@@ -26,6 +27,16 @@ module _ (plan : StructurePlan) (class : ClassPlan) where
   pub taken_more : (f g : ℕ → ℕ) (bs : List BindingPlan) (i : ℕ) (d : BindingPlan) (s : Stretch) → i < length bs → s ≡ stretch plan class f (slice_index_or bs i d) → ((side : ℕ) → g side ≡ taken_after f (slice_index_or bs i d) s.count side) → taken_from plan class g (drop (i + 1) bs) ≡ taken_from plan class f (drop i bs)
   unfolding taken_from
   taken_more f g bs i d s lt is h = ap (λ t. taken_from plan class t (drop (i + 1) bs)) (taken_next f g (slice_index_or bs i d) s is h) ∙ sym (at_drop_more (taken_from plan class f) bs i d lt)
+
+  -- after one more binding no more is taken than after all
+  pub taken_within : (f all : ℕ → ℕ) (bs : List BindingPlan) (i : ℕ) (d : BindingPlan) (s : Stretch) (m : ℕ) → i < length bs → s ≡ stretch plan class f (slice_index_or bs i d) → taken_from plan class f (drop i bs) ≡ all → ((side : ℕ) → all side < m)
+      → (side : ℕ) → taken_after f (slice_index_or bs i d) s.count side < m
+  taken_within f all bs i d s m lt is same below side =
+      let g = taken_after f (slice_index_or bs i d) s.count in
+      let more : taken_from plan class g (drop (i + 1) bs) ≡ taken_from plan class f (drop i bs) = taken_more f g bs i d s lt is (λ other. refl) in
+      let at : taken_from plan class g (drop (i + 1) bs) side ≡ all side = ap (λ (h : ℕ → ℕ). h side) (more ∙ same) in
+      let grows = taken_grows plan class (drop (i + 1) bs) g side in
+      omega (arith, at, grows, below side)
 
   pub stretches_end : (f : ℕ → ℕ) (bs : List BindingPlan) (i : ℕ) (done : List Stretch) → length bs ≤ i → done ≡ done ++ stretches_from plan class f (drop i bs)
   unfolding stretches_from

@@ -1,19 +1,23 @@
 -- The classes of containers, and one more container.
-use Rattle.std.proofs.Common.{◌≡◌, ◌≢◌, ℕ, ◌+◌, ◌-◌, ◌<◌, ◌≤◌, List, [], ◌∷◌, ◌++◌, length, suc, zero, refl, sym, ap, ◌∙◌, arith, append_assoc, append-nil, Option, Some, None}
-use Rattle.std.specs.Prelude.{slice_get, slice_index_or}
+use Rattle.std.proofs.Common.{◌≡◌, ◌≢◌, ℕ, ◌+◌, ◌-◌, ◌<◌, ◌≤◌, List, [], ◌∷◌, ◌++◌, length, suc, zero, refl, sym, ap, subst, ◌∙◌, arith, append_assoc, append-nil, Option, Some, None}
+use Rattle.std.specs.Prelude.{All, slice_get, slice_index_or}
 use Rattle.room_wiring.specs.declared.slot.Slot.{Slot}
 use Rattle.room_wiring.specs.declared.tables.PlaceSpan.{PlaceSpan}
 use Rattle.wiring_plan.specs.declared.structure_plan.plan.BindingPlan.{BindingPlan}
 use Rattle.wiring_plan.specs.declared.structure_plan.plan.ClassPlan.{ClassPlan}
 use Rattle.wiring_plan.specs.declared.structure_plan.plan.StructurePlan.{StructurePlan}
 use Rattle.number_graphs.specs.declared.face_chains.FacePair.{FacePair}
+use Rattle.number_graphs.specs.face_chains.Chains.{AreBelow}
 use Rattle.wiring_places.specs.declared.binding_stretches.class.ClassStretches.{ClassStretches}
 use Rattle.wiring_places.specs.declared.place_rules.stretch.Stretch.{Stretch}
 use Rattle.wiring_places.specs.place_rules.Parts.{no_class, container_class, inside_of}
 use Rattle.wiring_places.specs.place_rules.Stretches.{stretch, stretches, stretches_from, taken_after}
 use Rattle.wiring_places.specs.place_rules.Pairs.{binding_pairs, container_pairs}
-use Rattle.wiring_places.specs.place_spans.Containers.{AreStretchesFrom, AreContainers}
+use Rattle.wiring_places.specs.place_spans.Containers.{AreStretchesFrom, AreContainers, TakesFew}
 use Rattle.wiring_places.specs.place_pairs.Classes.{class_or_none}
+use Rattle.wiring_places.specs.place_pairs.Fits.{EndsWithin}
+use Rattle.wiring_places.proofs.binding_stretches.Growing.{ends_within}
+use Rattle.wiring_places.proofs.place_pairs.BindingSteps.{below_first, below_rest}
 
 pub get_class : (xs : List ClassPlan) (k : ℕ) → class_or_none (slice_get xs k) ≡ slice_index_or xs k no_class
 get_class [] k = refl
@@ -52,7 +56,33 @@ module _ (plan : StructurePlan) (slots : List Slot) (ys : List ClassStretches) (
   sizes c y class ss lt e is same =
       ap (λ (d : ClassPlan). length d.bindings) is ∙ as_many plan (container_class plan slots c) (λ side. 0) (container_class plan slots c).bindings ∙ ap length (sym (same ∙ these c y lt e))
 
+  -- the bindings of a container end within what is taken
+  pub ends : (c : ℕ) (y : ClassStretches) (ss : List Stretch) → c < length ys → y ≡ slice_index_or ys c y → ss ≡ y.stretches.items → TakesFew plan slots → All EndsWithin ss
+  ends c y ss lt e same few = subst (All EndsWithin) (sym (same ∙ these c y lt e)) (ends_within plan (container_class plan slots c) (container_class plan slots c).bindings (λ side. 0) (few c))
+
   module _ (first_ports : List ℕ) (spans : List PlaceSpan) where
+    below_from : (m c n i : ℕ) → i < n → AreBelow m (container_pairs plan slots first_ports spans c n) → AreBelow m (binding_pairs slots first_ports spans (container_class plan slots (c + i)) (c + i) (container_class plan slots (c + i)).bindings (stretches plan (container_class plan slots (c + i))))
+    unfolding container_pairs
+    below_from m c zero i lt h = absurd (omega (arith, lt))
+    below_from m c (suc n) zero lt h =
+        let at : c ≡ c + 0 = omega arith in
+        let Q : ℕ → Type 0 = λ k. AreBelow m (binding_pairs slots first_ports spans (container_class plan slots k) k (container_class plan slots k).bindings (stretches plan (container_class plan slots k))) in
+        subst Q at (below_first m (binding_pairs slots first_ports spans (container_class plan slots c) c (container_class plan slots c).bindings (stretches plan (container_class plan slots c))) (container_pairs plan slots first_ports spans (c + 1) n) h)
+    below_from m c (suc n) (suc i) lt h =
+        let at : (c + 1) + i ≡ c + suc i = omega arith in
+        let Q : ℕ → Type 0 = λ k. AreBelow m (binding_pairs slots first_ports spans (container_class plan slots k) k (container_class plan slots k).bindings (stretches plan (container_class plan slots k))) in
+        subst Q at (below_from m (c + 1) n i (omega (arith, lt)) (below_rest m (binding_pairs slots first_ports spans (container_class plan slots c) c (container_class plan slots c).bindings (stretches plan (container_class plan slots c))) (container_pairs plan slots first_ports spans (c + 1) n) h))
+
+    -- the pairs of a container are below what all are below
+    pub container_below : (m c : ℕ) (y : ClassStretches) (class : ClassPlan) (ss : List Stretch) → c < length ys → y ≡ slice_index_or ys c y → class ≡ container_class plan slots c → ss ≡ y.stretches.items → AreBelow m (container_pairs plan slots first_ports spans 0 (length slots + 1))
+        → AreBelow m (binding_pairs slots first_ports spans class c class.bindings ss)
+    container_below m c y class ss lt e is same h =
+        let at : 0 + c ≡ c = omega arith in
+        let Q : ℕ → Type 0 = λ k. AreBelow m (binding_pairs slots first_ports spans (container_class plan slots k) k (container_class plan slots k).bindings (stretches plan (container_class plan slots k))) in
+        let there = subst Q at (below_from m 0 (length slots + 1) c (omega (arith, lt, known.size)) h) in
+        let R : ClassPlan → Type 0 = λ d. AreBelow m (binding_pairs slots first_ports spans d c d.bindings (stretches plan (container_class plan slots c))) in
+        subst (λ zs. AreBelow m (binding_pairs slots first_ports spans class c class.bindings zs)) (sym (same ∙ these c y lt e)) (subst R (sym is) there)
+
     unrolled : (c n : ℕ) → 0 < n → container_pairs plan slots first_ports spans c n ≡ binding_pairs slots first_ports spans (container_class plan slots c) c (container_class plan slots c).bindings (stretches plan (container_class plan slots c)) ++ container_pairs plan slots first_ports spans (c + 1) (n - 1)
     unfolding container_pairs
     unrolled c zero pos = absurd (omega arith)

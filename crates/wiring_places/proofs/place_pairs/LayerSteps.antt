@@ -1,9 +1,10 @@
 -- One more join.
-use Rattle.std.proofs.Common.{◌≡◌, ℕ, ◌+◌, ◌*◌, ◌<◌, ◌≤◌, List, [], ◌∷◌, ◌++◌, length, take, drop, sym, ap, ◌∙◌, append_assoc, append-nil, add-zero}
+use Rattle.std.proofs.Common.{◌≡◌, ℕ, ◌+◌, ◌*◌, ◌<◌, ◌≤◌, List, [], ◌∷◌, ◌++◌, length, take, drop, sym, ap, ◌∙◌, subst, append_assoc, append-nil, add-zero}
 use Rattle.std.proofs.lemmas.List.{at_drop_more, at_drop_all, take_more}
 use Rattle.std.specs.Prelude.{slice_index_or}
 use Rattle.room_wiring.specs.declared.tables.PlaceSpan.{PlaceSpan}
 use Rattle.number_graphs.specs.declared.face_chains.FacePair.{FacePair}
+use Rattle.number_graphs.specs.face_chains.Chains.{AreBelow}
 use Rattle.wiring_places.specs.declared.place_rules.place.LayerJoin.{LayerJoin}
 use Rattle.wiring_places.specs.place_rules.Counts.{span_of, served_at, service_key}
 use Rattle.wiring_places.specs.place_rules.Pairs.{layer_pairs}
@@ -28,6 +29,18 @@ module _ (first_ports : List ℕ) (spans : List PlaceSpan) (joins : List LayerJo
       let here : layer_pairs first_ports spans (take i joins) (drop i joins) ≡ p ∷ rest =
       at_drop_more (layer_pairs first_ports spans (take i joins)) joins i d lt ∙ ap (λ b. q ∷ layer_pairs first_ports spans b (drop (i + 1) joins)) (sym more) ∙ ap (λ z. z ∷ rest) (sym p_is) in
       ap (λ xs. xs ++ rest) pushed ∙ append_assoc done (p ∷ []) rest ∙ ap (λ xs. done ++ xs) (sym here)
+
+  -- the faces of one more join are below what all are below
+  pub layer_below : (m : ℕ) (d : LayerJoin) → i < length joins → AreBelow m (layer_pairs first_ports spans (take i joins) (drop i joins))
+      → (2 * (span_of first_ports spans (slice_index_or joins i d).sap_slot (slice_index_or joins i d).sap).first < m)
+      × (2 * ((span_of first_ports spans (slice_index_or joins i d).spp_slot (slice_index_or joins i d).spp).first + served_at (take i joins) (service_key (slice_index_or joins i d).spp_slot (slice_index_or joins i d).spp)) < m)
+      × AreBelow m (layer_pairs first_ports spans (take (i + 1) joins) (drop (i + 1) joins))
+  unfolding layer_pairs
+  layer_below m d lt h =
+      let x = slice_index_or joins i d in
+      let here : layer_pairs first_ports spans (take i joins) (drop i joins) ≡ layer_pairs first_ports spans (take i joins) (x ∷ drop (i + 1) joins) = at_drop_more (layer_pairs first_ports spans (take i joins)) joins i d lt in
+      let all = subst (AreBelow m) here h in
+      (all.0, all.1, subst (λ b. AreBelow m (layer_pairs first_ports spans b (drop (i + 1) joins))) (sym (take_more joins i d lt)) all.2)
 
   pub layer_pairs_end : (done : List FacePair) → length joins ≤ i → done ++ layer_pairs first_ports spans (take i joins) (drop i joins) ≡ done
   unfolding layer_pairs

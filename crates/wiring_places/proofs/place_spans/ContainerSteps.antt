@@ -45,7 +45,7 @@ get_in (x ∷ xs) zero d lt = refl
 get_in (x ∷ xs) (suc i) d lt = get_in xs i d (omega arith)
 
 module _ (plan : StructurePlan) (slots : List Slot) where
-  inside : (i : ℕ) (x : Slot) → i < length slots → x ≡ slice_index_or slots i x → container_class plan slots (i + 1) ≡ inside_of plan (Some x)
+  pub inside : (i : ℕ) (x : Slot) → i < length slots → x ≡ slice_index_or slots i x → container_class plan slots (i + 1) ≡ inside_of plan (Some x)
   inside i x lt is =
       let e : suc i ≡ i + 1 = omega arith in
       let Q : ℕ → Type 0 = λ n. container_class plan slots n ≡ inside_of plan (Some x) in

@@ -1,6 +1,7 @@
 -- One more slot.
-use Rattle.std.proofs.Common.{◌≡◌, ℕ, ◌+◌, ◌<◌, ◌≤◌, Bool, List, [], ◌∷◌, ◌++◌, length, drop, suc, zero, refl, sym, ap, ◌∙◌, subst, arith, append_assoc, append-nil, Some, None}
+use Rattle.std.proofs.Common.{◌≡◌, ℕ, ◌+◌, ◌<◌, ◌≤◌, Bool, List, [], ◌∷◌, ◌++◌, length, drop, suc, zero, refl, sym, ap, ◌∙◌, subst, arith, append_assoc, append-nil, sum, Some, None}
 use Rattle.std.proofs.lemmas.List.{at_drop_more, at_drop_all}
+use Rattle.std.proofs.lemmas.List.Sums.{sum_by-append}
 use Rattle.std.specs.Prelude.{slice_get, slice_index_or}
 use Rattle.room_wiring.specs.declared.slot.Slot.{Slot}
 use Rattle.wiring_plan.specs.declared.structure_plan.plan.PortPlan.{PortPlan}
@@ -65,6 +66,19 @@ slot_counts_more plan slots joins xs i x outside inside served container importe
     ap (λ f. counts_of_ports f inside served i imported x.reference 0 ports) out_is ∙ ap (λ f. counts_of_ports outside' f served i imported x.reference 0 ports) e_in ∙ ap (λ f. counts_of_ports outside' inside' f i imported x.reference 0 ports) e_served
     ∙ ap (λ b. counts_of_ports outside' inside' (served_at joins) i b x.reference 0 ports) e_imported ∙ ap (λ ps. counts_of_ports outside' inside' (served_at joins) i (is_imported x.kind) x.reference 0 ps) e_ports in
     ap (λ ys. ys ++ left) (pushed ∙ ap (λ ys. done ++ ys) same) ∙ append_assoc done (counts_of_ports outside' inside' (served_at joins) i (is_imported x.kind) x.reference 0 (class_plan plan x.class).ports) left ∙ ap (λ ys. done ++ ys) (sym here)
+
+-- the counts of one more slot are among those that are left
+pub slot_counts_few : (plan : StructurePlan) (slots : List Slot) (joins : List LayerJoin) (xs : List Slot) (i : ℕ) (x : Slot) (outside inside served : ℕ → ℕ) (container : ℕ) (imported : Bool) (ports : List PortPlan) (done : List ℕ) (m : ℕ) → i < length xs → x ≡ slice_index_or xs i x
+    → outside ≡ all_taken plan (container_class plan slots container) → container ≡ container_of_parent x.parent → inside ≡ all_taken plan (container_class plan slots (i + 1)) → served ≡ served_at joins → imported ≡ is_imported x.kind → ports ≡ (class_plan plan x.class).ports
+    → sum (done ++ counts_of_slots plan slots joins i (drop i xs)) < m → sum (counts_of_ports outside inside served i imported x.reference 0 ports) < m
+slot_counts_few plan slots joins xs i x outside inside served container imported ports done m lt is e_out e_container e_in e_served e_imported e_ports few =
+    let here = counts_of_ports outside inside served i imported x.reference 0 ports in
+    let left = counts_of_slots plan slots joins (i + 1) (drop (i + 1) xs) in
+    let all = slot_counts_more plan slots joins xs i x outside inside served container imported ports done {out = done ++ here} lt is e_out e_container e_in e_served e_imported e_ports refl in
+    let same = ap sum all in
+    let both = sum_by-append (λ (k : ℕ). k) (done ++ here) left in
+    let front = sum_by-append (λ (k : ℕ). k) done here in
+    omega (arith, same, both, front, few)
 
 pub slot_counts_end : (plan : StructurePlan) (slots : List Slot) (joins : List LayerJoin) (xs : List Slot) (i : ℕ) (done : List ℕ) → length xs ≤ i → done ++ counts_of_slots plan slots joins i (drop i xs) ≡ done
 unfolding counts_of_slots

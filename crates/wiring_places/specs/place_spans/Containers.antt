@@ -1,5 +1,5 @@
 -- What the bindings of containers take.
-use Rattle.std.specs.Prelude.{◌≡◌, ℕ, ◌+◌, ◌-◌, false, List, [], ◌∷◌, length}
+use Rattle.std.specs.Prelude.{◌≡◌, ℕ, ◌+◌, ◌-◌, ◌^◌, ◌<◌, false, List, [], ◌∷◌, length}
 use Rattle.room_wiring.specs.declared.slot.Slot.{Slot}
 use Rattle.wiring_plan.specs.declared.structure_plan.plan.ClassPlan.{ClassPlan}
 use Rattle.wiring_plan.specs.declared.structure_plan.plan.StructurePlan.{StructurePlan}
@@ -30,3 +30,7 @@ pub record AreSoFar (plan : StructurePlan) (slots : List Slot) (i : ℕ) (ys : L
   pub pairing : lacks_place_from plan slots (i + 1) (length slots - i) ≡ lacks_place plan slots
   pub size : length ys ≡ i + 1
   pub each : AreStretchesFrom plan slots 0 ys
+
+-- the bindings of each container take so few places of each side that these have numbers of 64 bits
+abbrev pub TakesFew : StructurePlan → List Slot → Type 0
+TakesFew plan slots = (c side : ℕ) → all_taken plan (container_class plan slots c) side < 2 ^ 64

@@ -1,5 +1,5 @@
 //! The stretches of the bindings of a class.
-ghost use Rattle.std.specs.Prelude.{◌≡◌, [], IfOk};
+ghost use Rattle.std.specs.Prelude.{◌≡◌, ℕ, ◌^◌, ◌<◌, [], IfOk};
 ghost use Rattle.wiring_places.specs.place_rules.Stretches.{pair_count, stretch, stretches, all_taken, stretches_from, taken_from, none_taken};
 ghost use Rattle.wiring_places.specs.binding_stretches.Taken.{taken_in};
 
@@ -65,6 +65,7 @@ fn stretches_of(
     class: &ClassPlan,
     bindings: &[BindingPlan],
 ) -> Result<ClassStretches, AllocError>
+    requires { (side : ℕ) → taken_from plan.now class.now none_taken bindings.now side < 2 ^ 64 }
     ensures stretches { IfOk result (λ r. r.stretches.items ≡ stretches_from plan.now class.now none_taken bindings.now) }
     ensures taken { IfOk result (λ r. taken_in r.taken ≡ taken_from plan.now class.now none_taken bindings.now) }
 {
@@ -84,6 +85,7 @@ pub fn class_stretches(
     plan: &StructurePlan,
     class: &ClassPlan,
 ) -> Result<ClassStretches, AllocError>
+    requires { (side : ℕ) → all_taken plan.now class.now side < 2 ^ 64 }
     ensures stretches { IfOk result (λ r. r.stretches.items ≡ stretches plan.now class.now) }
     ensures taken { IfOk result (λ r. taken_in r.taken ≡ all_taken plan.now class.now) }
 {

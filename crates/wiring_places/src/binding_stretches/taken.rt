@@ -1,5 +1,5 @@
 //! How many places of each side are taken.
-ghost use Rattle.std.specs.Prelude.{◌≡◌, ℕ, ◌+◌, ◌*◌, OnOk};
+ghost use Rattle.std.specs.Prelude.{◌≡◌, ℕ, ◌+◌, ◌*◌, ◌^◌, ◌<◌, OnOk};
 ghost use Rattle.wiring_places.specs.place_rules.Stretches.{side_number, none_taken, take_more, taken_after};
 ghost use Rattle.wiring_places.specs.binding_stretches.Taken.{taken_in};
 
@@ -59,18 +59,17 @@ impl Taken {
     /// Takes `count` more places of a side.
     #[tactic(auto, unfolding(crate::specs::binding_stretches::Taken::taken_in))]
     pub fn take(&mut self, side: u64, count: u64) -> Result<(), AllocError>
+        requires { taken_in self.old side + count < 2 ^ 64 }
         ensures { OnOk result ((other : ℕ) → taken_in self.new other ≡ take_more (taken_in self.old) side count other) }
     {
-        let before = self.at(side);
-        let Some(after) = before.checked_add(count) else {
-            return Err(AllocError);
-        };
+        let after = self.at(side) + count;
         self.counts.insert(side, after)?;
         Ok(())
     }
 
     /// Takes `count` more places of both sides of a binding.
     pub(crate) fn take_both(&mut self, binding: BindingPlan, count: u64) -> Result<(), AllocError>
+        requires { (side : ℕ) → taken_after (taken_in self.old) binding count side < 2 ^ 64 }
         ensures { OnOk result ((side : ℕ) → taken_in self.new side ≡ taken_after (taken_in self.old) binding count side) }
     {
         self.take(side_number(binding.left), count)?;

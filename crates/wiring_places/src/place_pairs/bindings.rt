@@ -1,8 +1,9 @@
 //! The pairs of the bindings of containers.
-ghost use Rattle.std.specs.Prelude.{◌≡◌, ◌++◌, List, length, IfOk, OnOk};
+ghost use Rattle.std.specs.Prelude.{◌≡◌, ◌<◌, ◌++◌, List, All, length, OnOk};
 ghost use Rattle.room_wiring.specs.declared.slot.Slot.{Slot as AnySlot};
 ghost use Rattle.wiring_places.specs.place_rules.Pairs.{stretch_pair, stretch_pairs, binding_pairs};
 ghost use Rattle.wiring_places.specs.slot_children.Table.{IsTableOf};
+ghost use Rattle.wiring_places.specs.place_pairs.Fits.{EndsWithin, PairFits, StretchFits, BindingsFit};
 
 use crate::place_pairs::faces::side_face;
 use crate::place_rules::Stretch;
@@ -24,20 +25,13 @@ pub struct Container<'a> {
 }
 
 /// The faces that a binding of a container pairs, where it takes this stretch, at `k` of it.
-fn pair_at(
-    container: &Container,
-    binding: BindingPlan,
-    stretch: Stretch,
-    k: u64,
-) -> Result<FacePair, AllocError>
-    ensures { IfOk result (λ p. (slots : List AnySlot) → IsTableOf container.now.children.now slots → p ≡ stretch_pair slots container.now.first_ports.now container.now.spans.now container.now.class.now container.now.number binding stretch k) }
+fn pair_at(container: &Container, binding: BindingPlan, stretch: Stretch, k: u64) -> FacePair
+    requires within { k < stretch.count }
+    requires ends { EndsWithin stretch }
+    requires faces { PairFits container.now.children.now container.now.first_ports.now
+        container.now.spans.now container.now.class.now container.now.number binding stretch k }
+    ensures { (slots : List AnySlot) → IsTableOf container.now.children.now slots → result ≡ stretch_pair slots container.now.first_ports.now container.now.spans.now container.now.class.now container.now.number binding stretch k }
 {
-    let Some(left_place) = stretch.left.checked_add(k) else {
-        return Err(AllocError);
-    };
-    let Some(right_place) = stretch.right.checked_add(k) else {
-        return Err(AllocError);
-    };
     let left = side_face(
         container.first_ports,
         container.spans,
@@ -45,8 +39,8 @@ fn pair_at(
         container.children,
         container.number,
         binding.left,
-        left_place,
-    )?;
+        stretch.left + k,
+    );
     let right = side_face(
         container.first_ports,
         container.spans,
@@ -54,9 +48,9 @@ fn pair_at(
         container.children,
         container.number,
         binding.right,
-        right_place,
-    )?;
-    Ok(FacePair { left, right })
+        stretch.right + k,
+    );
+    FacePair { left, right }
 }
 
 /// Adds the pairs of a binding of a container, which takes this stretch.
@@ -66,11 +60,13 @@ fn add_stretch(
     binding: BindingPlan,
     stretch: Stretch,
 ) -> Result<(), AllocError>
+    requires ends { EndsWithin stretch }
+    requires faces { StretchFits container.now.children.now container.now.first_ports.now
+        container.now.spans.now container.now.class.now container.now.number binding stretch }
     ensures { OnOk result ((slots : List AnySlot) → IsTableOf container.now.children.now slots → pairs.new.items ≡ pairs.old.items ++ stretch_pairs slots container.now.first_ports.now container.now.spans.now container.now.class.now container.now.number binding stretch 0 stretch.count) }
 {
     for k in 0..stretch.count {
-        let pair = pair_at(container, binding, stretch, k)?;
-        pairs.push(pair)?;
+        pairs.push(pair_at(container, binding, stretch, k))?;
     }
     Ok(())
 }
@@ -83,7 +79,11 @@ pub fn add_binding_pairs(
     bindings: &[BindingPlan],
     stretches: &[Stretch],
 ) -> Result<(), AllocError>
-    requires { length bindings.now ≡ length stretches.now }
+    requires sizes { length bindings.now ≡ length stretches.now }
+    requires ends { All EndsWithin stretches.now }
+    requires faces { BindingsFit container.now.children.now container.now.first_ports.now
+        container.now.spans.now container.now.class.now container.now.number
+        bindings.now stretches.now }
     ensures { OnOk result ((slots : List AnySlot) → IsTableOf container.now.children.now slots → pairs.new.items ≡ pairs.old.items ++ binding_pairs slots container.now.first_ports.now container.now.spans.now container.now.class.now container.now.number bindings.now stretches.now) }
 {
     for (i, binding) in bindings.iter().enumerate() {

@@ -1,12 +1,14 @@
 //! The pairs of all containers.
-ghost use Rattle.std.specs.Prelude.{◌≡◌, ◌+◌, ◌≤◌, ◌^◌, ◌++◌, List, length, slice_get, IfOk, OnOk};
+ghost use Rattle.std.specs.Prelude.{◌≡◌, ◌+◌, ◌<◌, ◌≤◌, ◌^◌, ◌++◌, List, All, length, slice_get, IfOk, OnOk};
 ghost use Rattle.std.specs.Option.{option_copied};
+ghost use Rattle.number_graphs.specs.face_chains.Chains.{AreBelow};
 ghost use Rattle.room_wiring.specs.declared.slot.Slot.{Slot as AnySlot};
 ghost use Rattle.wiring_places.specs.place_rules.Parts.{inside_of, container_class};
 ghost use Rattle.wiring_places.specs.place_rules.Pairs.{binding_pairs, container_pairs};
 ghost use Rattle.wiring_places.specs.slot_children.Table.{IsTableOf};
-ghost use Rattle.wiring_places.specs.place_spans.Containers.{AreContainers};
+ghost use Rattle.wiring_places.specs.place_spans.Containers.{AreContainers, TakesFew};
 ghost use Rattle.wiring_places.specs.place_pairs.Classes.{class_or_none};
+ghost use Rattle.wiring_places.specs.place_pairs.Fits.{EndsWithin, BindingsFit};
 
 use crate::binding_stretches::ClassStretches;
 use crate::place_pairs::bindings::{Container, add_binding_pairs};
@@ -76,7 +78,11 @@ fn add_container(
     number: u32,
     stretches: &[Stretch],
 ) -> Result<(), AllocError>
-    requires { length (class_or_none (option_copied class)).bindings ≡ length stretches.now }
+    requires sizes { length (class_or_none (option_copied class)).bindings ≡ length stretches.now }
+    requires ends { All EndsWithin stretches.now }
+    requires faces { BindingsFit children.now first_ports.now spans.now
+        (class_or_none (option_copied class)) number
+        (class_or_none (option_copied class)).bindings stretches.now }
     ensures { OnOk result ((slots : List AnySlot) → IsTableOf children.now slots → pairs.new.items ≡ pairs.old.items ++ binding_pairs slots first_ports.now spans.now (class_or_none (option_copied class.entry)) number (class_or_none (option_copied class.entry)).bindings stretches.now) }
 {
     match class {
@@ -110,6 +116,9 @@ pub fn container_pairs(
     requires few { length slots.now ≤ 2 ^ 16 }
     requires children { IsTableOf children.now slots.now }
     requires containers { AreContainers plan.now slots.now containers.now }
+    requires taken { TakesFew plan.now slots.now }
+    requires faces { AreBelow (2 ^ 32)
+        (container_pairs plan.now slots.now first_ports.now spans.now 0 (length slots.now + 1)) }
     ensures { IfOk result (λ v. v.items ≡ container_pairs plan.now slots.now first_ports.now spans.now 0 (length slots.now + 1)) }
 {
     let mut pairs = Vec::new(alloc);

@@ -1,9 +1,10 @@
 //! What the bindings of all containers take.
-ghost use Rattle.std.specs.Prelude.{◌≡◌, Some, IfOk, MatchOption, true};
+ghost use Rattle.std.specs.Prelude.{◌≡◌, ℕ, ◌^◌, ◌<◌, Some, IfOk, MatchOption, true};
 ghost use Rattle.std.specs.List.{list_any};
 ghost use Rattle.wiring_places.specs.place_rules.Parts.{inside_of};
 ghost use Rattle.wiring_places.specs.place_rules.Pairs.{pairs_nothing, lacks_place};
-ghost use Rattle.wiring_places.specs.place_spans.Containers.{IsOfClass, AreContainers, AreSoFar};
+ghost use Rattle.wiring_places.specs.place_rules.Stretches.{all_taken};
+ghost use Rattle.wiring_places.specs.place_spans.Containers.{IsOfClass, AreContainers, AreSoFar, TakesFew};
 
 use crate::binding_stretches::{ClassStretches, class_stretches, no_stretches};
 use crate::place_rules::Stretch;
@@ -17,6 +18,7 @@ fn inside_stretches(
     plan: &StructurePlan,
     slot: &Slot,
 ) -> Result<ClassStretches, AllocError>
+    requires { (side : ℕ) → all_taken plan.now (inside_of plan.now (Some slot.now)) side < 2 ^ 64 }
     ensures { IfOk result (λ y. IsOfClass plan.now (inside_of plan.now (Some slot.now)) y) }
 {
     if slot.kind.is_imported() {
@@ -49,6 +51,7 @@ pub fn container_stretches(
     plan: &StructurePlan,
     slots: &[Slot],
 ) -> Result<Option<Vec<ClassStretches>>, AllocError>
+    requires { TakesFew plan.now slots.now }
     ensures { IfOk result (λ o. MatchOption o (lacks_place plan.now slots.now ≡ true) (λ v. AreContainers plan.now slots.now v.items)) }
 {
     let subsystem = class_stretches(alloc, plan, &plan.subsystem)?;

@@ -1,5 +1,5 @@
 //! How many places the ports have.
-ghost use Rattle.std.specs.Prelude.{◌≡◌, ◌^◌, ◌≤◌, ◌++◌, length, IfOk, OnOk};
+ghost use Rattle.std.specs.Prelude.{◌≡◌, ◌^◌, ◌<◌, ◌≤◌, ◌++◌, length, sum, OnOk};
 ghost use Rattle.wiring_places.specs.binding_stretches.Taken.{taken_in};
 ghost use Rattle.wiring_places.specs.place_rules.Counts.{count_of, place_count, port_count, counts_of_ports};
 
@@ -71,14 +71,14 @@ pub(crate) fn add_counts(
     known: &Counting,
     ports: &[PortPlan],
 ) -> Result<(), AllocError>
-    requires { length ports.now ≤ 65535 }
+    requires ports { length ports.now ≤ 65535 }
+    requires places { sum (counts_of_ports (taken_in known.now.outside.now)
+        (taken_in known.now.inside.now) (taken_in known.now.served.now) known.now.slot
+        known.now.imported known.now.reference 0 ports.now) < 2 ^ 32 }
     ensures { OnOk result (counts.new.items ≡ counts.old.items ++ counts_of_ports (taken_in known.now.outside.now) (taken_in known.now.inside.now) (taken_in known.now.served.now) known.now.slot known.now.imported known.now.reference 0 ports.now) }
 {
     for (p, port) in ports.iter().enumerate() {
-        let Ok(count) = u32::try_from(port_count(known, p as u16, *port)) else {
-            return Err(AllocError);
-        };
-        counts.push(count)?;
+        counts.push(port_count(known, p as u16, *port) as u32)?;
     }
     Ok(())
 }

@@ -1,5 +1,5 @@
 //! How many places the ports of all slots have.
-ghost use Rattle.std.specs.Prelude.{◌≡◌, ℕ, ◌^◌, ◌≤◌, List, length, slice_get, IfOk};
+ghost use Rattle.std.specs.Prelude.{◌≡◌, ℕ, ◌^◌, ◌<◌, ◌≤◌, List, length, slice_get, sum, IfOk};
 ghost use Rattle.std.specs.Option.{option_copied};
 ghost use Rattle.room_wiring.specs.declared.slot.Slot.{Slot as AnySlot};
 ghost use Rattle.wiring_plan.specs.declared.structure_plan.plan.StructurePlan.{StructurePlan as AnyPlan};
@@ -67,6 +67,8 @@ pub fn port_counts(
     requires few { length slots.now ≤ 2 ^ 16 }
     requires ports { HasFewPorts plan.now }
     requires containers { AreContainers plan.now slots.now containers.now }
+    requires places { (joins : List AnyJoin) × (taken_in served.now ≡ served_at joins)
+        × (sum (counts plan.now slots.now joins) < 2 ^ 32) }
     ensures { IfOk result (λ v. (joins : List AnyJoin) → taken_in served.now ≡ served_at joins → v.items ≡ counts plan.now slots.now joins) }
 {
     let nothing = Taken::new(alloc);

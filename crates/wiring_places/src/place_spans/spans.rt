@@ -1,5 +1,5 @@
 //! Where the places of each port stand.
-ghost use Rattle.std.specs.Prelude.{◌≡◌, ◌^◌, ◌<◌, ◌≤◌, length, sum, IfOk, OnOk};
+ghost use Rattle.std.specs.Prelude.{◌≡◌, ◌^◌, ◌<◌, ◌≤◌, length, sum, IfOk};
 ghost use Rattle.wiring_places.specs.place_rules.Parts.{HasFewPorts, class_plan};
 ghost use Rattle.wiring_places.specs.place_rules.Counts.{spans_from, first_ports_from};
 
@@ -7,22 +7,15 @@ use room_wiring::{PlaceSpan, Slot};
 use std::alloc::{AllocError, Global};
 use wiring_plan::StructurePlan;
 
-/// The most places of all ports: each has two faces, which have numbers of 32 bits.
-const MOST_PLACES: u32 = 2147483647;
-
-/// Where these many places each stand in a row. It answers as where memory runs out where there are
-/// more than 2,147,483,647 in all.
+/// Where these many places each stand in a row.
 #[tactic(auto, using(crate::proofs::place_spans::SpanSteps::spans_more, crate::proofs::place_spans::SpanSteps::spans_end))]
 pub fn spans_of(alloc: Global, counts: &[u32]) -> Result<Vec<PlaceSpan>, AllocError>
-    ensures spans { IfOk result (λ v. v.items ≡ spans_from 0 counts.now) }
-    ensures few { OnOk result (sum counts.now < 2 ^ 31) }
+    requires { sum counts.now < 2 ^ 32 }
+    ensures { IfOk result (λ v. v.items ≡ spans_from 0 counts.now) }
 {
     let mut row = Vec::new(alloc);
     let mut first = 0u32;
     for count in counts {
-        if *count > MOST_PLACES - first {
-            return Err(AllocError);
-        }
         row.push(PlaceSpan {
             first,
             count: *count,

@@ -6,7 +6,7 @@ use Rattle.wiring_slots.proofs.wired_laws.Few.{numbered_from_few}
 use Rattle.wiring_places.specs.place_rules.Parts.{HasFewPorts}
 use Rattle.wiring_slots.specs.declared.model_slots.slots.WiredSlots.{WiredSlots}
 use Rattle.binding_expand.proofs.FewPorts.{has_few_ports}
-use Rattle.binding_expand.proofs.Whole.{are_wired, places_told, wiring_told}
+use Rattle.binding_expand.proofs.Whole.{are_wired, places_few, places_told, wiring_told}
 use Rattle.binding_expand.proofs.model.expand_by.Goals as goal
 
 pub slots_within-requires-clause-finite : goal.slots_within-requires-clause-finite
@@ -19,6 +19,9 @@ pub joined_places-requires-clause-ports : goal.joined_places-requires-clause-por
 joined_places-requires-clause-ports c =
     let m = model_view c.args.model.now in
     subst (λ (w : WiredSlots). HasFewPorts w.plan) (sym c.in_ok-slots.ensures.0) (has_few_ports m (all_few m c.requires.rules))
+
+pub joined_places-requires-clause-places : goal.joined_places-requires-clause-places
+joined_places-requires-clause-places c = places_few (model_view c.args.model.now) c.requires.rules c.in_ok-slots.slots c.as_slice.result.now c.in_ok-slots.ensures c.as_slice.ensures
 
 pub returns-in_err-places : goal.returns-in_err-places
 returns-in_err-places c =

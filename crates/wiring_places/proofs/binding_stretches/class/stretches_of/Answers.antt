@@ -1,6 +1,9 @@
 use Rattle.std.proofs.Common.{◌∙◌}
-use Rattle.wiring_places.proofs.binding_stretches.Steps.{stretches_more, taken_more, stretches_end, taken_end}
+use Rattle.wiring_places.proofs.binding_stretches.Steps.{stretches_more, taken_more, taken_within, stretches_end, taken_end}
 use Rattle.wiring_places.proofs.binding_stretches.class.stretches_of.Goals as goal
+
+pub take_both-requires : goal.take_both-requires
+take_both-requires c = λ side. taken_within _ _ _ _ _ _ _ _ _ c.loop-binding-test.true c.stretch-next.ensures c.loop-binding.invariant.taken c.requires side
 
 pub loop-binding-preserved : goal.loop-binding-preserved
 loop-binding-preserved c = record {

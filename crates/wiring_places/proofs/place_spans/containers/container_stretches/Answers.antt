@@ -1,5 +1,14 @@
-use Rattle.wiring_places.proofs.place_spans.ContainerSteps.{first_lacks, first_known, slot_lacks, slot_known, all_known}
+use Rattle.std.proofs.Common.{◌+◌, ◌^◌, ◌<◌, subst}
+use Rattle.wiring_places.specs.place_rules.Stretches.{all_taken}
+use Rattle.wiring_places.proofs.place_spans.ContainerSteps.{inside, first_lacks, first_known, slot_lacks, slot_known, all_known}
 use Rattle.wiring_places.proofs.place_spans.containers.container_stretches.Goals as goal
+
+pub class_stretches-requires : goal.class_stretches-requires
+class_stretches-requires c = c.requires 0
+
+pub inside_stretches-requires : goal.inside_stretches-requires
+inside_stretches-requires c = λ side.
+    subst (λ class. all_taken c.args.plan.now class side < 2 ^ 64) (inside c.args.plan.now c.args.slots.now c.loop-slot.slot-index c.slot-item.result c.loop-slot-test.true c.slot-item.is) (c.requires (c.loop-slot.slot-index + 1) side)
 
 pub returns-then-has_idle_binding : goal.returns-then-has_idle_binding
 returns-then-has_idle_binding c = first_lacks _ _ c.in_ok-subsystem.subsystem _ (record { stretches = c.in_ok-subsystem.ensures.stretches; taken = c.in_ok-subsystem.ensures.taken }) c.has_idle_binding.ensures c.if-has_idle_binding.true

@@ -1,0 +1,5 @@
+pub mod Rows
+pub mod Free
+pub mod Grown
+pub mod Slots
+pub mod Totals
