@@ -1,5 +1,5 @@
 -- What the actors of a controller do, step by step.
-use Rattle.std.specs.Prelude.{◌≡◌, ℕ, ◌<◌, ◌&&◌, Bool, true, List, [], ◌∷◌, ◌++◌, All, Option, map, filter, length, if◌then◌else◌}
+use Rattle.std.specs.Prelude.{◌≡◌, ℕ, ◌&&◌, Bool, true, List, [], ◌∷◌, ◌++◌, All, Option, map, filter, if◌then◌else◌}
 use Rattle.std.specs.List.{range_with_len}
 use Rattle.std.specs.Option.{option_map_or}
 use Rattle.room_kinds.specs.declared.message.Msg.{Msg}
@@ -40,11 +40,11 @@ pub record ActorsBegin (plant : Plant) (me slot : ℕ) (old new : Actors) (sent 
   pub state : e.state ≡ state_number (begins (last_of (lives_of old) slot) (tables_at plant.wiring plant.tables.items slot)).machine
   pub has_slots : HasSlots plant me new
   pub lives : lives_of new ≡ lives_of old
-  pub empty : (gone : List Incarnation) → AreEmpty gone old → AreEmpty gone new
+  pub empty : (gone : List Incarnation) → AreEmpty plant me gone old → AreEmpty plant me gone new
 
--- an incarnation that lives, in a slot of the wiring
-pub record IsLast (t : Wiring) (l : Lives) (x : Incarnation) : Type 0 where
-  pub there : x.slot.0 < length t.slots
+-- an incarnation that lives, in a slot that controller me owns
+pub record IsLast (t : Wiring) (me : ℕ) (l : Lives) (x : Incarnation) : Type 0 where
+  pub own : is_own t me x.slot.0 ≡ true
   pub last : last_of l x.slot.0 ≡ x
   pub live : l.lives x.slot.0 ≡ true
 

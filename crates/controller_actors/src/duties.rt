@@ -1,5 +1,5 @@
 //! Duties: what a turn makes of a message of priority 0.
-ghost use Rattle.std.specs.Prelude.{◌≡◌, ◌<◌, ◌&&◌, [], length, All, IfOk, OnOk};
+ghost use Rattle.std.specs.Prelude.{◌≡◌, ◌&&◌, [], true, All, IfOk, OnOk};
 ghost use Rattle.room_kinds.specs.declared.numbers.Incarnation.{Incarnation as Actor};
 ghost use Rattle.room_kinds.specs.Kinds.{number_of};
 ghost use Rattle.actor_duties.specs.Words.{is_own};
@@ -122,9 +122,9 @@ impl Actors {
         sent: Outbox,
     ) -> Result<TurnResult, AllocError>
         requires has_slots { HasSlots plant.now me.0 self.old }
-        requires empty { AreEmpty left.ended self.old }
-        requires made { All (IsLast plant.now.wiring (lives_of self.old)) left.made }
-        requires ended { All (λ (x : Actor). x.slot.0 < length plant.now.wiring.slots) left.ended }
+        requires empty { AreEmpty plant.now me.0 left.ended self.old }
+        requires made { All (IsLast plant.now.wiring me.0 (lives_of self.old)) left.made }
+        requires ended { All (λ (x : Actor). is_own plant.now.wiring me.0 x.slot.0 ≡ true) left.ended }
         ensures { IfOk result (λ done. Finishes plant.now me.0 left sent self.old self.new done) }
     {
         let alloc = self.alloc;

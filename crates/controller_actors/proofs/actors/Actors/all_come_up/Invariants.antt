@@ -10,4 +10,4 @@ use Rattle.controller_actors.proofs.actors.Actors.all_come_up.Given as goal
 abbrev pub invariant-loop-who : goal.invariant-loop-who
 invariant-loop-who l =
     Moves (all_begun (model_of l.plant) l.plant.wiring l.me.0 (take l.who-index l.made)) l.plant l.me.0 l.fn.self l.fn.so_far l.self l.so_far
-    × ((gone : List Incarnation) → AreEmpty gone l.fn.self → AreEmpty gone l.self)
+    × ((gone : List Incarnation) → AreEmpty l.plant l.me.0 gone l.fn.self → AreEmpty l.plant l.me.0 gone l.self)
