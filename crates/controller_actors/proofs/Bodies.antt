@@ -1,5 +1,5 @@
 -- A slot that changes, on the body that the actors are.
-use Rattle.std.proofs.Common.{◌≡◌, ℕ, ◌||◌, Bool, true, false, List, ◌∷◌, length, set, Option, refl, sym, ap, ◌∙◌, subst, length-set, inl, inr}
+use Rattle.std.proofs.Common.{◌≡◌, ℕ, ◌||◌, Bool, true, false, List, length, set, Option, refl, sym, ap, ◌∙◌, subst, length-set, inl, inr}
 use Rattle.std.specs.List.{list_any}
 use Rattle.std.proofs.Math.Path.{fun_ext}
 use Rattle.std.proofs.lemmas.Bool.{cases_eq, ne_eqb}
@@ -20,7 +20,8 @@ use Rattle.controller_actors.specs.declared.plant.Plant.{Plant}
 use Rattle.controller_actors.specs.declared.actors.Actors.{Actors}
 use Rattle.controller_actors.specs.Served.{Serves, links_in}
 use Rattle.controller_actors.specs.Rows.{own_below}
-use Rattle.controller_actors.specs.Bodies.{AreEmpty, HasSlots, body_of, is_in, lives_of, slot_at, vacant}
+use Rattle.controller_actors.specs.Bodies.{HasSlots, body_of, is_in, lives_of, slot_at, vacant}
+use Rattle.controller_actors.specs.Steps.{IsVacated, StayEmpty}
 use Rattle.controller_actors.proofs.OwnRows.{HasRow, set_same, set_other}
 
 same_body : (f : Frame) (l : Links) {table table' : NameTable} {machines machines' : ℕ → Option Actor} {deferred deferred' : ℕ → List Msg}
@@ -80,8 +81,8 @@ module _ (p : Plant) (me : ℕ) where
   -- a slot where an actor lives has changed
   pub empty_set : (old new : Actors) (s : ℕ) (actor_slot : ActorSlot) → HasRow p.wiring me old.slots.items s → lives_of new ≡ lives_of old
       → new.slots.items ≡ set old.slots.items (own_below p.wiring me s) actor_slot → (lives_of old).lives s ≡ true
-      → (gone : List Incarnation) → AreEmpty p me gone old → AreEmpty p me gone new
-  empty_set old new s actor_slot l lives slots live gone h = λ n dead out.
+      → StayEmpty p me old new
+  empty_set old new s actor_slot l lives slots live = λ gone h n dead out.
       let dead' : (lives_of old).lives n ≡ false = sym (ap (λ (v : Lives). v.lives n) lives) ∙ dead in
       ap (λ (xs : List ActorSlot). (slot_at p.wiring me xs n).occupant) slots
       ∙ elim (cases_eq n s) [
@@ -92,8 +93,8 @@ module _ (p : Plant) (me : ℕ) where
   -- nobody stands in a slot any more
   pub empty_vacated : (old new : Actors) (x : Incarnation) → HasRow p.wiring me old.slots.items x.slot.0 → lives_of new ≡ lives_of old
       → new.slots.items ≡ set old.slots.items (own_below p.wiring me x.slot.0) vacant
-      → (rest : List Incarnation) → AreEmpty p me (x ∷ rest) old → AreEmpty p me rest new
-  empty_vacated old new x l lives slots rest h = λ n dead out.
+      → IsVacated p me x old new
+  empty_vacated old new x l lives slots = λ rest h n dead out.
       let dead' : (lives_of old).lives n ≡ false = sym (ap (λ (v : Lives). v.lives n) lives) ∙ dead in
       ap (λ (xs : List ActorSlot). (slot_at p.wiring me xs n).occupant) slots
       ∙ elim (cases_eq n x.slot.0) [

@@ -12,18 +12,14 @@ use Rattle.room_kinds.specs.declared.system.SysKind.{SysKind}
 use Rattle.room_kinds.specs.declared.system.SysKind.TheVariants as kinds
 use Rattle.room_wiring.specs.declared.tables.Tables.{Tables}
 use Rattle.actor_duties.specs.Messages.{reply, coded, NotHere, Occupied}
-use Rattle.actor_duties.specs.Words.{frame_at, frame_of, is_own, whose}
+use Rattle.actor_duties.specs.Words.{frame_at, frame_of, whose}
 use Rattle.actor_duties.specs.State.{Lives, Frame}
 use Rattle.actor_duties.specs.Lives.{answered, comes_up, counts_as_live, create, ended_slots, goes_down, last_of, lives_ended, lives_made, made, made_slots, part_make}
 use Rattle.actor_duties.specs.Frame.{FrameDone, destroy, end_set_ended, frame_duty, frame_duty_from, frame_duty_of, frame_ended, of_natural, part_end, plainly, with_lives, with_number}
 use Rattle.actor_world.proofs.LifeSteps.{up_parts, down_parts}
 use Rattle.actor_world.proofs.Slots.{own_in_range}
 use Rattle.controller_actors.specs.Bodies.{is_in}
-use Rattle.controller_actors.specs.Steps.{IsLast}
-
--- an incarnation in a slot that a controller owns
-abbrev pub IsOwn : Tables → ℕ → Incarnation → Type 0
-IsOwn t me x = is_own t me x.slot.0 ≡ true
+use Rattle.controller_actors.specs.Steps.{IsLast, IsOwn}
 
 pub record Facts (t : Tables) (me : ℕ) (l : Lives) (r : FrameDone) : Type 0 where
   pub living : (s : ℕ) → l.lives s ≡ true → r.frame.lives.generation s ≡ l.generation s

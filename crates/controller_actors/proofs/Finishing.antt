@@ -10,7 +10,6 @@ use Rattle.room_kinds.specs.declared.system.SysKind.TheVariants as kinds
 use Rattle.room_kinds.specs.Kinds.{number_of}
 use Rattle.room_kinds.specs.Names.{kind_at}
 use Rattle.journal.specs.declared.entry.Did.TheVariants as did
-use Rattle.actor_duties.specs.Words.{is_own}
 use Rattle.actor_duties.specs.State.{Frame, Lives, NameTable}
 use Rattle.actor_duties.specs.Lives.{last_of}
 use Rattle.actor_duties.specs.Frame.{FrameDone, frame_duty}
@@ -38,7 +37,7 @@ use Rattle.controller_actors.specs.actor_slots.Occupants.{HasTables, IsOf}
 use Rattle.controller_actors.specs.actor_slots.Slots.{SlotFits}
 use Rattle.controller_actors.specs.Plants.{model_of}
 use Rattle.controller_actors.specs.Bodies.{AreEmpty, HasSlots, IsWell, body_of, done_of, is_in, lives_of, slot_at}
-use Rattle.controller_actors.specs.Steps.{Closes, IsLast, Moves, doing_of}
+use Rattle.controller_actors.specs.Steps.{Closes, IsLast, IsOwn, Moves, doing_of}
 use Rattle.controller_actors.specs.Duties.{Finishes, HasDuty, finishing, service_of}
 use Rattle.controller_actors.proofs.DutyFacts.{Facts, facts}
 use Rattle.controller_actors.proofs.Moving.{then_moves}
@@ -135,8 +134,8 @@ module _ (p : Plant) (me : ℕ) (m : Msg) (kind : SysKind) (old mid : Actors) (s
       subst (λ (l : Lives). All (IsLast p.wiring me l) left.made) (sym lives)
       (subst (λ (d : DutyDone). All (IsLast p.wiring me row.frame.lives) d.made) (sym h.done) known.comes)
 
-  pub duty_ended : All (λ (x : Incarnation). is_own p.wiring me x.slot.0 ≡ true) left.ended
-  duty_ended = subst (λ (d : DutyDone). All (λ (x : Incarnation). is_own p.wiring me x.slot.0 ≡ true) d.ended) (sym h.done) known.goes
+  pub duty_ended : All (IsOwn p.wiring me) left.ended
+  duty_ended = subst (λ (d : DutyDone). All (IsOwn p.wiring me) d.ended) (sym h.done) known.goes
 
   is_frame : (model : Behaviour Actor) (b : Body Actor) (k : SysKind) → service_of k ≡ services.Frame → duty model p.wiring me b m k ≡ with_frame model p.wiring me b (frame_duty p.wiring me b.frame k m)
   is_frame model b kinds.Register e = absurd cc

@@ -1,6 +1,6 @@
 -- Rows of a controller's table are those of its own slots, each slot's its own.
 use Rattle.std.proofs.Common.{◌≡◌, ◌≢◌, ℕ, zero, suc, ◌+◌, ◌<◌, ◌≤◌, ◌==◌, Bool, true, false, cond, List, [], ◌∷◌, ◌++◌, length, map, set, get_or, slice_index, replicate, Option, Some, None, refl, sym, ap, ◌∙◌, subst, arith, inl, inr, eqb-true, get_or-set_same, get_or-set_other}
-use Rattle.std.specs.List.{count_by, range_with_len, sum_by}
+use Rattle.std.specs.List.{count_by, range_with_len}
 use Rattle.std.specs.Option.{option_map_or}
 use Rattle.std.proofs.lemmas.Bool.{cases_lt, cases_eq, eq-eqb, ne_eqb}
 use Rattle.std.proofs.lemmas.List.{get_or_past, get_or_read, get_or-replicate, length-replicate}

@@ -1,5 +1,5 @@
 -- What is read of a slot before its actor does something.
-use Rattle.std.proofs.Common.{◌≡◌, ℕ, ◌<◌, List, [], true, length, get_or, set, All, Option, None, sym, ap, ◌∙◌, subst, arith}
+use Rattle.std.proofs.Common.{◌≡◌, ℕ, ◌<◌, [], true, get_or, set, All, Option, None, sym, ap, ◌∙◌, subst, arith}
 use Rattle.std.specs.Vec.{vec_len}
 use Rattle.std.proofs.lemmas.List.{get_or_read}
 use Rattle.room_kinds.specs.declared.message.Msg.{Msg}

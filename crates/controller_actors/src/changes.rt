@@ -1,11 +1,9 @@
 //! Actors that come up and go down in a turn.
-ghost use Rattle.std.specs.Prelude.{◌≡◌, ◌∷◌, List, [], true, All, OnOk};
-ghost use Rattle.room_kinds.specs.declared.numbers.Incarnation.{Incarnation as Actor};
-ghost use Rattle.actor_duties.specs.Words.{is_own};
+ghost use Rattle.std.specs.Prelude.{[], All, OnOk};
 ghost use Rattle.actor_world.specs.Turns.{begun, all_begun, gone, all_gone};
 ghost use Rattle.controller_actors.specs.Plants.{model_of};
 ghost use Rattle.controller_actors.specs.Bodies.{AreEmpty, HasSlots, lives_of};
-ghost use Rattle.controller_actors.specs.Steps.{IsLast, Moves};
+ghost use Rattle.controller_actors.specs.Steps.{IsLast, IsOwn, IsVacated, Moves, StayEmpty};
 
 use crate::actors::Actors;
 use crate::plant::Plant;
@@ -32,7 +30,7 @@ impl Actors {
         requires has_slots { HasSlots plant.now me.0 self.old }
         requires last { IsLast plant.now.wiring me.0 (lives_of self.old) who }
         ensures moves { OnOk result (Moves (begun (model_of plant.now) plant.now.wiring me.0 who) plant.now me.0 self.old so_far.old self.new so_far.new) }
-        ensures empty { OnOk result ((gone : List Actor) → AreEmpty plant.now me.0 gone self.old → AreEmpty plant.now me.0 gone self.new) }
+        ensures empty { OnOk result (StayEmpty plant.now me.0 self.old self.new) }
     {
         let alloc = self.alloc;
         let speaker = Speaker {
@@ -64,7 +62,7 @@ impl Actors {
         requires has_slots { HasSlots plant.now me.0 self.old }
         requires last { All (IsLast plant.now.wiring me.0 (lives_of self.old)) made.now }
         ensures moves { OnOk result (Moves (all_begun (model_of plant.now) plant.now.wiring me.0 made.now) plant.now me.0 self.old so_far.old self.new so_far.new) }
-        ensures empty { OnOk result ((gone : List Actor) → AreEmpty plant.now me.0 gone self.old → AreEmpty plant.now me.0 gone self.new) }
+        ensures empty { OnOk result (StayEmpty plant.now me.0 self.old self.new) }
     {
         for who in made {
             self.come_up(plant, me, *who, so_far)?;
@@ -82,9 +80,9 @@ impl Actors {
         so_far: &mut SoFar,
     ) -> Result<(), AllocError>
         requires has_slots { HasSlots plant.now me.0 self.old }
-        requires own { is_own plant.now.wiring me.0 who.slot.0 ≡ true }
+        requires own { IsOwn plant.now.wiring me.0 who }
         ensures moves { OnOk result (Moves (gone plant.now.wiring me.0 who) plant.now me.0 self.old so_far.old self.new so_far.new) }
-        ensures empty { OnOk result ((rest : List Actor) → AreEmpty plant.now me.0 (who ∷ rest) self.old → AreEmpty plant.now me.0 rest self.new) }
+        ensures empty { OnOk result (IsVacated plant.now me.0 who self.old self.new) }
     {
         let alloc = self.alloc;
         let actor_slot = &mut self.slots[plant.row_of(who.slot)];
@@ -104,7 +102,7 @@ impl Actors {
         so_far: &mut SoFar,
     ) -> Result<(), AllocError>
         requires has_slots { HasSlots plant.now me.0 self.old }
-        requires own { All (λ (x : Actor). is_own plant.now.wiring me.0 x.slot.0 ≡ true) ended.now }
+        requires own { All (IsOwn plant.now.wiring me.0) ended.now }
         ensures moves { OnOk result (Moves (all_gone plant.now.wiring me.0 ended.now) plant.now me.0 self.old so_far.old self.new so_far.new) }
         ensures empty { OnOk result (AreEmpty plant.now me.0 ended.now self.old → AreEmpty plant.now me.0 [] self.new) }
     {

@@ -1,11 +1,9 @@
 //! Plants.
-ghost use Rattle.std.specs.Prelude.{◌≡◌, ◌<◌, ℕ, length, true};
+ghost use Rattle.std.specs.Prelude.{◌≡◌, ◌<◌, length};
 ghost use Rattle.std.specs.Option.{option_copied};
-ghost use Rattle.std.specs.Coded.{Coded-set, coded_list, coded_ℕ};
-ghost use Rattle.actor_duties.specs.Words.{is_own};
 ghost use Rattle.chart_behaviour.specs.ModelCharts.{tables_at};
 ghost use Rattle.controller_actors.specs.PlantParts.{AreOfPlant, AreOfPlant-prop};
-ghost use Rattle.controller_actors.specs.Rows.{own_below, slot_rows};
+ghost use Rattle.controller_actors.specs.Rows.{AreRows, AreRows-prop, IsRowOf};
 
 use crate::slot_rows::SlotRows;
 use chart_run::Tables;
@@ -20,14 +18,14 @@ pub struct Plant {
     pub tables: Vec<Option<Tables>>,
     pub rows: SlotRows,
     pub ghost fits: { AreOfPlant wiring tables.items } by { AreOfPlant-prop wiring tables.items },
-    pub ghost in_rows: { rows ≡ slot_rows wiring } by { Coded-set (coded_list coded_ℕ) rows (slot_rows wiring) },
+    pub ghost in_rows: { AreRows wiring rows } by { AreRows-prop wiring rows },
 }
 
 impl Plant {
     /// The row of a slot in the table of its owner.
     pub(crate) fn row_of(&self, slot: SlotId) -> usize
         requires { slot.0 < length self.now.wiring.slots }
-        ensures { (me : ℕ) → is_own self.now.wiring me slot.0 ≡ true → result ≡ own_below self.now.wiring me slot.0 }
+        ensures { IsRowOf self.now.wiring slot.0 result }
     {
         self.rows.row(slot)
     }

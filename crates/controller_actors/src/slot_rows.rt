@@ -1,7 +1,6 @@
 //! Which row of its owner's table each slot has.
-ghost use Rattle.std.specs.Prelude.{◌≡◌, ◌<◌, length, slice_index, true, IfOk};
-ghost use Rattle.actor_duties.specs.Words.{is_own};
-ghost use Rattle.controller_actors.specs.Rows.{own_below, slot_rows};
+ghost use Rattle.std.specs.Prelude.{◌≡◌, ◌<◌, length, slice_index, IfOk};
+ghost use Rattle.controller_actors.specs.Rows.{AreRows, own_below};
 
 use room_kinds::{ControllerId, SlotId};
 use room_wiring::Wiring;
@@ -28,7 +27,7 @@ impl Model for SlotRows {
 impl SlotRows {
     /// The rows of the slots of a wiring. The time is in proportion to the number of slots.
     pub fn of(alloc: Global, wiring: &Wiring) -> Result<SlotRows, AllocError>
-        ensures { IfOk result (λ r. r ≡ slot_rows wiring.now) }
+        ensures { IfOk result (AreRows wiring.now) }
     {
         let mut rows = Vec::with_capacity(alloc, wiring.slot_count() as usize)?;
         // How many slots of each controller came so far.

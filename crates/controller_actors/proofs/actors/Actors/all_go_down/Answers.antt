@@ -1,11 +1,10 @@
-use Rattle.std.proofs.Common.{◌≡◌, ◌+◌, true, List, take, drop, get_or, sym, subst}
+use Rattle.std.proofs.Common.{◌+◌, List, take, drop, get_or, sym, subst}
 use Rattle.std.proofs.lemmas.List.{take_more, drop_more, take_all, drop_all}
 use Rattle.std.proofs.lemmas.List.Elements.{All-get_or}
 use Rattle.room_kinds.specs.declared.numbers.Incarnation.{Incarnation}
-use Rattle.actor_duties.specs.Words.{is_own}
 use Rattle.actor_world.specs.Turns.{all_gone}
 use Rattle.controller_actors.specs.Bodies.{AreEmpty}
-use Rattle.controller_actors.specs.Steps.{Moves}
+use Rattle.controller_actors.specs.Steps.{IsOwn, Moves}
 use Rattle.controller_actors.proofs.Moving.{stays, more_gone}
 use Rattle.controller_actors.proofs.actors.Actors.all_go_down.Goals as goal
 
@@ -20,7 +19,7 @@ go_down-requires-clause-has_slots c = c.loop-who.invariant.0.has_slots
 
 pub go_down-requires-clause-own : goal.go_down-requires-clause-own
 go_down-requires-clause-own c =
-    All-get_or (λ (x : Incarnation). is_own c.args.plant.now.wiring c.args.me.0 x.slot.0 ≡ true) c.args.ended.now c.loop-who.who-index no_one c.loop-who-test.true c.requires.own
+    All-get_or (IsOwn c.args.plant.now.wiring c.args.me.0) c.args.ended.now c.loop-who.who-index no_one c.loop-who-test.true c.requires.own
 
 pub loop-who-preserved : goal.loop-who-preserved
 loop-who-preserved c =
