@@ -1,21 +1,21 @@
 -- The starts of a controller's actors, one after another.
-use Rattle.std.proofs.Common.{◌≡◌, ℕ, ◌+◌, ◌<◌, Bool, true, false, cond, List, [], ◌∷◌, ◌++◌, map, filter, length, set, replicate, refl, sym, ap, ◌∙◌, subst, arith, inl, inr}
+use Rattle.std.proofs.Common.{◌≡◌, ℕ, ◌+◌, Bool, true, false, cond, List, [], ◌∷◌, ◌++◌, map, filter, length, set, replicate, refl, sym, ap, ◌∙◌, subst}
 use Rattle.std.proofs.Math.Path.{fun_ext}
 use Rattle.std.specs.List.{range_with_len}
-use Rattle.std.proofs.lemmas.Bool.{cases_lt}
-use Rattle.std.proofs.lemmas.List.{get_or_past, get_or-replicate, length-replicate, map-append}
+use Rattle.std.proofs.lemmas.Bool.{and_parts}
+use Rattle.std.proofs.lemmas.List.{length-replicate, map-append}
 use Rattle.std.proofs.lemmas.List.Elements.{All-nil, filter-append}
 use Rattle.room_kinds.specs.declared.message.Msg.{Msg}
 use Rattle.room_kinds.specs.declared.numbers.Incarnation.{Incarnation}
 use Rattle.room_wiring.specs.declared.tables.Tables.{Tables as Wiring}
 use Rattle.journal.specs.declared.entry.Entry.{Entry}
 use Rattle.journal.specs.declared.entry.Entry.TheVariants as entry
-use Rattle.actor_duties.specs.Words.{incarnation}
+use Rattle.actor_duties.specs.Words.{incarnation, is_own}
 use Rattle.actor_duties.specs.Lives.{last_of}
 use Rattle.actor_duties.specs.State.{Frame, Lives, Links, NameTable}
 use Rattle.actor_world.specs.Behaviour.{Behaviour}
 use Rattle.actor_world.specs.Body.{Body, Doing}
-use Rattle.actor_world.specs.Start.{Starting as WorldStarting, all_started, started, starting, first_state, start_entries, first_body, first_frame, first_lives, first_links, first_actors}
+use Rattle.actor_world.specs.Start.{Starting as WorldStarting, all_started, started, starting, first_state, start_entries, first_body, first_frame, first_lives, first_links, first_actors, lives_from_start}
 use Rattle.chart_behaviour.specs.ModelCharts.{Actor, tables_at, begins, state_number}
 use Rattle.actor_commands.proofs.command_sends.Broadcasting.{range-more}
 use Rattle.controller_mail.specs.MailState.{IsForActors}
@@ -29,16 +29,18 @@ use Rattle.controller_actors.specs.declared.plant.Plant.{Plant}
 use Rattle.controller_actors.specs.declared.actors.Actors.{Actors}
 use Rattle.controller_actors.specs.declared.start.Starting.{Starting}
 use Rattle.controller_actors.specs.Plants.{model_of}
+use Rattle.controller_actors.specs.Rows.{own_below}
 use Rattle.controller_actors.specs.Bodies.{HasSlots, body_of, lives_of, slot_at, vacant}
 use Rattle.controller_actors.specs.Steps.{ActorsBegin, Starts, StartsIn, unstarted, is_first, first_below, first_in}
+use Rattle.controller_actors.proofs.OwnRows.{HasRow, all_vacant}
 use Rattle.controller_actors.proofs.Bodies.{body_same, body_set, has_slots_set, empty_set}
 
 -- ---- one actor
 
 module _ (p : Plant) (me : ℕ) where
   -- the actor of a slot began
-  pub actors_begin : (old new : Actors) (s : ℕ) (before after : ActorSlot) (sent back : List Msg) (e : Entrance) → s < length old.slots.items
-      → before ≡ slot_at old.slots.items s → new.table ≡ old.table → new.slots.items ≡ set old.slots.items s after → Serves p.wiring me new.services
+  pub actors_begin : (old new : Actors) (s : ℕ) (before after : ActorSlot) (sent back : List Msg) (e : Entrance) → HasRow p.wiring me old.slots.items s
+      → before ≡ slot_at p.wiring me old.slots.items s → new.table ≡ old.table → new.slots.items ≡ set old.slots.items (own_below p.wiring me s) after → Serves p.wiring me new.services
       → SlotBegins p.wiring me (frame_in old.services.frame) (links_in old.services) (frame_in new.services.frame) (links_in new.services) (last_of (lives_of old) s) (tables_at p.wiring p.tables.items s) before after sent back e
       → (lives_of old).lives s ≡ true → HasSlots p me old → ActorsBegin p me s old new sent back e
   actors_begin old new s before after sent back e l is table slots serves h live has_slots =
@@ -57,7 +59,7 @@ module _ (p : Plant) (me : ℕ) where
         state = h.state;
         has_slots = has_slots_set p me old new s after l h.lives slots serves has_slots h.fits;
         lives = h.lives;
-        empty = empty_set old new s after h.lives slots live;
+        empty = empty_set p me old new s after l h.lives slots live;
       }
 
   last_started : (model : Behaviour Actor) (t : Wiring) (xs : List Incarnation) (x : Incarnation) (s : WorldStarting Actor)
@@ -145,16 +147,13 @@ module _ (p : Plant) (me : ℕ) where
         let generation : l.generation s ≡ 1 = ap (λ (k : Lives). k.generation s) first ∙ ap (λ b. cond b 1 0) here in
         ap (λ b. cond b (incarnation s 1 ∷ []) []) here ∙ ap (λ g. incarnation s g ∷ []) (sym generation)
 
+    pub first_own : l.lives s ≡ true → is_own p.wiring me s ≡ true
+    first_own e = (and_parts (is_own p.wiring me s) (lives_from_start p.wiring s) (sym lives_first ∙ e)).0
+
     pub first_nobody : l.lives s ≡ false → first_in p.wiring me s ≡ []
     first_nobody e = ap (λ b. cond b (incarnation s 1 ∷ []) []) (sym lives_first ∙ e)
 
   -- ---- before and after
-
-  vacant_at : (n s : ℕ) → slot_at (replicate n vacant) s ≡ vacant
-  vacant_at n s = elim (cases_lt s n) [
-    | inl l ↦ get_or-replicate n s vacant vacant l
-    | inr l ↦ get_or_past (replicate n vacant) s vacant (let many = length-replicate n vacant in omega arith)
-  ]
 
   same_start : {b c : Body Actor} {sent sent' back back' : List Msg} {entries entries' : List Entry} → b ≡ c → sent ≡ sent' → back ≡ back' → entries ≡ entries'
       → ◌≡◌ {A = WorldStarting Actor}
@@ -164,21 +163,21 @@ module _ (p : Plant) (me : ℕ) where
 
   -- the body of actors of which none has started
   body_none : (a : Actors) → frame_in a.services.frame ≡ first_frame p.wiring me → links_in a.services ≡ first_links → a.table ≡ []
-      → a.slots.items ≡ replicate (length p.wiring.slots) vacant → first_body p.wiring me ≡ body_of p me a
+      → a.slots.items ≡ replicate (own_below p.wiring me (length p.wiring.slots)) vacant → first_body p.wiring me ≡ body_of p me a
   unfolding body_of
   body_none a frame links table slots =
-      sym (ap (λ (f : Frame). record { frame = f; links = links_in a.services; table = a.table; machines = λ s. actor_in (slot_at a.slots.items s).occupant; deferred = λ s. (slot_at a.slots.items s).deferred }) frame
-      ∙ ap (λ (l : Links). record { frame = first_frame p.wiring me; links = l; table = a.table; machines = λ s. actor_in (slot_at a.slots.items s).occupant; deferred = λ s. (slot_at a.slots.items s).deferred }) links
-      ∙ ap (λ (t : NameTable). record { frame = first_frame p.wiring me; links = first_links; table = t; machines = λ s. actor_in (slot_at a.slots.items s).occupant; deferred = λ s. (slot_at a.slots.items s).deferred }) table
+      sym (ap (λ (f : Frame). record { frame = f; links = links_in a.services; table = a.table; machines = λ s. actor_in (slot_at p.wiring me a.slots.items s).occupant; deferred = λ s. (slot_at p.wiring me a.slots.items s).deferred }) frame
+      ∙ ap (λ (l : Links). record { frame = first_frame p.wiring me; links = l; table = a.table; machines = λ s. actor_in (slot_at p.wiring me a.slots.items s).occupant; deferred = λ s. (slot_at p.wiring me a.slots.items s).deferred }) links
+      ∙ ap (λ (t : NameTable). record { frame = first_frame p.wiring me; links = first_links; table = t; machines = λ s. actor_in (slot_at p.wiring me a.slots.items s).occupant; deferred = λ s. (slot_at p.wiring me a.slots.items s).deferred }) table
       ∙ ap (λ (f : ℕ → ActorSlot). record { frame = first_frame p.wiring me; links = first_links; table = []; machines = λ s. actor_in (f s).occupant; deferred = λ s. (f s).deferred })
-      (fun_ext (λ s. ap (λ (xs : List ActorSlot). slot_at xs s) slots ∙ vacant_at (length p.wiring.slots) s)))
+      (fun_ext (λ s. ap (λ (xs : List ActorSlot). slot_at p.wiring me xs s) slots ∙ all_vacant p.wiring me (own_below p.wiring me (length p.wiring.slots)) s)))
 
   -- nobody has started
   pub starts_none : (s : Starting) → Serves p.wiring me s.actors.services → frame_in s.actors.services.frame ≡ first_frame p.wiring me → links_in s.actors.services ≡ first_links → s.actors.table ≡ []
-      → s.actors.slots.items ≡ replicate (length p.wiring.slots) vacant → s.sent ≡ [] → s.back ≡ [] → s.entries ≡ [] → Starts p me [] s
+      → s.actors.slots.items ≡ replicate (own_below p.wiring me (length p.wiring.slots)) vacant → s.sent ≡ [] → s.back ≡ [] → s.entries ≡ [] → Starts p me [] s
   starts_none s serves frame links table slots sent back entries =
-      let nobody : (n : ℕ) → slot_at s.actors.slots.items n ≡ vacant =
-      λ n. ap (λ (xs : List ActorSlot). slot_at xs n) slots ∙ vacant_at (length p.wiring.slots) n in
+      let nobody : (n : ℕ) → slot_at p.wiring me s.actors.slots.items n ≡ vacant =
+      λ n. ap (λ (xs : List ActorSlot). slot_at p.wiring me xs n) slots ∙ all_vacant p.wiring me (own_below p.wiring me (length p.wiring.slots)) n in
       record {
         notes = [];
         kept = false;
@@ -189,7 +188,7 @@ module _ (p : Plant) (me : ℕ) where
             each = λ n.
                 subst (λ (x : ActorSlot). SlotFits (last_of (lives_of s.actors) n) (tables_at p.wiring p.tables.items n) x)
                 (sym (nobody n)) (record { of = tt; tables = tt; kept = All-nil IsForActors });
-            count = ap length slots ∙ length-replicate (length p.wiring.slots) vacant;
+            count = ap length slots ∙ length-replicate (own_below p.wiring me (length p.wiring.slots)) vacant;
           };
           empty = λ n dead out. ap (λ (x : ActorSlot). x.occupant) (nobody n);
         };

@@ -19,17 +19,13 @@ use Rattle.actor_duties.specs.Frame.{FrameDone, destroy, end_set_ended, frame_du
 use Rattle.actor_world.proofs.LifeSteps.{up_parts, down_parts}
 use Rattle.actor_world.proofs.Slots.{own_in_range}
 use Rattle.controller_actors.specs.Bodies.{is_in}
-use Rattle.controller_actors.specs.Steps.{IsLast}
+use Rattle.controller_actors.specs.Steps.{IsLast, IsOwn}
 
--- an incarnation in a slot of the wiring
-abbrev pub IsThere : Tables → Incarnation → Type 0
-IsThere t x = x.slot.0 < length t.slots
-
-pub record Facts (t : Tables) (l : Lives) (r : FrameDone) : Type 0 where
+pub record Facts (t : Tables) (me : ℕ) (l : Lives) (r : FrameDone) : Type 0 where
   pub living : (s : ℕ) → l.lives s ≡ true → r.frame.lives.generation s ≡ l.generation s
   pub still : (s : ℕ) → r.frame.lives.lives s ≡ false → list_any (is_in s) r.ended ≡ false → l.lives s ≡ false
-  pub comes : All (IsLast t r.frame.lives) r.made
-  pub goes : All (IsThere t) r.ended
+  pub comes : All (IsLast t me r.frame.lives) r.made
+  pub goes : All (IsOwn t me) r.ended
 
 -- ---- lists
 
@@ -95,7 +91,7 @@ all_onto Q (s ∷ ss) acc h k = all_onto Q ss (s ∷ acc) (All-tail Q s ss h) (A
 
 module _ (t : Tables) (me : ℕ) where
   none : (f : Frame) (g : Frame) (sent : List Msg) (last : Option Msg) → g.lives ≡ f.lives
-      → Facts t f.lives (record { frame = g; sent = sent; made = []; ended = []; last = last })
+      → Facts t me f.lives (record { frame = g; sent = sent; made = []; ended = []; last = last })
   none f g sent last same = record {
     living = λ s h. ap (λ (l : Lives). l.generation s) same;
     still = λ s dead out. sym (ap (λ (l : Lives). l.lives s) same) ∙ dead;
@@ -103,18 +99,18 @@ module _ (t : Tables) (me : ℕ) where
     goes = All-nil _;
   }
 
-  plain : (f : Frame) (fits : Bool) (payload : List ℤ) (r : FrameDone) → Facts t f.lives r → Facts t f.lives (plainly f fits payload r)
+  plain : (f : Frame) (fits : Bool) (payload : List ℤ) (r : FrameDone) → Facts t me f.lives r → Facts t me f.lives (plainly f fits payload r)
   plain f true [] r h = h
   plain f false [] r h = none f f [] None refl
   plain f fits (n ∷ ns) r h = none f f [] None refl
 
-  number : (f : Frame) (fits : Bool) (payload : List ℤ) (r : ℤ → FrameDone) → ((n : ℤ) → Facts t f.lives (r n)) → Facts t f.lives (with_number f fits payload r)
+  number : (f : Frame) (fits : Bool) (payload : List ℤ) (r : ℤ → FrameDone) → ((n : ℤ) → Facts t me f.lives (r n)) → Facts t me f.lives (with_number f fits payload r)
   number f fits [] r h = none f f [] None refl
   number f true (n ∷ []) r h = h n
   number f false (n ∷ []) r h = none f f [] None refl
   number f fits (n ∷ (k ∷ ns)) r h = none f f [] None refl
 
-  natural : (f : Frame) (n : ℤ) (r : ℕ → FrameDone) → ((n : ℕ) → Facts t f.lives (r n)) → Facts t f.lives (of_natural f n r)
+  natural : (f : Frame) (n : ℤ) (r : ℕ → FrameDone) → ((n : ℕ) → Facts t me f.lives (r n)) → Facts t me f.lives (of_natural f n r)
   natural f (pos n) r h = h n
   natural f (negsuc n) r h = none f f [] None refl
 
@@ -136,18 +132,18 @@ module _ (t : Tables) (me : ℕ) where
         go true b h = absurd cc
         go false b h = h
 
-    up_comes : All (IsLast t (lives_made t me o l)) (map (last_of (lives_made t me o l)) (made_slots t me l o))
+    up_comes : All (IsLast t me (lives_made t me o l)) (map (last_of (lives_made t me o l)) (made_slots t me l o))
     unfolding lives_made made_slots
     up_comes =
-        all_map (IsLast t (lives_made t me o l)) (last_of (lives_made t me o l)) (made_slots t me l o)
-        (all_filter (λ s. IsLast t (lives_made t me o l) (last_of (lives_made t me o l) s)) (comes_up t me l o)
+        all_map (IsLast t me (lives_made t me o l)) (last_of (lives_made t me o l)) (made_slots t me l o)
+        (all_filter (λ s. IsLast t me (lives_made t me o l) (last_of (lives_made t me o l) s)) (comes_up t me l o)
         (λ s e. record {
-          there = own_in_range t me s (up_parts t me l o s e).0;
+          own = (up_parts t me l o s e).0;
           last = refl;
           live = ap (λ b. b || l.lives s) e;
         }) (range_with_len 0 (length t.slots)))
 
-  part : (f : Frame) (o : ℕ) → Facts t f.lives (with_lives f (part_make t me f.lives o))
+  part : (f : Frame) (o : ℕ) → Facts t me f.lives (with_lives f (part_make t me f.lives o))
   unfolding part_make
   part f o = record {
     living = up_living f.lives o;
@@ -156,12 +152,12 @@ module _ (t : Tables) (me : ℕ) where
     goes = All-nil _;
   }
 
-  creation : (f : Frame) (m : Msg) (o : ℕ) (x : Endpoint) → Facts t f.lives (with_lives f (create t me f.lives m o x))
+  creation : (f : Frame) (m : Msg) (o : ℕ) (x : Endpoint) → Facts t me f.lives (with_lives f (create t me f.lives m o x))
   unfolding create made part_make
   creation f m o x = go (not (counts_as_live t me f.lives (whose x))) (f.lives.lives o)
     where
       go : (a b : Bool)
-          → Facts t f.lives (with_lives f (
+          → Facts t me f.lives (with_lives f (
           if a then answered f.lives (reply me m kinds.CreateRefused (frame_at o 0) x (coded NotHere))
           else if b then answered f.lives (reply me m kinds.CreateRefused (frame_at o 0) x (coded Occupied))
           else made t me f.lives m o x))
@@ -176,12 +172,12 @@ module _ (t : Tables) (me : ℕ) where
 
   -- what goes down
   module _ (l : Lives) (o : ℕ) where
-    down_goes : All (IsThere t) (map (last_of l) (ended_slots t me l o))
+    down_goes : All (IsOwn t me) (map (last_of l) (ended_slots t me l o))
     unfolding ended_slots
     down_goes =
-        all_map (IsThere t) (last_of l) (ended_slots t me l o)
-        (all_onto (λ s. IsThere t (last_of l s)) (filter (goes_down t me l o) (range_with_len 0 (length t.slots))) []
-        (all_filter (λ s. IsThere t (last_of l s)) (goes_down t me l o) (λ s e. own_in_range t me s (down_parts t me l o s e).0) (range_with_len 0 (length t.slots)))
+        all_map (IsOwn t me) (last_of l) (ended_slots t me l o)
+        (all_onto (λ s. IsOwn t me (last_of l s)) (filter (goes_down t me l o) (range_with_len 0 (length t.slots))) []
+        (all_filter (λ s. IsOwn t me (last_of l s)) (goes_down t me l o) (λ s e. (down_parts t me l o s e).0) (range_with_len 0 (length t.slots)))
         (All-nil _))
 
     down_still : (s : ℕ) → (lives_ended t me o l).lives s ≡ false → list_any (is_in s) (map (last_of l) (ended_slots t me l o)) ≡ false → l.lives s ≡ false
@@ -197,7 +193,7 @@ module _ (t : Tables) (me : ℕ) where
             ∙ any_picked (is_in s) (last_of l) (goes_down t me l o) s e (eq-eqb s s refl) (length t.slots) 0 (omega arith) (omega (arith, there)) in
             absurd (let no : true ≡ false = sym any ∙ out in cc)
 
-  end_set : (f : Frame) (o : ℕ) (last : Option Msg) → Facts t f.lives (end_set_ended t me f o last)
+  end_set : (f : Frame) (o : ℕ) (last : Option Msg) → Facts t me f.lives (end_set_ended t me f o last)
   unfolding end_set_ended frame_ended lives_ended
   end_set f o last = record {
     living = λ s h. refl;
@@ -206,24 +202,24 @@ module _ (t : Tables) (me : ℕ) where
     goes = down_goes f.lives o;
   }
 
-  destruction : (f : Frame) (m : Msg) (o : ℕ) (x : Endpoint) → Facts t f.lives (destroy t me f m o x)
+  destruction : (f : Frame) (m : Msg) (o : ℕ) (x : Endpoint) → Facts t me f.lives (destroy t me f m o x)
   unfolding destroy
   destruction f m o x = go (not (counts_as_live t me f.lives (whose x)) || not (f.lives.lives o))
     where
       done : Option Msg
       done = Some (reply me m kinds.DestroyDone (frame_of (last_of f.lives o)) x (pos 0 ∷ []))
 
-      go : (a : Bool) → Facts t f.lives (
+      go : (a : Bool) → Facts t me f.lives (
           if a then record { frame = f; sent = []; made = []; ended = []; last = Some (reply me m kinds.DestroyDone (frame_at o 0) x (coded NotHere)) }
           else end_set_ended t me f o done)
       go true = none f f [] _ refl
       go false = end_set f o done
 
-  part_ended : (f : Frame) (o : ℕ) → Facts t f.lives (part_end t me f o)
+  part_ended : (f : Frame) (o : ℕ) → Facts t me f.lives (part_end t me f o)
   unfolding part_end
   part_ended f o = end_set f o None
 
-  facts_of : (f : Frame) (m : Msg) → (kind : SysKind) (a b : Endpoint) → Facts t f.lives (frame_duty_of t me f m kind a b)
+  facts_of : (f : Frame) (m : Msg) → (kind : SysKind) (a b : Endpoint) → Facts t me f.lives (frame_duty_of t me f m kind a b)
   facts_of f m kinds.Create x o = plain f _ m.payload _ (creation f m o.slot.0 x)
   facts_of f m kinds.Destroy x o = plain f _ m.payload _ (destruction f m o.slot.0 x)
   facts_of f m kinds.CreateDone a b = plain f _ m.payload _ (none f f _ None refl)
@@ -244,10 +240,10 @@ module _ (t : Tables) (me : ℕ) where
   facts_of f m kinds.PartMake a b = plain f _ m.payload _ (part f a.slot.0)
   facts_of f m kinds.PartEnd a b = plain f _ m.payload _ (part_ended f a.slot.0)
 
-  facts_from : (f : Frame) (m : Msg) → (kind : SysKind) (o : Option Endpoint) → Facts t f.lives (frame_duty_from t me f m kind o)
+  facts_from : (f : Frame) (m : Msg) → (kind : SysKind) (o : Option Endpoint) → Facts t me f.lives (frame_duty_from t me f m kind o)
   facts_from f m kind None = none f f [] None refl
   facts_from f m kind (Some a) = facts_of f m kind a m.target
 
-  pub facts : (f : Frame) (m : Msg) → (kind : SysKind) → Facts t f.lives (frame_duty t me f kind m)
+  pub facts : (f : Frame) (m : Msg) → (kind : SysKind) → Facts t me f.lives (frame_duty t me f kind m)
   unfolding frame_duty
   facts f m kind = facts_from f m kind m.source

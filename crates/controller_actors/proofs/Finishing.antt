@@ -1,5 +1,5 @@
 -- Duties of the frame service, with what is left to do after them.
-use Rattle.std.proofs.Common.{◌≡◌, ℕ, zero, suc, ◌+◌, ◌<◌, ◌==◌, Bool, true, false, List, [], ◌∷◌, ◌++◌, length, slice_get, All, Option, Some, None, refl, sym, ap, ◌∙◌, subst, arith}
+use Rattle.std.proofs.Common.{◌≡◌, ℕ, zero, suc, ◌+◌, ◌==◌, Bool, true, false, List, [], ◌∷◌, ◌++◌, length, slice_get, All, Option, Some, None, refl, sym, ap, ◌∙◌, subst, arith}
 use Rattle.std.specs.List.{list_any}
 use Rattle.std.proofs.lemmas.List.Elements.{All-nil}
 use Rattle.std.proofs.lemmas.Bool.{eq-eqb}
@@ -37,7 +37,7 @@ use Rattle.controller_actors.specs.actor_slots.Occupants.{HasTables, IsOf}
 use Rattle.controller_actors.specs.actor_slots.Slots.{SlotFits}
 use Rattle.controller_actors.specs.Plants.{model_of}
 use Rattle.controller_actors.specs.Bodies.{AreEmpty, HasSlots, IsWell, body_of, done_of, is_in, lives_of, slot_at}
-use Rattle.controller_actors.specs.Steps.{Closes, IsLast, Moves, doing_of}
+use Rattle.controller_actors.specs.Steps.{Closes, IsLast, IsOwn, Moves, doing_of}
 use Rattle.controller_actors.specs.Duties.{Finishes, HasDuty, finishing, service_of}
 use Rattle.controller_actors.proofs.DutyFacts.{Facts, facts}
 use Rattle.controller_actors.proofs.Moving.{then_moves}
@@ -63,7 +63,7 @@ module _ (p : Plant) (me : ℕ) where
       → Moves (all_begun (model_of p) p.wiring me left.made) p me old first mid one → Moves (all_gone p.wiring me left.ended) p me mid one new two
       → Closes two last left.last
       → done ≡ record { sent = last.output.messages; back = last.back; did = did.Duty; notes = last.output.notes }
-      → AreEmpty [] new → Finishes p me left sent old new done
+      → AreEmpty p me [] new → Finishes p me left sent old new done
   finishes left sent old mid new first one two last done is told back h k c d empty =
       let both = then_moves p me (all_begun (model_of p) p.wiring me left.made) (all_gone p.wiring me left.ended) old mid new first one two h k in
       let start : record (doing (body_of p me old)) { sent = sent } ≡ doing_of p me old first false = begins is told back in
@@ -99,18 +99,18 @@ module _ (p : Plant) (me : ℕ) (m : Msg) (kind : SysKind) (old mid : Actors) (s
   abbrev row : FrameDone
   row = frame_duty p.wiring me (frame_in old.services.frame) kind m
 
-  known : Facts p.wiring (lives_of old) row
+  known : Facts p.wiring me (lives_of old) row
   known = facts p.wiring me (frame_in old.services.frame) m kind
 
   lives : lives_of mid ≡ row.frame.lives
   lives = ap (λ (f : Frame). f.lives) h.frame
 
-  left_slots : (s : ℕ) → slot_at mid.slots.items s ≡ slot_at old.slots.items s
-  left_slots s = ap (λ v. slot_at v.items s) slots
+  left_slots : (s : ℕ) → slot_at p.wiring me mid.slots.items s ≡ slot_at p.wiring me old.slots.items s
+  left_slots s = ap (λ v. slot_at p.wiring me v.items s) slots
 
-  fits_at : (s : ℕ) (b : Bool) → (lives_of old).lives s ≡ b → SlotFits (last_of row.frame.lives s) (tables_at p.wiring p.tables.items s) (slot_at old.slots.items s)
+  fits_at : (s : ℕ) (b : Bool) → (lives_of old).lives s ≡ b → SlotFits (last_of row.frame.lives s) (tables_at p.wiring p.tables.items s) (slot_at p.wiring me old.slots.items s)
   fits_at s true live =
-      subst (λ (g : ℕ). SlotFits (record { slot = record { 0 = s }; generation = record { 0 = g } }) (tables_at p.wiring p.tables.items s) (slot_at old.slots.items s))
+      subst (λ (g : ℕ). SlotFits (record { slot = record { 0 = s }; generation = record { 0 = g } }) (tables_at p.wiring p.tables.items s) (slot_at p.wiring me old.slots.items s))
       (sym (known.living s live)) (well.has_slots.each s)
   fits_at s false dead = nobody_fits _ _ _ (well.empty s dead refl) (well.has_slots.each s).kept
 
@@ -118,24 +118,24 @@ module _ (p : Plant) (me : ℕ) (m : Msg) (kind : SysKind) (old mid : Actors) (s
   duty_has_slots = record {
     serves = record { fits = h.fits; owner = ap (λ c. c.0) h.me ∙ well.has_slots.serves.owner };
     each = λ s.
-        subst (λ (l : Lives). SlotFits (last_of l s) (tables_at p.wiring p.tables.items s) (slot_at mid.slots.items s)) (sym lives)
+        subst (λ (l : Lives). SlotFits (last_of l s) (tables_at p.wiring p.tables.items s) (slot_at p.wiring me mid.slots.items s)) (sym lives)
         (subst (λ (x : ActorSlot). SlotFits (last_of row.frame.lives s) (tables_at p.wiring p.tables.items s) x) (sym (left_slots s)) (fits_at s ((lives_of old).lives s) refl));
     count = ap (λ v. length v.items) slots ∙ well.has_slots.count;
   }
 
-  pub duty_empty : AreEmpty left.ended mid
+  pub duty_empty : AreEmpty p me left.ended mid
   duty_empty = λ s dead out.
       let gone : row.frame.lives.lives s ≡ false = sym (ap (λ (l : Lives). l.lives s) lives) ∙ dead in
       let not_ended : list_any (is_in s) row.ended ≡ false = sym (ap (λ (d : DutyDone). list_any (is_in s) d.ended) h.done) ∙ out in
       ap (λ (x : ActorSlot). x.occupant) (left_slots s) ∙ well.empty s (known.still s gone not_ended) refl
 
-  pub duty_made : All (IsLast p.wiring (lives_of mid)) left.made
+  pub duty_made : All (IsLast p.wiring me (lives_of mid)) left.made
   duty_made =
-      subst (λ (l : Lives). All (IsLast p.wiring l) left.made) (sym lives)
-      (subst (λ (d : DutyDone). All (IsLast p.wiring row.frame.lives) d.made) (sym h.done) known.comes)
+      subst (λ (l : Lives). All (IsLast p.wiring me l) left.made) (sym lives)
+      (subst (λ (d : DutyDone). All (IsLast p.wiring me row.frame.lives) d.made) (sym h.done) known.comes)
 
-  pub duty_ended : All (λ (x : Incarnation). x.slot.0 < length p.wiring.slots) left.ended
-  duty_ended = subst (λ (d : DutyDone). All (λ (x : Incarnation). x.slot.0 < length p.wiring.slots) d.ended) (sym h.done) known.goes
+  pub duty_ended : All (IsOwn p.wiring me) left.ended
+  duty_ended = subst (λ (d : DutyDone). All (IsOwn p.wiring me) d.ended) (sym h.done) known.goes
 
   is_frame : (model : Behaviour Actor) (b : Body Actor) (k : SysKind) → service_of k ≡ services.Frame → duty model p.wiring me b m k ≡ with_frame model p.wiring me b (frame_duty p.wiring me b.frame k m)
   is_frame model b kinds.Register e = absurd cc

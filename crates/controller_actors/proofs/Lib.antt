@@ -1,4 +1,5 @@
 pub mod Tabled
+pub mod OwnRows
 pub mod Bodies
 pub mod Turning
 pub mod Moving

@@ -1,5 +1,5 @@
 -- Actors that come up and go down, as steps of what is done in a turn.
-use Rattle.std.proofs.Common.{◌≡◌, ◌<◌, ℕ, Bool, List, [], ◌∷◌, ◌++◌, length, set, All, refl, sym, ap, ◌∙◌, subst}
+use Rattle.std.proofs.Common.{◌≡◌, ℕ, Bool, List, [], ◌∷◌, ◌++◌, length, set, All, refl, sym, ap, ◌∙◌, subst}
 use Rattle.std.proofs.lemmas.List.Elements.{All-nil}
 use Rattle.room_kinds.specs.declared.message.Msg.{Msg}
 use Rattle.room_kinds.specs.declared.note.Note.{Note}
@@ -21,8 +21,10 @@ use Rattle.controller_actors.specs.declared.plant.Plant.{Plant}
 use Rattle.controller_actors.specs.declared.actors.Actors.{Actors}
 use Rattle.controller_actors.specs.Served.{Serves, links_in}
 use Rattle.controller_actors.specs.Plants.{model_of}
+use Rattle.controller_actors.specs.Rows.{own_below}
 use Rattle.controller_actors.specs.Bodies.{HasSlots, body_of, lives_of, slot_at, vacant}
 use Rattle.controller_actors.specs.Steps.{IsLast, Moves, doing_of}
+use Rattle.controller_actors.proofs.OwnRows.{HasRow}
 use Rattle.controller_actors.proofs.Bodies.{body_same, body_set, has_slots_set}
 
 -- equal parts make equal states
@@ -64,10 +66,10 @@ module _ (p : Plant) (me : ℕ) where
   begun_is : (x : Incarnation) (d : Doing Actor) → begun (model_of p) p.wiring me x d ≡ risen p.wiring me x (begins x (tables_at p.wiring p.tables.items x.slot.0)) d
   begun_is x d = refl
 
-  pub comes_up : (old new : Actors) (x : Incarnation) (before after : ActorSlot) (first last : SoFar) → x.slot.0 < length old.slots.items
-      → before ≡ slot_at old.slots.items x.slot.0 → new.table ≡ old.table → new.slots.items ≡ set old.slots.items x.slot.0 after → Serves p.wiring me new.services
+  pub comes_up : (old new : Actors) (x : Incarnation) (before after : ActorSlot) (first last : SoFar) → HasRow p.wiring me old.slots.items x.slot.0
+      → before ≡ slot_at p.wiring me old.slots.items x.slot.0 → new.table ≡ old.table → new.slots.items ≡ set old.slots.items (own_below p.wiring me x.slot.0) after → Serves p.wiring me new.services
       → SlotComesUp p.wiring me (frame_in old.services.frame) (links_in old.services) (frame_in new.services.frame) (links_in new.services) x (tables_at p.wiring p.tables.items x.slot.0) before after first.output first.back last.output last.back
-      → HasSlots p me old → IsLast p.wiring (lives_of old) x → Moves (begun (model_of p) p.wiring me x) p me old first new last
+      → HasSlots p me old → IsLast p.wiring me (lives_of old) x → Moves (begun (model_of p) p.wiring me x) p me old first new last
   comes_up old new x before after first last l is table slots serves h has_slots here =
       let s = x.slot.0 in
       let o = tables_at p.wiring p.tables.items s in
@@ -103,11 +105,11 @@ module _ (p : Plant) (me : ℕ) where
 
   -- ---- an actor is gone
 
-  pub goes_down : (old new : Actors) (x : Incarnation) (first last : SoFar) → x.slot.0 < length old.slots.items
+  pub goes_down : (old new : Actors) (x : Incarnation) (first last : SoFar) → HasRow p.wiring me old.slots.items x.slot.0
       → new.services.frame ≡ old.services.frame → links_in new.services ≡ (end_of p.wiring me (links_in old.services) x).now
-      → new.table ≡ old.table → new.slots.items ≡ set old.slots.items x.slot.0 vacant
+      → new.table ≡ old.table → new.slots.items ≡ set old.slots.items (own_below p.wiring me x.slot.0) vacant
       → last.output.messages ≡ first.output.messages ++ (end_of p.wiring me (links_in old.services) x).sent → last.back ≡ first.back
-      → last.output.notes ≡ first.output.notes ++ notes.Down x (length (slot_at old.slots.items x.slot.0).deferred) ∷ []
+      → last.output.notes ≡ first.output.notes ++ notes.Down x (length (slot_at p.wiring me old.slots.items x.slot.0).deferred) ∷ []
       → HasSlots p me old → Moves (gone p.wiring me x) p me old first new last
   unfolding body_of
   goes_down old new x first last l frame links table slots sent back told has_slots =

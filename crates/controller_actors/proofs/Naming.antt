@@ -143,7 +143,7 @@ module _ (t : Tables) (me : ℕ) (l : Lives) (who : Incarnation) where
       go true false c h = refl
       go false b c h = refl
 
-  pub occupant_lives : (x : Incarnation) → x.slot ≡ who.slot → IsLast t l x → is_own t me who.slot.0 ≡ true
+  pub occupant_lives : (x : Incarnation) → x.slot ≡ who.slot → IsLast t me l x → is_own t me who.slot.0 ≡ true
       → (x.generation.0 == who.generation.0) ≡ (is_own t me who.slot.0 && is_live l who)
   occupant_lives x slot last own = go (is_own t me who.slot.0) (l.lives who.slot.0) own live generation
     where

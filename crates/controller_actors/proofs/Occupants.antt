@@ -1,9 +1,10 @@
 -- The actor that is found in a slot.
-use Rattle.std.proofs.Common.{◌≡◌, ℕ, ◌<◌, Bool, true, false, cond, Option, Some, None, length, refl, ap}
+use Rattle.std.proofs.Common.{◌≡◌, ℕ, Bool, true, false, cond, Option, Some, None, refl, ap}
 use Rattle.room_kinds.specs.declared.numbers.SlotId.{SlotId}
 use Rattle.room_kinds.specs.declared.numbers.Generation.{Generation}
 use Rattle.room_wiring.specs.declared.tables.Tables.{Tables}
 use Rattle.actor_duties.specs.State.{Lives}
+use Rattle.actor_duties.specs.Words.{is_own}
 use Rattle.frame_lives.specs.Known.{live_in}
 use Rattle.controller_actors.specs.Steps.{IsLast}
 
@@ -24,12 +25,12 @@ lost l s h = go (l.lives s) refl h
     go false e k = e
 
 -- and is the last there
-pub found_last : (t : Tables) (l : Lives) (slot : SlotId) (g : Generation) → slot.0 < length t.slots → live_in l slot.0 ≡ Some g
-    → IsLast t l (record { slot = slot; generation = g })
-found_last t l slot g there h =
+pub found_last : (t : Tables) (me : ℕ) (l : Lives) (slot : SlotId) (g : Generation) → is_own t me slot.0 ≡ true → live_in l slot.0 ≡ Some g
+    → IsLast t me l (record { slot = slot; generation = g })
+found_last t me l slot g own h =
     let f = found l slot.0 g h in
     record {
-      there = there;
+      own = own;
       last = ap (λ (n : ℕ). record { slot = slot; generation = record { 0 = n } }) f.1;
       live = f.0;
     }

@@ -1,5 +1,5 @@
 -- A turn by the cases of the definition.
-use Rattle.std.proofs.Common.{◌≡◌, ℕ, ◌<◌, ◌==◌, ◌&&◌, ◌||◌, not, Bool, slice_get, true, false, [], length, set, All, Some, None, refl, sym, ap, ◌∙◌, subst}
+use Rattle.std.proofs.Common.{◌≡◌, ℕ, ◌==◌, ◌&&◌, ◌||◌, not, Bool, slice_get, true, false, [], set, All, Some, None, refl, sym, ap, ◌∙◌, subst}
 use Rattle.std.proofs.lemmas.Bool.{and_from, cond-true, cond-false}
 use Rattle.std.proofs.lemmas.List.Elements.{All-nil}
 use Rattle.room_kinds.specs.declared.message.Msg.{Msg}
@@ -23,8 +23,10 @@ use Rattle.controller_actors.specs.actor_slots.Slots.{SlotTurns, slot_body, turn
 use Rattle.controller_actors.specs.declared.plant.Plant.{Plant}
 use Rattle.controller_actors.specs.declared.actors.Actors.{Actors}
 use Rattle.controller_actors.specs.Plants.{model_of}
+use Rattle.controller_actors.specs.Rows.{own_below}
 use Rattle.controller_actors.specs.Bodies.{IsWell, body_of, done_of, lives_of, slot_at}
 use Rattle.controller_actors.specs.Steps.{Dispatches, IsLast}
+use Rattle.controller_actors.proofs.OwnRows.{HasRow}
 use Rattle.controller_actors.proofs.Bodies.{body_same, body_set, has_slots_set, empty_set}
 
 -- ---- the cases of a dispatch, over any behaviour
@@ -68,7 +70,7 @@ module _ (p : Plant) (me : ℕ) (m : Msg) (old : Actors) where
   unfolding body_of
   frame_is = refl
 
-  machine_is : (s : ℕ) → (body_of p me old).machines s ≡ actor_in (slot_at old.slots.items s).occupant
+  machine_is : (s : ℕ) → (body_of p me old).machines s ≡ actor_in (slot_at p.wiring me old.slots.items s).occupant
   unfolding body_of
   machine_is s = refl
 
@@ -80,7 +82,7 @@ module _ (p : Plant) (me : ℕ) (m : Msg) (old : Actors) where
       ∙ ap (λ (d : TurnResult). with_body (done_of d) (body_of p me old)) (sym is)
 
   -- an actor that lives in the message's slot
-  module _ (who : Incarnation) (slot : who.slot ≡ m.target.slot) (last : IsLast p.wiring (lives_of old) who) (own : is_own p.wiring me m.target.slot.0 ≡ true) where
+  module _ (who : Incarnation) (slot : who.slot ≡ m.target.slot) (last : IsLast p.wiring me (lives_of old) who) (own : is_own p.wiring me m.target.slot.0 ≡ true) where
     here : is_here p.wiring me m old ≡ true
     here = and_from (is_own p.wiring me m.target.slot.0) ((lives_of old).lives m.target.slot.0) own (subst (λ (s : SlotId). (lives_of old).lives s.0 ≡ true) slot last.live)
 
@@ -104,7 +106,7 @@ module _ (p : Plant) (me : ℕ) (m : Msg) (old : Actors) where
     sends_handled new done h d = dispatch_handled (model_of p) p.wiring me (body_of p me old) m here (meant ∙ h) ∙ d.turn
 
   -- nobody stands in the slot
-  pub dispatches_nobody : (done : TurnResult) → actor_in (slot_at old.slots.items m.target.slot.0).occupant ≡ None → done ≡ record { sent = []; back = []; did = did.Empty (whose m.target); notes = [] }
+  pub dispatches_nobody : (done : TurnResult) → actor_in (slot_at p.wiring me old.slots.items m.target.slot.0).occupant ≡ None → done ≡ record { sent = []; back = []; did = did.Empty (whose m.target); notes = [] }
       → IsWell p me old → Dispatches p me m old old done
   dispatches_nobody done e is well = record {
     turn =
@@ -126,8 +128,8 @@ module _ (p : Plant) (me : ℕ) (m : Msg) (old : Actors) where
   dispatched_is actor = refl
 
   -- an actor stands in the slot
-  pub dispatches_actor : (new : Actors) (before after : ActorSlot) (done : TurnResult) → m.target.slot.0 < length old.slots.items
-      → before ≡ slot_at old.slots.items m.target.slot.0 → new.table ≡ old.table → new.slots.items ≡ set old.slots.items m.target.slot.0 after → Serves p.wiring me new.services
+  pub dispatches_actor : (new : Actors) (before after : ActorSlot) (done : TurnResult) → HasRow p.wiring me old.slots.items m.target.slot.0
+      → before ≡ slot_at p.wiring me old.slots.items m.target.slot.0 → new.table ≡ old.table → new.slots.items ≡ set old.slots.items (own_below p.wiring me m.target.slot.0) after → Serves p.wiring me new.services
       → SlotTurns p.wiring me (frame_in old.services.frame) (links_in old.services) (frame_in new.services.frame) (links_in new.services) (last_of (lives_of old) m.target.slot.0) m (tables_at p.wiring p.tables.items m.target.slot.0) before after done
       → (lives_of old).lives m.target.slot.0 ≡ true → IsWell p me old → Dispatches p me m old new done
   dispatches_actor new before after done l is table slots serves h live well =
@@ -146,7 +148,7 @@ module _ (p : Plant) (me : ℕ) (m : Msg) (old : Actors) where
             ∙ ap (treated_on done) (sym (body_set p me old new s after l table slots));
         well = record {
           has_slots = has_slots_set p me old new s after l h.lives slots serves well.has_slots h.fits;
-          empty = empty_set old new s after h.lives slots live [] well.empty;
+          empty = empty_set p me old new s after l h.lives slots live [] well.empty;
         };
         back = h.back;
       }

@@ -1,5 +1,5 @@
 -- What the actors of a controller do, step by step.
-use Rattle.std.specs.Prelude.{◌≡◌, ℕ, ◌<◌, ◌&&◌, Bool, true, List, [], ◌∷◌, ◌++◌, All, Option, map, filter, length, if◌then◌else◌}
+use Rattle.std.specs.Prelude.{◌≡◌, ℕ, ◌&&◌, Bool, true, List, [], ◌∷◌, ◌++◌, All, Option, map, filter, if◌then◌else◌}
 use Rattle.std.specs.List.{range_with_len}
 use Rattle.std.specs.Option.{option_map_or}
 use Rattle.room_kinds.specs.declared.message.Msg.{Msg}
@@ -24,6 +24,14 @@ use Rattle.controller_actors.specs.declared.start.Starting.{Starting}
 use Rattle.controller_actors.specs.Plants.{model_of}
 use Rattle.controller_actors.specs.Bodies.{AreEmpty, HasSlots, IsWell, body_of, done_of, lives_of}
 
+-- where nobody stood, nobody does
+abbrev pub StayEmpty : Plant → ℕ → Actors → Actors → Type 0
+StayEmpty plant me old new = (gone : List Incarnation) → AreEmpty plant me gone old → AreEmpty plant me gone new
+
+-- nor in the slot of an incarnation that has ended
+abbrev pub IsVacated : Plant → ℕ → Incarnation → Actors → Actors → Type 0
+IsVacated plant me x old new = (rest : List Incarnation) → AreEmpty plant me (x ∷ rest) old → AreEmpty plant me rest new
+
 -- the actor of the message's slot handled it, or nobody stands there
 pub record Dispatches (plant : Plant) (me : ℕ) (m : Msg) (old new : Actors) (done : TurnResult) : Type 0 where
   pub turn : dispatched (model_of plant) plant.wiring me (body_of plant me old) m ((body_of plant me old).machines m.target.slot.0) ≡ with_body (done_of done) (body_of plant me new)
@@ -40,11 +48,15 @@ pub record ActorsBegin (plant : Plant) (me slot : ℕ) (old new : Actors) (sent 
   pub state : e.state ≡ state_number (begins (last_of (lives_of old) slot) (tables_at plant.wiring plant.tables.items slot)).machine
   pub has_slots : HasSlots plant me new
   pub lives : lives_of new ≡ lives_of old
-  pub empty : (gone : List Incarnation) → AreEmpty gone old → AreEmpty gone new
+  pub empty : StayEmpty plant me old new
 
--- an incarnation that lives, in a slot of the wiring
-pub record IsLast (t : Wiring) (l : Lives) (x : Incarnation) : Type 0 where
-  pub there : x.slot.0 < length t.slots
+-- an incarnation in a slot that controller me owns
+abbrev pub IsOwn : Wiring → ℕ → Incarnation → Type 0
+IsOwn t me x = is_own t me x.slot.0 ≡ true
+
+-- one that lives there
+pub record IsLast (t : Wiring) (me : ℕ) (l : Lives) (x : Incarnation) : Type 0 where
+  pub own : IsOwn t me x
   pub last : last_of l x.slot.0 ≡ x
   pub live : l.lives x.slot.0 ≡ true
 

@@ -21,7 +21,7 @@ use service_messages::{is_own, whose};
 use std::alloc::{AllocError, Global};
 
 /// What a controller keeps besides its mail: its services, the name table, which is used on controller 0
-/// alone, and for each slot what stands there and what that keeps for later.
+/// alone, and for each slot that it owns, in their order, what stands there and what that keeps for later.
 #[derive(Drop)]
 pub struct Actors {
     pub(crate) alloc: Global,
@@ -88,7 +88,7 @@ impl Actors {
         back: Recalled,
     ) -> Result<Entrance, AllocError>
         requires has_slots { HasSlots plant.now me.0 self.old }
-        requires last { IsLast plant.now.wiring (lives_of self.old) who }
+        requires last { IsLast plant.now.wiring me.0 (lives_of self.old) who }
         ensures { IfOk result (λ e. ActorsBegin plant.now me.0 who.slot.0 self.old self.new sent back e) }
     {
         let alloc = self.alloc;
@@ -98,7 +98,7 @@ impl Actors {
             who,
         };
         let tables = plant.tables_of(who.slot);
-        let actor_slot = &mut self.slots[usize::from(who.slot.0)];
+        let actor_slot = &mut self.slots[plant.row_of(who.slot)];
         let entrance = actor_slot.begin(alloc, &speaker, &mut self.services, tables, sent, back)?;
         Ok(entrance)
     }
@@ -112,7 +112,7 @@ impl Actors {
         m: Msg,
     ) -> Result<TurnResult, AllocError>
         requires well { IsWell plant.now me.0 self.old }
-        requires last { IsLast plant.now.wiring (lives_of self.old) who }
+        requires last { IsLast plant.now.wiring me.0 (lives_of self.old) who }
         requires target { who.slot ≡ m.target.slot }
         requires prio { IsForActors m }
         ensures { IfOk result (λ done. Dispatches plant.now me.0 m self.old self.new done) }
@@ -125,7 +125,7 @@ impl Actors {
             who,
         };
         let tables = plant.tables_of(who.slot);
-        let actor_slot = &mut self.slots[usize::from(who.slot.0)];
+        let actor_slot = &mut self.slots[plant.row_of(who.slot)];
         let handled = actor_slot.handle(alloc, &speaker, &mut self.services, tables, m)?;
         match handled {
             Some(done) => Ok(done),
@@ -140,7 +140,7 @@ impl Actors {
         me: ControllerId,
         slot: SlotId,
     ) -> Option<Incarnation>
-        ensures { MatchOption result ((is_own plant.now.wiring me.0 slot.0 && (lives_of self.now).lives slot.0) ≡ false) (λ x. (x.slot ≡ slot) × IsLast plant.now.wiring (lives_of self.now) x × (is_own plant.now.wiring me.0 slot.0 ≡ true)) }
+        ensures { MatchOption result ((is_own plant.now.wiring me.0 slot.0 && (lives_of self.now).lives slot.0) ≡ false) (λ x. (x.slot ≡ slot) × IsLast plant.now.wiring me.0 (lives_of self.now) x × (is_own plant.now.wiring me.0 slot.0 ≡ true)) }
     {
         if !is_own(&plant.wiring, me, slot) {
             return None;

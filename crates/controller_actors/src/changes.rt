@@ -1,10 +1,9 @@
 //! Actors that come up and go down in a turn.
-ghost use Rattle.std.specs.Prelude.{◌<◌, ◌∷◌, List, [], length, All, OnOk};
-ghost use Rattle.room_kinds.specs.declared.numbers.Incarnation.{Incarnation as Actor};
+ghost use Rattle.std.specs.Prelude.{[], All, OnOk};
 ghost use Rattle.actor_world.specs.Turns.{begun, all_begun, gone, all_gone};
 ghost use Rattle.controller_actors.specs.Plants.{model_of};
 ghost use Rattle.controller_actors.specs.Bodies.{AreEmpty, HasSlots, lives_of};
-ghost use Rattle.controller_actors.specs.Steps.{IsLast, Moves};
+ghost use Rattle.controller_actors.specs.Steps.{IsLast, IsOwn, IsVacated, Moves, StayEmpty};
 
 use crate::actors::Actors;
 use crate::plant::Plant;
@@ -29,9 +28,9 @@ impl Actors {
         so_far: &mut SoFar,
     ) -> Result<(), AllocError>
         requires has_slots { HasSlots plant.now me.0 self.old }
-        requires last { IsLast plant.now.wiring (lives_of self.old) who }
+        requires last { IsLast plant.now.wiring me.0 (lives_of self.old) who }
         ensures moves { OnOk result (Moves (begun (model_of plant.now) plant.now.wiring me.0 who) plant.now me.0 self.old so_far.old self.new so_far.new) }
-        ensures empty { OnOk result ((gone : List Actor) → AreEmpty gone self.old → AreEmpty gone self.new) }
+        ensures empty { OnOk result (StayEmpty plant.now me.0 self.old self.new) }
     {
         let alloc = self.alloc;
         let speaker = Speaker {
@@ -40,7 +39,7 @@ impl Actors {
             who,
         };
         let tables = plant.tables_of(who.slot);
-        let actor_slot = &mut self.slots[usize::from(who.slot.0)];
+        let actor_slot = &mut self.slots[plant.row_of(who.slot)];
         actor_slot.come_up(
             alloc,
             &speaker,
@@ -61,9 +60,9 @@ impl Actors {
         so_far: &mut SoFar,
     ) -> Result<(), AllocError>
         requires has_slots { HasSlots plant.now me.0 self.old }
-        requires last { All (IsLast plant.now.wiring (lives_of self.old)) made.now }
+        requires last { All (IsLast plant.now.wiring me.0 (lives_of self.old)) made.now }
         ensures moves { OnOk result (Moves (all_begun (model_of plant.now) plant.now.wiring me.0 made.now) plant.now me.0 self.old so_far.old self.new so_far.new) }
-        ensures empty { OnOk result ((gone : List Actor) → AreEmpty gone self.old → AreEmpty gone self.new) }
+        ensures empty { OnOk result (StayEmpty plant.now me.0 self.old self.new) }
     {
         for who in made {
             self.come_up(plant, me, *who, so_far)?;
@@ -81,12 +80,12 @@ impl Actors {
         so_far: &mut SoFar,
     ) -> Result<(), AllocError>
         requires has_slots { HasSlots plant.now me.0 self.old }
-        requires there { who.slot.0 < length plant.now.wiring.slots }
+        requires own { IsOwn plant.now.wiring me.0 who }
         ensures moves { OnOk result (Moves (gone plant.now.wiring me.0 who) plant.now me.0 self.old so_far.old self.new so_far.new) }
-        ensures empty { OnOk result ((rest : List Actor) → AreEmpty (who ∷ rest) self.old → AreEmpty rest self.new) }
+        ensures empty { OnOk result (IsVacated plant.now me.0 who self.old self.new) }
     {
         let alloc = self.alloc;
-        let actor_slot = &mut self.slots[usize::from(who.slot.0)];
+        let actor_slot = &mut self.slots[plant.row_of(who.slot)];
         let lost = actor_slot.vacate(alloc);
         so_far.output.notes.push(Note::Down { who, lost })?;
         let out = &mut so_far.output.messages;
@@ -103,9 +102,9 @@ impl Actors {
         so_far: &mut SoFar,
     ) -> Result<(), AllocError>
         requires has_slots { HasSlots plant.now me.0 self.old }
-        requires there { All (λ (x : Actor). x.slot.0 < length plant.now.wiring.slots) ended.now }
+        requires own { All (IsOwn plant.now.wiring me.0) ended.now }
         ensures moves { OnOk result (Moves (all_gone plant.now.wiring me.0 ended.now) plant.now me.0 self.old so_far.old self.new so_far.new) }
-        ensures empty { OnOk result (AreEmpty ended.now self.old → AreEmpty [] self.new) }
+        ensures empty { OnOk result (AreEmpty plant.now me.0 ended.now self.old → AreEmpty plant.now me.0 [] self.new) }
     {
         for who in ended {
             self.go_down(plant, me, *who, so_far)?;

@@ -1,6 +1,5 @@
 //! Duties: what a turn makes of a message of priority 0.
-ghost use Rattle.std.specs.Prelude.{◌≡◌, ◌<◌, ◌&&◌, [], length, All, IfOk, OnOk};
-ghost use Rattle.room_kinds.specs.declared.numbers.Incarnation.{Incarnation as Actor};
+ghost use Rattle.std.specs.Prelude.{◌≡◌, ◌&&◌, [], All, IfOk, OnOk};
 ghost use Rattle.room_kinds.specs.Kinds.{number_of};
 ghost use Rattle.actor_duties.specs.Words.{is_own};
 ghost use Rattle.actor_duties.specs.Lives.{is_live};
@@ -8,7 +7,7 @@ ghost use Rattle.actor_world.specs.Turns.{treat};
 ghost use Rattle.controller_mail.specs.MailState.{IsForActors, with_body};
 ghost use Rattle.controller_actors.specs.Plants.{model_of};
 ghost use Rattle.controller_actors.specs.Bodies.{AreEmpty, HasSlots, IsWell, body_of, done_of, lives_of};
-ghost use Rattle.controller_actors.specs.Steps.{Closes, IsLast};
+ghost use Rattle.controller_actors.specs.Steps.{Closes, IsLast, IsOwn};
 ghost use Rattle.controller_actors.specs.Duties.{Finishes, HasDuty, service_of};
 
 use crate::actors::Actors;
@@ -122,9 +121,9 @@ impl Actors {
         sent: Outbox,
     ) -> Result<TurnResult, AllocError>
         requires has_slots { HasSlots plant.now me.0 self.old }
-        requires empty { AreEmpty left.ended self.old }
-        requires made { All (IsLast plant.now.wiring (lives_of self.old)) left.made }
-        requires ended { All (λ (x : Actor). x.slot.0 < length plant.now.wiring.slots) left.ended }
+        requires empty { AreEmpty plant.now me.0 left.ended self.old }
+        requires made { All (IsLast plant.now.wiring me.0 (lives_of self.old)) left.made }
+        requires ended { All (IsOwn plant.now.wiring me.0) left.ended }
         ensures { IfOk result (λ done. Finishes plant.now me.0 left sent self.old self.new done) }
     {
         let alloc = self.alloc;

@@ -13,8 +13,10 @@ mod changes;
 mod duties;
 mod plant;
 mod services;
+mod slot_rows;
 mod start;
 
 pub use actors::{Actors, Begun};
 pub use plant::Plant;
 pub use services::ActorServices;
+pub use slot_rows::SlotRows;

@@ -1,23 +1,35 @@
 //! Plants.
-ghost use Rattle.std.specs.Prelude.{◌≡◌};
+ghost use Rattle.std.specs.Prelude.{◌≡◌, ◌<◌, length};
 ghost use Rattle.std.specs.Option.{option_copied};
 ghost use Rattle.chart_behaviour.specs.ModelCharts.{tables_at};
 ghost use Rattle.controller_actors.specs.PlantParts.{AreOfPlant, AreOfPlant-prop};
+ghost use Rattle.controller_actors.specs.Rows.{AreRows, AreRows-prop, IsRowOf};
 
+use crate::slot_rows::SlotRows;
 use chart_run::Tables;
 use room_kinds::SlotId;
 use room_wiring::Wiring;
 
-/// What a model runs as: its wiring, and for each actor class, in order of declaration, the tables of its
-/// chart, if it has one. Controllers run on every plant.
+/// What a model runs as: its wiring, for each actor class, in order of declaration, the tables of its
+/// chart, if it has one, and which row each slot has at its owner. Controllers run on every plant.
 #[derive(Drop)]
 pub struct Plant {
     pub wiring: Wiring,
     pub tables: Vec<Option<Tables>>,
+    pub rows: SlotRows,
     pub ghost fits: { AreOfPlant wiring tables.items } by { AreOfPlant-prop wiring tables.items },
+    pub ghost in_rows: { AreRows wiring rows } by { AreRows-prop wiring rows },
 }
 
 impl Plant {
+    /// The row of a slot in the table of its owner.
+    pub(crate) fn row_of(&self, slot: SlotId) -> usize
+        requires { slot.0 < length self.now.wiring.slots }
+        ensures { IsRowOf self.now.wiring slot.0 result }
+    {
+        self.rows.row(slot)
+    }
+
     /// The tables of the class of a slot, if it has a chart. It takes no memory.
     #[tactic(auto, using(crate::proofs::Tabled::no_class, crate::proofs::Tabled::class_tables_at), unfolding(chart_behaviour::specs::ModelCharts::tables_at))]
     pub(crate) fn tables_of(&self, slot: SlotId) -> Option<&Tables>

@@ -9,6 +9,7 @@ use crate::actor_slots::{ActorSlot, Entrance};
 use crate::actors::{Actors, Begun};
 use crate::plant::Plant;
 use crate::services::ActorServices;
+use crate::slot_rows::own_count;
 use actor_commands::{Output, Recalled};
 use frame_service::FrameState;
 use journal::{Entry, Journal};
@@ -45,7 +46,7 @@ impl Starting {
         who: Incarnation,
     ) -> Result<(), AllocError>
         requires has_slots { HasSlots plant.now me.0 self.old.actors }
-        requires last { IsLast plant.now.wiring (lives_of self.old.actors) who }
+        requires last { IsLast plant.now.wiring me.0 (lives_of self.old.actors) who }
         ensures { OnOk result (StartsIn plant.now me.0 who.slot.0 self.old self.new) }
     {
         let alloc = self.actors.alloc;
@@ -67,7 +68,6 @@ impl Starting {
     /// The actor of a slot starts, if one lives there from the start.
     fn consider(&mut self, plant: &Plant, me: ControllerId, slot: SlotId) -> Result<(), AllocError>
         requires started { Starts plant.now me.0 (first_below plant.now.wiring me.0 slot.0) self.old }
-        requires there { slot.0 < length plant.now.wiring.slots }
         ensures { OnOk result (Starts plant.now me.0 (first_below plant.now.wiring me.0 slot.0 ++ first_in plant.now.wiring me.0 slot.0) self.new) }
     {
         let Some(generation) = self.actors.services.frame.live(slot) else {
@@ -97,7 +97,7 @@ pub(crate) fn start(alloc: Global, plant: &Plant, me: ControllerId) -> Result<Be
     ensures well { IfOk result (λ b. IsWell plant.now me.0 b.actors) }
 {
     let frame = FrameState::start(alloc, &plant.wiring, me)?;
-    let slots = vacant_slots(alloc, plant.wiring.slot_count())?;
+    let slots = vacant_slots(alloc, own_count(&plant.wiring, me))?;
     let mut starting = Starting {
         actors: Actors {
             alloc,

@@ -2,6 +2,7 @@
 ghost use Rattle.std.specs.Prelude.{◌≡◌, IfOk, length, vec_len};
 
 use controller::{Controller, Environment, Plant, has_message, is_quiet};
+use controller_actors::SlotRows;
 use mail_core::{Mail, MailLocal};
 use plain_messages::message;
 use room_kinds::{ControllerId, Sequence};
@@ -25,9 +26,12 @@ fn pair(alloc: Global) -> Result<Plant, AllocError>
         partners: Sequence::new(alloc),
         told: Sequence::new(alloc),
     };
+    let wiring = Wiring::new(tables);
+    let rows = SlotRows::of(alloc, &wiring)?;
     Ok(Plant {
-        wiring: Wiring::new(tables),
+        wiring,
         tables: Vec::new(alloc),
+        rows,
     })
 }
 

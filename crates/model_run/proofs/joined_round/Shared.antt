@@ -28,6 +28,8 @@ use Rattle.chart_run.specs.contracts.chart_tables.tables.Row as Row
 use Rattle.chart_run.specs.contracts.chart_tables.tables.Node as Node
 use Rattle.chart_run.specs.contracts.chart_tables.tables.Tables as Tables
 use Rattle.controller_actors.specs.contracts.plant.Plant as Plant
+use Rattle.controller_actors.specs.contracts.slot_rows.SlotRows as SlotRows
+use Rattle.controller_actors.proofs.slot_rows.SlotRows.TheSendSync.{the_sync as rows_sync}
 
 -- a list and an option, as fields
 vec_sync : (R : RattleType) → IsSync R → IsSync (as_row (Vec.the_field R Global.the_row ghosts))
@@ -92,4 +94,7 @@ tables_sync = declared_sync Tables.the_type (
 )
 
 pub plant_sync : IsSync Plant.the_row
-plant_sync = declared_sync Plant.the_type (as_row_sync Wiring.the_field wiring_sync, (vec_sync (Option.the_row Tables.the_row) (option_row Tables.the_row tables_sync), tt))
+plant_sync = declared_sync Plant.the_type (
+  as_row_sync Wiring.the_field wiring_sync,
+  (vec_sync (Option.the_row Tables.the_row) (option_row Tables.the_row tables_sync), (as_row_sync SlotRows.the_field rows_sync, tt)),
+)

@@ -10,7 +10,7 @@ ghost use Rattle.room_run.specs.model_plants.Shown.{IsValidIfAny};
 use chart_compile::compile;
 use chart_reading::Chart;
 use chart_run::Tables;
-use controller_actors::Plant;
+use controller_actors::{Plant, SlotRows};
 use room_wiring::Wiring;
 use std::alloc::{AllocError, Global};
 
@@ -53,5 +53,10 @@ pub fn plant_of(
     ensures tables { IfOk result (λ p. ShowCharts p.tables.items (map (option_map chart_view) charts.now)) }
 {
     let tables = all_tables(alloc, charts)?;
-    Ok(Plant { wiring, tables })
+    let rows = SlotRows::of(alloc, &wiring)?;
+    Ok(Plant {
+        wiring,
+        tables,
+        rows,
+    })
 }

@@ -11,7 +11,7 @@ start_all-requires c =
     let actors : Actors = record { alloc = c.args.alloc; services = record { frame = c.in_ok-frame.frame; links = c.new.result }; table = c.new-2.result; slots = c.in_ok-slots.slots } in
     let none : Starting = record { actors = actors; sent = c.new-3.result; back = c.new-4.result; entries = c.new-5.result } in
     record {
-      started = starts_none c.args.plant.now c.args.me.0 none (record { fits = c.in_ok-frame.ensures.fits; owner = ap (λ (x : ControllerId). x.0) c.in_ok-frame.ensures.me }) c.in_ok-frame.ensures.frame c.new.ensures c.new-2.ensures (c.in_ok-slots.ensures ∙ ap (λ n. replicate n vacant) c.slot_count.ensures.count)
+      started = starts_none c.args.plant.now c.args.me.0 none (record { fits = c.in_ok-frame.ensures.fits; owner = ap (λ (x : ControllerId). x.0) c.in_ok-frame.ensures.me }) c.in_ok-frame.ensures.frame c.new.ensures c.new-2.ensures (c.in_ok-slots.ensures ∙ ap (λ n. replicate n vacant) c.own_count.ensures)
           c.new-3.ensures c.new-4.ensures c.new-5.ensures;
     }
 

@@ -21,8 +21,8 @@ come_up-requires-clause-has_slots c = c.loop-who.invariant.0.has_slots
 
 pub come_up-requires-clause-last : goal.come_up-requires-clause-last
 come_up-requires-clause-last c =
-    subst (λ (l : Lives). IsLast c.args.plant.now.wiring l (get_or c.args.made.now c.loop-who.who-index no_one)) (sym c.loop-who.invariant.0.lives)
-    (All-get_or (IsLast c.args.plant.now.wiring (lives_of c.args.self.now)) c.args.made.now c.loop-who.who-index no_one c.loop-who-test.true c.requires.last)
+    subst (λ (l : Lives). IsLast c.args.plant.now.wiring c.args.me.0 l (get_or c.args.made.now c.loop-who.who-index no_one)) (sym c.loop-who.invariant.0.lives)
+    (All-get_or (IsLast c.args.plant.now.wiring c.args.me.0 (lives_of c.args.self.now)) c.args.made.now c.loop-who.who-index no_one c.loop-who-test.true c.requires.last)
 
 pub loop-who-preserved : goal.loop-who-preserved
 loop-who-preserved c =

@@ -1,13 +1,11 @@
-use Rattle.std.proofs.Common.{take, List}
-use Rattle.room_kinds.specs.declared.numbers.Incarnation.{Incarnation}
+use Rattle.std.proofs.Common.{take}
 use Rattle.actor_world.specs.Turns.{all_begun}
 use Rattle.controller_actors.specs.Plants.{model_of}
-use Rattle.controller_actors.specs.Bodies.{AreEmpty}
-use Rattle.controller_actors.specs.Steps.{Moves}
+use Rattle.controller_actors.specs.Steps.{Moves, StayEmpty}
 use Rattle.controller_actors.proofs.actors.Actors.all_come_up.Given as goal
 
 -- those so far came up
 abbrev pub invariant-loop-who : goal.invariant-loop-who
 invariant-loop-who l =
     Moves (all_begun (model_of l.plant) l.plant.wiring l.me.0 (take l.who-index l.made)) l.plant l.me.0 l.fn.self l.fn.so_far l.self l.so_far
-    × ((gone : List Incarnation) → AreEmpty gone l.fn.self → AreEmpty gone l.self)
+    × StayEmpty l.plant l.me.0 l.fn.self l.self

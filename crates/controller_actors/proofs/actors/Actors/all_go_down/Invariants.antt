@@ -8,4 +8,4 @@ use Rattle.controller_actors.proofs.actors.Actors.all_go_down.Given as goal
 abbrev pub invariant-loop-who : goal.invariant-loop-who
 invariant-loop-who l =
     Moves (all_gone l.plant.wiring l.me.0 (take l.who-index l.ended)) l.plant l.me.0 l.fn.self l.fn.so_far l.self l.so_far
-    × (AreEmpty l.ended l.fn.self → AreEmpty (drop l.who-index l.ended) l.self)
+    × (AreEmpty l.plant l.me.0 l.ended l.fn.self → AreEmpty l.plant l.me.0 (drop l.who-index l.ended) l.self)

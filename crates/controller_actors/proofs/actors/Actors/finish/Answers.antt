@@ -23,7 +23,7 @@ returns c =
     subst (λ (xs : List Incarnation). Moves (all_begun (model_of p) p.wiring me xs) p me old first mid one) c.as_slice.ensures c.in_ok-all_come_up.ensures.moves in
     let k : Moves (all_gone p.wiring me left.ended) p me mid one new two =
     subst (λ (xs : List Incarnation). Moves (all_gone p.wiring me xs) p me mid one new two) c.as_slice-2.ensures c.in_ok-all_go_down.ensures.moves in
-    let empty : AreEmpty left.ended mid = c.in_ok-all_come_up.ensures.empty left.ended c.requires.empty in
+    let empty : AreEmpty p me left.ended mid = c.in_ok-all_come_up.ensures.empty left.ended c.requires.empty in
     finishes p me left c.args.sent old mid new first one two c.close.new.so_far c.done.result
     (ap (λ (s : SoFar). s.output.messages) c.in_ok-so_far.ensures) (ap (λ (s : SoFar). s.output.notes) c.in_ok-so_far.ensures) (ap (λ (s : SoFar). s.back) c.in_ok-so_far.ensures) h k c.in_ok-close.ensures c.done.ensures
-    (c.in_ok-all_go_down.ensures.empty (subst (λ (xs : List Incarnation). AreEmpty xs mid) (sym c.as_slice-2.ensures) empty))
+    (c.in_ok-all_go_down.ensures.empty (subst (λ (xs : List Incarnation). AreEmpty p me xs mid) (sym c.as_slice-2.ensures) empty))

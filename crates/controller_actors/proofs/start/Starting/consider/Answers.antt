@@ -3,7 +3,7 @@ use Rattle.std.proofs.lemmas.List.{append-nil}
 use Rattle.room_kinds.specs.declared.numbers.Incarnation.{Incarnation}
 use Rattle.controller_actors.specs.Bodies.{lives_of}
 use Rattle.controller_actors.specs.Steps.{Starts, first_below}
-use Rattle.controller_actors.proofs.Beginnings.{first_nobody, first_there}
+use Rattle.controller_actors.proofs.Beginnings.{first_nobody, first_own, first_there}
 use Rattle.controller_actors.proofs.Occupants.{found, lost, found_last}
 use Rattle.controller_actors.proofs.start.Starting.consider.Goals as goal
 
@@ -20,9 +20,15 @@ returns-in_default c =
 
 pub start_in-requires : goal.start_in-requires
 start_in-requires c =
+    let p = c.args.plant.now in
+    let me = c.args.me.0 in
+    let s = c.args.slot.0 in
+    let l = lives_of c.args.self.now.actors in
+    let there = sym c.live.ensures ∙ c.in-Some.is in
+    let alive : l.lives s ≡ true = (found l s c.in-Some.generation there).0 in
     record {
       has_slots = c.requires.started.well.has_slots;
-      last = found_last c.args.plant.now.wiring (lives_of c.args.self.now.actors) c.args.slot c.in-Some.generation c.requires.there (sym c.live.ensures ∙ c.in-Some.is);
+      last = found_last p.wiring me l c.args.slot c.in-Some.generation (first_own p me l c.requires.started.lives s alive) there;
     }
 
 pub returns : goal.returns
