@@ -239,9 +239,10 @@ impl Controller {
         self.state.mail.clock()
     }
 
-    /// Whether a message waits for its turn. It takes no memory.
+    /// Whether a message waits for its turn, at one of the six priorities. It takes no memory.
     pub fn has_pending(&self) -> bool
-        ensures { result ≡ list_any has_messages self.now.mail.pending }
+        ensures waits { result ≡ list_any has_messages self.now.mail.pending }
+        ensures six { length self.now.mail.pending ≡ 6 }
     {
         self.state.mail.has_pending()
     }

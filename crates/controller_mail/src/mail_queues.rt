@@ -170,9 +170,10 @@ impl MailQueues {
         fuel <= self.turns
     }
 
-    /// Whether a message waits for its turn. It takes no memory.
+    /// Whether a message waits for its turn, at one of the six priorities. It takes no memory.
     pub fn has_pending(&self) -> bool
-        ensures { result ≡ list_any has_messages self.now.pending }
+        ensures waits { result ≡ list_any has_messages self.now.pending }
+        ensures six { length self.now.pending ≡ 6 }
     {
         self.pending.has_messages()
     }

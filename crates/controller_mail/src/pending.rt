@@ -89,7 +89,8 @@ impl Pending {
 
     /// Whether a message waits.
     pub(crate) fn has_messages(&self) -> bool
-        ensures { result ≡ list_any has_messages self.now }
+        ensures waits { result ≡ list_any has_messages self.now }
+        ensures six { length self.now ≡ 6 }
     {
         self.lists.iter().any(|list| !list.is_empty())
     }

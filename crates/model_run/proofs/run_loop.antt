@@ -2,3 +2,5 @@ pub mod ListFacts
 pub mod PlayLaw
 pub mod LastEnd
 pub mod Skipping
+pub mod StepsLeft
+pub mod Beginning

@@ -1,1 +1,2 @@
 pub mod WorkLaw
+pub mod Counting

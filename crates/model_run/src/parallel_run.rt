@@ -62,12 +62,8 @@ pub fn run_parts<
     ensures asked { IfOk result (λ j. Asked S.goes_on source.old source.new (seen_in j)) }
 {
     let mut run = Run::start(alloc, plant, fuel)?;
-    for _round in 0..u64::MAX {
-        let Some((_office, ends)) = next_round::<M, S>(alloc, plant, &mut run, source, fuel)? else {
-            return run.journals(alloc, plant, source, fuel);
-        };
+    while let Some((_office, ends)) = next_round::<M, S>(alloc, plant, &mut run, source, fuel)? {
         round_at_once(rt, alloc, &mut run.controllers, plant, ends, gate)?;
     }
-    // Never reached: each round but the last of a part takes a turn, which is an entry. So many no memory holds.
-    Err(AllocError)
+    run.journals(alloc, plant, source, fuel)
 }

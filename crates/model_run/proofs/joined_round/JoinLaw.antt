@@ -1,5 +1,7 @@
 -- One step after another, for each controller.
-use Rattle.std.proofs.Common.{◌≡◌, ℕ, zero, suc, ◌+◌, ◌<◌, Bool, false, List, [], ◌∷◌, length, map, set, get_or, slice_get, slice_index_or, Option, Some, Result, Ok, Err, OnOk, refl, sym, ap, ◌∙◌, subst, arith}
+use Rattle.std.proofs.Common.{◌≡◌, ℕ, zero, suc, ◌+◌, ◌<◌, ◌≤◌, Bool, true, false, List, [], ◌∷◌, length, map, set, get_or, slice_get, slice_index_or, Option, Some, None, Result, Ok, Err, OnOk, refl, sym, ap, ◌∙◌, subst, arith, ◌⊎◌, inl, inr}
+use Rattle.std.specs.List.{list_any}
+use Rattle.std.proofs.lemmas.Bool.{cases_lt}
 use Rattle.std.proofs.lemmas.Option.{slice_get_read, slice_get_within, get_or_from_slice_get}
 use Rattle.std.proofs.lemmas.List.{map-set, get_or-map, get_or-set_other}
 use Rattle.room_kinds.specs.declared.message.Msg.{Msg}
@@ -9,22 +11,53 @@ use Rattle.mail_core.specs.SetUp.{IsLeft}
 use Rattle.mail_core.proofs.Tied.{log_at-map}
 use Rattle.model_run.specs.run_rounds.OneByOne.{StepsBelow}
 use Rattle.model_run.proofs.run_rounds.OneByOne.{steps_one, slice_get-other, slice_get-same}
+use Rattle.actor_merge.specs.Parties.{front_or, lowest, next_of}
+use Rattle.controller_mail.specs.MailState.{has_messages, pending_of}
 use Rattle.controller_actors.specs.declared.plant.Plant.{Plant}
 use Rattle.controller.specs.Controllers.{IsOf}
 use Rattle.controller.specs.Calls.{Turns, took_one, took_none}
 use Rattle.controller.specs.View.{Controller}
 use Rattle.controller.proofs.Going.{goes_none}
 use Rattle.model_run.specs.run_worker.Works.{Works}
+use Rattle.model_run.proofs.run_loop.ListFacts.{found}
 use Rattle.model_run.specs.joined_round.Joined.{AllStand, Changes, LastTurn, IsReady, seat, WorkedAt, FetchedAt, TurnedAt, HaveWorked, AreJoined, Joined, RoundDone}
+
+-- where nobody's turn is, no message waits
+lowest_none : (pending : ℕ → List Msg) (at k : ℕ) → lowest pending at k ≡ None → (j : ℕ) → at ≤ j → j < at + k → pending j ≡ []
+unfolding lowest
+lowest_none pending at zero e j low high = absurd (omega arith)
+lowest_none pending at (suc k) e j low high = go (pending at) refl e (λ f a b. lowest_none pending (at + 1) k f j a b)
+  where
+    go : (front : List Msg) → pending at ≡ front → front_or at front (lowest pending (at + 1) k) ≡ None
+        → (lowest pending (at + 1) k ≡ None → at + 1 ≤ j → j < (at + 1) + k → pending j ≡ []) → pending j ≡ []
+    go [] is f later = elim (cases_lt at j) [
+      | inl above ↦ later f (omega arith) (omega arith)
+      | inr here ↦ let same : j ≡ at = omega arith in ap pending same ∙ is
+    ]
+    go (m ∷ ms) is f later = absurd cc
+
+no_messages : (ms : List Msg) → ms ≡ [] → has_messages ms ≡ true → ⊥
+no_messages [] e h = cc
+no_messages (m ∷ ms) e h = absurd cc
+
+somebodys_turn : (lists : List (List Msg)) → length lists ≡ 6 → list_any has_messages lists ≡ true → next_of (pending_of lists) ≡ None → ⊥
+somebodys_turn lists six some none =
+    let f = found has_messages lists some in
+    let inside : f.place < length lists = slice_get_within lists f.place f.item f.there in
+    let empty : pending_of lists f.place ≡ [] = lowest_none (pending_of lists) 0 6 none f.place (omega arith) (omega (arith, six, inside)) in
+    let here : pending_of lists f.place ≡ f.item = get_or_from_slice_get lists f.place f.item [] f.there in
+    no_messages f.item (sym here ∙ empty) f.holds
 
 module _ (plant : Plant) where
   -- no turn
-  pub turn_none : (k : Controller) → k.failed ≡ false → LastTurn plant k k
-  turn_none k works = record { entries = []; goes = goes_none plant k works; only = tt; fuelled = λ h. h }
+  pub turn_none : (k : Controller) → k.failed ≡ false → (list_any has_messages k.mail.pending ≡ false) ⊎ (k.fuel ≤ k.mail.turns) → LastTurn plant k k
+  turn_none k works why = record { entries = []; goes = goes_none plant k works; only = tt; fuelled = λ h. h; went = inr (record { same = refl; why = why }) }
 
-  pub turn_taken : (old new : Controller) (took : Bool) → old.failed ≡ false → old.mail.turns < old.fuel → Turns plant old new took → LastTurn plant old new
-  turn_taken old new took works fuel (took_one e t is goes more) = record { entries = e ∷ []; goes = goes; only = (is, tt); fuelled = λ h. omega arith }
-  turn_taken old new took works fuel (took_none t none same) = subst (λ (z : Controller). LastTurn plant old z) (sym same) (turn_none old works)
+  pub turn_taken : (old new : Controller) (took : Bool) → old.failed ≡ false → old.mail.turns < old.fuel → length old.mail.pending ≡ 6 → list_any has_messages old.mail.pending ≡ true
+      → Turns plant old new took → LastTurn plant old new
+  turn_taken old new took works fuel six some (took_one e t is goes more) =
+      record { entries = e ∷ []; goes = goes; only = (is, tt); fuelled = λ h. omega arith; went = inl (omega (arith, more)) }
+  turn_taken old new took works fuel six some (took_none t none same) = absurd (somebodys_turn old.mail.pending six some none)
 
   module _ (olds mids fetched news : List Controller) (logs logs' : List EndLog) (answer : List (List Msg)) (n : ℕ)
       (here : n ≡ length plant.wiring.controllers)

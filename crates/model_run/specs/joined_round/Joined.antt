@@ -1,10 +1,12 @@
 -- What all controllers do in a round.
-use Rattle.std.specs.Prelude.{◌≡◌, ℕ, ◌<◌, ◌≤◌, false, List, [], length, slice_get, slice_index_or, Option, Some}
+use Rattle.std.specs.Prelude.{◌≡◌, ℕ, ◌<◌, ◌≤◌, ◌⊎◌, false, List, [], length, slice_get, slice_index_or, Option, Some}
+use Rattle.std.specs.List.{list_any}
 use Rattle.room_kinds.specs.declared.message.Msg.{Msg}
 use Rattle.journal.specs.declared.entry.Entry.{Entry}
 use Rattle.mail_core.specs.EndLog.{EndLog}
 use Rattle.mail_core.specs.Lanes.{log_at}
 use Rattle.mail_core.specs.SetUp.{IsLeft}
+use Rattle.controller_mail.specs.MailState.{has_messages}
 use Rattle.model_run.specs.run_rounds.OneByOne.{StepsBelow}
 use Rattle.model_run.specs.run_rounds.Rounds.{OnlyTurns}
 use Rattle.controller_actors.specs.declared.plant.Plant.{Plant}
@@ -19,12 +21,18 @@ pub record AllStand (plant : Plant) (ks : List Controller) : Type 0 where
   pub me : (c : ℕ) (k : Controller) → slice_get ks c ≡ Some k → k.me.0 ≡ c
   pub of : (c : ℕ) (k : Controller) → slice_get ks c ≡ Some k → IsOf plant k
 
--- a turn, or none
+-- nothing was done, since no message waits for a turn or the fuel is spent
+pub record StandsStill (old new : Controller) : Type 0 where
+  pub same : new ≡ old
+  pub why : (list_any has_messages old.mail.pending ≡ false) ⊎ (old.fuel ≤ old.mail.turns)
+
+-- a turn, or none where the controller stands still
 pub record LastTurn (plant : Plant) (old new : Controller) : Type 0 where
   pub entries : List Entry
   pub goes : Goes plant old new entries
   pub only : OnlyTurns entries
   pub fuelled : old.mail.turns ≤ old.fuel → new.mail.turns ≤ old.fuel
+  pub went : (old.mail.turns < new.mail.turns) ⊎ StandsStill old new
 
 -- ready for a turn
 pub record IsReady (plant : Plant) (k : Controller) : Type 0 where

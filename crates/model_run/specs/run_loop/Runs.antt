@@ -1,6 +1,6 @@
 -- A run from round to round.
-use Rattle.std.specs.Prelude.{◌≡◌, ℕ, Bool, true, false, [], not, List, length}
-use Rattle.std.specs.List.{list_any}
+use Rattle.std.specs.Prelude.{◌≡◌, ℕ, ◌+◌, ◌-◌, ◌^◌, ◌<◌, Bool, true, false, if◌then◌else◌, [], not, List, length}
+use Rattle.std.specs.List.{list_all, list_any}
 use Rattle.room_kinds.specs.declared.message.Msg.{Msg}
 use Rattle.inject_reader.specs.declared.inject_lines.accepted.Line.{Line}
 use Rattle.mail_core.specs.EndLog.{EndLog}
@@ -12,7 +12,7 @@ use Rattle.model_run.specs.joined_round.ByPriority.{AreByPriority}
 use Rattle.model_run.specs.joined_round.Joined.{AllStand, RoundDone}
 use Rattle.model_run.specs.part_posts.Items.{items_of}
 use Rattle.model_run.specs.run_ends.Ends.{waits, IsAtEnd}
-use Rattle.model_run.specs.run_loop.Plays.{BeforePart, InPart}
+use Rattle.model_run.specs.run_loop.Plays.{BeforePart, InPart, rests}
 
 -- the run stands before a part or in one, and these lines were given so far, to the end of the part
 pub record StandsBetween (plant : Plant) (given part : List Line) (fuel : ℕ) (run : Run) : Type 0 where
@@ -37,3 +37,26 @@ pub record IsOver (plant : Plant) (given : List Line) (left : List ℕ) (fuel : 
 pub record StandsAtPart (plant : Plant) (given part : List Line) (left : List ℕ) (fuel : ℕ) (run : Run) (more : Bool) : Type 0 where
   pub before : more ≡ true → BeforePart plant (items_of plant.wiring given) part fuel run.controllers.items run.environment
   pub over : more ≡ false → IsOver plant given left fuel run
+
+-- between two parts nothing was done, but the environment's clock may have caught up
+pub record StaysAtPart (old new : Run) : Type 0 where
+  pub controllers : new.controllers.items ≡ old.controllers.items
+  pub journal : new.environment.journal ≡ old.environment.journal
+  pub in_part : new.in_part ≡ old.in_part
+
+-- a part began: the environment posted its lines, with an entry for each
+pub record BeginsPart (lines : List Line) (old new : Run) : Type 0 where
+  pub controllers : new.controllers.items ≡ old.controllers.items
+  pub in_part : new.in_part ≡ true
+  pub posted : length new.environment.journal ≡ length old.environment.journal + length lines
+  pub counted : length new.environment.journal < 2 ^ 64
+
+-- more parts than this one there will not be: each but the first posts something, and an entry of the journal
+-- has a number of 64 bits
+abbrev pub parts_left : Run → ℕ
+parts_left run = (2 ^ 64 - length run.environment.journal) + (if run.in_part then 0 else 1)
+
+-- how a round begins: some controller isn't at rest, and nothing is done before the round; or a part begins
+pub data RoundBegins (fuel : ℕ) (old new : Run) : Type 0 where
+  goes_on : list_all (rests fuel) old.controllers.items ≡ false → new ≡ old → RoundBegins fuel old new
+  part_begins : new.controllers.items ≡ old.controllers.items → parts_left new < parts_left old → RoundBegins fuel old new

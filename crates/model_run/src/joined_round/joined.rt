@@ -32,13 +32,13 @@ pub(crate) fn fetch_all(
     Ok(())
 }
 
-/// One turn, if the fuel is not spent.
+/// One turn, if the fuel is not spent and a message waits for one.
 fn last_turn(controller: &mut Controller, plant: &Plant) -> Result<(), AllocError>
     requires ready { IsReady plant.now controller.old }
     ensures ok { OnOk result (LastTurn plant.now controller.old controller.new) }
     ensures of { IsOf plant.now controller.new }
 {
-    if controller.is_spent() {
+    if controller.is_spent() || !controller.has_pending() {
         return Ok(());
     }
     controller.turn(plant)?;

@@ -1,10 +1,10 @@
 //! What comes after a round.
-ghost use Rattle.std.specs.Prelude.{◌≡◌, ◌+◌, true, map, length, IfOk, OnOk, IfSome, IfNone};
+ghost use Rattle.std.specs.Prelude.{◌≡◌, ◌+◌, ◌<◌, true, map, length, IfOk, OnOk, IfSome, IfNone};
 ghost use Rattle.std.specs.List.{list_all};
 ghost use Rattle.model_run.specs.part_posts.Items.{items_of};
 ghost use Rattle.model_run.specs.part_source.Calls.{seen, Asks};
 ghost use Rattle.model_run.specs.run_loop.Plays.{InPart, rests};
-ghost use Rattle.model_run.specs.run_loop.Runs.{StandsBetween, IsInRound, IsOver, StandsAtPart};
+ghost use Rattle.model_run.specs.run_loop.Runs.{StandsBetween, IsInRound, IsOver, StandsAtPart, StaysAtPart, RoundBegins};
 
 use crate::part_source::PartSource;
 use crate::run_loop::rests::{have_stopped, someone_waits};
@@ -27,6 +27,8 @@ fn next_part<S: PartSource>(
     requires stopped { list_all (rests fuel) run.old.controllers.items ≡ true }
     ensures stands { IfOk result (λ more. StandsAtPart plant.now (S.given source.new) (S.stands_at source.new) (S.left source.new) fuel run.new more) }
     ensures fits { OnOk result (S.fits plant.now.wiring source.old → S.fits plant.now.wiring source.new) }
+    ensures some { IfOk result (λ more. more ≡ true → 0 < length (S.stands_at source.new)) }
+    ensures stays { OnOk result (StaysAtPart run.old run.new) }
     ensures asks { IfOk result (λ more. Asks S.goes_on source.old source.new (seen run.old.controllers.items run.old.environment) (seen run.new.controllers.items run.new.environment)) }
 {
     if someone_waits(&run.controllers) {
@@ -56,6 +58,7 @@ where
     ensures begun { IfOk result (λ next. IfSome next (λ made. IsInRound plant.now (items_of plant.now.wiring (S.given source.new)) fuel run.new (map M.log made.1.items))) }
     ensures count { IfOk result (λ next. IfSome next (λ made. length made.1.items ≡ length plant.now.wiring.controllers + 1)) }
     ensures tied { IfOk result (λ next. IfSome next (λ made. M.tied made.0 made.1.items)) }
+    ensures begins { IfOk result (λ next. IfSome next (λ made. RoundBegins fuel run.old run.new)) }
     ensures over { IfOk result (λ next. IfNone next (IsOver plant.now (S.given source.new) (S.left source.new) fuel run.new)) }
     ensures fits { OnOk result (S.fits plant.now.wiring source.new) }
     ensures asks { IfOk result (λ next. Asks S.goes_on source.old source.new (seen run.old.controllers.items run.old.environment) (seen run.new.controllers.items run.new.environment)) }

@@ -6,7 +6,7 @@ ghost use Rattle.model_run.specs.part_posts.Items.{items_of};
 ghost use Rattle.model_run.specs.part_source.Calls.{seen, Grew};
 ghost use Rattle.model_run.specs.part_source.Parts.{IsPart};
 ghost use Rattle.model_run.specs.run_loop.Plays.{BeforePart, PartPosted};
-ghost use Rattle.model_run.specs.run_loop.Runs.{IsInRound};
+ghost use Rattle.model_run.specs.run_loop.Runs.{BeginsPart, IsInRound};
 
 use crate::part_posts::post_part;
 use crate::part_source::PartSource;
@@ -60,6 +60,7 @@ where
     ensures count { IfOk result (λ made. length made.1.items ≡ length plant.now.wiring.controllers + 1) }
     ensures tied { IfOk result (λ made. M.tied made.0 made.1.items) }
     ensures grew { IfOk result (λ made. Grew (seen run.old.controllers.items run.old.environment) (seen run.new.controllers.items run.new.environment)) }
+    ensures part { IfOk result (λ made. BeginsPart (S.stands_at source.now) run.old run.new) }
 {
     let (mut office, mut ends) = open::<M>(alloc, plant)?;
     post_at_last(
@@ -71,5 +72,7 @@ where
         source.part(),
     )?;
     run.in_part = true;
+    // No list has more entries than a number counts: so parts that post something come to an end.
+    prove!(run.environment.entries().len() <= usize::MAX);
     Ok((office, ends))
 }

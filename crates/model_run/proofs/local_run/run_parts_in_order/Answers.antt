@@ -1,12 +1,13 @@
 use Rattle.std.proofs.Common.{◌≡◌, true, false, map, sym, ◌∙◌, rules, subst}
 use Rattle.model_run.specs.part_posts.Items.{items_of}
 use Rattle.model_run.specs.part_source.Calls.{Seen, seen, Asked, never}
-use Rattle.model_run.specs.run_loop.Runs.{StandsBetween, IsInRound}
+use Rattle.model_run.specs.run_loop.Runs.{StandsBetween, IsInRound, RoundBegins}
+use Rattle.model_run.proofs.run_loop.StepsLeft.{steps_fall}
 use Rattle.model_run.proofs.part_source.CallsLaw.{asked_then, asked_grew, grew_round, if_ok_then}
 use Rattle.model_run.proofs.local_run.run_parts_in_order.Goals as goal
 
-pub loop-round-init : goal.loop-round-init
-loop-round-init g c =
+pub loop-run-init : goal.loop-run-init
+loop-run-init g c =
     let plant = c.args.plant.now in
     let part = g.S.PartSource.stands_at c.args.source.now in
     record {
@@ -15,8 +16,8 @@ loop-round-init g c =
       asked = never (seen c.in_ok-run.run'.controllers.items c.in_ok-run.run'.environment);
     }
 
-pub loop-round-preserved : goal.loop-round-preserved
-loop-round-preserved g c =
+pub loop-run-preserved : goal.loop-run-preserved
+loop-run-preserved g c =
     let plant = c.args.plant.now in
     let source = c.next_round.new.source in
     let run = c.next_round.new.run in
@@ -24,7 +25,7 @@ loop-round-preserved g c =
     let begun : IsInRound plant (items_of plant.wiring (g.S.PartSource.given source)) c.args.fuel run (map g.M.Mail.log c.in-Some.ends.items) = search rules in
     let done = c.in_ok-round_in_order.ensures in
     let news = c.round_in_order.new.controllers.items in
-    let then = asked_then goes_on c.args.source.now c.loop-round.source source _ _ c.loop-round.invariant.asked c.in_ok-office.ensures.asks in
+    let then = asked_then goes_on c.args.source.now c.loop-run.source source _ _ c.loop-run.invariant.asked c.in_ok-office.ensures.asks in
     record {
       stands = record {
         before = λ e. let both : true ≡ false = sym begun.in_part ∙ e in absurd cc;
@@ -35,9 +36,18 @@ loop-round-preserved g c =
           (grew_round plant run.controllers.items news run.environment (map g.M.Mail.log c.in-Some.ends.items) done.0 done.1 begun.stand done.2);
     }
 
-pub returns-in_default-clause-asked : goal.returns-in_default-clause-asked
-returns-in_default-clause-asked g c =
+pub returns-clause-asked : goal.returns-clause-asked
+returns-clause-asked g c =
     let goes_on = g.S.PartSource.goes_on in
     let source = c.next_round.new.source in
-    let then = asked_then goes_on c.args.source.now c.loop-round.source source _ _ c.loop-round.invariant.asked c.in_ok-office.ensures.asks in
+    let then = asked_then goes_on c.args.source.now c.loop-run.source source _ _ c.loop-run.invariant.asked c.in_ok-office.ensures.asks in
     if_ok_then c.journals.result (λ j same. subst (λ (z : Seen). Asked goes_on c.args.source.now source z) (sym same) then) c.journals.ensures.seen
+
+pub loop-run-smaller : goal.loop-run-smaller
+loop-run-smaller g c =
+    let old = c.loop-run.run in
+    let run = c.next_round.new.run in
+    let begins : RoundBegins c.args.fuel old run = search rules in
+    let done = c.in_ok-round_in_order.ensures in
+    steps_fall c.args.plant.now c.args.fuel (g.S.PartSource.given c.loop-run.source) (g.S.PartSource.stands_at c.loop-run.source) old run
+    c.round_in_order.new.controllers.items (map g.M.Mail.log c.in-Some.ends.items) done.0 done.1 c.loop-run.invariant.stands begins done.2

@@ -1,10 +1,14 @@
 use Rattle.model_run.specs.part_source.Calls.{seen, Asked}
 use Rattle.model_run.specs.run_loop.Runs.{StandsBetween}
+use Rattle.model_run.proofs.run_loop.StepsLeft.{steps_left}
 use Rattle.model_run.proofs.parallel_run.run_parts.Given as goal
 
-abbrev pub invariant-loop-round : goal.invariant-loop-round
-invariant-loop-round g l = record {
+abbrev pub invariant-loop-run : goal.invariant-loop-run
+invariant-loop-run g l = record {
   stands : StandsBetween l.plant (g.S.PartSource.given l.source) (g.S.PartSource.stands_at l.source) l.fuel l.run;
   fits : g.S.PartSource.fits l.plant.wiring l.source;
   asked : Asked g.S.PartSource.goes_on l.fn.source l.source (seen l.run.controllers.items l.run.environment);
 }
+
+abbrev pub decreases-loop-run : goal.decreases-loop-run
+decreases-loop-run g l = steps_left l.fuel l.run

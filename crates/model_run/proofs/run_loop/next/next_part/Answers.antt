@@ -91,3 +91,9 @@ returns-clause-asks g c =
     let clock : c.catch_up.new.self ≡ record run.environment { clock = latest (state_at c.args.plant.now c.as_slice-2.result.now) (length c.as_slice-2.result.now) run.environment.clock } = c.catch_up.ensures c.args.plant.now in
     let journal : c.catch_up.new.self.journal ≡ run.environment.journal = ap (λ (z : EnvironmentState). z.journal) clock in
     record { may = saw; grew = grew_same ks run.environment c.catch_up.new.self journal }
+
+pub returns-clause-stays : goal.returns-clause-stays
+returns-clause-stays g c =
+    let run = c.args.run.now in
+    let clock : c.catch_up.new.self ≡ record run.environment { clock = latest (state_at c.args.plant.now c.as_slice-2.result.now) (length c.as_slice-2.result.now) run.environment.clock } = c.catch_up.ensures c.args.plant.now in
+    record { controllers = refl; journal = ap (λ (z : EnvironmentState). z.journal) clock; in_part = refl }

@@ -1,6 +1,12 @@
-use Rattle.std.proofs.Common.{◌+◌, length, map}
+use Rattle.std.proofs.Common.{◌≡◌, ◌+◌, false, length, map, refl, arith}
+use Rattle.std.specs.List.{list_all}
+use Rattle.std.proofs.lemmas.Grind.{common_steps}
 use Rattle.model_run.specs.part_posts.Items.{items_of}
 use Rattle.model_run.specs.part_source.Calls.{seen, Asks}
+use Rattle.model_run.specs.run_loop.Plays.{rests}
+use Rattle.model_run.specs.run_loop.Runs.{BeginsPart, RoundBegins}
+use Rattle.model_run.specs.run_loop.Runs.RoundBegins.{goes_on}
+use Rattle.model_run.proofs.run_loop.Beginning.{first_part, later_part}
 use Rattle.model_run.proofs.part_source.CallsLaw.{asks_none, asks_grew}
 use Rattle.model_run.proofs.joined_round.PriorityLaw.{all_fresh}
 use Rattle.model_run.proofs.run_loop.PlayLaw.{quiet_on}
@@ -51,3 +57,19 @@ returns-clause-asks g c =
       | else-run w ↦ rw (w.source-is, w.run-is) (asks_none goes_on c.args.source.now before)
     ] in
     asks_grew goes_on c.args.source.now c.if-run.source before (seen mid.controllers.items mid.environment) (seen new.controllers.items new.environment) here c.in_ok-begin_part.ensures.grew
+
+pub returns-then-not-have_stopped-clause-begins : goal.returns-then-not-have_stopped-clause-begins
+returns-then-not-have_stopped-clause-begins g c =
+    let awake : list_all (rests c.args.fuel) c.args.run.now.controllers.items ≡ false = grind (arith, common_steps, c.if-not-have_stopped.true, c.have_stopped.ensures) in
+    goes_on awake refl
+
+pub returns-clause-begins : goal.returns-clause-begins
+returns-clause-begins g c =
+    let part = c.in_ok-begin_part.ensures.part in
+    let lines = g.S.PartSource.stands_at c.if-run.source in
+    let new = c.begin_part.new.run in
+    let here : BeginsPart lines c.if-run.run new → RoundBegins c.args.fuel c.args.run.now new = elim c.if-run.branch [
+      | then-run+else-not-have_stopped+in_ok-more+else-not-more w ↦ rw (w.source-is, w.run-is) (λ b. later_part c.args.fuel _ c.args.run.now _ new w.if-run.true w.in_ok-more.ensures.stays (w.in_ok-more.ensures.some w.if-not-more.false) b)
+      | else-run w ↦ rw (w.source-is, w.run-is) (λ b. first_part c.args.fuel _ c.args.run.now new w.if-run.false b)
+    ] in
+    here part

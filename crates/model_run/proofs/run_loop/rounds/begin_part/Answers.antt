@@ -1,5 +1,6 @@
-use Rattle.std.proofs.Common.{List, length, map, refl, sym, ◌∙◌, subst}
+use Rattle.std.proofs.Common.{◌≡◌, List, length, map, refl, sym, ap, ◌∙◌, subst, arith}
 use Rattle.std.proofs.lemmas.List.{length-map}
+use Rattle.journal.specs.declared.entry.Entry.{Entry}
 use Rattle.inject_reader.specs.declared.inject_lines.accepted.Line.{Line}
 use Rattle.inject_reader.specs.Fitting.{FitLines}
 use Rattle.model_run.specs.part_posts.Items.{items_of}
@@ -8,6 +9,7 @@ use Rattle.model_run.specs.run_loop.Plays.{PartPosted}
 use Rattle.model_run.proofs.part_source.CallsLaw.{grew_posts}
 use Rattle.model_run.proofs.joined_round.PriorityLaw.{all_posted}
 use Rattle.model_run.proofs.run_loop.PlayLaw.{post_on}
+use Rattle.model_run.proofs.run_loop.Beginning.{more_entries}
 use Rattle.model_run.proofs.run_loop.rounds.begin_part.Goals as goal
 
 pub post_at_last-requires-clause-part : goal.post_at_last-requires-clause-part
@@ -41,3 +43,15 @@ pub returns-clause-grew : goal.returns-clause-grew
 returns-clause-grew g c =
     let posted = c.in_ok-post_at_last.ensures.posted in
     grew_posts c.args.run.now.controllers.items c.args.run.now.environment c.post_at_last.new.environment posted.part.entries posted.part.journal
+
+pub returns-clause-part : goal.returns-clause-part
+returns-clause-part g c =
+    let posted = c.in_ok-post_at_last.ensures.posted in
+    let after = c.post_at_last.new.environment.journal in
+    let same : length c.entries.result.now ≡ length after = ap (λ (z : List Entry). length z) c.entries.ensures in
+    record {
+      controllers = refl;
+      in_part = refl;
+      posted = more_entries c.args.run.now.environment.journal after posted.part.entries _ _ posted.part.journal posted.part.count c.part.ensures;
+      counted = omega (arith, same, c.if-prove.false);
+    }
