@@ -16,7 +16,7 @@ use std::alloc::{AllocError, Global};
 fn port_plans(alloc: Global, ports: &[PortEntry]) -> Result<Vec<PortPlan>, AllocError>
     ensures { IfOk result (λ v. v.items ≡ map port_plan ports.now) }
 {
-    let mut plans = Vec::new(alloc);
+    let mut plans = Vec::with_capacity(alloc, ports.len())?;
     for port in ports {
         plans.push(port_plan(port))?;
     }
@@ -29,14 +29,15 @@ fn reference_plans(
 ) -> Result<Vec<ReferencePlan>, AllocError>
     ensures { IfOk result (λ v. v.items ≡ map reference_plan references.now) }
 {
-    let mut plans = Vec::new(alloc);
+    let mut plans = Vec::with_capacity(alloc, references.len())?;
     for reference in references {
         plans.push(reference_plan(reference))?;
     }
     Ok(plans)
 }
 
-/// A class with these ports and references, bindings and layer connections.
+/// A class with these ports and references, bindings and layer connections. There is a plan for each
+/// class, most with few entries: its lists take no more room than these.
 fn class_plan(
     alloc: Global,
     class: &Container,
@@ -47,6 +48,9 @@ fn class_plan(
 {
     let ports = port_plans(alloc, class.ports.as_slice())?;
     let references = reference_plans(alloc, class.references.as_slice())?;
+    let (mut bindings, mut layers) = (bindings, layers);
+    bindings.shrink_to_fit();
+    layers.shrink_to_fit();
     Ok(ClassPlan {
         ports: Sequence::from(ports),
         references: Sequence::from(references),

@@ -23,7 +23,7 @@ fn actor_plans<'t>(
 ) -> Result<Vec<ClassPlan>, AllocError>
     ensures { IfOk result (λ v. v.items ≡ actor_plans actors.entry.now (map class_view classes.now)) }
 {
-    let mut plans = Vec::new(alloc);
+    let mut plans = Vec::with_capacity(alloc, actors.len())?;
     let mut left = actors;
     for class in classes {
         if let Class::Actor(actor) = class {

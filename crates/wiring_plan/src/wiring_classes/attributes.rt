@@ -61,7 +61,7 @@ fn names_if_attribute(
     }
 }
 
-/// The attributes among items of a Structure.
+/// The attributes among items of a Structure, in a list that takes no more room than they do.
 pub(crate) fn attributes_of(
     alloc: Global,
     items: &[StructureItem],
@@ -74,5 +74,6 @@ pub(crate) fn attributes_of(
     for item in items {
         push_if(&mut all, names_if_attribute(alloc, item, names, kinds)?)?;
     }
+    all.shrink_to_fit();
     Ok(all)
 }

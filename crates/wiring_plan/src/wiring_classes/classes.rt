@@ -65,7 +65,7 @@ fn all_names(
 ) -> Result<Vec<ClassNames>, AllocError>
     ensures { IfOk result (λ v. v.items ≡ classes_by names.now signals.now kinds.now (map class_view classes.now) actors.now) }
 {
-    let mut all = Vec::new(alloc);
+    let mut all = Vec::with_capacity(alloc, actors.len())?;
     let mut left = actors;
     for class in classes {
         if let Class::Actor(actor) = class {
@@ -102,7 +102,8 @@ fn named_in(
 
 /// The names of the actor classes of a model, by number, where these are its tables. No data class
 /// contains itself. The time and the room are in proportion to the model and the numbers of its
-/// messages and attributes: the ports of a protocol class share its messages.
+/// messages and attributes: the ports of a protocol class share its messages, and no list has room for
+/// more than its entries.
 #[tactic(auto, using(crate::proofs::wiring_classes::KindLaws::some_names, crate::proofs::wiring_classes::KindLaws::no_names))]
 pub fn classes_of(
     alloc: Global,

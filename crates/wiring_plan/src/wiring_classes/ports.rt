@@ -67,7 +67,7 @@ pub(crate) fn ports_of(
 ) -> Result<Vec<PortNames>, AllocError>
     ensures { IfOk result (λ v. v.items ≡ named (port_names_of (names_of protocol_names.now) signals.now) (names_of names.now) ports.now) }
 {
-    let mut all = Vec::new(alloc);
+    let mut all = Vec::with_capacity(alloc, ports.len())?;
     let mut left = ports;
     for name in names {
         let [port, others @ ..] = left else {
@@ -104,7 +104,7 @@ pub(crate) fn references_of(
 ) -> Result<Vec<RefNames>, AllocError>
     ensures { IfOk result (λ v. v.items ≡ named reference_names_of (names_of names.now) references.now) }
 {
-    let mut all = Vec::new(alloc);
+    let mut all = Vec::with_capacity(alloc, references.len())?;
     let mut left = references;
     for name in names {
         let [reference, others @ ..] = left else {

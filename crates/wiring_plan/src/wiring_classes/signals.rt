@@ -28,7 +28,7 @@ fn all_labelled(
 ) -> Result<SharedSequence<SignalNames>, AllocError>
     ensures { IfOk result (λ s. s ≡ map labelled (map signal_view signals.now)) }
 {
-    let mut all = Vec::new(alloc);
+    let mut all = Vec::with_capacity(alloc, signals.len())?;
     for signal in signals {
         all.push(labelled(alloc, signal)?)?;
     }
@@ -52,7 +52,7 @@ fn labelled_protocols(
 ) -> Result<Vec<Signals<SignalNames>>, AllocError>
     ensures { IfOk result (λ v. v.items ≡ map (map_signals labelled) (map (map_signals signal_view) protocols.now)) }
 {
-    let mut all = Vec::new(alloc);
+    let mut all = Vec::with_capacity(alloc, protocols.len())?;
     for signals in protocols {
         all.push(labelled_signals(alloc, signals)?)?;
     }

@@ -103,7 +103,7 @@ fn add_graph(
 }
 
 /// The texts of the states of a class, by number, where states nest at most 16 deep; none where it has
-/// no chart.
+/// no chart. Their list takes no more room than they do.
 #[tactic(auto, unfolding(crate::specs::wiring_classes::States::state_labels))]
 pub(crate) fn state_labels(alloc: Global, class: &ActorClass) -> Result<Sequence<Label>, AllocError>
     ensures { IfOk result (λ s. s ≡ state_labels (actor_view class.now)) }
@@ -116,5 +116,6 @@ pub(crate) fn state_labels(alloc: Global, class: &ActorClass) -> Result<Sequence
         return Ok(Sequence::from(labels));
     };
     add_graph(alloc, &mut labels, GRAPHS_BELOW, b"", &machine.items)?;
+    labels.shrink_to_fit();
     Ok(Sequence::from(labels))
 }
