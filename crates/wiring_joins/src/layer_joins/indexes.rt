@@ -24,7 +24,7 @@ fn class_indexes(
 ) -> Result<Vec<LayerIndex>, AllocError>
     ensures { IfOk result (λ v. AreClassIndexes plan.now classes.now v.items) }
 {
-    let mut indexes = Vec::new(alloc);
+    let mut indexes = Vec::with_capacity(alloc, classes.len())?;
     for class in classes {
         indexes.push(class_index(alloc, plan, class)?)?;
     }
