@@ -1,7 +1,6 @@
 //! Commands, one and several.
 ghost use Rattle.std.specs.Prelude.{◌<◌, length, Option, OnOk};
 ghost use Rattle.room_kinds.specs.declared.message.Msg.{Msg as Message};
-ghost use Rattle.actor_duties.specs.Commands.{broadcast};
 ghost use Rattle.actor_commands.specs.command_sends.Adding.{Adds, content_of};
 ghost use Rattle.actor_commands.specs.Doings.{AppliesAll, AppliesNow, IsInHand, sent_at};
 
@@ -10,26 +9,6 @@ use crate::doing::Doing;
 use room_kinds::{Command, Commands, Msg};
 use std::alloc::{AllocError, Global};
 use std::collections::VecDeque;
-
-/// A send at all places of a port.
-fn send_to_all<S: Services>(
-    alloc: Global,
-    speaker: &Speaker<'_>,
-    services: &S,
-    port: u16,
-    content: &Content,
-    output: &mut Output,
-) -> Result<(), AllocError>
-    requires serves { S.serves speaker.now.wiring.now speaker.now.me.0 services.now }
-    requires there { speaker.now.who.slot.0 < length speaker.now.wiring.now.slots }
-    ensures { OnOk result (Adds (broadcast speaker.now.wiring.now speaker.now.me.0 (S.frame_of services.now) (S.links_of services.now) speaker.now.who port (content_of content.now)) output.old output.new) }
-{
-    // A program names ports of its class alone, so this refusal never comes.
-    if usize::from(port) >= speaker.wiring.port_count(speaker.who.slot) {
-        return Err(AllocError);
-    }
-    broadcast(alloc, speaker, services, port, content, output)
-}
 
 /// A send at a place of a port; without a place, at all of them.
 fn say<S: Services>(
@@ -51,7 +30,7 @@ fn say<S: Services>(
             Ok(())
         }
         None => {
-            send_to_all(alloc, speaker, services, port, &content, output)?;
+            broadcast(alloc, speaker, services, port, &content, output)?;
             Ok(())
         }
     }

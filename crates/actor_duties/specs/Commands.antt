@@ -1,6 +1,6 @@
 -- The commands of actions but those of the frame and layer services: sends, and messages that are
 -- kept for later (ROOM: defer and recall; their exact rules are this project's own).
-use Rattle.std.specs.Prelude.{ℕ, ℤ, pos, negsuc, nat_le, Bool, true, false, List, [], ◌∷◌, ◌++◌, map, filter, length, Option, Some, None, if◌then◌else◌}
+use Rattle.std.specs.Prelude.{ℕ, ℤ, pos, negsuc, nat_le, nat_lt, Bool, true, false, List, [], ◌∷◌, ◌++◌, map, filter, length, Option, Some, None, if◌then◌else◌}
 use Rattle.room_kinds.specs.declared.message.Msg.{Msg}
 use Rattle.room_kinds.specs.declared.numbers.Incarnation.{Incarnation}
 use Rattle.room_kinds.specs.declared.numbers.Endpoint.{Endpoint}
@@ -8,7 +8,7 @@ use Rattle.room_kinds.specs.declared.numbers.Priority.{Priority}
 use Rattle.room_kinds.specs.declared.note.Note.{Note}
 use Rattle.room_kinds.specs.declared.note.Note.TheVariants as notes
 use Rattle.room_wiring.specs.declared.tables.Tables.{Tables}
-use Rattle.room_wiring.specs.Places.{place_count}
+use Rattle.room_wiring.specs.Places.{port_count, place_count}
 use Rattle.actor_duties.specs.Words.{endpoint, owner_of, is_spp, places_of}
 use Rattle.actor_duties.specs.State.{Frame, Link, Links}
 use Rattle.actor_duties.specs.Peers.{peer}
@@ -49,12 +49,16 @@ send t me f l x p (pos k) c =
     let source = endpoint x.slot.0 x.generation.0 p k in send_to t me source c (peer t me f l source)
 send t me f l x p (negsuc k) c = record { messages = []; notes = notes.Unbound p (negsuc k) ∷ [] }
 
--- the places that a broadcast goes to, ascending: those of the model, and behind them at a service
--- provision point those that are linked by name
-unfoldable pub broadcast_places : Tables → Links → ℕ → ℕ → List ℕ
-broadcast_places t l s p =
+-- the places of a port, ascending: those of the model, and behind them at a service provision point those
+-- that are linked by name
+abbrev pub all_places : Tables → Links → ℕ → ℕ → List ℕ
+all_places t l s p =
     places_of t s p
     ++ (if is_spp t s p then filter (nat_le (place_count t s p)) (map (λ (x : Link). x.place) (l.linked s p)) else [])
+
+-- the places that a broadcast goes to; none where the class of the slot has no such port
+unfoldable pub broadcast_places : Tables → Links → ℕ → ℕ → List ℕ
+broadcast_places t l s p = if nat_lt p (port_count t s) then all_places t l s p else []
 
 -- a send at each of these places, in order
 abbrev pub send_each : Tables → ℕ → Frame → Links → Incarnation → ℕ → Content → List ℕ → Sent

@@ -1,15 +1,15 @@
 -- Sends at several places, one after another.
-use Rattle.std.proofs.Common.{◌≡◌, ℕ, zero, suc, pos, ◌+◌, ◌<◌, ◌≤◌, true, false, nat_le, List, [], ◌∷◌, ◌++◌, map, filter, take, get_or, length, Result, Ok, Err, OnOk, refl, sym, ap, ◌∙◌, subst, arith, append_assoc}
+use Rattle.std.proofs.Common.{◌≡◌, ℕ, zero, suc, pos, ◌+◌, ◌<◌, ◌≤◌, true, false, nat_le, nat_lt, List, [], ◌∷◌, ◌++◌, map, filter, take, get_or, length, Result, Ok, Err, OnOk, refl, sym, ap, ◌∙◌, subst, arith, append_assoc}
 use Rattle.std.specs.List.{range_with_len}
-use Rattle.std.proofs.lemmas.Bool.{cond-true, cond-false, le-leb, lt-leb}
+use Rattle.std.proofs.lemmas.Bool.{cond-true, cond-false, le-leb, lt-leb, lt-ltb, le-ltb}
 use Rattle.std.proofs.lemmas.List.{append-nil, take_more}
 use Rattle.std.proofs.lemmas.List.Elements.{filter-append}
 use Rattle.room_kinds.specs.declared.numbers.Incarnation.{Incarnation}
 use Rattle.room_wiring.specs.declared.tables.Tables.{Tables}
-use Rattle.room_wiring.specs.Places.{place_count}
+use Rattle.room_wiring.specs.Places.{port_count, place_count}
 use Rattle.actor_duties.specs.Words.{is_spp, places_of}
 use Rattle.actor_duties.specs.State.{Frame, Links, Link}
-use Rattle.actor_duties.specs.Commands.{Content, Sent, send, broadcast_places, send_each, broadcast}
+use Rattle.actor_duties.specs.Commands.{Content, Sent, send, all_places, broadcast_places, send_each, broadcast}
 use Rattle.actor_commands.specs.declared.command_sends.output.Output.{Output}
 use Rattle.actor_commands.specs.command_sends.Adding.{Adds}
 
@@ -75,33 +75,47 @@ pub filter-more : (first : ℕ) (ps : List ℕ) (i : ℕ) → i < length ps
     → filter (nat_le first) (take (i + 1) ps) ≡ filter (nat_le first) (take i ps) ++ filter (nat_le first) (get_or ps i 0 ∷ [])
 filter-more first ps i h = ap (filter (nat_le first)) (take_more ps i 0 h) ∙ filter-append (nat_le first) (take i ps) (get_or ps i 0 ∷ [])
 
--- a broadcast: the places of the model, and at a service provision point the linked places behind them
-pub places_alone : (t : Tables) (l : Links) (s p : ℕ) → is_spp t s p ≡ false → broadcast_places t l s p ≡ places_of t s p
+-- a broadcast at a port that is there: the places of the model, and at a service provision point the linked
+-- places behind them
+places_there : (t : Tables) (l : Links) (s p : ℕ) → p < port_count t s → broadcast_places t l s p ≡ all_places t l s p
 unfolding broadcast_places
-places_alone t l s p e =
-    ap (λ ks. places_of t s p ++ ks) (cond-false (is_spp t s p) (filter (nat_le (place_count t s p)) (map (λ (x : Link). x.place) (l.linked s p))) [] e)
+places_there t l s p h = cond-true (nat_lt p (port_count t s)) (all_places t l s p) [] (lt-ltb p (port_count t s) h)
+
+pub places_alone : (t : Tables) (l : Links) (s p : ℕ) → p < port_count t s → is_spp t s p ≡ false → broadcast_places t l s p ≡ places_of t s p
+places_alone t l s p h e =
+    places_there t l s p h
+    ∙ ap (λ ks. places_of t s p ++ ks) (cond-false (is_spp t s p) (filter (nat_le (place_count t s p)) (map (λ (x : Link). x.place) (l.linked s p))) [] e)
     ∙ append-nil (places_of t s p)
 
-pub places_and_links : (t : Tables) (l : Links) (s p : ℕ) → is_spp t s p ≡ true
+pub places_and_links : (t : Tables) (l : Links) (s p : ℕ) → p < port_count t s → is_spp t s p ≡ true
     → broadcast_places t l s p ≡ places_of t s p ++ filter (nat_le (place_count t s p)) (map (λ (x : Link). x.place) (l.linked s p))
-unfolding broadcast_places
-places_and_links t l s p e =
-    ap (λ ks. places_of t s p ++ ks) (cond-true (is_spp t s p) (filter (nat_le (place_count t s p)) (map (λ (x : Link). x.place) (l.linked s p))) [] e)
+places_and_links t l s p h e =
+    places_there t l s p h
+    ∙ ap (λ ks. places_of t s p ++ ks) (cond-true (is_spp t s p) (filter (nat_le (place_count t s p)) (map (λ (x : Link). x.place) (l.linked s p))) [] e)
 
-pub broadcast_alone : (t : Tables) (me : ℕ) (f : Frame) (l : Links) (x : Incarnation) (p : ℕ) (c : Content) (u v : Output) → is_spp t x.slot.0 p ≡ false
+-- at a port that isn't there nothing is sent
+no_places_there : (t : Tables) (l : Links) (s p : ℕ) → port_count t s ≤ p → broadcast_places t l s p ≡ []
+unfolding broadcast_places
+no_places_there t l s p h = cond-false (nat_lt p (port_count t s)) (all_places t l s p) [] (le-ltb p (port_count t s) h)
+
+pub broadcast_none : (t : Tables) (me : ℕ) (f : Frame) (l : Links) (x : Incarnation) (p : ℕ) (c : Content) (u : Output) → port_count t x.slot.0 ≤ p → Adds (broadcast t me f l x p c) u u
+unfolding broadcast
+broadcast_none t me f l x p c u h = subst (λ ks. Adds (send_each t me f l x p c ks) u u) (sym (no_places_there t l x.slot.0 p h)) (Adds-none u)
+
+pub broadcast_alone : (t : Tables) (me : ℕ) (f : Frame) (l : Links) (x : Incarnation) (p : ℕ) (c : Content) (u v : Output) → p < port_count t x.slot.0 → is_spp t x.slot.0 p ≡ false
     → Adds (send_each t me f l x p c (places_of t x.slot.0 p)) u v → Adds (broadcast t me f l x p c) u v
 unfolding broadcast
-broadcast_alone t me f l x p c u v e a = subst (λ ks. Adds (send_each t me f l x p c ks) u v) (sym (places_alone t l x.slot.0 p e)) a
+broadcast_alone t me f l x p c u v h e a = subst (λ ks. Adds (send_each t me f l x p c ks) u v) (sym (places_alone t l x.slot.0 p h e)) a
 
-pub broadcast_linked : (t : Tables) (me : ℕ) (f : Frame) (l : Links) (x : Incarnation) (p : ℕ) (c : Content) (first : ℕ) (u v w : Output) → is_spp t x.slot.0 p ≡ true
+pub broadcast_linked : (t : Tables) (me : ℕ) (f : Frame) (l : Links) (x : Incarnation) (p : ℕ) (c : Content) (first : ℕ) (u v w : Output) → p < port_count t x.slot.0 → is_spp t x.slot.0 p ≡ true
     → first ≡ place_count t x.slot.0 p
     → Adds (send_each t me f l x p c (places_of t x.slot.0 p)) u v
     → Adds (send_each t me f l x p c (filter (nat_le first) (map (λ (y : Link). y.place) (l.linked x.slot.0 p)))) v w
     → Adds (broadcast t me f l x p c) u w
 unfolding broadcast
-broadcast_linked t me f l x p c first u v w e z a b =
+broadcast_linked t me f l x p c first u v w h e z a b =
     let links = map (λ (y : Link). y.place) (l.linked x.slot.0 p) in
-    subst (λ ks. Adds (send_each t me f l x p c ks) u w) (sym (places_and_links t l x.slot.0 p e))
+    subst (λ ks. Adds (send_each t me f l x p c ks) u w) (sym (places_and_links t l x.slot.0 p h e))
     (Adds-append t me f l x p c (places_of t x.slot.0 p) (filter (nat_le (place_count t x.slot.0 p)) links) u v w a
     (subst (λ n. Adds (send_each t me f l x p c (filter (nat_le n) links)) v w) z b))
 

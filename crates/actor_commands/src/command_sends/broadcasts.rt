@@ -94,8 +94,8 @@ fn send_to_links<S: Services>(
 }
 
 /// Sends at each place of a port of the speaker, ascending: at those of the model, and at a service
-/// provision point then at those that are linked by name. After want of memory what was put out is
-/// unspecified: the controller has failed.
+/// provision point then at those that are linked by name. A port that the speaker's class doesn't have has no
+/// places. After want of memory what was put out is unspecified: the controller has failed.
 pub fn broadcast<S: Services>(
     alloc: Global,
     speaker: &Speaker<'_>,
@@ -106,9 +106,11 @@ pub fn broadcast<S: Services>(
 ) -> Result<(), AllocError>
     requires serves { S.serves speaker.now.wiring.now speaker.now.me.0 services.now }
     requires slot { speaker.now.who.slot.0 < length speaker.now.wiring.now.slots }
-    requires port { port < port_count speaker.now.wiring.now speaker.now.who.slot.0 }
     ensures { OnOk result (Adds (broadcast speaker.now.wiring.now speaker.now.me.0 (S.frame_of services.now) (S.links_of services.now) speaker.now.who port (content_of content.now)) output.old output.new) }
 {
+    if usize::from(port) >= speaker.wiring.port_count(speaker.who.slot) {
+        return Ok(());
+    }
     send_to_places(alloc, speaker, services, port, content, output)?;
     if !is_spp(speaker.wiring, speaker.who.slot, port) {
         return Ok(());
