@@ -158,6 +158,10 @@ fn with_mapping(
     ensures { IfOk result (λ v. mapping_views v.items ≡ mapping_views found.items ++ MappingOf path thread (nested_view nested) ∷ []) }
 {
     let mut all = found;
+    if all.is_empty() {
+        // Most braces hold one mapping, and room for more would be most of what they take.
+        all.reserve_exact(1)?;
+    }
     all.push(Mapping {
         path,
         thread,

@@ -1,3 +1,4 @@
 pub mod Braces
 pub mod Steps
+pub mod Behind
 pub mod Tops

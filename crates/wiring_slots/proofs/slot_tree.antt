@@ -6,6 +6,7 @@ pub mod PlaceSums
 pub mod KnownSlots
 pub mod Cutting
 pub mod MappingOrders
+pub mod Continuing
 pub mod Sorting
 pub mod Handing
 pub mod Alike

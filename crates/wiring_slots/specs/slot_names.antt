@@ -1,4 +1,5 @@
 pub mod Ways
+pub mod Behind
 pub mod Wireds
 pub mod Names
 pub mod Found

@@ -1,4 +1,5 @@
 pub mod MappingOrders
+pub mod Continuing
 pub mod Owners
 pub mod Runs
 pub mod Slots

@@ -11,7 +11,7 @@ ghost use Rattle.wiring_slots.specs.slot_names.Wireds.{wired_view};
 ghost use Rattle.wiring_slots.specs.slot_names.Found.{wired_in};
 ghost use Rattle.wiring_slots.specs.slot_names.Names.{reference_label, labels_of, controllers_of, names_with, nothing_wired, wired_names};
 
-use crate::slot_names::ways::{Way, add_item};
+use crate::slot_names::ways::add_item;
 use crate::slot_names::wired::{Wired, wired_in};
 use crate::slot_tree::{MappingOrder, ReferenceLabel, SlotNames};
 use check_mappings::thread_names;
@@ -55,7 +55,7 @@ fn labels_with(
 ) -> Result<Vec<ReferenceLabel>, AllocError>
     ensures { IfOk result (λ v. v.items ≡ named reference_label (names_of names.now) references.now) }
 {
-    let mut labels = Vec::new(alloc);
+    let mut labels = Vec::with_capacity(alloc, names.len())?;
     let mut left = references;
     for name in names {
         let [reference, others @ ..] = left else {
@@ -85,7 +85,7 @@ fn all_labels(
 ) -> Result<Vec<Sequence<ReferenceLabel>>, AllocError>
     ensures { IfOk result (λ v. v.items ≡ map labels_of classes.now) }
 {
-    let mut labels = Vec::new(alloc);
+    let mut labels = Vec::with_capacity(alloc, classes.len())?;
     for class in classes {
         labels.push(labels_of(alloc, class)?)?;
     }
@@ -134,12 +134,8 @@ fn mappings_in<'m>(
     ensures { IfOk result (λ v. v ≡ flat_map (item_mappings actors.entry.now threads.now (record { steps = []; place = Some (wired_view wired.entry).container })) (wired_view wired.entry).items) }
 {
     let mut plans = MappingOrder::new(alloc);
-    let way = Way {
-        steps: Vec::new(alloc),
-        place: Some(wired.container),
-    };
     for item in wired.items {
-        add_item(alloc, &mut plans, actors, threads, &way, item)?;
+        add_item(alloc, &mut plans, actors, threads, wired.container, item)?;
     }
     Ok(plans)
 }

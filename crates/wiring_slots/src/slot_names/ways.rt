@@ -1,9 +1,11 @@
 //! Mapped paths by number.
-ghost use Rattle.std.specs.Prelude.{◌≡◌, ◌++◌, IfOk, OnOk, map, option_map, option_and_then};
+ghost use Rattle.std.specs.Prelude.{◌≡◌, ◌≤◌, ◌++◌, [], Some, length, IfOk, OnOk, map, option_map, option_and_then};
 ghost use Rattle.room_ast.specs.MappingTree.{mapping_view, mappings_of as mappings_tree};
 ghost use Rattle.room_ast.specs.Trees.{subsystem_item_view};
 ghost use Rattle.wiring_slots.specs.slot_names.Ways.{stepped, step_in, further, walked, path_end, byte_or_zero, controller_of, mappings_of, all_mappings, item_mappings};
+ghost use Rattle.wiring_slots.specs.slot_names.Behind.{LeadsBehind, AddsBehind, start_view};
 ghost use Rattle.wiring_slots.specs.slot_names.Wireds.{way_view};
+ghost use Rattle.wiring_slots.specs.slot_tree.Continuing.{last_steps};
 
 use crate::slot_tree::{MappingOrder, MappingPlan, StepPlan};
 use check_tables::Container;
@@ -102,15 +104,21 @@ fn path_end<'t>(
     walked(actors, first, path.others.as_slice())
 }
 
-/// A way of its own that has led as far as this one.
-fn same_way<'t>(alloc: Global, way: &Way<'t>) -> Result<Way<'t>, AllocError>
-    ensures { IfOk result (λ w. way_view w ≡ way_view way.now) }
+/// Where a path leads from a place on, with the steps behind it, if it exists.
+#[tactic(auto, using(crate::proofs::slot_names::Behind::led_behind))]
+fn path_from<'t>(
+    alloc: Global,
+    actors: &'t [Container<'t>],
+    place: Option<&'t Container<'t>>,
+    path: &MappingPath,
+) -> Result<Option<Way<'t>>, AllocError>
+    ensures { IfOk result (λ w. LeadsBehind actors.entry.now (option_map (λ c. c.now) place.entry) path.now (option_map way_view w)) }
 {
-    let steps = Vec::from_slice(alloc, way.steps.as_slice())?;
-    Ok(Way {
-        steps,
-        place: way.place,
-    })
+    let start = Way {
+        steps: Vec::new(alloc),
+        place,
+    };
+    path_end(actors, start, path)
 }
 
 fn byte_or_zero(number: usize) -> u8
@@ -130,8 +138,8 @@ fn controller_of(threads: &NameIndex, name: &[u8]) -> ControllerId
     ControllerId(byte_or_zero(number))
 }
 
-/// The mapping that leads here.
-fn plan_of(alloc: Global, way: &Way, controller: ControllerId) -> Result<MappingPlan, AllocError>
+/// What a mapping adds to the path that leads to it: its own steps, and its controller.
+fn own_plan(alloc: Global, way: &Way, controller: ControllerId) -> Result<MappingPlan, AllocError>
     ensures { IfOk result (λ m. m ≡ record { steps = (way_view way.now).steps; controller = controller }) }
 {
     let steps = Vec::from_slice(alloc, way.steps.as_slice())?;
@@ -141,6 +149,14 @@ fn plan_of(alloc: Global, way: &Way, controller: ControllerId) -> Result<Mapping
     })
 }
 
+/// Where the path of a mapping begins: behind the first so many steps of the last mapping's path, in a
+/// class, if there is one.
+#[derive(Clone, Copy, Drop)]
+pub(crate) struct Start<'t> {
+    pub(crate) count: usize,
+    pub(crate) place: Option<&'t Container<'t>>,
+}
+
 /// Adds a mapping, and then those in its braces.
 #[cycle(mappings)]
 fn add_mapping<'t>(
@@ -148,21 +164,26 @@ fn add_mapping<'t>(
     plans: &mut MappingOrder,
     actors: &'t [Container<'t>],
     threads: &NameIndex,
-    way: &Way<'t>,
+    start: Start<'t>,
     mapping: &Mapping,
 ) -> Result<(), AllocError>
-    ensures { OnOk result (plans.new ≡ plans.old ++ mappings_of actors.entry.now threads.now (way_view way.now) (mapping_view mapping.now)) }
+    requires there { start.count ≤ length (last_steps [] plans.old) }
+    ensures { OnOk result (AddsBehind start.entry.count plans.old plans.new (mappings_of actors.entry.now threads.now (start_view plans.old start.entry) (mapping_view mapping.now))) }
 {
-    let start = same_way(alloc, way)?;
-    let Some(end) = path_end(actors, start, &mapping.path)? else {
+    let Some(end) = path_from(alloc, actors, start.place, &mapping.path)? else {
         return Ok(());
     };
     let controller = controller_of(threads, mapping.thread.as_bytes());
+    let own = own_plan(alloc, &end, controller)?;
     let first = plans.len();
-    plans.push(plan_of(alloc, &end, controller)?)?;
+    let count = plans.push(start.count, own)?;
     match &mapping.nested {
         Some(nested) => {
-            add_all(alloc, plans, actors, threads, &end, nested)?;
+            let inside = Start {
+                count,
+                place: end.place,
+            };
+            add_all(alloc, plans, actors, threads, inside, nested)?;
             plans.close(first);
             Ok(())
         }
@@ -176,31 +197,36 @@ fn add_all<'t>(
     plans: &mut MappingOrder,
     actors: &'t [Container<'t>],
     threads: &NameIndex,
-    way: &Way<'t>,
+    start: Start<'t>,
     mappings: &Vec<Mapping>,
 ) -> Result<(), AllocError>
-    ensures { OnOk result (plans.new ≡ plans.old ++ all_mappings actors.entry.now threads.now (way_view way.now) (mappings_tree (map mapping_view mappings.now.items))) }
+    requires there { start.count ≤ length (last_steps [] plans.old) }
+    ensures { OnOk result (AddsBehind start.entry.count plans.old plans.new (all_mappings actors.entry.now threads.now (start_view plans.old start.entry) (mappings_tree (map mapping_view mappings.now.items)))) }
 {
     for mapping in mappings {
-        add_mapping(alloc, plans, actors, threads, way, mapping)?;
+        add_mapping(alloc, plans, actors, threads, start, mapping)?;
     }
     Ok(())
 }
 
-/// Adds the mappings that an item of a subsystem class is.
+/// Adds the mappings that an item of a subsystem class is, which begin in this class.
 pub(crate) fn add_item<'t>(
     alloc: Global,
     plans: &mut MappingOrder,
     actors: &'t [Container<'t>],
     threads: &NameIndex,
-    way: &Way<'t>,
+    class: &'t Container<'t>,
     item: &SubsystemItem,
 ) -> Result<(), AllocError>
-    ensures { OnOk result (plans.new ≡ plans.old ++ item_mappings actors.entry.now threads.now (way_view way.now) (subsystem_item_view item.now)) }
+    ensures { OnOk result (plans.new ≡ plans.old ++ item_mappings actors.entry.now threads.now (record { steps = []; place = Some class.entry.now }) (subsystem_item_view item.now)) }
 {
     match item {
         SubsystemItem::Mapping(mapping) => {
-            add_mapping(alloc, plans, actors, threads, way, mapping)
+            let start = Start {
+                count: 0,
+                place: Some(class),
+            };
+            add_mapping(alloc, plans, actors, threads, start, mapping)
         }
         _ => Ok(()),
     }

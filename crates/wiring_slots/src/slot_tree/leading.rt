@@ -4,27 +4,13 @@
 //! their reference. So many references with many mappings take time in proportion to both, and
 //! mappings nested in each other as much at each slot as those that end there.
 
-ghost use Rattle.std.specs.Prelude.{◌≡◌, ◌+◌, ◌<◌, ◌^◌, [], replicate, IfOk, OnOk, OnSome};
-ghost use Rattle.wiring_slots.specs.slot_tree.Owners.{next_step};
+ghost use Rattle.std.specs.Prelude.{◌≡◌, [], replicate, IfOk, OnOk};
 ghost use Rattle.wiring_slots.specs.slot_tree.Runs.{trails_of, AreAlike};
 ghost use Rattle.wiring_slots.specs.slot_tree.Leading.{added_at, added_to_each, added_by_index, by_reference, by_index, SortsByReference, SortsByIndex};
 
 use crate::slot_tree::mapping_order::MappingOrder;
-use crate::slot_tree::names::{MappingPlan, StepPlan};
-use crate::slot_tree::owners::Trail;
 use crate::slot_tree::runs::{Run, Trails};
 use std::alloc::{AllocError, Global};
-
-/// The step with which a trail goes on, if its mapping has more of them.
-pub(crate) fn next_step(mappings: &[MappingPlan], trail: Trail) -> Option<StepPlan>
-    ensures value { result ≡ next_step mappings.now trail }
-    ensures within { OnSome result (trail.steps + 1 < 2 ^ 64) }
-{
-    match mappings.get(trail.mapping) {
-        Some(mapping) => mapping.steps.as_slice().get(trail.steps).copied(),
-        None => None,
-    }
-}
 
 fn no_trails(alloc: Global, count: usize) -> Result<Vec<Trails>, AllocError>
     ensures { IfOk result (λ lists. lists.items ≡ replicate count []) }
@@ -64,7 +50,7 @@ fn sort_group_by_reference(
     requires { AreAlike mappings.now group }
     ensures { OnOk result (SortsByReference mappings.now (trails_of group) lists.old.items lists.new.items) }
 {
-    if let Some(step) = next_step(mappings.as_slice(), group.head()) {
+    if let Some(step) = mappings.next_step(group.head()) {
         add_at(lists, usize::from(step.reference), group)?;
     }
     Ok(())
@@ -122,7 +108,7 @@ fn sort_group_by_index(
     requires { AreAlike mappings.now group }
     ensures { OnOk result (SortsByIndex mappings.now reference (trails_of group) lists.old.items lists.new.items) }
 {
-    let Some(step) = next_step(mappings.as_slice(), group.head()) else {
+    let Some(step) = mappings.next_step(group.head()) else {
         return Ok(());
     };
     if step.reference == reference {

@@ -1,7 +1,7 @@
 //! The mappings that lead to a slot, and who owns it.
 
 ghost use Rattle.std.specs.Prelude.{◌≡◌};
-ghost use Rattle.wiring_slots.specs.slot_tree.Owners.{mapped_at, owner_at};
+ghost use Rattle.wiring_slots.specs.slot_tree.Owners.{owner_at};
 ghost use Rattle.wiring_slots.specs.slot_tree.Runs.{trails_of};
 
 use crate::slot_tree::mapping_order::MappingOrder;
@@ -15,20 +15,6 @@ pub(crate) struct Trail {
     pub(crate) steps: usize,
 }
 
-/// The controller of a trail's mapping, where the trail has all its steps.
-fn mapped_at(mappings: &MappingOrder, trail: Trail) -> Option<ControllerId>
-    ensures { result ≡ mapped_at mappings.now trail }
-{
-    let Some(mapping) = mappings.as_slice().get(trail.mapping) else {
-        return None;
-    };
-    if trail.steps == mapping.steps.len() {
-        Some(mapping.controller)
-    } else {
-        None
-    }
-}
-
 /// The owner after the trails of a run, where it is this one before them.
 fn owner_after(mappings: &MappingOrder, run: Run, owner_before: ControllerId) -> ControllerId
     ensures { result ≡ owner_at mappings.now owner_before (trails_of run) }
@@ -37,13 +23,10 @@ fn owner_after(mappings: &MappingOrder, run: Run, owner_before: ControllerId) ->
     let mut first = run.first;
     while first < run.end {
         let group = mappings.group_at(run, first);
-        let mapped = mapped_at(
-            mappings,
-            Trail {
-                mapping: first,
-                steps: run.steps,
-            },
-        );
+        let mapped = mappings.mapped_at(Trail {
+            mapping: first,
+            steps: run.steps,
+        });
         owner = mapped.unwrap_or(owner);
         first = group.end;
     }

@@ -1,16 +1,37 @@
-use Rattle.std.proofs.Common.{◌∙◌, ◌++◌, List, map, ap}
-use Rattle.room_ast.specs.MappingTree.{mapping_view, mappings_of}
+use Rattle.std.proofs.Common.{rules, ◌≡◌, ◌∙◌, ap, map, arith}
+use Rattle.room_ast.specs.MappingTree.{MappingOf, no_braces, in_braces, mapping_view, mappings_of}
+use Rattle.room_ast.specs.declared.system.Mapping.{out-Mapping, the_lemmas}
+use Rattle.room_kinds.specs.declared.numbers.ControllerId.{ControllerId}
 use Rattle.wiring_slots.specs.declared.slot_tree.names.MappingPlan.{MappingPlan}
-use Rattle.wiring_slots.specs.slot_names.Ways.{all_mappings}
-use Rattle.wiring_slots.specs.slot_names.Wireds.{way_view}
-use Rattle.wiring_slots.proofs.slot_names.Braces.{closes}
+use Rattle.wiring_slots.specs.slot_names.Ways.{controller_of}
+use Rattle.wiring_slots.proofs.slot_names.Behind.{pushed_there, one_added, all_added, braces_close}
 use Rattle.wiring_slots.proofs.slot_names.ways.+mappings.Goals as goal
 
 pub add_mapping-close-requires-clause-alike : goal.add_mapping-close-requires-clause-alike
-add_mapping-close-requires-clause-alike n c =
-    let actors = c.args.actors.now in
-    let threads = c.args.threads.now in
-    let way = way_view c.in-Some.end in
-    let nested = mappings_of (map mapping_view c.in-Some-nested.nested.items) in
-    (closes actors threads way nested c.args.plans.now c.add_all.new.plans c.in_ok-plan_of.field-0 c.len-first.result c.len-first.ensures (ap (λ (m : MappingPlan). m.steps) c.in_ok-plan_of.ensures)
-    (c.in_ok-add_all-in-Some-nested.ensures ∙ ap (λ (ms : List MappingPlan). ms ++ all_mappings actors threads way nested) c.in_ok-push.ensures)).alike
+add_mapping-close-requires-clause-alike t c =
+    let owned = c.in_ok-own.ensures ∙ ap (λ (k : ControllerId). let m : MappingPlan = record { steps = c.in-Some.end.steps.items; controller = k } in m) (c.controller_of-controller.ensures ∙ ap (controller_of c.args.threads.now) c.as_bytes.ensures) in
+    (braces_close c.args.actors.now c.args.threads.now c.args.plans.now c.args.start _ _ c.in_ok-end.field-0 c.in_ok-end.ensures c.requires.there c.in-Some.end c.in-Some.is c.in_ok-own.own owned c.push.new.self c.in_ok-count.count c.in_ok-count.ensures
+    (mappings_of (map mapping_view c.in-Some-nested.nested.items)) c.add_all.new.plans c.in_ok-add_all-in-Some-nested.ensures c.len-first.result c.len-first.ensures).alike
+
+pub add_mapping-add_all-requires : goal.add_mapping-add_all-requires
+add_mapping-add_all-requires t c =
+    let there = pushed_there c.args.start.count c.in_ok-count.count c.in_ok-own.own c.args.plans.now c.push.new.self c.in_ok-count.ensures c.requires.there in
+    (first_of (search (rules, the_lemmas), search (the_lemmas, c.decreases, c.in-Some-nested.is), grind (arith, the_lemmas)), there)
+
+pub add_mapping-returns-in-Some-nested : goal.add_mapping-returns-in-Some-nested
+add_mapping-returns-in-Some-nested t c =
+    let owned = c.in_ok-own.ensures ∙ ap (λ (k : ControllerId). let m : MappingPlan = record { steps = c.in-Some.end.steps.items; controller = k } in m) (c.controller_of-controller.ensures ∙ ap (controller_of c.args.threads.now) c.as_bytes.ensures) in
+    let inner = mappings_of (map mapping_view c.in-Some-nested.nested.items) in
+    let layer = out-Mapping c.args.mapping.now in
+    let tree : mapping_view c.args.mapping.now ≡ MappingOf layer.path layer.thread (in_braces inner) = search (rules, the_lemmas) in
+    rw (c.close.ensures, tree)
+    (all_added c.args.actors.now c.args.threads.now c.args.plans.now c.args.start _ _ c.in_ok-end.field-0 c.in_ok-end.ensures c.requires.there c.in-Some.end c.in-Some.is c.in_ok-own.own owned c.push.new.self c.in_ok-count.count c.in_ok-count.ensures
+    inner c.add_all.new.plans c.in_ok-add_all-in-Some-nested.ensures)
+
+pub add_mapping-returns : goal.add_mapping-returns
+add_mapping-returns t c =
+    let owned = c.in_ok-own.ensures ∙ ap (λ (k : ControllerId). let m : MappingPlan = record { steps = c.in-Some.end.steps.items; controller = k } in m) (c.controller_of-controller.ensures ∙ ap (controller_of c.args.threads.now) c.as_bytes.ensures) in
+    let layer = out-Mapping c.args.mapping.now in
+    let tree : mapping_view c.args.mapping.now ≡ MappingOf layer.path layer.thread no_braces = search (rules, the_lemmas) in
+    rw tree
+    (one_added c.args.actors.now c.args.threads.now c.args.plans.now c.args.start _ _ c.in_ok-end.field-0 c.in_ok-end.ensures c.requires.there c.in-Some.end c.in-Some.is c.in_ok-own.own owned c.push.new.self c.in_ok-count.count c.in_ok-count.ensures)

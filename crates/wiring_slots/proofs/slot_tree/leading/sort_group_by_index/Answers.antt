@@ -1,5 +1,4 @@
-use Rattle.std.proofs.Common.{◌∙◌, List, sym, ap}
-use Rattle.wiring_slots.specs.declared.slot_tree.names.MappingPlan.{MappingPlan}
+use Rattle.std.proofs.Common.{◌∙◌, sym, ap}
 use Rattle.wiring_slots.specs.declared.slot_tree.owners.Trail.{Trail}
 use Rattle.wiring_slots.specs.declared.slot_tree.runs.Run.{Run}
 use Rattle.wiring_slots.specs.slot_tree.Owners.{next_step}
@@ -12,7 +11,7 @@ pub returns-in_default : goal.returns-in_default
 returns-in_default c =
     no_group_by_index c.args.mappings.now c.args.reference c.args.group c.args.lists.now.items c.requires
     (
-    sym (c.next_step.ensures.value ∙ ap (λ (ms : List MappingPlan). next_step ms c.head.result) c.as_slice.ensures ∙ ap (λ (t : Trail). next_step c.args.mappings.now t) c.head.ensures)
+    sym (c.next_step.ensures.value ∙ ap (λ (t : Trail). next_step c.args.mappings.now t) c.head.ensures)
     ∙ c.in_default.is
     )
 
@@ -20,7 +19,7 @@ pub returns-in_ok-add_by_index : goal.returns-in_ok-add_by_index
 returns-in_ok-add_by_index c =
     group_by_index c.args.mappings.now c.args.reference c.args.group c.in-Some.step c.args.lists.now.items c.add_by_index.new.lists.items c.requires
     (
-    sym (c.next_step.ensures.value ∙ ap (λ (ms : List MappingPlan). next_step ms c.head.result) c.as_slice.ensures ∙ ap (λ (t : Trail). next_step c.args.mappings.now t) c.head.ensures)
+    sym (c.next_step.ensures.value ∙ ap (λ (t : Trail). next_step c.args.mappings.now t) c.head.ensures)
     ∙ c.in-Some.is
     )
     c.if-step-reference.true
@@ -30,7 +29,7 @@ pub returns-else-step-reference : goal.returns-else-step-reference
 returns-else-step-reference c =
     other_by_index c.args.mappings.now c.args.reference c.args.group c.in-Some.step c.args.lists.now.items c.requires
     (
-    sym (c.next_step.ensures.value ∙ ap (λ (ms : List MappingPlan). next_step ms c.head.result) c.as_slice.ensures ∙ ap (λ (t : Trail). next_step c.args.mappings.now t) c.head.ensures)
+    sym (c.next_step.ensures.value ∙ ap (λ (t : Trail). next_step c.args.mappings.now t) c.head.ensures)
     ∙ c.in-Some.is
     )
     c.if-step-reference.false

@@ -1,6 +1,5 @@
-use Rattle.std.proofs.Common.{◌≡◌, ◌∙◌, List, None, subst, sym, ap, arith}
+use Rattle.std.proofs.Common.{◌≡◌, ◌∙◌, None, subst, sym, arith}
 use Rattle.std.proofs.lemmas.Option.{none-some}
-use Rattle.wiring_slots.specs.declared.slot_tree.names.MappingPlan.{MappingPlan}
 use Rattle.wiring_slots.specs.slot_tree.MappingOrders.{EndsAlike}
 use Rattle.wiring_slots.specs.slot_tree.Owners.{next_step}
 use Rattle.wiring_slots.specs.slot_tree.Runs.{trail_at}
@@ -14,9 +13,7 @@ returns c =
     let plans = c.args.self.now in
     let first = c.args.first in
     let run = c.args.run in
-    let next : next_step plans (trail_at run.steps first) ≡ c.next_step.result =
-    sym (c.next_step.ensures.value ∙ ap (λ (ms : List MappingPlan). next_step ms (trail_at run.steps first)) c.as_slice.ensures)
-    in
+    let next : next_step plans (trail_at run.steps first) ≡ c.next_step.result = sym c.next_step.ensures.value in
     let ends : EndsAlike plans first c.match-next_step.end =
     elim c.match-next_step.branch [
       | in-Some w ↦ subst (λ n. EndsAlike plans first n) (sym w.end-is) w.end_of-end.ensures
