@@ -10,6 +10,7 @@
 //! memory, 6 where a file wasn't read, 7 where the page wasn't written.
 #![tactic(auto)]
 
+mod accepted;
 mod doors;
 mod judge;
 mod lines;
@@ -99,24 +100,21 @@ fn tell(rt: HostRuntime, page: &mut Page, question: Question<'_>) -> Result<Stat
         name: question.model,
         text: text.as_slice(),
     };
-    let Some(wiring) = tell_model(rt.alloc(), page, model)? else {
+    let Some(accepted) = tell_model(rt.alloc(), page, model)? else {
         return Ok(Status::ModelRefused);
     };
+    let wiring = accepted.wiring();
     match question.asked {
         Asked::Nothing => page.put_line(b"ok")?,
-        Asked::Doors => tell_doors(page, &wiring)?,
-        Asked::Lint(injections) => return tell_lint(rt, page, model, &wiring, injections),
-        Asked::Injections(name) => return tell_injections(rt, page, &wiring, name),
-        Asked::Story(name, options) => return tell_story_of(rt, page, &wiring, name, options),
-        Asked::Explain(message) => {
-            return tell_message_of(rt, page, model, &wiring, message);
-        }
-        Asked::End(name) => return tell_end_of(rt, page, &wiring, name),
-        Asked::Picture(picture) => {
-            return tell_picture(rt.alloc(), page, model, &wiring, picture);
-        }
+        Asked::Doors => tell_doors(page, wiring)?,
+        Asked::Lint(injections) => return tell_lint(rt, page, model, wiring, injections),
+        Asked::Injections(name) => return tell_injections(rt, page, wiring, name),
+        Asked::Story(name, options) => return tell_story_of(rt, page, wiring, name, options),
+        Asked::Explain(message) => return tell_message_of(rt, page, &accepted, message),
+        Asked::End(name) => return tell_end_of(rt, page, wiring, name),
+        Asked::Picture(picture) => return tell_picture(rt.alloc(), page, &accepted, picture),
         Asked::Run(name, form, options) => {
-            return tell_run_picture(rt, page, &wiring, name, form, options);
+            return tell_run_picture(rt, page, wiring, name, form, options);
         }
     }
     Ok(Status::Done)

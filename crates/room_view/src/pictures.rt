@@ -1,8 +1,8 @@
 //! Pictures of a model and its runs: actors with their bindings, charts of classes, and who sent what to whom.
-use crate::messages::tree_of;
+use crate::accepted::Accepted;
 use crate::runs::{journals_of, knows, wanted_of};
 use crate::words::Options;
-use journal_views::view_pages::{Named, Page};
+use journal_views::view_pages::Page;
 use model_pictures::{chart_picture, machine_of, run_picture, tell_machines, wiring_picture};
 use picture_formats::{
     Diagram, Sequence, put_dot, put_mermaid, put_sequence_dot, put_sequence_mermaid,
@@ -75,20 +75,19 @@ fn tell_no_chart(page: &mut Page, model: &Model, class: &str) -> Result<Status, 
     Ok(Status::WordsRefused)
 }
 
-/// Puts a picture of a model whose wiring this is.
+/// Puts a picture of a model.
 pub(crate) fn tell_picture(
     alloc: Global,
     page: &mut Page,
-    named: Named<'_>,
-    wiring: &Wiring,
+    model: &Accepted,
     picture: Picture<'_>,
 ) -> Result<Status, AllocError> {
-    let model = tree_of(alloc, named.text)?;
+    let tree = &model.tree;
     let diagram = match picture.shown {
-        Shown::Wiring => wiring_picture(alloc, &model, wiring)?,
-        Shown::Chart(class) => match machine_of(&model, class.as_bytes()) {
+        Shown::Wiring => wiring_picture(alloc, tree, model.wiring())?,
+        Shown::Chart(class) => match machine_of(tree, class.as_bytes()) {
             Some(machine) => chart_picture(alloc, class.as_bytes(), machine)?,
-            None => return tell_no_chart(page, &model, class),
+            None => return tell_no_chart(page, tree, class),
         },
     };
     put_picture(page, &diagram, picture.form)?;

@@ -1,4 +1,6 @@
 //! The texts that words name.
+ghost use Rattle.std.specs.Prelude.{◌≤◌};
+
 use crate::why::tell_refused;
 use journal_views::view_pages::{Named, Page};
 use room_outside::{FileShelf, MAX_TEXT, ReadRefused, read_limit};
@@ -17,7 +19,10 @@ pub(crate) enum Kind {
 }
 
 impl Kind {
-    fn limit(self) -> u64 {
+    /// The most bytes of such a text.
+    fn limit(self) -> u64
+        ensures { result ≤ 268435456 }
+    {
         match self {
             Kind::Model | Kind::Injections => MAX_TEXT,
             Kind::Journals => MAX_JOURNALS,
@@ -48,9 +53,6 @@ pub(crate) fn read(
     kind: Kind,
 ) -> Result<Result<Vec<u8>, Status>, AllocError> {
     let limit = kind.limit();
-    if limit > MAX_JOURNALS {
-        return Ok(Err(kind.refused()));
-    }
     match read_limit(rt.alloc(), &mut FileShelf::new(rt), name, limit) {
         Ok(text) => Ok(Ok(text)),
         Err(ReadRefused::Memory) => Err(AllocError),

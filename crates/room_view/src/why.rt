@@ -1,19 +1,22 @@
 //! Why a text is refused, and where.
+ghost use Rattle.std.specs.Prelude.{◌≤◌, length};
+
+use crate::accepted::Accepted;
 use crate::judge::FaultOf;
-use crate::messages::tree_of;
 use chart_texts::{ChartFault, chart_cause};
 use fault_places::{
     Item, Meaning, Unread, chart_meaning, could_stand, find_causes, head_of, named_by,
     rule_meaning, wiring_meaning,
 };
 use journal_views::view_pages::{Named, Page};
-use room_ast::Scope;
+use room_ast::{Model, Scope};
+use room_inherit::{InheritFault, flatten};
 use room_lexer::{LexFault, Token, lex};
 use room_outside::MAX_TEXT;
-use room_run::{ModelFault, read_wiring};
-use room_wiring::Wiring;
+use room_parser::{ParseFault, parse};
+use room_run::{ModelFault, read_plant};
 use std::alloc::{AllocError, Global};
-use structure_check::{Checked, check};
+use structure_check::{CheckFault, Checked, check};
 
 /// What a fault is and how it is mended.
 pub(crate) fn tell_meaning(page: &mut Page, meaning: Meaning) -> Result<(), AllocError> {
@@ -86,14 +89,13 @@ fn tell_could_stand(page: &mut Page, could_stand: &[&'static [u8]]) -> Result<()
     page.end_line()
 }
 
-/// A text whose tokens no model has.
-fn tell_syntax(
+/// Where a text stops being a model, and what could have stood there.
+fn tell_unread(
     page: &mut Page,
     named: Named<'_>,
     tokens: &[Token],
     unread: &Unread,
 ) -> Result<(), AllocError> {
-    tell_refused(page, named, b"syntax")?;
     page.put_line(b"no model goes on with what stands here")?;
     tell_could_stand(page, unread.could_stand.as_slice())?;
     page.end_line()?;
@@ -105,6 +107,25 @@ fn tell_syntax(
                 Some(last) => page.put_part(named, last.start, last.end),
                 None => page.put_part(named, 0, 0),
             }
+        }
+    }
+}
+
+/// A text whose tokens no model has, which is seen in this line.
+fn tell_syntax(
+    alloc: Global,
+    page: &mut Page,
+    named: Named<'_>,
+    tokens: &[Token],
+    line: u32,
+) -> Result<(), AllocError> {
+    tell_refused(page, named, b"syntax")?;
+    match could_stand(alloc, named.text, tokens)? {
+        Some(unread) => tell_unread(page, named, tokens, &unread),
+        None => {
+            page.put(b"no model goes on with what stands in line ")?;
+            page.put_number(u64::from(line))?;
+            page.end_line()
         }
     }
 }
@@ -166,19 +187,36 @@ fn tell_chart_causes(
     page: &mut Page,
     named: Named<'_>,
     tokens: &[Token],
-    class: &[u8],
-    number: u8,
+    fault: ChartFault<'_>,
     found: &[Item],
 ) -> Result<(), AllocError> {
-    let tree = tree_of(alloc, named.text)?;
-    let Ok(checked) = check(alloc, &tree) else {
-        return tell_items(page, named, tokens, found);
-    };
-    let fault = fault_in(&checked, class, number);
     for item in found {
         tell_chart_cause(alloc, page, named, tokens, fault, *item)?;
     }
     Ok(())
+}
+
+/// Where the causes of a fault stand. The tree is that of the text, where its bases keep the rules on them.
+fn tell_places(
+    alloc: Global,
+    page: &mut Page,
+    named: Named<'_>,
+    tokens: &[Token],
+    fault: &ModelFault,
+    tree: Option<&Model>,
+    found: &[Item],
+) -> Result<(), AllocError> {
+    let (ModelFault::Chart { class, number }, Some(tree)) = (fault, tree) else {
+        return tell_items(page, named, tokens, found);
+    };
+    match check(alloc, tree) {
+        Ok(checked) => {
+            let fault = fault_in(&checked, class.as_bytes(), *number);
+            tell_chart_causes(alloc, page, named, tokens, fault, found)
+        }
+        Err(CheckFault::Memory) => Err(AllocError),
+        Err(CheckFault::Rule(_)) => tell_items(page, named, tokens, found),
+    }
 }
 
 /// Where the causes of a fault stand, and what they name.
@@ -188,19 +226,14 @@ fn tell_causes(
     named: Named<'_>,
     tokens: &[Token],
     fault: &ModelFault,
+    tree: Option<&Model>,
     found: &[Item],
 ) -> Result<(), AllocError> {
     page.end_line()?;
     if found.is_empty() {
         return page.put_line(b"no single part of the text is its cause");
     }
-    match fault {
-        ModelFault::Chart { class, number } => {
-            let class = class.as_bytes();
-            tell_chart_causes(alloc, page, named, tokens, class, *number, found)?;
-        }
-        _ => tell_items(page, named, tokens, found)?,
-    }
+    tell_places(alloc, page, named, tokens, fault, tree, found)?;
     let declared = named_by(alloc, named.text, tokens, found)?;
     if !declared.is_empty() {
         page.end_line()?;
@@ -249,26 +282,84 @@ fn class_of(fault: &ModelFault) -> Option<&[u8]> {
     }
 }
 
-/// A model that breaks a rule, or whose wiring or chart has a fault.
+/// Why a model is refused that breaks a rule, or whose wiring or chart has a fault.
 fn tell_fault(
     alloc: Global,
     page: &mut Page,
     named: Named<'_>,
     tokens: &[Token],
     fault: &ModelFault,
+    tree: Option<&Model>,
 ) -> Result<(), AllocError> {
     tell_head(alloc, page, named, fault)?;
     let judge = FaultOf { alloc, fault };
     let found = find_causes(alloc, named.text, tokens, class_of(fault), &judge)?;
-    tell_causes(alloc, page, named, tokens, fault, found.as_slice())
+    tell_causes(alloc, page, named, tokens, fault, tree, found.as_slice())
 }
 
-/// Tells why the text of a model is refused; gives its wiring where it isn't.
+/// The tree of a text that has these tokens, as it is written; none where no model has them, which is told.
+fn tell_written(
+    alloc: Global,
+    page: &mut Page,
+    named: Named<'_>,
+    tokens: &[Token],
+) -> Result<Option<Model>, AllocError> {
+    match parse(alloc, named.text, tokens) {
+        Ok(written) => Ok(Some(written)),
+        Err(ParseFault::Memory) => Err(AllocError),
+        Err(ParseFault::Syntax { line }) => {
+            tell_syntax(alloc, page, named, tokens, line)?;
+            Ok(None)
+        }
+    }
+}
+
+/// The tree in which each actor class of a text has all that it has from its bases; none where a base breaks a rule,
+/// which is told.
+fn tell_tree(
+    alloc: Global,
+    page: &mut Page,
+    named: Named<'_>,
+    tokens: &[Token],
+    written: Model,
+) -> Result<Option<Model>, AllocError> {
+    match flatten(alloc, written) {
+        Ok(tree) => Ok(Some(tree)),
+        Err(InheritFault::Memory) => Err(AllocError),
+        Err(InheritFault::Rule(rule)) => {
+            let fault = ModelFault::Rule(rule);
+            tell_fault(alloc, page, named, tokens, &fault, None)?;
+            Ok(None)
+        }
+    }
+}
+
+/// What runs of a text with this tree; none where it breaks a rule or has a fault, which is told.
+fn tell_plant(
+    alloc: Global,
+    page: &mut Page,
+    named: Named<'_>,
+    tokens: &[Token],
+    tree: Model,
+) -> Result<Option<Accepted>, AllocError>
+    requires { length named.text.now ≤ 1048576 }
+{
+    match read_plant(alloc, named.text) {
+        Ok(plant) => Ok(Some(Accepted { tree, plant })),
+        Err(ModelFault::Memory) => Err(AllocError),
+        Err(fault) => {
+            tell_fault(alloc, page, named, tokens, &fault, Some(&tree))?;
+            Ok(None)
+        }
+    }
+}
+
+/// Tells why the text of a model is refused; gives what was read of it where it isn't.
 pub(crate) fn tell_model(
     alloc: Global,
     page: &mut Page,
     named: Named<'_>,
-) -> Result<Option<Wiring>, AllocError> {
+) -> Result<Option<Accepted>, AllocError> {
     if named.text.len() as u64 > MAX_TEXT {
         tell_refused(page, named, b"too long")?;
         return Ok(None);
@@ -280,16 +371,12 @@ pub(crate) fn tell_model(
             return Ok(None);
         }
     };
-    if let Some(unread) = could_stand(alloc, named.text, tokens.as_slice())? {
-        tell_syntax(page, named, tokens.as_slice(), &unread)?;
+    let tokens = tokens.as_slice();
+    let Some(written) = tell_written(alloc, page, named, tokens)? else {
         return Ok(None);
-    }
-    match read_wiring(alloc, named.text) {
-        Ok(wiring) => Ok(Some(wiring)),
-        Err(ModelFault::Memory) => Err(AllocError),
-        Err(fault) => {
-            tell_fault(alloc, page, named, tokens.as_slice(), &fault)?;
-            Ok(None)
-        }
-    }
+    };
+    let Some(tree) = tell_tree(alloc, page, named, tokens, written)? else {
+        return Ok(None);
+    };
+    tell_plant(alloc, page, named, tokens, tree)
 }
