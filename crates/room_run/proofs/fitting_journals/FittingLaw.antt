@@ -67,7 +67,7 @@ fitting_in_place owned joined alike linked plant lines fuel j fits fit run =
     let names : LinesName plant.wiring lines = lines_name plant.wiring lines fit in
     let joins : Joins plant.wiring =
     record {
-      mutual = joined fits.model plant.wiring fits.keeps fits.wired fits.flawless;
+      partners = joined fits.model plant.wiring fits.keeps fits.wired fits.flawless;
       joined = alike fits.model plant.wiring fits.keeps fits.wired fits.flawless;
       linked = linked fits.model plant.wiring fits.keeps fits.wired;
     } in

@@ -93,7 +93,7 @@ alike t s p x q h = same_signals t s p x q h.near h.far h.near_is h.far_is h.sig
 
 -- what is so of the wiring by the laws of models
 pub record Joins (t : Tables) : Type 0 where
-  pub mutual : IsMutual t
+  pub partners : IsMutual t
   pub joined : JoinsOneProtocol t
   pub linked : LinksOneProtocol t
 
@@ -120,12 +120,12 @@ module _ (plant : Plant) (fits : PlantFits plant) (joins : Joins plant.wiring) w
 
   ends : (s p k : ℕ) (x : SlotId) (q j : ℕ) → joined_at plant.wiring s p k ≡ partners.End x q j → PortCarries plant.wiring s p x.0 q
   ends s p k x q j e =
-      let there = joined_within plant.wiring x.0 q j (ap is_joined (joins.mutual.ends s p k x q j e) ∙ seen_joined plant.wiring s p k) in
+      let there = joined_within plant.wiring x.0 q j (ap is_joined (joins.partners.ends s p k x q j e) ∙ seen_joined plant.wiring s p k) in
       (there.0, there.1, alike plant.wiring s p x.0 q (joins.joined.ends s p k x q j e))
 
   sockets : (s p k : ℕ) (x : SlotId) (q j : ℕ) → joined_at plant.wiring s p k ≡ partners.Socket x q j → PortCarries plant.wiring s p x.0 q
   sockets s p k x q j e =
-      let there = joined_within plant.wiring x.0 q j (ap is_joined (joins.mutual.sockets s p k x q j e) ∙ seen_joined plant.wiring s p k) in
+      let there = joined_within plant.wiring x.0 q j (ap is_joined (joins.partners.sockets s p k x q j e) ∙ seen_joined plant.wiring s p k) in
       (there.0, there.1, alike plant.wiring s p x.0 q (joins.joined.sockets s p k x q j e))
 
   is_wired : IsWired plant.wiring

@@ -28,13 +28,13 @@ use Rattle.actor_duties.specs.State.{Lives, Frame, Links, Link, ImportPlace, Emp
 use Rattle.actor_duties.specs.Messages.{FrameSignal, Created, Destroyed, Imported, Ended, Deported, Refused, Named, Unnamed as Withdrawn, NameRefused, signal_number, Code, coded, system, reply, to_owner, is_code, Occupied, NotHere, StaleId, WrongClass}
 use Rattle.actor_duties.specs.Lives.{is_live, counts_as_live, last_of, Lived, answered, create, create_done, create_refused, destroy_done, announces, announce_to, part_told_to, told_controllers, part_controllers, part_make, made, made_slots, lives_made, goes_down, ended_slots, parts_told}
 use Rattle.actor_duties.specs.Imports.{is_asking, container_frame, is_port_taken, heard, import, import_done, import_refused, import_ended, deport, deport_done, is_container_live, imported_parts, ended_plugs, given_back}
-use Rattle.actor_duties.specs.Frame.{is_answer, is_forth, is_back, FrameDone, only_sends, nothing, end_messages, part_ends, is_place_ended, frame_ended, end_set_ended, destroy, part_end, plainly, with_number, of_natural, frame_duty_of, frame_duty_from, frame_duty, asked_of, incarnate, destroy_command, is_same_class, busy_code, import_code, asks_for, import_with, import_into, import_command, deport_from, deport_of, deport_command, frame_request}
+use Rattle.actor_duties.specs.Frame.{is_answer, FrameDone, only_sends, nothing, end_messages, part_ends, is_place_ended, frame_ended, end_set_ended, destroy, part_end, plainly, with_number, of_natural, frame_duty_of, frame_duty_from, frame_duty, asked_of, incarnate, destroy_command, is_same_class, busy_code, import_code, asks_for, import_with, import_into, import_command, deport_from, deport_of, deport_command, frame_request}
 use Rattle.actor_duties.specs.Names.{Linking, linked_users, linked_first, meet_with, meet, provide, use_service, in_service, register_spp, register_sap, links_ended, link_ended, user_ended, is_user, waiting, leave, is_provider, stands_in, withdraw, register, is_name_request, table_duty_of, table_duty_from, table_duty, both_told, at_place}
 use Rattle.actor_duties.specs.Links.{updated_at, with_link, is_link, bound, unbound, name_reply, replied, links_duty_of, links_duty_from, links_duty, register_from, register_command, withdraw_from, withdraw_command, is_entered, point_of, end_of, is_own_point}
 use Rattle.actor_duties.specs.Peers.{known, known_end, held_end, fitting_plug, end_of_partner, through_plug, peer_by, frame_peer, link_at, link_peer, or_else, peer}
 use Rattle.actor_duties.specs.Commands.{Content, send, send_to, send_each, broadcast, broadcast_places}
-use Rattle.room_run.proofs.fitting_journals.Acting.{AreThere, numbers_below, filter_below, slots_below, made_below, ended_below, last_there}
-use Rattle.room_run.proofs.fitting_journals.Signals.{Carries, LeadsTo, same_class, class_ports, is_point, IsPointOf, TiesBy, Ties, Says, TiesNothing, says_worded, signal_low}
+use Rattle.room_run.proofs.fitting_journals.Acting.{numbers_below, filter_below, slots_below, made_below, ended_below, last_there}
+use Rattle.room_run.proofs.fitting_journals.Signals.{Carries, LeadsTo, same_class, class_ports, is_point, IsPointOf, TiesBy, Says, TiesNothing, says_worded, signal_low}
 
 -- ---- wirings
 

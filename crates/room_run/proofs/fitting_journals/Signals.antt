@@ -3,7 +3,7 @@
 -- port that has all that its own has, whatever is sent at it fits where it arrives. System messages of two kinds tell
 -- whom a place leads to from then on: Import an import place and a home of one class, and Bound two service points of
 -- one protocol.
-use Rattle.std.proofs.Common.{◌≡◌, ℕ, zero, suc, ◌+◌, ◌<◌, ◌≤◌, Bool, true, ◌||◌, List, length, Option, Some, None, slice_get, option_and_then, refl, sym, ap, ◌∙◌, subst, arith, inl, inr}
+use Rattle.std.proofs.Common.{◌≡◌, ℕ, zero, suc, ◌<◌, ◌≤◌, Bool, true, ◌||◌, length, Option, Some, None, slice_get, option_and_then, refl, sym, ap, ◌∙◌, subst, arith, inl, inr}
 use Rattle.std.specs.Option.{option_map_or}
 use Rattle.std.proofs.lemmas.Option.{same_Some, slice_get_within}
 use Rattle.room_kinds.specs.Kinds.{number_of}
@@ -15,7 +15,6 @@ use Rattle.room_wiring.specs.Slots.{class_of, port_at}
 use Rattle.room_wiring.specs.WellNamed.{signals_of}
 use Rattle.room_wiring.specs.declared.names.ClassNames.{ClassNames}
 use Rattle.room_wiring.specs.declared.names.PortNames.{PortNames}
-use Rattle.room_wiring.specs.declared.names.SignalNames.{SignalNames}
 use Rattle.room_wiring.specs.declared.tables.Tables.{Tables}
 use Rattle.journal.specs.Fits.{FitsEndpoint, HasSignal, FitsSignal}
 use Rattle.actor_duties.specs.Messages.{FrameSignal, Created, Destroyed, Imported, Ended, Deported, Refused, Named, Unnamed, NameRefused, signal_number}
