@@ -1,4 +1,4 @@
-//! What ports of joined places, and service points that are linked by name, have in common.
+//! What ports of joined places, and service points whose protocols have one number, have in common.
 ghost use Rattle.model_laws.specs.joined_ports.Protocols.{ModelsJoinOneProtocol, ModelsLinkOneProtocol};
 
 /// In the wiring of a model that keeps all rules and has no fault the ports of two places that are joined, by bindings
@@ -7,8 +7,8 @@ pub fn joined_ports_have_one_protocol()
     ensures { ModelsJoinOneProtocol }
 {}
 
-/// In the wiring of a model that keeps all rules service points whose protocols have one number, as those that a
-/// service of the name table links, have one protocol: they have the same messages, under the same numbers.
+/// In the wiring of a model that keeps all rules service points whose protocols have one number, by which the name
+/// table finds the service of a point, have one protocol: they have the same messages, under the same numbers.
 pub fn linked_ports_have_one_protocol()
     ensures { ModelsLinkOneProtocol }
 {}

@@ -2,8 +2,8 @@
 -- `HasOneProtocol`: the ports of two places are of one protocol, so that they have the same messages, under the same
 -- numbers. In the wiring of a model that keeps all rules and has no fault the ports of two places that are joined, by
 -- bindings or by layer connections, are so: the law `ModelsJoinOneProtocol`. What is joined to an imported slot is
--- joined to a place of a port of the slot's class. So are service points whose protocols have one number: a service
--- of the name table links no others. This is the law `ModelsLinkOneProtocol`.
+-- joined to a place of a port of the slot's class. And service points are so whose protocols have one number, by which
+-- the name table finds the service of a point: the law `ModelsLinkOneProtocol`.
 use Rattle.std.specs.Prelude.{◌≡◌, ℕ, true, Some, None}
 use Rattle.room_ast.specs.Trees.{ModelTree}
 use Rattle.room_kinds.specs.declared.numbers.SlotId.{SlotId}
