@@ -1,5 +1,5 @@
 use Rattle.frame_service.specs.frame_imports.import_places.Lending.{lending}
-use Rattle.frame_service.proofs.frame_imports.import_places.Ended.{where_next, where_none}
+use Rattle.frame_service.proofs.frame_imports.import_places.Ended.{where_next}
 use Rattle.frame_service.proofs.frame_imports.import_places.table.Imports.end_all.Goals as goal
 
 pub loop-actor-preserved : goal.loop-actor-preserved
