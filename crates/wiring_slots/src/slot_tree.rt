@@ -14,7 +14,7 @@ mod leading;
 mod mapping_order;
 mod names;
 mod owners;
-mod placed;
+mod placed_slots;
 mod places;
 mod runs;
 mod slots;

@@ -1,5 +1,5 @@
 -- The loop that places the slots that wait, whose paths share texts.
-use Rattle.std.proofs.Common.{◌≡◌, ◌∙◌, ℕ, ◌+◌, ◌-◌, ◌<◌, ◌≤◌, eqb, Bool, List, [], ◌∷◌, ◌++◌, Option, Some, None, length, map, reverse, append-nil, refl, sym, ap, subst, arith}
+use Rattle.std.proofs.Common.{◌≡◌, ◌∙◌, ℕ, ◌+◌, ◌-◌, ◌<◌, ◌≤◌, eqb, Bool, List, [], ◌∷◌, ◌++◌, Option, Some, None, length, map, reverse, append-nil, sym, ap, subst, arith}
 use Rattle.std.specs.Prelude.{All}
 use Rattle.std.specs.Global.{Vec}
 use Rattle.std.proofs.lemmas.List.{reverse-append, reverse-reverse}
@@ -9,8 +9,8 @@ use Rattle.wiring_plan.specs.declared.structure_plan.plan.StructurePlan.{Structu
 use Rattle.wiring_slots.specs.declared.slot_tree.children.Pending.{Pending}
 use Rattle.wiring_slots.specs.declared.slot_tree.names.MappingPlan.{MappingPlan}
 use Rattle.wiring_slots.specs.declared.slot_tree.names.SlotNames.{SlotNames}
-use Rattle.wiring_slots.specs.declared.slot_tree.placed.Opened.{Opened}
-use Rattle.wiring_slots.specs.declared.slot_tree.placed.Placed.{Placed}
+use Rattle.wiring_slots.specs.declared.slot_tree.placed_slots.Opened.{Opened}
+use Rattle.wiring_slots.specs.declared.slot_tree.placed_slots.Placed.{Placed}
 use Rattle.wiring_slots.specs.slot_tree.Placing.{Fits, inside_of, all_from, Placing}
 use Rattle.wiring_slots.specs.slot_tree.Sharing.{shared, all_placed, AddsSlot, next_path, Sharing, IsPlacing}
 use Rattle.wiring_slots.proofs.slot_tree.Placed.{placing_starts, placing_room, placing_on, placing_over, placing_done}
@@ -51,11 +51,11 @@ module _ (plan : StructurePlan) (names : SlotNames) (mappings : List MappingPlan
 
     -- the slots inside are found and wait
     pub sharing_on : (n room : ℕ) (found : Option (Vec Pending)) (v : Vec Pending) → n ≡ length placed.slots.items + length placed.opened.items → room ≡ 4096 - 1 - length below - n → found ≡ Some v → Fits room (inside_of plan names mappings n p) found
-        → (placed' : Placed) (stack' : List Pending) (is_leaf : Bool) → is_leaf ≡ eqb (length v.items) 0 → AddsSlot placed placed' p.slot is_leaf → stack' ≡ below ++ reverse v.items → IsPlacing plan names mappings all placed' stack'
+        → (placed' : Placed) (stack' : List Pending) (is_leaf : Bool) → is_leaf ≡ eqb v.len 0 → AddsSlot placed placed' p.slot is_leaf → stack' ≡ below ++ reverse v.items → IsPlacing plan names mappings all placed' stack'
     sharing_on n room found v n_is room_is is fits placed' stack' is_leaf leaf adds pushed =
         let fit = subst (λ f. Fits room (inside_of plan names mappings n p) f) is fits in
         let begin : All (Begins p) v.items = subst (λ (ps : List Pending). All (Begins p) ps) (sym fit.0) (all_begin plan names mappings n p) in
-        let added = slot_added placed placed' p (reverse below) (subst (λ (ps : List Pending). Sharing placed ps) turned h.sharing) v.items is_leaf begin leaf adds in
+        let added = slot_added placed placed' p (reverse below) (subst (λ (ps : List Pending). Sharing placed ps) turned h.sharing) v.items v.len is_leaf begin v.ok.0 leaf adds in
         let back : reverse stack' ≡ v.items ++ reverse below = ap reverse pushed ∙ reverse-append below (reverse v.items) ∙ ap (λ (cs : List Pending). cs ++ reverse below) (reverse-reverse v.items) in
         let more : all_placed (next_path (reverse stack')) placed' ≡ before ++ p.slot ∷ [] =
         ap (λ (ps : List Pending). all_placed (next_path ps) placed') back ∙ added.slots ∙ ap (λ (ps : List Pending). all_placed (next_path ps) placed ++ p.slot ∷ []) (sym turned)

@@ -1,5 +1,5 @@
 -- Slots inside each other, whose paths are beginnings of one text.
-use Rattle.std.proofs.Common.{◌≡◌, ◌∙◌, ℕ, zero, suc, ◌+◌, ◌<◌, ◌≤◌, eqb, Bool, true, false, cond, List, [], ◌∷◌, ◌++◌, length, map, take, min, append_assoc, append-nil, length-append, length-take, take-take, take_at, refl, sym, ap, subst, arith}
+use Rattle.std.proofs.Common.{◌≡◌, ◌∙◌, ℕ, zero, suc, ◌+◌, ◌≤◌, eqb, Bool, true, false, cond, List, [], ◌∷◌, ◌++◌, length, map, take, append_assoc, append-nil, length-append, length-take, take-take, take_at, refl, sym, ap, subst, arith}
 use Rattle.std.specs.Prelude.{All, slice_get}
 use Rattle.std.specs.List.{enumerate_from, flat_map, range_with_len}
 use Rattle.std.specs.Option.{option_map_or}
@@ -14,11 +14,11 @@ use Rattle.wiring_slots.specs.declared.slot_tree.children.Pending.{Pending}
 use Rattle.wiring_slots.specs.declared.slot_tree.names.MappingPlan.{MappingPlan}
 use Rattle.wiring_slots.specs.declared.slot_tree.names.ReferenceLabel.{ReferenceLabel}
 use Rattle.wiring_slots.specs.declared.slot_tree.names.SlotNames.{SlotNames}
-use Rattle.wiring_slots.specs.declared.slot_tree.placed.Opened.{Opened}
-use Rattle.wiring_slots.specs.declared.slot_tree.placed.Placed.{Placed}
+use Rattle.wiring_slots.specs.declared.slot_tree.placed_slots.Opened.{Opened}
+use Rattle.wiring_slots.specs.declared.slot_tree.placed_slots.Placed.{Placed}
 use Rattle.wiring_slots.specs.slot_tree.Placing.{inside_to, inside_of}
 use Rattle.wiring_slots.specs.slot_tree.Slots.{segment_text, pending_at, slots_of_reference, slots_of_references, above_in, labels_of_class, references_of_class}
-use Rattle.wiring_slots.specs.slot_tree.Sharing.{opened, shared, all_placed, AddsSlot, next_path, Sharing}
+use Rattle.wiring_slots.specs.slot_tree.Sharing.{without_path, shared, all_placed, AddsSlot, next_path, Sharing}
 
 -- ---- the paths of the slots directly inside a slot begin with its path
 abbrev pub Begins : Pending → Pending → Type 0
@@ -76,11 +76,11 @@ module _ (here next : List ℕ) (begins : take (length here) next ≡ here) wher
       ap (λ (s : Slot). s ∷ map (shared next) os) (same_slot o (All-head (λ (x : Opened). x.path_end ≤ length here) o os h))
       ∙ ap (λ (ss : List Slot). shared here o ∷ ss) (same_slots os (All-tail (λ (x : Opened). x.path_end ≤ length here) o os h))
 
-own_slot : (next : List ℕ) (s : Slot) → take (length s.path) next ≡ s.path → shared next (opened s) ≡ s
+own_slot : (next : List ℕ) (s : Slot) → take (length s.path) next ≡ s.path → shared next (without_path s) ≡ s
 own_slot next s begins = ap (λ (t : List ℕ). record { path = t; class = s.class; kind = s.kind; parent = s.parent; owner = s.owner; reference = s.reference; index = s.index }) begins
 
 pub count_placed : (next : List ℕ) (placed : Placed) → length (all_placed next placed) ≡ length placed.slots.items + length placed.opened.items
-count_placed next placed = length-append placed.slots.items (map (shared next) placed.opened.items) ∙ ap (λ k. length placed.slots.items + k) (length-map (shared next) placed.opened.items)
+count_placed next placed = length-append placed.slots.items (map (shared next) placed.opened.items) ∙ ap (λ k. length placed.slots.items + k) (length-map placed.opened.items (shared next))
 
 -- ---- a slot is added
 -- what the loop keeps, and that the slot is the last one
@@ -111,8 +111,8 @@ module _ (old new : Placed) (p : Pending) (rest : List Pending) (h : Sharing old
         let kept = old.opened.items in
         ap (λ (ss : List Slot). ss ++ map (shared next) new.opened.items) a.0
         ∙ ap (λ (os : List Opened). before ++ map (shared next) os) a.1
-        ∙ ap (λ (ss : List Slot). before ++ ss) (map-append (shared next) kept (opened p.slot ∷ []))
-        ∙ ap (λ (ss : List Slot). before ++ (ss ++ shared next (opened p.slot) ∷ [])) (same_slots here next begins kept h.begun)
+        ∙ ap (λ (ss : List Slot). before ++ ss) (map-append (shared next) kept (without_path p.slot ∷ []))
+        ∙ ap (λ (ss : List Slot). before ++ (ss ++ shared next (without_path p.slot) ∷ [])) (same_slots here next begins kept h.begun)
         ∙ ap (λ (s : Slot). before ++ (map (shared here) kept ++ s ∷ [])) (own_slot next p.slot begins)
         ∙ sym (append_assoc before (map (shared here) kept) (p.slot ∷ []))
 
@@ -120,13 +120,13 @@ module _ (old new : Placed) (p : Pending) (rest : List Pending) (h : Sharing old
     none_longer =
         let long = no_shorter here next begins in
         let kept = All-weaker (λ (o : Opened). o.path_end ≤ length here) (λ (o : Opened). o.path_end ≤ length next) (λ o le. omega (arith, le, long)) old.opened.items h.begun in
-        subst (λ (os : List Opened). All (λ (o : Opened). o.path_end ≤ length next) os) (sym a.1) (All-push (λ (o : Opened). o.path_end ≤ length next) old.opened.items (opened p.slot) kept long)
+        subst (λ (os : List Opened). All (λ (o : Opened). o.path_end ≤ length next) os) (sym a.1) (All-push (λ (o : Opened). o.path_end ≤ length next) old.opened.items (without_path p.slot) kept long)
 
     inner_added : Added old new p (c ∷ others)
     inner_added = record { sharing = record { begun = none_longer; ended = λ e. absurd cc }; slots = slots_added }
 
-  pub slot_added : (children : List Pending) (is_leaf : Bool) → All (Begins p) children → is_leaf ≡ eqb (length children) 0 → AddsSlot old new p.slot is_leaf → Added old new p (children ++ rest)
-  slot_added [] true begin e a = leaf_added a
-  slot_added [] false begin e a = absurd cc
-  slot_added (c ∷ cs) true begin e a = absurd cc
-  slot_added (c ∷ cs) false begin e a = inner_added c (cs ++ rest) (All-head (Begins p) c cs begin) a
+  pub slot_added : (children : List Pending) (size : ℕ) (is_leaf : Bool) → All (Begins p) children → size ≡ length children → is_leaf ≡ eqb size 0 → AddsSlot old new p.slot is_leaf → Added old new p (children ++ rest)
+  slot_added [] size true begin is e a = leaf_added a
+  slot_added [] size false begin is e a = absurd (grind (arith, nat_tests))
+  slot_added (c ∷ cs) size true begin is e a = absurd (grind (arith, nat_tests))
+  slot_added (c ∷ cs) size false begin is e a = inner_added c (cs ++ rest) (All-head (Begins p) c cs begin) a

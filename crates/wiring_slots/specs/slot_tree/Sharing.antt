@@ -6,13 +6,13 @@ use Rattle.wiring_plan.specs.declared.structure_plan.plan.StructurePlan.{Structu
 use Rattle.wiring_slots.specs.declared.slot_tree.children.Pending.{Pending}
 use Rattle.wiring_slots.specs.declared.slot_tree.names.MappingPlan.{MappingPlan}
 use Rattle.wiring_slots.specs.declared.slot_tree.names.SlotNames.{SlotNames}
-use Rattle.wiring_slots.specs.declared.slot_tree.placed.Opened.{Opened}
-use Rattle.wiring_slots.specs.declared.slot_tree.placed.Placed.{Placed}
+use Rattle.wiring_slots.specs.declared.slot_tree.placed_slots.Opened.{Opened}
+use Rattle.wiring_slots.specs.declared.slot_tree.placed_slots.Placed.{Placed}
 use Rattle.wiring_slots.specs.slot_tree.Placing.{Placing}
 
 -- A slot without its path, of which the length is kept.
-abbrev pub opened : Slot → Opened
-opened s = record { path_end = length s.path; class = s.class; kind = s.kind; parent = s.parent; owner = s.owner; reference = s.reference; index = s.index }
+abbrev pub without_path : Slot → Opened
+without_path s = record { path_end = length s.path; class = s.class; kind = s.kind; parent = s.parent; owner = s.owner; reference = s.reference; index = s.index }
 
 -- The slot again, where its path is the beginning of this one.
 abbrev pub shared : List ℕ → Opened → Slot
@@ -25,7 +25,7 @@ all_placed next p = p.slots.items ++ map (shared next) p.opened.items
 -- A slot is added, of which is told whether it is a leaf.
 abbrev pub AddsSlot : Placed → Placed → Slot → Bool → Type 0
 AddsSlot old new s true = (new.slots.items ≡ all_placed s.path old ++ s ∷ []) × (new.opened.items ≡ [])
-AddsSlot old new s false = (new.slots.items ≡ old.slots.items) × (new.opened.items ≡ old.opened.items ++ opened s ∷ [])
+AddsSlot old new s false = (new.slots.items ≡ old.slots.items) × (new.opened.items ≡ old.opened.items ++ without_path s ∷ [])
 
 -- The path of the first slot that waits.
 abbrev pub next_path : List Pending → List ℕ

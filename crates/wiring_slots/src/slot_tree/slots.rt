@@ -8,7 +8,7 @@ ghost use Rattle.wiring_slots.specs.slot_tree.Slots.{references_of_class, labels
 use crate::slot_tree::children::{Above, Pending, above_in, slots_of_references};
 use crate::slot_tree::mapping_order::MappingOrder;
 use crate::slot_tree::names::{ReferenceLabel, SlotNames};
-use crate::slot_tree::placed::Placed;
+use crate::slot_tree::placed_slots::Placed;
 use crate::slot_tree::runs::Trails;
 use room_kinds::{ControllerId, Sequence};
 use room_wiring::Slot;

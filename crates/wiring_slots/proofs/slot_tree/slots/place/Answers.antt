@@ -1,10 +1,10 @@
 use Rattle.std.proofs.Common.{arith}
 use Rattle.std.proofs.lemmas.List.{nil_from_length}
-use Rattle.wiring_slots.proofs.slot_tree.PlacedSharing.{sharing_starts, sharing_room, sharing_on, sharing_over, sharing_done}
+use Rattle.wiring_slots.proofs.slot_tree.PlacedSharing.{sharing_starts, sharing_on, sharing_over, sharing_done}
 use Rattle.wiring_slots.proofs.slot_tree.slots.place.Goals as goal
 
-pub loop-pending-entry : goal.loop-pending-entry
-loop-pending-entry c = sharing_starts c.args.plan.now c.args.names.now c.args.mappings.now c.new-placed.result c.args.waiting.items c.new-placed.ensures.slots c.new-placed.ensures.opened c.requires.few
+pub loop-pending-init : goal.loop-pending-init
+loop-pending-init c = sharing_starts c.args.plan.now c.args.names.now c.args.mappings.now c.new-placed.result c.args.waiting.items c.new-placed.ensures.slots c.new-placed.ensures.opened c.requires.few
 
 pub returns-in_default-2 : goal.returns-in_default-2
 returns-in_default-2 c =

@@ -1,7 +1,7 @@
 //! The slots that have been placed. Those inside each other share the text of their paths.
 
 ghost use Rattle.std.specs.Prelude.{◌≡◌, ◌+◌, ◌≤◌, ◌++◌, [], true, length, map, IfOk, OnOk};
-ghost use Rattle.wiring_slots.specs.slot_tree.Sharing.{opened, shared, AddsSlot};
+ghost use Rattle.wiring_slots.specs.slot_tree.Sharing.{without_path, shared, AddsSlot};
 
 use room_kinds::{ControllerId, ReferenceKind, SlotId};
 use room_wiring::{Path, Slot};
@@ -19,8 +19,8 @@ pub(crate) struct Opened {
     pub(crate) index: u32,
 }
 
-fn opened(slot: &Slot) -> Opened
-    ensures { result ≡ opened slot.now }
+fn without_path(slot: &Slot) -> Opened
+    ensures { result ≡ without_path slot.now }
 {
     Opened {
         path_end: slot.path.as_bytes().len(),
@@ -92,7 +92,7 @@ impl Placed {
         if is_leaf {
             self.close(slot)
         } else {
-            self.opened.push(opened(&slot))?;
+            self.opened.push(without_path(&slot))?;
             Ok(())
         }
     }
