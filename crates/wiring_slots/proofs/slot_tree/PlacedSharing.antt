@@ -1,5 +1,5 @@
 -- The loop that places the slots that wait, whose paths share texts.
-use Rattle.std.proofs.Common.{◌≡◌, ◌∙◌, ℕ, ◌+◌, ◌-◌, ◌<◌, ◌≤◌, eqb, Bool, List, [], ◌∷◌, ◌++◌, Option, Some, None, length, map, reverse, append-nil, sym, ap, subst, arith}
+use Rattle.std.proofs.Common.{◌≡◌, ◌∙◌, ℕ, ◌+◌, ◌-◌, ◌<◌, ◌≤◌, eqb, Bool, List, [], ◌∷◌, ◌++◌, Option, Some, None, length, map, reverse, append-nil, sym, ap, subst}
 use Rattle.std.specs.Prelude.{All}
 use Rattle.std.specs.Global.{Vec}
 use Rattle.std.proofs.lemmas.List.{reverse-append, reverse-reverse}
@@ -13,7 +13,7 @@ use Rattle.wiring_slots.specs.declared.slot_tree.placed_slots.Opened.{Opened}
 use Rattle.wiring_slots.specs.declared.slot_tree.placed_slots.Placed.{Placed}
 use Rattle.wiring_slots.specs.slot_tree.Placing.{Fits, inside_of, all_from, Placing}
 use Rattle.wiring_slots.specs.slot_tree.Sharing.{shared, all_placed, AddsSlot, next_path, Sharing, IsPlacing}
-use Rattle.wiring_slots.proofs.slot_tree.Placed.{placing_starts, placing_room, placing_on, placing_over, placing_done}
+use Rattle.wiring_slots.proofs.slot_tree.Placed.{placing_starts, placing_on, placing_over, placing_done}
 use Rattle.wiring_slots.proofs.slot_tree.Sharing.{Begins, all_begin, count_placed, slot_added}
 
 -- no slot is without a path
@@ -42,12 +42,6 @@ module _ (plan : StructurePlan) (names : SlotNames) (mappings : List MappingPlan
 
     counted : (n : ℕ) → n ≡ length placed.slots.items + length placed.opened.items → n ≡ length before
     counted n is = is ∙ sym (count_placed (next_path (reverse stack)) placed)
-
-    pub sharing_room : length placed.slots.items + length placed.opened.items + length below + 1 ≤ 4096
-    sharing_room =
-        let room = placing_room plan names mappings all before stack below p h.placing popped in
-        let count = count_placed (next_path (reverse stack)) placed in
-        omega (arith, room, count)
 
     -- the slots inside are found and wait
     pub sharing_on : (n room : ℕ) (found : Option (Vec Pending)) (v : Vec Pending) → n ≡ length placed.slots.items + length placed.opened.items → room ≡ 4096 - 1 - length below - n → found ≡ Some v → Fits room (inside_of plan names mappings n p) found
