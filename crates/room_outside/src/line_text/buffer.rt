@@ -7,7 +7,7 @@ ghost use Rattle.room_outside.specs.line_text.Parts.{part_text, part_texts};
 ghost use Rattle.room_outside.specs.line_text.Output.{Puts, at_rest};
 
 use crate::line_text::laying::{
-    PIECE, lay_four, lay_number, lay_part, lay_signed, lay_three, lay_two,
+    PIECE, Piece, lay_four, lay_number, lay_part, lay_signed, lay_three, lay_two,
 };
 use crate::line_text::part::{Part, most_of_number, most_of_signed};
 use crate::{Sink, WriteFault, write_whole};
@@ -17,7 +17,7 @@ use std::marker::Model;
 /// The bytes of a line that were not written yet, at most a piece.
 #[derive(Drop)]
 pub struct LineBuffer {
-    bytes: [u8; PIECE],
+    bytes: Piece,
     len: usize,
 }
 
@@ -164,7 +164,6 @@ impl LineBuffer {
     }
 
     /// Adds a number.
-    #[inline(always)]
     pub fn put_number<K: Sink>(&mut self, sink: &mut K, number: u64) -> Result<(), WriteFault>
         ensures { Puts result
             (record { written = K.written sink.old; held = self.old })
@@ -250,8 +249,8 @@ impl LineBuffer {
         }
     }
 
-    /// Adds a part of a line. With the three that follow, a part that is known where they are called
-    /// costs no more than its bytes.
+    /// Adds a part of a line. With the three that follow, parts that are known where they are called
+    /// cost no more than their bytes, and one test of the room is for them all.
     #[inline(always)]
     pub fn put_one<K: Sink>(&mut self, sink: &mut K, part: Part) -> Result<(), WriteFault>
         ensures { Puts result

@@ -11,11 +11,14 @@ use itoa::Buffer;
 /// The most bytes that are written in one piece.
 pub(crate) const PIECE: usize = 4096;
 
+/// The bytes of a piece.
+pub(crate) type Piece = [u8; PIECE];
+
 // Each function lays bytes from a place on, and gives the place behind them. That place is passed
 // along rather than kept beside the piece, so that it stays in a register.
 
 #[inline(always)]
-fn lay_byte(piece: &mut [u8; PIECE], at: usize, byte: u8) -> usize
+fn lay_byte(piece: &mut Piece, at: usize, byte: u8) -> usize
     requires { at < 4096 }
     ensures behind { result ≡ at + 1 }
     ensures laid { take result piece.new ≡ take at piece.old ++ byte ∷ [] }
@@ -25,7 +28,7 @@ fn lay_byte(piece: &mut [u8; PIECE], at: usize, byte: u8) -> usize
 }
 
 #[inline(always)]
-fn lay_pair(piece: &mut [u8; PIECE], at: usize, pair: [u8; 2]) -> usize
+fn lay_pair(piece: &mut Piece, at: usize, pair: [u8; 2]) -> usize
     requires { at + 2 ≤ 4096 }
     ensures behind { result ≡ at + 2 }
     ensures laid { take result piece.new ≡ take at piece.old ++ pair }
@@ -36,7 +39,7 @@ fn lay_pair(piece: &mut [u8; PIECE], at: usize, pair: [u8; 2]) -> usize
 }
 
 #[inline(always)]
-fn lay_quad(piece: &mut [u8; PIECE], at: usize, quad: [u8; 4]) -> usize
+fn lay_quad(piece: &mut Piece, at: usize, quad: [u8; 4]) -> usize
     requires { at + 4 ≤ 4096 }
     ensures behind { result ≡ at + 4 }
     ensures laid { take result piece.new ≡ take at piece.old ++ quad }
@@ -48,7 +51,7 @@ fn lay_quad(piece: &mut [u8; PIECE], at: usize, quad: [u8; 4]) -> usize
 
 /// Lays at most three bytes.
 #[inline(always)]
-fn lay_few(piece: &mut [u8; PIECE], at: usize, text: &[u8]) -> usize
+fn lay_few(piece: &mut Piece, at: usize, text: &[u8]) -> usize
     requires room { at + length text.now ≤ 4096 }
     requires few { length text.now < 4 }
     ensures behind { result ≡ at + length text.now }
@@ -65,9 +68,9 @@ fn lay_few(piece: &mut [u8; PIECE], at: usize, text: &[u8]) -> usize
     }
 }
 
-/// Lays a text. Names and words are short, so that a call that copies costs more than they do.
+/// Lays a text. Names and words are short: a call that copies them would cost more than they do.
 #[inline(always)]
-pub(crate) fn lay_text(piece: &mut [u8; PIECE], at: usize, text: &[u8]) -> usize
+pub(crate) fn lay_text(piece: &mut Piece, at: usize, text: &[u8]) -> usize
     requires { at + length text.now ≤ 4096 }
     ensures behind { result ≡ at + length text.now }
     ensures laid { take result piece.new ≡ take at piece.old ++ text.now }
@@ -84,7 +87,7 @@ pub(crate) fn lay_text(piece: &mut [u8; PIECE], at: usize, text: &[u8]) -> usize
 /// Lays the digits of a number.
 #[inline(always)]
 #[tactic(auto, using(crate::proofs::line_text::Digits::one_digit))]
-pub(crate) fn lay_number(piece: &mut [u8; PIECE], at: usize, number: u64) -> usize
+pub(crate) fn lay_number(piece: &mut Piece, at: usize, number: u64) -> usize
     requires { at + length (decimal number) ≤ 4096 }
     ensures behind { result ≡ at + length (decimal number) }
     ensures laid { take result piece.new ≡ take at piece.old ++ decimal number }
@@ -97,7 +100,7 @@ pub(crate) fn lay_number(piece: &mut [u8; PIECE], at: usize, number: u64) -> usi
 
 /// Lays a number of more than one digit. The stamps of a run have few.
 #[inline(never)]
-fn lay_digits(piece: &mut [u8; PIECE], at: usize, number: u64) -> usize
+fn lay_digits(piece: &mut Piece, at: usize, number: u64) -> usize
     requires many { 10 ≤ number }
     requires room { at + length (decimal number) ≤ 4096 }
     ensures behind { result ≡ at + length (decimal number) }
@@ -120,7 +123,7 @@ fn lay_digits(piece: &mut [u8; PIECE], at: usize, number: u64) -> usize
 }
 
 #[inline(never)]
-fn lay_many_digits(piece: &mut [u8; PIECE], at: usize, number: u64) -> usize
+fn lay_many_digits(piece: &mut Piece, at: usize, number: u64) -> usize
     requires { at + length (decimal number) ≤ 4096 }
     ensures behind { result ≡ at + length (decimal number) }
     ensures laid { take result piece.new ≡ take at piece.old ++ decimal number }
@@ -131,7 +134,7 @@ fn lay_many_digits(piece: &mut [u8; PIECE], at: usize, number: u64) -> usize
 
 /// Lays a number with its sign.
 #[inline(always)]
-pub(crate) fn lay_signed(piece: &mut [u8; PIECE], at: usize, number: i64) -> usize
+pub(crate) fn lay_signed(piece: &mut Piece, at: usize, number: i64) -> usize
     requires { at + length (signed_decimal number) ≤ 4096 }
     ensures behind { result ≡ at + length (signed_decimal number) }
     ensures laid { take result piece.new ≡ take at piece.old ++ signed_decimal number }
@@ -143,7 +146,7 @@ pub(crate) fn lay_signed(piece: &mut [u8; PIECE], at: usize, number: i64) -> usi
 }
 
 #[inline(never)]
-fn lay_negative(piece: &mut [u8; PIECE], at: usize, number: i64) -> usize
+fn lay_negative(piece: &mut Piece, at: usize, number: i64) -> usize
     requires { at + length (signed_decimal number) ≤ 4096 }
     ensures behind { result ≡ at + length (signed_decimal number) }
     ensures laid { take result piece.new ≡ take at piece.old ++ signed_decimal number }
@@ -154,7 +157,7 @@ fn lay_negative(piece: &mut [u8; PIECE], at: usize, number: i64) -> usize
 
 /// Lays a number with a blank before it.
 #[inline(always)]
-fn lay_after_blank(piece: &mut [u8; PIECE], at: usize, number: i64) -> usize
+fn lay_after_blank(piece: &mut Piece, at: usize, number: i64) -> usize
     requires { at + (1 + length (signed_decimal number)) ≤ 4096 }
     ensures behind { result ≡ at + (1 + length (signed_decimal number)) }
     ensures laid { take result piece.new ≡ take at piece.old ++ 32 ∷ signed_decimal number }
@@ -165,7 +168,7 @@ fn lay_after_blank(piece: &mut [u8; PIECE], at: usize, number: i64) -> usize
 
 /// Lays numbers, each with a blank before it.
 #[inline(always)]
-fn lay_numbers(piece: &mut [u8; PIECE], at: usize, numbers: &[i64]) -> usize
+fn lay_numbers(piece: &mut Piece, at: usize, numbers: &[i64]) -> usize
     requires { at + length (numbers_text numbers.now) ≤ 4096 }
     ensures behind { result ≡ at + length (numbers_text numbers.now) }
     ensures laid { take result piece.new ≡ take at piece.old ++ numbers_text numbers.now }
@@ -179,7 +182,7 @@ fn lay_numbers(piece: &mut [u8; PIECE], at: usize, numbers: &[i64]) -> usize
 
 /// Lays a part of a line.
 #[inline(always)]
-pub(crate) fn lay_part(piece: &mut [u8; PIECE], at: usize, part: Part) -> usize
+pub(crate) fn lay_part(piece: &mut Piece, at: usize, part: Part) -> usize
     requires { at + length (part_text part) ≤ 4096 }
     ensures behind { result ≡ at + length (part_text part.entry) }
     ensures laid { take result piece.new ≡ take at piece.old ++ part_text part.entry }
@@ -194,7 +197,7 @@ pub(crate) fn lay_part(piece: &mut [u8; PIECE], at: usize, part: Part) -> usize
 
 /// Lays two parts.
 #[inline(always)]
-pub(crate) fn lay_two(piece: &mut [u8; PIECE], at: usize, a: Part, b: Part) -> usize
+pub(crate) fn lay_two(piece: &mut Piece, at: usize, a: Part, b: Part) -> usize
     requires { at + (length (part_text a) + length (part_text b)) ≤ 4096 }
     ensures behind { result ≡ at + (length (part_text a.entry) + length (part_text b.entry)) }
     ensures laid { take result piece.new ≡ take at piece.old ++ (part_text a.entry ++ part_text b.entry) }
@@ -205,7 +208,7 @@ pub(crate) fn lay_two(piece: &mut [u8; PIECE], at: usize, a: Part, b: Part) -> u
 
 /// Lays three parts.
 #[inline(always)]
-pub(crate) fn lay_three(piece: &mut [u8; PIECE], at: usize, a: Part, b: Part, c: Part) -> usize
+pub(crate) fn lay_three(piece: &mut Piece, at: usize, a: Part, b: Part, c: Part) -> usize
     requires { at + (length (part_text a) + (length (part_text b) + length (part_text c))) ≤ 4096 }
     ensures behind { result ≡ at + (length (part_text a.entry)
         + (length (part_text b.entry) + length (part_text c.entry))) }
@@ -218,14 +221,7 @@ pub(crate) fn lay_three(piece: &mut [u8; PIECE], at: usize, a: Part, b: Part, c:
 
 /// Lays four parts.
 #[inline(always)]
-pub(crate) fn lay_four(
-    piece: &mut [u8; PIECE],
-    at: usize,
-    a: Part,
-    b: Part,
-    c: Part,
-    d: Part,
-) -> usize
+pub(crate) fn lay_four(piece: &mut Piece, at: usize, a: Part, b: Part, c: Part, d: Part) -> usize
     requires { at + (length (part_text a) + (length (part_text b)
         + (length (part_text c) + length (part_text d)))) ≤ 4096 }
     ensures behind { result ≡ at + (length (part_text a.entry) + (length (part_text b.entry)
