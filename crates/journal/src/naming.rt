@@ -79,6 +79,7 @@ pub fn state_label(wiring: &Wiring, s: SlotId, state: u16) -> &[u8]
 }
 
 /// The name of a message's signal.
+#[inline(always)]
 pub fn signal_name<'a>(wiring: &'a Wiring, msg: &Msg) -> &'a [u8]
     ensures { result.now ≡ signal_text wiring.now msg.now }
 {
@@ -89,6 +90,7 @@ pub fn signal_name<'a>(wiring: &'a Wiring, msg: &Msg) -> &'a [u8]
     }
 }
 
+#[inline(always)]
 #[tactic(auto, unfolding(crate::specs::Names::port_signal_text))]
 fn port_signal_name(wiring: &Wiring, s: SlotId, number: u16, signal: u16) -> &[u8]
     ensures { result.now ≡ port_signal_text wiring.now s.0 number signal }
