@@ -22,7 +22,11 @@ from_key key steps = filter (λ (s : StepTree). same s.origin key) steps
 abbrev pub IsNumber : List (List ℕ) → List ℕ → ℕ → Type 0
 IsNumber keys key n = position (same key) keys ≡ Some n
 
--- a key has a number of 16 bits among keys
+-- a key has a number among keys
+abbrev pub HasPlace : List (List ℕ) → List ℕ → Type 0
+HasPlace keys key = (n : ℕ) × IsNumber keys key n
+
+-- and one of 16 bits
 abbrev pub HasNumber : List (List ℕ) → List ℕ → Type 0
 HasNumber keys key = (n : ℕ) × IsNumber keys key n × (n < 2 ^ 16)
 
@@ -36,7 +40,7 @@ target_of s = target_key s.placed.graph s.placed.transition.target
 
 -- the node of each step has a number
 abbrev pub LeadTo : List (List ℕ) → List StepTree → Type 0
-LeadTo nodes steps = (i : ℕ) (s : StepTree) → slice_get steps i ≡ Some s → HasNumber nodes (target_of s)
+LeadTo nodes steps = (i : ℕ) (s : StepTree) → slice_get steps i ≡ Some s → HasPlace nodes (target_of s)
 
 -- the key of a state
 abbrev pub key_of : PlaceTree → List ℕ
@@ -58,15 +62,15 @@ abbrev pub outer : Path → Path
 outer [] = []
 outer (s ∷ owner) = owner
 
--- the state at a path and those that have it have numbers
+-- the state at a path and those that have it have numbers of 16 bits
 abbrev pub HaveNumbers : List (List ℕ) → Path → Type 0
 HaveNumbers states [] = Unit {0}
 HaveNumbers states (s ∷ owner) = HasNumber states (state_key (s ∷ owner)) × HaveNumbers states owner
 
--- so has the graph in which a state stands
+-- a state and those that have it have numbers of 16 bits, and the graph in which it stands has one
 pub record IsPlaced (states graphs : List (List ℕ)) (p : PlaceTree) : Type 0 where
   pub up : HaveNumbers states p.path
-  pub graph : HasNumber graphs (shared_key (outer p.path))
+  pub graph : HasPlace graphs (shared_key (outer p.path))
 
 abbrev pub ArePlaced : List (List ℕ) → List (List ℕ) → List PlaceTree → Type 0
 ArePlaced states graphs places = (i : ℕ) (p : PlaceTree) → slice_get places i ≡ Some p → IsPlaced states graphs p

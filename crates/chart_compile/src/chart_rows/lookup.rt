@@ -4,7 +4,7 @@ ghost use Rattle.name_tables.specs.name_numbers.Names.{same, is_among};
 ghost use Rattle.chart_reader.specs.chart_nodes.Steps.{StepTree};
 ghost use Rattle.chart_compile.specs.chart_places.Groups.{IsGrouped, picked};
 ghost use Rattle.chart_compile.specs.chart_places.Places.{state_key};
-ghost use Rattle.chart_compile.specs.chart_parts.Parts.{HasNumber, IsNumber, IsState, from_key};
+ghost use Rattle.chart_compile.specs.chart_parts.Parts.{HasNumber, HasPlace, IsNumber, IsState, from_key};
 
 use chart_reader::{Step, named_key};
 use name_tables::NameIndex;
@@ -13,7 +13,18 @@ use room_kinds::Sequence;
 use std::alloc::{AllocError, Global};
 
 /// The number of a key that has one.
-pub fn number<'c>(numbers: &NameIndex<'c>, key: &[u8]) -> u16
+pub fn number<'c>(numbers: &NameIndex<'c>, key: &[u8]) -> usize
+    requires { HasPlace numbers.now key.now }
+    ensures { IsNumber numbers.now key.now result }
+{
+    match numbers.place_of(key) {
+        Some(n) => n,
+        None => unreachable!(),
+    }
+}
+
+/// The number of a key that has one of 16 bits.
+fn short_number<'c>(numbers: &NameIndex<'c>, key: &[u8]) -> u16
     requires { HasNumber numbers.now key.now }
     ensures { IsNumber numbers.now key.now result }
 {
@@ -34,7 +45,7 @@ pub fn state_number<'c>(
     ensures { IfOk result (λ n. IsState states.now n (name.now ∷ owner.now)) }
 {
     let key = named_key(alloc, 1, name, owner)?;
-    Ok(number(states, key.as_slice()))
+    Ok(short_number(states, key.as_slice()))
 }
 
 /// The step with a number.
