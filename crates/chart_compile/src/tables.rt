@@ -12,9 +12,9 @@ use chart_reading::Chart;
 use chart_run::Tables;
 use std::alloc::{AllocError, Global};
 
-/// The tables of a valid chart whose graphs are those of its states: a machine over them does what
-/// the chart says. It takes time in proportion to the transitions and states of the chart and the
-/// names of their paths.
+/// The tables of a valid chart whose graphs are those of its states, of which there are at most
+/// 65,535: a machine over them does what the chart says. It takes time in proportion to the
+/// transitions and states of the chart and the names of their paths.
 ///
 /// Of two graphs under one path the first alone counts.
 pub fn compile(alloc: Global, chart: &Chart) -> Result<Tables, AllocError>

@@ -23,12 +23,12 @@ abbrev pub IsNumber : List (List ℕ) → List ℕ → ℕ → Type 0
 IsNumber keys key n = position (same key) keys ≡ Some n
 
 -- a key has a number among keys
-abbrev pub HasPlace : List (List ℕ) → List ℕ → Type 0
-HasPlace keys key = (n : ℕ) × IsNumber keys key n
+abbrev pub HasNumber : List (List ℕ) → List ℕ → Type 0
+HasNumber keys key = (n : ℕ) × IsNumber keys key n
 
 -- and one of 16 bits
-abbrev pub HasNumber : List (List ℕ) → List ℕ → Type 0
-HasNumber keys key = (n : ℕ) × IsNumber keys key n × (n < 2 ^ 16)
+abbrev pub HasShortNumber : List (List ℕ) → List ℕ → Type 0
+HasShortNumber keys key = (n : ℕ) × IsNumber keys key n × (n < 2 ^ 16)
 
 -- a number is that of the state at a path
 abbrev pub IsState : List (List ℕ) → ℕ → Path → Type 0
@@ -40,7 +40,7 @@ target_of s = target_key s.placed.graph s.placed.transition.target
 
 -- the node of each step has a number
 abbrev pub LeadTo : List (List ℕ) → List StepTree → Type 0
-LeadTo nodes steps = (i : ℕ) (s : StepTree) → slice_get steps i ≡ Some s → HasPlace nodes (target_of s)
+LeadTo nodes steps = (i : ℕ) (s : StepTree) → slice_get steps i ≡ Some s → HasNumber nodes (target_of s)
 
 -- the key of a state
 abbrev pub key_of : PlaceTree → List ℕ
@@ -63,14 +63,14 @@ outer [] = []
 outer (s ∷ owner) = owner
 
 -- the state at a path and those that have it have numbers of 16 bits
-abbrev pub HaveNumbers : List (List ℕ) → Path → Type 0
-HaveNumbers states [] = Unit {0}
-HaveNumbers states (s ∷ owner) = HasNumber states (state_key (s ∷ owner)) × HaveNumbers states owner
+abbrev pub HaveShortNumbers : List (List ℕ) → Path → Type 0
+HaveShortNumbers states [] = Unit {0}
+HaveShortNumbers states (s ∷ owner) = HasShortNumber states (state_key (s ∷ owner)) × HaveShortNumbers states owner
 
 -- a state and those that have it have numbers of 16 bits, and the graph in which it stands has one
 pub record IsPlaced (states graphs : List (List ℕ)) (p : PlaceTree) : Type 0 where
-  pub up : HaveNumbers states p.path
-  pub graph : HasPlace graphs (shared_key (outer p.path))
+  pub up : HaveShortNumbers states p.path
+  pub graph : HasNumber graphs (shared_key (outer p.path))
 
 abbrev pub ArePlaced : List (List ℕ) → List (List ℕ) → List PlaceTree → Type 0
 ArePlaced states graphs places = (i : ℕ) (p : PlaceTree) → slice_get places i ≡ Some p → IsPlaced states graphs p

@@ -4,7 +4,7 @@ ghost use Rattle.chart_model.specs.chart_plan.Same.{Each};
 ghost use Rattle.chart_run.specs.chart_tables.Tables.{arrow_view, arrow_views, trigger_view};
 ghost use Rattle.chart_reader.specs.chart_nodes.Steps.{step_view};
 ghost use Rattle.chart_compile.specs.chart_places.Groups.{picked};
-ghost use Rattle.chart_compile.specs.chart_parts.Parts.{AddsArrow, HasPlace, IsArrow, LeadTo, target_of};
+ghost use Rattle.chart_compile.specs.chart_parts.Parts.{AddsArrow, HasNumber, IsArrow, LeadTo, target_of};
 
 use crate::chart_rows::lookup::{number, step_at};
 use action_program::{copy_guard, copy_program};
@@ -31,7 +31,7 @@ pub fn make_arrow<'b, 'c>(
     nodes: &NameIndex<'c>,
     step: &Step<'b>,
 ) -> Result<Arrow, AllocError>
-    requires { HasPlace nodes.now (target_of (step_view step.now)) }
+    requires { HasNumber nodes.now (target_of (step_view step.now)) }
     ensures { IfOk result (λ arrow. IsArrow nodes.now (arrow_view arrow) (step_view step.now)) }
 {
     let transition = step.transition;

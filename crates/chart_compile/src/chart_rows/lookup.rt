@@ -4,7 +4,7 @@ ghost use Rattle.name_tables.specs.name_numbers.Names.{same, is_among};
 ghost use Rattle.chart_reader.specs.chart_nodes.Steps.{StepTree};
 ghost use Rattle.chart_compile.specs.chart_places.Groups.{IsGrouped, picked};
 ghost use Rattle.chart_compile.specs.chart_places.Places.{state_key};
-ghost use Rattle.chart_compile.specs.chart_parts.Parts.{HasNumber, HasPlace, IsNumber, IsState, from_key};
+ghost use Rattle.chart_compile.specs.chart_parts.Parts.{HasShortNumber, HasNumber, IsNumber, IsState, from_key};
 
 use chart_reader::{Step, named_key};
 use name_tables::NameIndex;
@@ -14,7 +14,7 @@ use std::alloc::{AllocError, Global};
 
 /// The number of a key that has one.
 pub fn number<'c>(numbers: &NameIndex<'c>, key: &[u8]) -> usize
-    requires { HasPlace numbers.now key.now }
+    requires { HasNumber numbers.now key.now }
     ensures { IsNumber numbers.now key.now result }
 {
     match numbers.place_of(key) {
@@ -25,7 +25,7 @@ pub fn number<'c>(numbers: &NameIndex<'c>, key: &[u8]) -> usize
 
 /// The number of a key that has one of 16 bits.
 fn short_number<'c>(numbers: &NameIndex<'c>, key: &[u8]) -> u16
-    requires { HasNumber numbers.now key.now }
+    requires { HasShortNumber numbers.now key.now }
     ensures { IsNumber numbers.now key.now result }
 {
     match numbers.place_of(key) {
@@ -41,7 +41,7 @@ pub fn state_number<'c>(
     name: &Name,
     owner: &[Name],
 ) -> Result<u16, AllocError>
-    requires { HasNumber states.now (state_key (name.now ∷ owner.now)) }
+    requires { HasShortNumber states.now (state_key (name.now ∷ owner.now)) }
     ensures { IfOk result (λ n. IsState states.now n (name.now ∷ owner.now)) }
 {
     let key = named_key(alloc, 1, name, owner)?;
