@@ -271,9 +271,7 @@ pub fn leads_lower(node: &Node, n: usize) -> bool
     match node {
         Node::Simple(_) => true,
         Node::Border(_, arrow) => arrow.target < n,
-        Node::Choice(branches, default) => {
-            all_lower(branches, n) && default.target < n
-        }
+        Node::Choice(branches, default) => { all_lower(branches, n) && default.target < n }
         Node::Entry(_, arrow) => arrow.target < n,
         Node::Exit(_, arrow) => arrow.target < n,
     }
