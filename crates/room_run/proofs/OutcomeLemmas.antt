@@ -17,7 +17,7 @@ use Rattle.run_promises.proofs.run_journals.TiedLaw.{tied}
 use Rattle.run_promises.proofs.PromisesLaw.{promises}
 use Rattle.room_run.specs.Agreement.{AllAgree}
 use Rattle.run_promises.specs.run_texts.Texts.{TextTells}
-use Rattle.room_run.proofs.settled.Fitting.{settles_of, in_place_of}
+use Rattle.room_run.proofs.settled.Fitting.{settles_of, in_place_of, fits_of}
 use Rattle.room_run.proofs.settled.Runs.{runs_agree}
 use Rattle.run_promises.specs.run_texts.Fetches.{FetchesFit}
 use Rattle.room_run.proofs.settled.Told.{text_tells, model_fetches_fit}
@@ -78,6 +78,7 @@ run_of law shelf files fuel p lines j texts run = record {
       (λ text model fit. text_tells text p lines fuel j model fit run);
   settled = settles_of (shelf.text files.model) (shelf.text files.injections) p lines fuel j texts.model_accepted texts.lines_accepted run;
   wired = in_place_of law (shelf.text files.model) (shelf.text files.injections) p lines fuel j texts.model_accepted texts.lines_accepted run;
+  fits = fits_of law (shelf.text files.model) (shelf.text files.injections) p lines fuel j texts.model_accepted texts.lines_accepted run;
   in_place = in_place p lines fuel j run;
   tied = tied p lines fuel j run;
 }

@@ -1,10 +1,11 @@
 pub mod Leaves
 pub mod Speaking
 pub mod Acting
+pub mod Signals
 pub mod Sending
 pub mod Posting
 pub mod ActorsLaw
 pub mod PlacesLaw
 pub mod FittingLaw
 pub mod Testing
-pub mod NamingLaw
+pub mod FitsLaw

@@ -2,6 +2,7 @@
 -- Of texts that a shelf doesn't tell nothing is said.
 use Rattle.std.specs.Prelude.{ℕ, List}
 use Rattle.room_outside.specs.Shown.{Shown}
+use Rattle.journal.specs.Fits.{Fits}
 use Rattle.journal.specs.declared.entry.Journals.{Journals}
 use Rattle.inject_reader.specs.declared.inject_lines.accepted.Line.{Line}
 use Rattle.controller_actors.specs.declared.plant.Plant.{Plant}
@@ -16,6 +17,10 @@ abbrev pub SettlesWhenTold : (shelf : Shown) (files : Files) (plant : Plant) (li
 SettlesWhenTold shelf files plant lines fuel j run =
     TextIs shelf files.model (λ text. TextIs shelf files.injections (λ injected. Settles plant lines fuel j run))
 
--- the journals are in place; the environment's fits the wiring; and what controllers tell of actors, and from where to where they post, is so of the wiring
+-- the journals are in place; the environment's fits the wiring; and what controllers tell of actors, from where to where they post, and with which signals, is so of the wiring
 abbrev pub InPlaceWhenTold : Shown → Files → Plant → Journals → Type 0
 InPlaceWhenTold shelf files plant j = TextIs shelf files.model (λ text. TextIs shelf files.injections (λ injected. JournalsInPlace plant.wiring j))
+
+-- so the journals fit the wiring: each names what it has
+abbrev pub FitWhenTold : Shown → Files → Plant → Journals → Type 0
+FitWhenTold shelf files plant j = TextIs shelf files.model (λ text. TextIs shelf files.injections (λ injected. Fits plant.wiring j))

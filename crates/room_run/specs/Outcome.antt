@@ -33,7 +33,7 @@ use Rattle.tied_journals.specs.Text.{tied_text_of}
 use Rattle.room_run.specs.Models.{IsSound, IsSoundText}
 use Rattle.room_run.specs.Conversions.{HasTiedJournals}
 use Rattle.room_run.specs.Causes.{Causes, AreOf, TextIs, status_of, note_of}
-use Rattle.room_run.specs.Fitting.{SettlesWhenTold, InPlaceWhenTold}
+use Rattle.room_run.specs.Fitting.{SettlesWhenTold, InPlaceWhenTold, FitWhenTold}
 use Rattle.room_run.specs.declared.prepare.Answer.{Answer}
 use Rattle.room_run.specs.declared.prepare.Answer.TheVariants as answers
 use Rattle.room_run.specs.declared.refusal.Refusal.{Refusal}
@@ -62,7 +62,7 @@ HasFetchesThatFit shelf files plant j = TextIs shelf files.model (λ text. TextI
 abbrev pub IsToldByText : Shown → Files → Plant → List Line → Journals → Type 0
 IsToldByText shelf files plant lines j = TextIs shelf files.model (λ text. TextIs shelf files.injections (λ injected. TextTells plant lines j))
 
--- Plant, lines and journals are those of a run of the model of two files over the injections of the other, with so much fuel: the texts are those of a model which runs as this plant, and of injections with these lines; and the journals, one for each controller and one for the environment, are those of a run of the plant over the lines (`IsRun`: each controller's journal is the replay of its own fetches, run to completion; merged by stamp they are one run of the world; what is taken in each lane is a prefix of what was sent, and all of it where the run is done). What a reader may rely on is said sentence by sentence (`RunPromises`), the run is one of the model's charts (`IsByCharts`), where it is done all controllers agree on who lives, on imports, links by name and peers (`AgreesWhenDone`), what it fetches fits (`HasFetchesThatFit`), and its text tells it (`IsToldByText`). What is so of every run of a plant that fits is so of it (`SettlesWhenTold`), and so is what is so of the journals of each: they are in place, the environment's fits the wiring, and what they tell of actors and places is so of it (`InPlaceWhenTold`). Each entry stands where it belongs (`AreInPlace`), and each fetch is that of the one post that it names (`Tied`).
+-- Plant, lines and journals are those of a run of the model of two files over the injections of the other, with so much fuel: the texts are those of a model which runs as this plant, and of injections with these lines; and the journals, one for each controller and one for the environment, are those of a run of the plant over the lines (`IsRun`: each controller's journal is the replay of its own fetches, run to completion; merged by stamp they are one run of the world; what is taken in each lane is a prefix of what was sent, and all of it where the run is done). What a reader may rely on is said sentence by sentence (`RunPromises`), the run is one of the model's charts (`IsByCharts`), where it is done all controllers agree on who lives, on imports, links by name and peers (`AgreesWhenDone`), what it fetches fits (`HasFetchesThatFit`), and its text tells it (`IsToldByText`). What is so of every run of a plant that fits is so of it (`SettlesWhenTold`), and so is what is so of the journals of each: they are in place, the environment's fits the wiring, and what they tell of actors, places and signals is so of it (`InPlaceWhenTold`); so they fit the wiring (`FitWhenTold`). Each entry stands where it belongs (`AreInPlace`), and each fetch is that of the one post that it names (`Tied`).
 pub record IsRunOfFiles (shelf : Shown) (files : Files) (fuel : ℕ) (plant : Plant) (lines : List Line) (journals : Journals) : Type 0 where
   pub texts : AreOf shelf files plant lines
   pub run : IsRun plant lines fuel journals
@@ -73,6 +73,7 @@ pub record IsRunOfFiles (shelf : Shown) (files : Files) (fuel : ℕ) (plant : Pl
   pub determined : IsToldByText shelf files plant lines journals
   pub settled : SettlesWhenTold shelf files plant lines fuel journals run
   pub wired : InPlaceWhenTold shelf files plant journals
+  pub fits : FitWhenTold shelf files plant journals
   pub in_place : AreInPlace plant.wiring journals
   pub tied : Tied journals
 

@@ -1,4 +1,4 @@
 pub mod Actors
 pub mod Places
 pub mod Fitting
-pub mod Naming
+pub mod Signals

@@ -23,7 +23,7 @@ mod status;
 mod top;
 
 pub use answers::{accepted_calls_end, conversions_keep_journals, one_answer};
-pub use fitting_journals::{fitting_runs_journals, named_journals_fit};
+pub use fitting_journals::{fitting_journals_fit, fitting_runs_journals};
 pub use fitting_plants::{fitting_runs_settle, plants_fit, read_lines_fit};
 pub use judge::{read_plant, read_wiring};
 pub use model_fault::ModelFault;

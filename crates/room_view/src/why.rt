@@ -181,58 +181,59 @@ fn fault_in<'a>(checked: &'a Checked<'_>, class: &'a [u8], number: u8) -> ChartF
     }
 }
 
-/// A model that breaks a rule, or whose wiring or chart has a fault.
-#[derive(Clone, Copy)]
-struct Refused<'a> {
-    named: Named<'a>,
-    tokens: &'a [Token],
-    fault: &'a ModelFault,
-    /// The tree, where its bases keep the rules on them.
-    tree: Option<&'a Model>,
-}
-
 /// The parts of a text in which the causes of a fault of a chart stand.
 fn tell_chart_causes(
     alloc: Global,
     page: &mut Page,
-    refused: &Refused<'_>,
-    tree: &Model,
-    class: &[u8],
-    number: u8,
+    named: Named<'_>,
+    tokens: &[Token],
+    fault: ChartFault<'_>,
     found: &[Item],
 ) -> Result<(), AllocError> {
-    let Refused { named, tokens, .. } = *refused;
-    let checked = match check(alloc, tree) {
-        Ok(checked) => checked,
-        Err(CheckFault::Memory) => return Err(AllocError),
-        Err(CheckFault::Rule(_)) => return tell_items(page, named, tokens, found),
-    };
-    let fault = fault_in(&checked, class, number);
     for item in found {
         tell_chart_cause(alloc, page, named, tokens, fault, *item)?;
     }
     Ok(())
 }
 
+/// Where the causes of a fault stand. The tree is that of the text, where its bases keep the rules on them.
+fn tell_places(
+    alloc: Global,
+    page: &mut Page,
+    named: Named<'_>,
+    tokens: &[Token],
+    fault: &ModelFault,
+    tree: Option<&Model>,
+    found: &[Item],
+) -> Result<(), AllocError> {
+    let (ModelFault::Chart { class, number }, Some(tree)) = (fault, tree) else {
+        return tell_items(page, named, tokens, found);
+    };
+    match check(alloc, tree) {
+        Ok(checked) => {
+            let fault = fault_in(&checked, class.as_bytes(), *number);
+            tell_chart_causes(alloc, page, named, tokens, fault, found)
+        }
+        Err(CheckFault::Memory) => Err(AllocError),
+        Err(CheckFault::Rule(_)) => tell_items(page, named, tokens, found),
+    }
+}
+
 /// Where the causes of a fault stand, and what they name.
 fn tell_causes(
     alloc: Global,
     page: &mut Page,
-    refused: &Refused<'_>,
+    named: Named<'_>,
+    tokens: &[Token],
+    fault: &ModelFault,
+    tree: Option<&Model>,
     found: &[Item],
 ) -> Result<(), AllocError> {
     page.end_line()?;
     if found.is_empty() {
         return page.put_line(b"no single part of the text is its cause");
     }
-    let Refused { named, tokens, .. } = *refused;
-    match (refused.fault, refused.tree) {
-        (ModelFault::Chart { class, number }, Some(tree)) => {
-            let class = class.as_bytes();
-            tell_chart_causes(alloc, page, refused, tree, class, *number, found)?;
-        }
-        _ => tell_items(page, named, tokens, found)?,
-    }
+    tell_places(alloc, page, named, tokens, fault, tree, found)?;
     let declared = named_by(alloc, named.text, tokens, found)?;
     if !declared.is_empty() {
         page.end_line()?;
@@ -282,17 +283,18 @@ fn class_of(fault: &ModelFault) -> Option<&[u8]> {
 }
 
 /// Why a model is refused that breaks a rule, or whose wiring or chart has a fault.
-fn tell_fault(alloc: Global, page: &mut Page, refused: &Refused<'_>) -> Result<(), AllocError> {
-    let Refused {
-        named,
-        tokens,
-        fault,
-        ..
-    } = *refused;
+fn tell_fault(
+    alloc: Global,
+    page: &mut Page,
+    named: Named<'_>,
+    tokens: &[Token],
+    fault: &ModelFault,
+    tree: Option<&Model>,
+) -> Result<(), AllocError> {
     tell_head(alloc, page, named, fault)?;
     let judge = FaultOf { alloc, fault };
     let found = find_causes(alloc, named.text, tokens, class_of(fault), &judge)?;
-    tell_causes(alloc, page, refused, found.as_slice())
+    tell_causes(alloc, page, named, tokens, fault, tree, found.as_slice())
 }
 
 /// The tree of a text that has these tokens, as it is written; none where no model has them, which is told.
@@ -314,35 +316,30 @@ fn tell_written(
 
 /// The tree in which each actor class of a text has all that it has from its bases; none where a base breaks a rule,
 /// which is told.
-fn tell_tree<'a>(
+fn tell_tree(
     alloc: Global,
     page: &mut Page,
-    named: Named<'a>,
-    tokens: &'a [Token],
+    named: Named<'_>,
+    tokens: &[Token],
     written: Model,
 ) -> Result<Option<Model>, AllocError> {
     match flatten(alloc, written) {
         Ok(tree) => Ok(Some(tree)),
         Err(InheritFault::Memory) => Err(AllocError),
         Err(InheritFault::Rule(rule)) => {
-            let refused = Refused {
-                named,
-                tokens,
-                fault: &ModelFault::Rule(rule),
-                tree: None,
-            };
-            tell_fault(alloc, page, &refused)?;
+            let fault = ModelFault::Rule(rule);
+            tell_fault(alloc, page, named, tokens, &fault, None)?;
             Ok(None)
         }
     }
 }
 
 /// What runs of a text with this tree; none where it breaks a rule or has a fault, which is told.
-fn tell_plant<'a>(
+fn tell_plant(
     alloc: Global,
     page: &mut Page,
-    named: Named<'a>,
-    tokens: &'a [Token],
+    named: Named<'_>,
+    tokens: &[Token],
     tree: Model,
 ) -> Result<Option<Accepted>, AllocError>
     requires { length named.text.now ≤ 1048576 }
@@ -351,13 +348,7 @@ fn tell_plant<'a>(
         Ok(plant) => Ok(Some(Accepted { tree, plant })),
         Err(ModelFault::Memory) => Err(AllocError),
         Err(fault) => {
-            let refused = Refused {
-                named,
-                tokens,
-                fault: &fault,
-                tree: Some(&tree),
-            };
-            tell_fault(alloc, page, &refused)?;
+            tell_fault(alloc, page, named, tokens, &fault, Some(&tree))?;
             Ok(None)
         }
     }

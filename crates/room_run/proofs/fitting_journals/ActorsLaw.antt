@@ -1,10 +1,10 @@
 -- What the journals of a run of a plant that fits tell of actors is so of the wiring.
-use Rattle.std.proofs.Common.{◌≡◌, ℕ, zero, suc, ◌<◌, ◌&&◌, Bool, true, false, List, [], ◌∷◌, ◌++◌, map, length, Option, Some, None, option_and_then, slice_get, refl, sym, ap, ◌∙◌, subst, arith, ◌⊎◌, inl, inr}
+use Rattle.std.proofs.Common.{◌≡◌, ℕ, zero, suc, ◌+◌, ◌<◌, ◌&&◌, nat_lt, Bool, true, false, if◌then◌else◌, List, [], ◌∷◌, ◌++◌, map, length, Option, Some, None, option_and_then, slice_get, refl, sym, ap, ◌∙◌, subst, ltb-true, leb-true, arith, ◌⊎◌, inl, inr}
 use Rattle.std.specs.Prelude.{nat_le}
 use Rattle.std.specs.List.{AllByRecursion as Each, list_all}
 use Rattle.std.specs.Option.{option_map_or}
 use Rattle.std.proofs.lemmas.Bool.{and_parts}
-use Rattle.std.proofs.lemmas.List.{length-map}
+use Rattle.std.proofs.lemmas.List.{length-map, length-append}
 use Rattle.std.proofs.lemmas.List.Elements.{All-from_recursion}
 use Rattle.std.proofs.lemmas.Option.{slice_get_within}
 use Rattle.room_kinds.specs.declared.command.Command.{Command}
@@ -18,8 +18,10 @@ use Rattle.room_ast.specs.model_parts.Charts.{chart_of as machine_of}
 use Rattle.room_ast.specs.model_parts.Classes.{actors}
 use Rattle.room_wiring.specs.Consistent.{IsConsistent}
 use Rattle.room_wiring.specs.Places.{port_count}
-use Rattle.room_wiring.specs.Slots.{class_at, class_of}
+use Rattle.room_wiring.specs.Slots.{class_at, class_of, port_at}
+use Rattle.room_wiring.specs.WellNamed.{signals_of}
 use Rattle.room_wiring.specs.declared.names.ClassNames.{ClassNames}
+use Rattle.room_wiring.specs.declared.names.PortNames.{PortNames}
 use Rattle.room_wiring.specs.declared.slot.Slot.{Slot}
 use Rattle.room_wiring.specs.declared.tables.Tables.{Tables as Wired}
 use Rattle.wiring_plan.specs.wiring_classes.Classes.{class_names, classes_of}
@@ -44,7 +46,8 @@ use Rattle.chart_behaviour.specs.chart_asks.Laws.{is_zero}
 use Rattle.controller_actors.specs.Plants.{model_of}
 use Rattle.controller_actors.specs.declared.plant.Plant.{Plant}
 use Rattle.model_laws.proofs.settled_models.Wired.{wiring_consistent}
-use Rattle.model_laws.specs.class_laws.Commands.{can_ask, can_send_at, can_register}
+use Rattle.model_laws.specs.class_laws.Commands.{goes_out, can_ask, can_send_at, can_register}
+use Rattle.model_laws.specs.class_laws.Programs.{going, first_going}
 use Rattle.model_run.specs.part_posts.Items.{items_of}
 use Rattle.model_run.specs.run_ends.Runs.{journal_of, IsRun}
 use Rattle.named_runs.specs.Charts.{ShowsChart, ShowCharts}
@@ -138,9 +141,24 @@ unfolding port_count
 ports_many t s c is = ap (λ (o : Option ClassNames). option_map_or (λ (c : ClassNames). length c.ports) o 0) is
 
 -- a test of what an option holds
-held_there : {A : Type 0} (f : A → Bool) (o : Option A) → option_map_or f o false ≡ true → (x : A) × (o ≡ Some x)
+held_there : {A : Type 0} (f : A → Bool) (o : Option A) → option_map_or f o false ≡ true → (x : A) × (o ≡ Some x) × (f x ≡ true)
 held_there f None h = absurd cc
-held_there f (Some x) h = (x, refl)
+held_there f (Some x) h = (x, refl, h)
+
+pub port_found : (t : Wired) (s : ℕ) (c : ClassNames) (port : ℕ) (x : PortNames) → class_of t s ≡ Some c → slice_get c.ports port ≡ Some x → port_at t s port ≡ Some x
+unfolding port_at
+port_found t s c port x is at = ap (λ (o : Option ClassNames). option_and_then (λ (c : ClassNames). slice_get c.ports port) o) is ∙ at
+
+-- a message that goes out at a port is one of the port's
+goes_known : (x : PortNames) (n : ℕ) → goes_out n x ≡ true → n < length (signals_of x)
+goes_known x n h =
+    go x.conjugated (ltb-true n (first_going x + length (going x)) (and_parts (nat_le (first_going x) n) (nat_lt n (first_going x + length (going x))) h).1)
+    (length-append x.incoming x.outgoing)
+  where
+    go : (b : Bool) → n < (if b then 0 else length x.incoming) + length (if b then x.incoming else x.outgoing)
+        → length (x.incoming ++ x.outgoing) ≡ length x.incoming + length x.outgoing → n < length (x.incoming ++ x.outgoing)
+    go true low many = omega (arith, low, many)
+    go false low many = omega (arith, low, many)
 
 module _ (t : Wired) (s : ℕ) (c : ClassNames) (is : class_of t s ≡ Some c) where
   own_port : (port : ℕ) → can_register c port ≡ true → port < port_count t s
@@ -152,11 +170,15 @@ module _ (t : Wired) (s : ℕ) (c : ClassNames) (is : class_of t s ≡ Some c) w
 
   one_asks : (x : Command) → can_ask c x ≡ true → AsksAt t s x
   one_asks (commands.Send port place signal payload prio) h =
-      let sends = (and_parts (can_send_at c port signal) (nat_le 1 prio.0 && nat_le prio.0 5) h).0 in
-      let has = held_there _ (slice_get c.ports port) sends in
+      let parts = and_parts (can_send_at c port signal) (nat_le 1 prio.0 && nat_le prio.0 5) h in
+      let has = held_there _ (slice_get c.ports port) parts.0 in
       let within : port < length c.ports = slice_get_within c.ports port has.0 has.1 in
       let many = ports_many t s c is in
-      omega (arith, within, many)
+      let goes = (and_parts _ (goes_out signal has.0) has.2).1 in (
+        omega (arith, within, many),
+        record { port = has.0; port_is = port_found t s c port has.0 is has.1; known = goes_known has.0 signal goes },
+        leb-true 1 prio.0 (and_parts (nat_le 1 prio.0) (nat_le prio.0 5) parts.1).0,
+      )
   one_asks commands.Defer h = tt
   one_asks commands.Recall h = tt
   one_asks commands.RecallAll h = tt

@@ -14,6 +14,7 @@ use Rattle.chart_run.specs.declared.chart_tables.tables.Tables.{Tables}
 use Rattle.chart_compile.specs.chart_parts.Compiled.{Compiles}
 use Rattle.controller_actors.specs.declared.plant.Plant.{Plant}
 use Rattle.model_laws.proofs.settled_models.Models.{models_ranked}
+use Rattle.model_laws.specs.joined_ports.Protocols.{ModelsJoinOneProtocol, ModelsLinkOneProtocol}
 use Rattle.model_laws.specs.settled_models.Wirings.{ModelsHaveOwners, ModelsAreMutual}
 use Rattle.named_runs.specs.Charts.{ShowsChart, ShowCharts}
 use Rattle.run_promises.specs.run_journals.Outside.{WhatNames, LinesName}
@@ -25,7 +26,7 @@ use Rattle.room_run.specs.fitting_plants.Lines.{WhatFits, LinesFit}
 use Rattle.room_run.specs.fitting_plants.Plants.{PlantFits}
 use Rattle.room_run.specs.fitting_journals.Fitting.{FittingRunsAreInPlace}
 use Rattle.room_run.proofs.fitting_journals.ActorsLaw.{actors_told}
-use Rattle.room_run.proofs.fitting_journals.PlacesLaw.{places_named}
+use Rattle.room_run.proofs.fitting_journals.PlacesLaw.{Joins, places_named, signals_named}
 
 -- lines that fit name what the wiring has
 one_names : (t : Wired) (what : What) → WhatFits t what → WhatNames t what
@@ -60,15 +61,22 @@ module _ (plant : Plant) (fits : PlantFits plant) where
       let from = by_chart plant.tables.items fits.charts fits.tables c v at in
       models_ranked fits.model fits.charts fits.faultless c from.0 v from.1 from.2
 
-pub fitting_in_place : ModelsHaveOwners → ModelsAreMutual → FittingRunsAreInPlace
-fitting_in_place owned joined plant lines fuel j fits fit run =
+pub fitting_in_place : ModelsHaveOwners → ModelsAreMutual → ModelsJoinOneProtocol → ModelsLinkOneProtocol → FittingRunsAreInPlace
+fitting_in_place owned joined alike linked plant lines fuel j fits fit run =
     let owners : OwnersAreThere plant.wiring = slots_owned plant.wiring (owned fits.model plant.wiring fits.keeps fits.wired fits.flawless) in
     let names : LinesName plant.wiring lines = lines_name plant.wiring lines fit in
+    let joins : Joins plant.wiring =
+    record {
+      partners = joined fits.model plant.wiring fits.keeps fits.wired fits.flawless;
+      joined = alike fits.model plant.wiring fits.keeps fits.wired fits.flawless;
+      linked = linked fits.model plant.wiring fits.keeps fits.wired;
+    } in
     record {
       tied = tied plant lines fuel j run;
       in_place = in_place plant lines fuel j run;
       receivers = reach plant lines owners (ranked plant fits) names fuel j run;
       environment = environment_fits plant lines owners names fuel j run;
       actors = actors_told plant fits lines fuel j run;
-      places = places_named plant fits (joined fits.model plant.wiring fits.keeps fits.wired fits.flawless) lines names fuel j run;
+      places = places_named plant fits joins lines names fuel j run;
+      signals = signals_named plant fits joins lines names fuel j run;
     }

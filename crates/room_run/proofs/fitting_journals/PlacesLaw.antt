@@ -1,17 +1,24 @@
--- Controllers post from places of the wiring to such places.
+-- Controllers post from places of the wiring to such places, with signals that are there.
 use Rattle.std.proofs.Common.{◌≡◌, ℕ, ◌<◌, ◌==◌, ◌&&◌, nat_lt, Bool, true, false, if◌then◌else◌, List, [], ◌∷◌, length, Option, Some, None, option_map, slice_get, refl, sym, ap, ◌∙◌, subst, ltb-true, arith}
 use Rattle.std.specs.List.{AllByRecursion as Each}
 use Rattle.std.proofs.lemmas.Bool.{and_parts}
 use Rattle.std.proofs.lemmas.List.Elements.{All-from_recursion}
 use Rattle.std.proofs.lemmas.Option.{slice_get_within, slice_get-map}
 use Rattle.room_ast.specs.Trees.{ModelTree, ActorTree}
-use Rattle.room_ast.specs.model_parts.Classes.{actors}
-use Rattle.room_ast.specs.model_parts.Ports.{names_in, ports_in as entries_in}
+use Rattle.room_ast.specs.model_parts.Classes.{actors, protocol_names}
+use Rattle.room_ast.specs.model_parts.Ports.{frame_entry, frame_name, names_in, ports_in as entries_in}
+use Rattle.room_kinds.specs.declared.numbers.SlotId.{SlotId}
 use Rattle.room_wiring.specs.Places.{port_count, place_count, partner_at}
+use Rattle.room_wiring.specs.Slots.{class_of}
+use Rattle.room_wiring.specs.WellNamed.{signals_of}
 use Rattle.room_wiring.specs.declared.names.ClassNames.{ClassNames}
+use Rattle.room_wiring.specs.declared.names.PortNames.{PortNames}
 use Rattle.room_wiring.specs.declared.slot.Partner.TheVariants as partners
 use Rattle.room_wiring.specs.declared.tables.Tables.{Tables}
-use Rattle.wiring_plan.specs.wiring_classes.Classes.{class_names, classes_of, ports_in}
+use Rattle.check_scopes.specs.class_scopes.Signals.{frame_signals}
+use Rattle.wiring_plan.specs.wiring_classes.Classes.{class_names, classes_of, labelled_signals, ports_in}
+use Rattle.wiring_plan.specs.wiring_classes.Parts.{port_names_of}
+use Rattle.journal.specs.Fits.{HasSignal}
 use Rattle.journal.specs.declared.entry.Entry.{Entry}
 use Rattle.journal.specs.declared.entry.Entry.TheVariants as entry
 use Rattle.journal.specs.declared.entry.Journals.{Journals}
@@ -23,6 +30,7 @@ use Rattle.actor_world.specs.Journals.{lines_of}
 use Rattle.actor_world.specs.Start.{start_entries}
 use Rattle.controller_actors.specs.Plants.{model_of}
 use Rattle.controller_actors.specs.declared.plant.Plant.{Plant}
+use Rattle.model_laws.specs.joined_ports.Protocols.{HasOneProtocol, JoinsOneProtocol, LinksOneProtocol}
 use Rattle.model_run.specs.part_posts.Items.{items_of}
 use Rattle.model_run.specs.run_ends.Runs.{journal_of, IsRun}
 use Rattle.run_promises.proofs.Starts.{AllStarts, start_entries_start}
@@ -32,23 +40,30 @@ use Rattle.run_promises.specs.run_journals.Outside.{LinesName}
 use Rattle.world_agreement.specs.Mutual.{IsMutual, seen_as}
 use Rattle.room_run.specs.fitting_plants.Plants.{PlantFits}
 use Rattle.room_run.specs.fitting_journals.Places.{NamesItsPlaces}
+use Rattle.room_run.specs.fitting_journals.Signals.{NamesSignal}
 use Rattle.room_run.proofs.fitting_journals.Acting.{first_actors_there}
-use Rattle.room_run.proofs.fitting_journals.ActorsLaw.{StandsThere, class_has, fitting, ports_many, stand_well}
+use Rattle.room_run.proofs.fitting_journals.ActorsLaw.{StandsThere, class_has, fitting, port_found, ports_many, stand_well}
 use Rattle.room_run.proofs.fitting_journals.Posting.{AsksByPorts, PostIsNamed, lines_named, posts_named}
-use Rattle.room_run.proofs.fitting_journals.Sending.{IsWired, each_both}
+use Rattle.room_run.proofs.fitting_journals.Sending.{IsWired, PortCarries, each_both}
+use Rattle.room_run.proofs.fitting_journals.Signals.{Carries, same_signals, says_fit}
 
 -- ---- wirings
 
--- a class has a port, `frame`
-frame_there : (m : ModelTree) (a : ActorTree) → 0 < length (class_names m a).ports
-unfolding class_names ports_in names_in entries_in
-frame_there m a = omega arith
+-- a class has a port, `frame`, with the nine signals of the frame service
+record IsFramed (class : ClassNames) : Type 0 where
+  frame : PortNames
+  first : slice_get class.ports 0 ≡ Some frame
+  signals : length (signals_of frame) ≡ 9
 
-actor_framed : (m : ModelTree) (o : Option ActorTree) (class : ClassNames) → option_map (class_names m) o ≡ Some class → 0 < length class.ports
+frame_there : (m : ModelTree) (a : ActorTree) → IsFramed (class_names m a)
+unfolding class_names ports_in names_in entries_in labelled_signals frame_signals
+frame_there m a = record { frame = port_names_of (protocol_names m) (labelled_signals m) frame_name frame_entry; first = refl; signals = refl }
+
+actor_framed : (m : ModelTree) (o : Option ActorTree) (class : ClassNames) → option_map (class_names m) o ≡ Some class → IsFramed class
 actor_framed m None class e = absurd cc
-actor_framed m (Some a) class e = let same : class_names m a ≡ class = cc in subst (λ (c : ClassNames). 0 < length c.ports) same (frame_there m a)
+actor_framed m (Some a) class e = let same : class_names m a ≡ class = cc in subst IsFramed same (frame_there m a)
 
-class_framed : (m : ModelTree) (k : ℕ) (class : ClassNames) → slice_get (classes_of m) k ≡ Some class → 0 < length class.ports
+class_framed : (m : ModelTree) (k : ℕ) (class : ClassNames) → slice_get (classes_of m) k ≡ Some class → IsFramed class
 unfolding classes_of
 class_framed m k class e = actor_framed m (slice_get (actors m) k) class (sym (slice_get-map (class_names m) (actors m) k) ∙ e)
 
@@ -72,21 +87,55 @@ seen_joined t s p k = go (is_imported t s)
     go true = refl
     go false = refl
 
-module _ (plant : Plant) (fits : PlantFits plant) (joins : IsMutual plant.wiring) where
-  frames : (s : ℕ) → s < length plant.wiring.slots → 0 < port_count plant.wiring s
-  frames s low =
+-- ports of one protocol have the same signals
+alike : (t : Tables) (s p x q : ℕ) → HasOneProtocol t s p x q → Carries t s p x q
+alike t s p x q h = same_signals t s p x q h.near h.far h.near_is h.far_is h.signals
+
+-- what is so of the wiring by the laws of models
+pub record Joins (t : Tables) : Type 0 where
+  pub partners : IsMutual t
+  pub joined : JoinsOneProtocol t
+  pub linked : LinksOneProtocol t
+
+module _ (plant : Plant) (fits : PlantFits plant) (joins : Joins plant.wiring) where
+  -- a slot's `frame`, with its place in the class
+  framed : (s : ℕ) → s < length plant.wiring.slots → (c : ClassNames) × (class_of plant.wiring s ≡ Some c) × IsFramed c
+  framed s low =
       let c = class_has plant fits s low in
       let at : slice_get (classes_of fits.model) c.number ≡ Some c.class = subst (λ (cs : List ClassNames). slice_get cs c.number ≡ Some c.class) fits.wired.classes c.there in
-      let some : 0 < length c.class.ports = class_framed fits.model c.number c.class at in
-      let many = ports_many plant.wiring s c.class c.class_is in
+      (c.class, c.class_is, class_framed fits.model c.number c.class at)
+
+  frames : (s signal : ℕ) → s < length plant.wiring.slots → signal < 9 → HasSignal plant.wiring s 0 signal
+  frames s signal low known =
+      let c = framed s low in
+      let many = c.2.signals in
+      record { port = c.2.frame; port_is = port_found plant.wiring s c.0 0 c.2.frame c.1 c.2.first; known = omega (arith, many, known) }
+
+  has_ports : (s : ℕ) → s < length plant.wiring.slots → 0 < port_count plant.wiring s
+  has_ports s low =
+      let c = framed s low in
+      let some = slice_get_within c.0.ports 0 c.2.frame c.2.first in
+      let many = ports_many plant.wiring s c.0 c.1 in
       omega (arith, some, many)
+
+  ends : (s p k : ℕ) (x : SlotId) (q j : ℕ) → joined_at plant.wiring s p k ≡ partners.End x q j → PortCarries plant.wiring s p x.0 q
+  ends s p k x q j e =
+      let there = joined_within plant.wiring x.0 q j (ap is_joined (joins.partners.ends s p k x q j e) ∙ seen_joined plant.wiring s p k) in
+      (there.0, there.1, alike plant.wiring s p x.0 q (joins.joined.ends s p k x q j e))
+
+  sockets : (s p k : ℕ) (x : SlotId) (q j : ℕ) → joined_at plant.wiring s p k ≡ partners.Socket x q j → PortCarries plant.wiring s p x.0 q
+  sockets s p k x q j e =
+      let there = joined_within plant.wiring x.0 q j (ap is_joined (joins.partners.sockets s p k x q j e) ∙ seen_joined plant.wiring s p k) in
+      (there.0, there.1, alike plant.wiring s p x.0 q (joins.joined.sockets s p k x q j e))
 
   is_wired : IsWired plant.wiring
   is_wired = record {
     frames = frames;
-    ends = λ s p k x q j e. joined_within plant.wiring x.0 q j (ap is_joined (joins.ends s p k x q j e) ∙ seen_joined plant.wiring s p k);
-    sockets = λ s p k x q j e. joined_within plant.wiring x.0 q j (ap is_joined (joins.sockets s p k x q j e) ∙ seen_joined plant.wiring s p k);
+    ports = has_ports;
+    ends = ends;
+    sockets = sockets;
     containers = λ s c low e. (let behind = (fitting plant fits).depth_first.behind s c e in omega (arith, low, behind));
+    points = λ s p x q a b same. alike plant.wiring s p x q (joins.linked s p x q a b same);
   }
 
   asks_by_ports : AsksByPorts plant.wiring (model_of plant)
@@ -100,21 +149,28 @@ module _ (plant : Plant) (fits : PlantFits plant) (joins : IsMutual plant.wiring
   entry_named (entry.Turn stamp from sent did notes) h = h
   entry_named (entry.Post stamp m) h = record { source = h.0; target = h.1 }
 
-  own_named : (party : ℕ) (xs : List Placed) → Each (λ (x : Placed). PostIsNamed plant.wiring x.entry) xs → Each (NamesItsPlaces plant.wiring) (entries_of party xs)
-  own_named party [] h = tt
-  own_named party (x ∷ xs) h = go (party == x.party) (own_named party xs h.1)
-    where
-      go : (b : Bool) → Each (NamesItsPlaces plant.wiring) (entries_of party xs)
-          → Each (NamesItsPlaces plant.wiring) (if b then x.entry ∷ entries_of party xs else entries_of party xs)
-      go true rest = (entry_named x.entry h.0, rest)
-      go false rest = rest
+  entry_says : (e : Entry) → PostIsNamed plant.wiring e → NamesSignal plant.wiring e
+  entry_says (entry.Start who state notes) h = tt
+  entry_says (entry.Fetch stamp m) h = tt
+  entry_says (entry.Turn stamp from sent did notes) h = tt
+  entry_says (entry.Post stamp m) h = says_fit plant.wiring m.prio.0 m.signal m.source m.target h.2
 
-  starts_named : (es : List Entry) → AllStarts es → Each (NamesItsPlaces plant.wiring) es
-  starts_named [] h = tt
-  starts_named (entry.Start who state notes ∷ es) h = (tt, starts_named es h.1)
-  starts_named (entry.Fetch stamp m ∷ es) h = absurd h.0
-  starts_named (entry.Turn stamp from sent did notes ∷ es) h = absurd h.0
-  starts_named (entry.Post stamp m ∷ es) h = absurd h.0
+  -- what follows of each entry is so of the entries of a party
+  module _ (P : Entry → Type 0) (follows : (e : Entry) → PostIsNamed plant.wiring e → P e) where
+    own_entries : (party : ℕ) (xs : List Placed) → Each (λ (x : Placed). PostIsNamed plant.wiring x.entry) xs → Each P (entries_of party xs)
+    own_entries party [] h = tt
+    own_entries party (x ∷ xs) h = go (party == x.party) (own_entries party xs h.1)
+      where
+        go : (b : Bool) → Each P (entries_of party xs) → Each P (if b then x.entry ∷ entries_of party xs else entries_of party xs)
+        go true rest = (follows x.entry h.0, rest)
+        go false rest = rest
+
+    starts : (es : List Entry) → AllStarts es → Each P es
+    starts [] h = tt
+    starts (entry.Start who state notes ∷ es) h = (follows (entry.Start who state notes) tt, starts es h.1)
+    starts (entry.Fetch stamp m ∷ es) h = absurd h.0
+    starts (entry.Turn stamp from sent did notes ∷ es) h = absurd h.0
+    starts (entry.Post stamp m ∷ es) h = absurd h.0
 
   module _ (lines : List Line) (names : LinesName plant.wiring lines) (fuel : ℕ) (j : Journals) (run : IsRun plant lines fuel j) where
     all_posts : Each (λ (x : Placed). PostIsNamed plant.wiring x.entry) run.lawful.run.merge
@@ -122,16 +178,21 @@ module _ (plant : Plant) (fits : PlantFits plant) (joins : IsMutual plant.wiring
         posts_named plant.wiring is_wired (model_of plant) asks_by_ports (lines_of (items_of plant.wiring lines)) (lines_named plant.wiring lines 1 names)
         (λ me. first_actors_there plant.wiring (StandsThere plant fits) (model_of plant) (stand_well plant fits) me) run.lawful.run.merge run.lawful.run.end run.lawful.run.run
 
-    one_named : (c : ℕ) → c < length plant.wiring.controllers → Each (NamesItsPlaces plant.wiring) (journal_of j c)
-    one_named c below =
-        subst (Each (NamesItsPlaces plant.wiring)) (sym (run.lawful.begins c below))
-        (each_both (NamesItsPlaces plant.wiring) (start_entries (model_of plant) plant.wiring c) (run.lawful.events c)
-        (starts_named (start_entries (model_of plant) plant.wiring c) (start_entries_start (model_of plant) plant.wiring c))
-        (subst (Each (NamesItsPlaces plant.wiring)) (run.lawful.run.is.whole c) (own_named c run.lawful.run.merge all_posts)))
+    one_journal : (P : Entry → Type 0) → ((e : Entry) → PostIsNamed plant.wiring e → P e) → (c : ℕ) → c < length plant.wiring.controllers → Each P (journal_of j c)
+    one_journal P follows c below =
+        subst (Each P) (sym (run.lawful.begins c below))
+        (each_both P (start_entries (model_of plant) plant.wiring c) (run.lawful.events c)
+        (starts P follows (start_entries (model_of plant) plant.wiring c) (start_entries_start (model_of plant) plant.wiring c))
+        (subst (Each P) (run.lawful.run.is.whole c) (own_entries P follows c run.lawful.run.merge all_posts)))
 
-    pub places_named : OfControllers j (λ c. NamesItsPlaces plant.wiring)
-    places_named c es there =
+    all_journals : (P : Entry → Type 0) → ((e : Entry) → PostIsNamed plant.wiring e → P e) → OfControllers j (λ c. P)
+    all_journals P follows c es there =
         let low = slice_get_within j.controllers c es there in
         let count = run.count in
-        All-from_recursion (NamesItsPlaces plant.wiring) es
-        (subst (Each (NamesItsPlaces plant.wiring)) (journal_is plant lines fuel j run c es there) (one_named c (omega (arith, low, count))))
+        All-from_recursion P es (subst (Each P) (journal_is plant lines fuel j run c es there) (one_journal P follows c (omega (arith, low, count))))
+
+    pub places_named : OfControllers j (λ c. NamesItsPlaces plant.wiring)
+    places_named = all_journals (NamesItsPlaces plant.wiring) entry_named
+
+    pub signals_named : OfControllers j (λ c. NamesSignal plant.wiring)
+    signals_named = all_journals (NamesSignal plant.wiring) entry_says

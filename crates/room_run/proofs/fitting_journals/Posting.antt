@@ -1,6 +1,7 @@
--- All that is posted in a run goes from a port of the wiring to one: so it is of what waits for its turn, of what
--- is kept, of what is on its way, and of what a controller keeps of places, plugs, links and names.
-use Rattle.std.proofs.Common.{◌≡◌, ℕ, zero, suc, ◌+◌, ◌<◌, ◌==◌, ◌&&◌, Bool, true, false, not, if◌then◌else◌, List, [], ◌∷◌, ◌++◌, drop, filter, length, Option, Some, None, IfSome, slice_get, refl, sym, subst}
+-- All that is posted in a run goes from a port of the wiring to one, with a signal that is there: so it is of what
+-- waits for its turn, of what is kept, of what is on its way, and of what a controller keeps of places, plugs, links
+-- and names.
+use Rattle.std.proofs.Common.{◌≡◌, ℕ, zero, suc, ◌+◌, ◌<◌, ◌==◌, ◌&&◌, Bool, true, false, not, if◌then◌else◌, List, [], ◌∷◌, ◌++◌, drop, filter, length, Option, Some, None, IfSome, slice_get, refl, sym, subst, eqb-true}
 use Rattle.std.specs.Option.{option_map_or, option_and_then}
 use Rattle.std.specs.List.{AllByRecursion as Each}
 use Rattle.std.proofs.lemmas.Option.{same_Some, slice_get_within}
@@ -42,6 +43,7 @@ use Rattle.model_run.specs.part_posts.Items.{item_of, items_of}
 use Rattle.run_promises.specs.run_journals.Outside.{WhatNames, LinesName}
 use Rattle.room_run.specs.fitting_journals.Places.{FitsNobody}
 use Rattle.room_run.proofs.fitting_journals.Acting.{AreThere, FrameThere, frame_duty_there}
+use Rattle.room_run.proofs.fitting_journals.Signals.{TiesBy, Ties, says_worded, says_tied}
 use Rattle.room_run.proofs.fitting_journals.Speaking.{AsksAt}
 use Rattle.room_run.proofs.fitting_journals.Sending.{IsWired, IsNamed, AreNamed, LastNamed, FrameNamed, LinksNamed, TableNamed, FrameDoneNamed, each_both, each_kept, frame_duty_named, request_named, register_command_named, withdraw_command_named, end_of_named, links_duty_named, table_duty_named, send_named, broadcast_named}
 
@@ -77,7 +79,7 @@ lines_named t (x ∷ lines) part h = go x.what h.0 (λ p. lines_named t lines p 
     go (whats.Message target signal payload prio) n rest =
         let place : FitsEndpoint t target =
         record { slot = slice_get_within t.slots target.slot.0 n.slot n.slot_is; port = port_within t target.slot.0 target.port n.known.port n.known.port_is } in
-        ((tt, place), rest part)
+        ((tt, place, says_worded t prio.0 signal None target n.worded n.known), rest part)
 
 line_at : (t : Tables) (ls : List Line) (i : ℕ) (l : Line) → Each (λ (l : Line). IsNamed t l.message) ls → slice_get ls i ≡ Some l → IsNamed t l.message
 line_at t [] i l h e = absurd cc
@@ -133,16 +135,16 @@ module _ {M : Type 0} (t : Tables) (w : IsWired t) (model : Behaviour M) (asks :
       }
 
       apply_named : (d : Doing M) (c : Command) → AsksAt t x.slot.0 c → DoingNamed d → DoingNamed (apply t me x m d c)
-      apply_named d (commands.Send p (Some k) signal payload prio) port h = record {
+      apply_named d (commands.Send p (Some k) signal payload prio) ask h = record {
         body = h.body;
         sent = each_both (IsNamed t) d.sent _ h.sent
-            (send_named t w me d.body.frame d.body.links h.body.frame h.body.links x low p port k (record { signal = signal; payload = payload; prio = prio }));
+            (send_named t w me d.body.frame d.body.links h.body.frame h.body.links x low p ask.0 (record { signal = signal; payload = payload; prio = prio }) ask.1 ask.2 k);
         back = h.back;
       }
-      apply_named d (commands.Send p None signal payload prio) port h = record {
+      apply_named d (commands.Send p None signal payload prio) ask h = record {
         body = h.body;
         sent = each_both (IsNamed t) d.sent _ h.sent
-            (broadcast_named t w me d.body.frame d.body.links h.body.frame h.body.links x low p port (record { signal = signal; payload = payload; prio = prio }));
+            (broadcast_named t w me d.body.frame d.body.links h.body.frame h.body.links x low p ask.0 (record { signal = signal; payload = payload; prio = prio }) ask.1 ask.2);
         back = h.back;
       }
       apply_named d commands.Defer port h =
@@ -227,47 +229,47 @@ module _ {M : Type 0} (t : Tables) (w : IsWired t) (model : Behaviour M) (asks :
         })))
 
     module _ (b : Body M) (h : BodyNamed b) (m : Msg) (n : IsNamed t m) where
-      framed_named : (kind : SysKind) → DoingNamed (with_frame model t me b (frame_duty t me b.frame kind m))
-      framed_named kind =
-          with_frame_named b (frame_duty t me b.frame kind m) h (frame_duty_there t me b.frame kind m) (frame_duty_named t w me b.frame h.frame kind m n)
+      framed_named : (kind : SysKind) → TiesBy t kind m.source m.target → DoingNamed (with_frame model t me b (frame_duty t me b.frame kind m))
+      framed_named kind y =
+          with_frame_named b (frame_duty t me b.frame kind m) h (frame_duty_there t me b.frame kind m) (frame_duty_named t w me b.frame h.frame kind m n y)
 
       tabled_named : (kind : SysKind) → DoingNamed (record (doing b) { body = record b { table = (table_duty t me b.table kind m).now }; sent = (table_duty t me b.table kind m).sent })
       tabled_named kind =
           let r = table_duty_named t w me b.table kind m h.table n in
           record { body = record { frame = h.frame; links = h.links; table = r.0; deferred = h.deferred }; sent = r.1; back = tt }
 
-      linked_named : (kind : SysKind) (live : Bool) → DoingNamed (record (doing b) { body = record b { links = (links_duty t me b.links live kind m).now }; sent = (links_duty t me b.links live kind m).sent })
-      linked_named kind live =
-          let r = links_duty_named t w me b.links live kind m h.links n in
+      linked_named : (kind : SysKind) (live : Bool) → TiesBy t kind m.source m.target → DoingNamed (record (doing b) { body = record b { links = (links_duty t me b.links live kind m).now }; sent = (links_duty t me b.links live kind m).sent })
+      linked_named kind live y =
+          let r = links_duty_named t w me b.links live kind m h.links n y in
           record { body = record { frame = h.frame; links = r.0; table = h.table; deferred = h.deferred }; sent = r.1; back = tt }
 
-      duty_named : (kind : SysKind) → DoingNamed (duty model t me b m kind)
-      duty_named kinds.Register = tabled_named kinds.Register
-      duty_named kinds.Withdraw = tabled_named kinds.Withdraw
-      duty_named kinds.Bound = linked_named kinds.Bound (is_own t me m.target.slot.0 && is_live b.frame.lives (whose m.target))
-      duty_named kinds.Ended = linked_named kinds.Ended (is_own t me m.target.slot.0 && is_live b.frame.lives (whose m.target))
-      duty_named kinds.NameReply = linked_named kinds.NameReply (is_own t me m.target.slot.0 && is_live b.frame.lives (whose m.target))
-      duty_named kinds.Create = framed_named kinds.Create
-      duty_named kinds.CreateDone = framed_named kinds.CreateDone
-      duty_named kinds.CreateRefused = framed_named kinds.CreateRefused
-      duty_named kinds.Destroy = framed_named kinds.Destroy
-      duty_named kinds.DestroyDone = framed_named kinds.DestroyDone
-      duty_named kinds.Import = framed_named kinds.Import
-      duty_named kinds.ImportDone = framed_named kinds.ImportDone
-      duty_named kinds.ImportRefused = framed_named kinds.ImportRefused
-      duty_named kinds.ImportEnded = framed_named kinds.ImportEnded
-      duty_named kinds.Deport = framed_named kinds.Deport
-      duty_named kinds.DeportDone = framed_named kinds.DeportDone
-      duty_named kinds.Announce = framed_named kinds.Announce
-      duty_named kinds.PartMake = framed_named kinds.PartMake
-      duty_named kinds.PartEnd = framed_named kinds.PartEnd
+      duty_named : (kind : SysKind) → TiesBy t kind m.source m.target → DoingNamed (duty model t me b m kind)
+      duty_named kinds.Register y = tabled_named kinds.Register
+      duty_named kinds.Withdraw y = tabled_named kinds.Withdraw
+      duty_named kinds.Bound y = linked_named kinds.Bound (is_own t me m.target.slot.0 && is_live b.frame.lives (whose m.target)) y
+      duty_named kinds.Ended y = linked_named kinds.Ended (is_own t me m.target.slot.0 && is_live b.frame.lives (whose m.target)) y
+      duty_named kinds.NameReply y = linked_named kinds.NameReply (is_own t me m.target.slot.0 && is_live b.frame.lives (whose m.target)) y
+      duty_named kinds.Create y = framed_named kinds.Create y
+      duty_named kinds.CreateDone y = framed_named kinds.CreateDone y
+      duty_named kinds.CreateRefused y = framed_named kinds.CreateRefused y
+      duty_named kinds.Destroy y = framed_named kinds.Destroy y
+      duty_named kinds.DestroyDone y = framed_named kinds.DestroyDone y
+      duty_named kinds.Import y = framed_named kinds.Import y
+      duty_named kinds.ImportDone y = framed_named kinds.ImportDone y
+      duty_named kinds.ImportRefused y = framed_named kinds.ImportRefused y
+      duty_named kinds.ImportEnded y = framed_named kinds.ImportEnded y
+      duty_named kinds.Deport y = framed_named kinds.Deport y
+      duty_named kinds.DeportDone y = framed_named kinds.DeportDone y
+      duty_named kinds.Announce y = framed_named kinds.Announce y
+      duty_named kinds.PartMake y = framed_named kinds.PartMake y
+      duty_named kinds.PartEnd y = framed_named kinds.PartEnd y
 
       nothing_done : DoingNamed (doing b)
       nothing_done = record { body = h; sent = tt; back = tt }
 
-      system_named : (o : Option SysKind) → DoingNamed (system_done model t me b m o)
-      system_named None = nothing_done
-      system_named (Some kind) = duty_named kind
+      system_named : (o : Option SysKind) → Ties t o m.source m.target → DoingNamed (system_done model t me b m o)
+      system_named None y = nothing_done
+      system_named (Some kind) y = duty_named kind y
 
       -- ---- turns
 
@@ -310,12 +312,14 @@ module _ {M : Type 0} (t : Tables) (w : IsWired t) (model : Behaviour M) (asks :
 
       treat_named : TreatedNamed (treat model t me b m)
       unfolding treat
-      treat_named = go (m.prio.0 == 0)
+      treat_named = go (m.prio.0 == 0) refl
         where
-          go : (x : Bool)
+          go : (x : Bool) → (m.prio.0 == 0) ≡ x
               → TreatedNamed (if x then treated (system_done model t me b m (slice_get all_kinds m.signal)) did.Duty else dispatch model t me b m)
-          go true = let d = system_named (slice_get all_kinds m.signal) in record { body = d.body; sent = d.sent; back = d.back; nobody = tt }
-          go false = dispatch_named
+          go true e =
+              let d = system_named (slice_get all_kinds m.signal) (says_tied t m.prio.0 m.signal m.source m.target (eqb-true m.prio.0 0 e) n.2) in
+              record { body = d.body; sent = d.sent; back = d.back; nobody = tt }
+          go false e = dispatch_named
 
   -- ---- controllers
 

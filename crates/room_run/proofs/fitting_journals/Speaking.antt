@@ -1,5 +1,5 @@
 -- The notes of actors: each names who speaks, and ports of who speaks.
-use Rattle.std.proofs.Common.{◌≡◌, ℕ, ◌<◌, Bool, true, false, List, [], ◌∷◌, ◌++◌, length, Option, Some, None, ℤ, pos, negsuc, refl, sym, ap, ◌∙◌, subst}
+use Rattle.std.proofs.Common.{◌≡◌, ℕ, ◌<◌, ◌≤◌, Bool, true, false, List, [], ◌∷◌, ◌++◌, length, Option, Some, None, ℤ, pos, negsuc, refl, sym, ap, ◌∙◌, subst}
 use Rattle.std.specs.List.{AllByRecursion as Each, list_all}
 use Rattle.std.proofs.lemmas.Bool.{and_parts}
 use Rattle.room_kinds.specs.declared.message.Msg.{Msg}
@@ -13,7 +13,7 @@ use Rattle.room_kinds.specs.declared.numbers.Incarnation.{Incarnation}
 use Rattle.room_kinds.specs.declared.numbers.SlotId.{SlotId}
 use Rattle.room_wiring.specs.Places.{port_count}
 use Rattle.room_wiring.specs.declared.tables.Tables.{Tables}
-use Rattle.journal.specs.Fits.{FitsStanding, FitsNote, FitsNotes}
+use Rattle.journal.specs.Fits.{FitsStanding, FitsNote, FitsNotes, HasSignal}
 use Rattle.journal.specs.Lines.{speaker_after}
 use Rattle.actor_duties.specs.Commands.{Content, send, send_to, send_each, broadcast, broadcast_places, defer, recall, recall_all}
 use Rattle.actor_duties.specs.Peers.{peer}
@@ -125,9 +125,10 @@ up_speaks t from ns x state h stands = record {
 
 -- ---- commands
 
--- a send names a port of who asks for it, and so does a request on a service name
+-- a send names a port of who asks for it and a signal of the port, at a priority that actions have; a request on a
+-- service name names a port, too
 abbrev pub AsksAt : Tables → ℕ → Command → Type 0
-AsksAt t s (commands.Send port place signal payload prio) = port < port_count t s
+AsksAt t s (commands.Send port place signal payload prio) = (port < port_count t s) × HasSignal t s port signal × (1 ≤ prio.0)
 AsksAt t s commands.Defer = Unit {0}
 AsksAt t s commands.Recall = Unit {0}
 AsksAt t s commands.RecallAll = Unit {0}
@@ -173,9 +174,9 @@ module _ (t : Tables) (me : ℕ) (x : Incarnation) where
   module _ (duty : Bool) (there : x.slot.0 < length t.slots) (from : Option SlotId) {M : Type 0} (m : Option Msg) where
     one_applied : (d : Doing M) (c : Command) → AsksAt t x.slot.0 c → Speaks t duty from x d.notes → Speaks t duty from x (apply t me x m d c).notes
     one_applied d (commands.Send p (Some k) signal payload prio) h s =
-        speaks_on t duty x there from d.notes _ s (said_send d.body.frame d.body.links p k (record { signal = signal; payload = payload; prio = prio }) h)
+        speaks_on t duty x there from d.notes _ s (said_send d.body.frame d.body.links p k (record { signal = signal; payload = payload; prio = prio }) h.0)
     one_applied d (commands.Send p None signal payload prio) h s =
-        speaks_on t duty x there from d.notes _ s (said_broadcast d.body.frame d.body.links p (record { signal = signal; payload = payload; prio = prio }) h)
+        speaks_on t duty x there from d.notes _ s (said_broadcast d.body.frame d.body.links p (record { signal = signal; payload = payload; prio = prio }) h.0)
     one_applied d commands.Defer h s = speaks_on t duty x there from d.notes _ s (said_defer d.kept m (d.body.deferred x.slot.0))
     one_applied d commands.Recall h s = speaks_on t duty x there from d.notes _ s (said_recall (d.body.deferred x.slot.0))
     one_applied d commands.RecallAll h s = speaks_on t duty x there from d.notes _ s (said_recall_all (d.body.deferred x.slot.0))

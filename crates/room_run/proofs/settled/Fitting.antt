@@ -8,7 +8,9 @@ use Rattle.inject_reader.specs.declared.inject_lines.accepted.Line.{Line}
 use Rattle.controller_actors.specs.declared.plant.Plant.{Plant}
 use Rattle.model_run.specs.run_ends.Runs.{IsRun}
 use Rattle.named_runs.specs.Charts.{ShowCharts}
+use Rattle.journal.specs.Fits.{Fits}
 use Rattle.room_run.specs.fitting_journals.Fitting.{JournalsInPlace, FittingRunsAreInPlace}
+use Rattle.room_run.proofs.fitting_journals.FitsLaw.{journals_fit}
 use Rattle.room_run.specs.fitting_plants.Plants.{PlantFits}
 use Rattle.room_run.specs.fitting_plants.Runs.{Settles}
 use Rattle.room_run.proofs.fitting_plants.Lines.{read_fit}
@@ -46,3 +48,12 @@ in_place_of law None injections p lines fuel j h k run = tt
 in_place_of law (Some text) None p lines fuel j h k run = tt
 in_place_of law (Some text) (Some injected) p lines fuel j h k run =
     law p lines fuel j (text_fits text p.wiring h.charts p h.is refl h.tables) (read_fit p.wiring lines k.fit) run
+
+-- so they fit the wiring
+pub fits_of : FittingRunsAreInPlace → (model injections : Option (List ℕ)) (p : Plant) (lines : List Line) (fuel : ℕ) (j : Journals)
+    → IfSome model (λ text. IsModel text p) → IfSome injections (λ text. IsInjections p.wiring text lines) → IsRun p lines fuel j
+    → IfSome model (λ text. IfSome injections (λ injected. Fits p.wiring j))
+fits_of law None injections p lines fuel j h k run = tt
+fits_of law (Some text) None p lines fuel j h k run = tt
+fits_of law (Some text) (Some injected) p lines fuel j h k run =
+    journals_fit law p lines fuel j (text_fits text p.wiring h.charts p h.is refl h.tables) (read_fit p.wiring lines k.fit) run

@@ -1,11 +1,11 @@
 -- The journals of a run of a plant that fits, over lines that fit.
--- Of the definition of journals that fit a wiring (`Fits` of `journal`) these points are so: the number of
--- journals, the senders, receivers and stamps of messages, what is left and its order, all of the environment's
--- journal, what controllers tell of actors (their slots, their states and the ports in their notes), and the
--- places from which and to which they post. That the signals are those of the ports isn't said here.
+-- `JournalsInPlace`: they are tied, and each entry is in its place; what controllers post goes to controllers, from
+-- places of the wiring to such places, with signals that are there; the environment's journal fits the wiring; and
+-- what controllers tell of actors is so of it. The law `fitting_runs_journals`.
+-- So such journals fit the wiring, whole (`Fits` of `journal`): the law `fitting_journals_fit`.
 use Rattle.std.specs.Prelude.{ℕ, List, All}
 use Rattle.room_wiring.specs.declared.tables.Tables.{Tables}
-use Rattle.journal.specs.Fits.{FitsEnvironment}
+use Rattle.journal.specs.Fits.{FitsEnvironment, Fits}
 use Rattle.journal.specs.declared.entry.Journals.{Journals}
 use Rattle.tied_journals.specs.Tied.{Tied}
 use Rattle.inject_reader.specs.declared.inject_lines.accepted.Line.{Line}
@@ -15,6 +15,7 @@ use Rattle.run_promises.specs.run_journals.InPlace.{OfControllers, AreInPlace}
 use Rattle.run_promises.specs.run_journals.Reaching.{NamesReceiver}
 use Rattle.room_run.specs.fitting_journals.Actors.{TellsOfActors}
 use Rattle.room_run.specs.fitting_journals.Places.{NamesItsPlaces}
+use Rattle.room_run.specs.fitting_journals.Signals.{NamesSignal}
 use Rattle.room_run.specs.fitting_plants.Lines.{LinesFit}
 use Rattle.room_run.specs.fitting_plants.Plants.{PlantFits}
 
@@ -32,9 +33,17 @@ pub record JournalsInPlace (t : Tables) (j : Journals) : Type 0 where
   pub actors : OfControllers j (λ c. TellsOfActors t)
   -- controllers post from places of the wiring to such places
   pub places : OfControllers j (λ c. NamesItsPlaces t)
+  -- with signals of the ports to which they post, or kinds of system messages
+  pub signals : OfControllers j (λ c. NamesSignal t)
 
 -- over every run of a plant that fits, over lines that fit
 abbrev pub FittingRunsAreInPlace : Type 0
 FittingRunsAreInPlace =
     (plant : Plant) (lines : List Line) (fuel : ℕ) (j : Journals) → PlantFits plant → LinesFit plant.wiring lines → IsRun plant lines fuel j
     → JournalsInPlace plant.wiring j
+
+-- and its journals fit the wiring
+abbrev pub FittingJournalsFit : Type 0
+FittingJournalsFit =
+    (plant : Plant) (lines : List Line) (fuel : ℕ) (j : Journals) → PlantFits plant → LinesFit plant.wiring lines → IsRun plant lines fuel j
+    → Fits plant.wiring j

@@ -1,4 +1,4 @@
--- Journals of a run fit the wiring where what controllers name is there.
+-- Journals of a run of a plant that fits, over lines that fit, fit the wiring.
 use Rattle.std.proofs.Common.{◌≡◌, ℕ, zero, suc, ◌<◌, Bool, true, false, not, if◌then◌else◌, List, [], ◌∷◌, ◌++◌, length, map, slice_get, slice_index_or, Option, Some, None, refl, sym, ap, ◌∙◌, subst, arith, ◌⊎◌, inl, inr}
 use Rattle.std.specs.List.{AllByRecursion as Each, All, Contains, flat_map, range_with_len}
 use Rattle.std.proofs.lemmas.Bool.{cases_order}
@@ -20,7 +20,6 @@ use Rattle.actor_world.specs.world_laws.Counting.{count, of_priority}
 use Rattle.actor_world.specs.world_laws.Whereabouts.{fetched}
 use Rattle.controller_actors.specs.Plants.{model_of}
 use Rattle.controller_actors.specs.declared.plant.Plant.{Plant}
-use Rattle.model_laws.specs.settled_models.Wirings.{ModelsHaveOwners, ModelsAreMutual}
 use Rattle.model_run.specs.part_posts.Items.{items_of}
 use Rattle.model_run.specs.run_ends.Runs.{journal_of, IsRun}
 use Rattle.run_promises.specs.Mail.{posted}
@@ -36,11 +35,10 @@ use Rattle.run_promises.proofs.run_journals.OneRun.{queue}
 use Rattle.run_promises.proofs.run_journals.Waiting.{all_counted, each_behind, each_weaker}
 use Rattle.room_run.specs.fitting_plants.Lines.{LinesFit}
 use Rattle.room_run.specs.fitting_plants.Plants.{PlantFits}
-use Rattle.room_run.specs.fitting_journals.Fitting.{JournalsInPlace}
+use Rattle.room_run.specs.fitting_journals.Fitting.{JournalsInPlace, FittingRunsAreInPlace, FittingJournalsFit}
 use Rattle.room_run.specs.fitting_journals.Actors.{FitsActor, TellsOfActors}
 use Rattle.room_run.specs.fitting_journals.Places.{FitsNobody, NamesItsPlaces}
-use Rattle.room_run.specs.fitting_journals.Naming.{NamesSignal, ControllersName, NamedJournalsFit}
-use Rattle.room_run.proofs.fitting_journals.FittingLaw.{fitting_in_place}
+use Rattle.room_run.specs.fitting_journals.Signals.{NamesSignal}
 use Rattle.room_run.proofs.fitting_journals.Testing.{passes, passed, is_fit, none_counted_at}
 
 -- ---- entries
@@ -75,7 +73,7 @@ messages_fit t (entry.Turn stamp from sent did notes ∷ es) f p = (tt, messages
 messages_fit t (entry.Fetch stamp m ∷ es) f p = (f m (as_first m (fetched es)), messages_fit t es (λ x there. f x (as_later m (fetched es) x there)) p)
 messages_fit t (entry.Post stamp m ∷ es) f p = (p m (as_first m (posted es)), messages_fit t es f (λ x there. p x (as_later m (posted es) x there)))
 
--- what a controller posts fits, where it names what is there
+-- what a controller posts fits
 posts_fit : (t : Tables) (c : ℕ) → c < length t.controllers → (es : List Entry) → Each (IsPostedBy c) es → Each (NamesReceiver t) es → Each (NamesItsPlaces t) es
     → Each (NamesSignal t) es → Each (FitsMessage t) (posted es)
 posts_fit t c below [] o r p n = tt
@@ -122,10 +120,10 @@ missing [] c b e = omega (arith, b)
 missing (x ∷ xs) zero b e = absurd cc
 missing (x ∷ xs) (suc c) b e = missing xs c (omega (arith, b)) e
 
-module _ (owned : ModelsHaveOwners) (joined : ModelsAreMutual) (plant : Plant) (lines : List Line) (fuel : ℕ) (j : Journals) (fits : PlantFits plant) (fit : LinesFit plant.wiring lines)
-    (run : IsRun plant lines fuel j) (names : ControllersName plant.wiring j) where
+module _ (law : FittingRunsAreInPlace) (plant : Plant) (lines : List Line) (fuel : ℕ) (j : Journals) (fits : PlantFits plant) (fit : LinesFit plant.wiring lines)
+    (run : IsRun plant lines fuel j) where
   so_far : JournalsInPlace plant.wiring j
-  so_far = fitting_in_place owned joined plant lines fuel j fits fit run
+  so_far = law plant lines fuel j fits fit run
 
   -- the journal of a controller stands among them
   stands : (c : ℕ) → c < length plant.wiring.controllers → slice_get j.controllers c ≡ Some (journal_of j c)
@@ -154,7 +152,7 @@ module _ (owned : ModelsHaveOwners) (joined : ModelsAreMutual) (plant : Plant) (
           each_has (FitsMessage plant.wiring) (posted (journal_of j party)) m
           (posts_fit plant.wiring party below (journal_of j party) (of_one IsPostedBy so_far.in_place.posted_by_sender party below)
           (of_one (λ c. NamesReceiver plant.wiring) so_far.receivers party below) (of_one (λ c. NamesItsPlaces plant.wiring) so_far.places party below)
-          (of_one (λ c. NamesSignal plant.wiring) names party below)) there
+          (of_one (λ c. NamesSignal plant.wiring) so_far.signals party below)) there
       go (inr (inr above)) = absurd (none_in m (subst (λ (z : List Entry). Contains (posted z) m) (nobody plant lines fuel j run party above) there))
 
   fetched_fit : (party : ℕ) (m : Msg) → Contains (fetched (journal_of j party)) m → FitsMessage plant.wiring m
@@ -244,5 +242,5 @@ module _ (owned : ModelsHaveOwners) (joined : ModelsAreMutual) (plant : Plant) (
     left_in_order = so_far.in_place.left_in_order;
   }
 
-pub named_fit : ModelsHaveOwners → ModelsAreMutual → NamedJournalsFit
-named_fit owned joined plant lines fuel j fits fit run names = fitted owned joined plant lines fuel j fits fit run names
+pub journals_fit : FittingRunsAreInPlace → FittingJournalsFit
+journals_fit law plant lines fuel j fits fit run = fitted law plant lines fuel j fits fit run
