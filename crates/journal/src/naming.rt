@@ -90,7 +90,6 @@ pub fn signal_name<'a>(wiring: &'a Wiring, msg: &Msg) -> &'a [u8]
     }
 }
 
-#[inline(always)]
 #[tactic(auto, unfolding(crate::specs::Names::port_signal_text))]
 fn port_signal_name(wiring: &Wiring, s: SlotId, number: u16, signal: u16) -> &[u8]
     ensures { result.now ≡ port_signal_text wiring.now s.0 number signal }

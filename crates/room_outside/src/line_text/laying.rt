@@ -200,7 +200,8 @@ pub(crate) fn lay_part(piece: &mut Piece, at: usize, part: Part) -> usize
 pub(crate) fn lay_two(piece: &mut Piece, at: usize, a: Part, b: Part) -> usize
     requires { at + (length (part_text a) + length (part_text b)) ≤ 4096 }
     ensures behind { result ≡ at + (length (part_text a.entry) + length (part_text b.entry)) }
-    ensures laid { take result piece.new ≡ take at piece.old ++ (part_text a.entry ++ part_text b.entry) }
+    ensures laid { take result piece.new
+        ≡ take at piece.old ++ (part_text a.entry ++ part_text b.entry) }
 {
     let at = lay_part(piece, at, a);
     lay_part(piece, at, b)
