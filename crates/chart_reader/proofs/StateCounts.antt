@@ -1,13 +1,12 @@
 -- The graphs of a chart that is read have together as many states as its text.
-use Rattle.std.proofs.Common.{◌≡◌, ◌∙◌, ℕ, ◌+◌, List, [], ◌∷◌, ◌++◌, length, refl, arith}
+use Rattle.std.proofs.Common.{◌≡◌, ℕ, ◌+◌, List, [], ◌∷◌, length, Option, None, arith}
 use Rattle.std.specs.List.{sum_by}
 use Rattle.std.proofs.lemmas.List.{length-append}
 use Rattle.std.proofs.lemmas.List.Sums.{sum_by-append, sum_by-cons}
 use Rattle.room_ast.specs.declared.chart.Code.{Code}
 use Rattle.room_ast.specs.declared.scope.Scope.{Scope}
-use Rattle.room_ast.specs.ChartTree.{GraphItemTree, AState, AChoice, APoint, ATransition, ARefinement, StateTree, StateOf, BodyTree, no_body, body, SubgraphTree, no_subgraph, subgraph, GraphItems, no_items, item}
+use Rattle.room_ast.specs.ChartTree.{GraphItemTree, AState, AChoice, APoint, ATransition, ARefinement, StateOf, BodyTree, no_body, body, no_subgraph, subgraph, GraphItems, no_items, item}
 use Rattle.room_ast.specs.model_parts.Charts.{states_in_item, states_in_body, states_in}
-use Rattle.std.specs.Prelude.{Option, None}
 use Rattle.chart_model.specs.Chart.{Name, Path, Graph}
 use Rattle.chart_reading.specs.Around.{Around, around, list_of}
 use Rattle.chart_reading.specs.Reading.{Piece, begun, graphs_of, state_of, with_actions, with_item, with_body, with_items, piece_of, at_first, chart_of}

@@ -11,7 +11,7 @@ use Rattle.chart_model.specs.Named.{graph_at, same_path}
 use Rattle.chart_model.specs.Valid.{IsValid}
 use Rattle.chart_reader.specs.Whole.{IsWhole, count_of_states}
 use Rattle.chart_reader.proofs.chart_nodes.Members.{In, In_any, any_In}
-use Rattle.chart_compile.specs.chart_places.Places.{PlaceTree, place_of, places_of, state_key, states_at}
+use Rattle.chart_compile.specs.chart_places.Places.{PlaceTree, places_of, state_key}
 use Rattle.chart_compile.proofs.chart_compiled.States.{place_is}
 use Rattle.chart_compile.proofs.chart_numbers.Counting.{In-map, In_whole}
 use Rattle.chart_compile.proofs.chart_numbers.Distinct.{In-first, key_of, states_distinct}
