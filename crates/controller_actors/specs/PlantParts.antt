@@ -1,15 +1,15 @@
 -- What is known of the parts of every plant: its wiring and, class by class, its tables.
 -- A plant carries this fact, so it has one proof at most; that is what the lemmas say.
-use Rattle.std.specs.Prelude.{◌≡◌, ◌≤◌, ℕ, List, Option, Some, length, slice_get}
+use Rattle.std.specs.Prelude.{◌≡◌, ◌≤◌, ℕ, List, Option, Some, length, slice_get, slice_index}
 use Rattle.std.specs.List.{AllByRecursion-prop}
-use Rattle.std.specs.Coded.{×_prop, Π_prop, Unit-prop, le_prop}
+use Rattle.std.specs.Coded.{Coded-set, coded_ℕ, ×_prop, Π_prop, Unit-prop, le_prop}
 use mathlib.Core.Bool.{Bool-set}
 use Rattle.action_program.specs.Numbered.{StmtTree, empty, assign, choose, repeat, send, defer, recall, recall_all, frame, import_at, register, withdraw, Stmts, no_stmt, a_stmt, Branches, no_branch, a_branch}
 use Rattle.chart_model.specs.chart_plan.Plan.{Kind, Simple, Border, Choice, Entry, Exit}
 use Rattle.chart_run.specs.chart_tables.Tables.{ArrowTree, Follows, LeadsLower, IsSound, arrow_view, plan, up_at}
 use Rattle.chart_run.specs.declared.chart_tables.tables.Tables.{Tables as ChartTables}
 use Rattle.room_wiring.specs.declared.tables.Tables.{Tables as Wiring}
-use Rattle.service_messages.specs.slot_runs.Runs.{IsDepthFirst}
+use Rattle.service_messages.specs.slot_runs.Runs.{IsDepthFirst, IsRunEnd, AreRunEnds}
 use Rattle.frame_service.specs.frame_imports.Numbered.{ArePortsNumbered}
 use Rattle.chart_behaviour.specs.Asked.{ClassesAsk}
 use Rattle.chart_behaviour.specs.chart_asks.Asking.{StatementAsks, ProgramAsks, BranchesAsk, ArrowAsks, GoesOn, TablesAsk}
@@ -50,6 +50,22 @@ IsDepthFirst-prop : (t : Wiring) → IsProp (IsDepthFirst t)
 IsDepthFirst-prop t x y = λ j. record {
   behind = Π_prop (λ s. Π_prop (λ c. Π_prop (λ e. le_prop))) x.behind y.behind j;
   between = Π_prop (λ s. Π_prop (λ c. Π_prop (λ u. Π_prop (λ e. Π_prop (λ after. Π_prop (λ before. Bool-set _ _)))))) x.between y.between j;
+}
+
+IsRunEnd-prop : (t : Wiring) (s e : ℕ) → IsProp (IsRunEnd t s e)
+IsRunEnd-prop t s e x y = λ j. record {
+  behind = le_prop x.behind y.behind j;
+  there = le_prop x.there y.there j;
+  inside = Π_prop (λ u. Π_prop (λ after. Π_prop (λ before. Bool-set _ _))) x.inside y.inside j;
+  ends = Bool-set _ _ x.ends y.ends j;
+}
+
+-- a plant carries that it has the runs of its slots, so this has one proof at most too
+pub AreRunEnds-prop : (t : Wiring) (ends : List ℕ) → IsProp (AreRunEnds t ends)
+AreRunEnds-prop t ends x y = λ j. record {
+  numbered = le_prop x.numbered y.numbered j;
+  count = Coded-set coded_ℕ (length ends) (length t.slots) x.count y.count j;
+  each = Π_prop (λ s. Π_prop (λ l. IsRunEnd-prop t s (slice_index ends s))) x.each y.each j;
 }
 
 mutual

@@ -96,7 +96,7 @@ pub(crate) fn start(alloc: Global, plant: &Plant, me: ControllerId) -> Result<Be
     ensures entries { IfOk result (λ b. b.entries ≡ start_entries (model_of plant.now) plant.now.wiring me.0) }
     ensures well { IfOk result (λ b. IsWell plant.now me.0 b.actors) }
 {
-    let frame = FrameState::start(alloc, &plant.wiring, me)?;
+    let frame = FrameState::start(alloc, &plant.wiring, plant.share_runs()?, me)?;
     let slots = vacant_slots(alloc, own_count(&plant.wiring, me))?;
     let mut starting = Starting {
         actors: Actors {

@@ -1,11 +1,9 @@
 -- What came of duties and commands, by the part of the state that they change.
-use Rattle.std.proofs.Common.{◌≡◌, ℕ, ◌&&◌, ◌||◌, Bool, true, false, cond, not, List, [], ◌∷◌, ◌++◌, refl, sym, ap, ◌∙◌}
+use Rattle.std.proofs.Common.{◌≡◌, ℕ, List, [], ◌∷◌, ◌++◌, refl, sym, ap, ◌∙◌}
 use Rattle.std.proofs.lemmas.List.{append-nil}
 use Rattle.room_kinds.specs.declared.message.Msg.{Msg}
 use Rattle.room_kinds.specs.declared.numbers.Incarnation.{Incarnation}
-use Rattle.room_kinds.specs.declared.numbers.Endpoint.{Endpoint}
 use Rattle.room_wiring.specs.declared.tables.Tables.{Tables}
-use Rattle.actor_duties.specs.Words.{whose}
 use Rattle.actor_duties.specs.State as rows
 use Rattle.actor_duties.specs.State.{Lives, Frame, ImportPlace}
 use Rattle.actor_duties.specs.Lives.{Lived}

@@ -3,7 +3,7 @@ ghost use Rattle.std.specs.Prelude.{◌≡◌, ◌<◌, ◌^◌, length, IfOk, I
 ghost use Rattle.actor_duties.specs.Peers.{frame_peer, known};
 ghost use Rattle.actor_duties.specs.Words.{endpoint};
 ghost use Rattle.actor_world.specs.Start.{first_frame};
-ghost use Rattle.service_messages.specs.slot_runs.Runs.{IsDepthFirst};
+ghost use Rattle.service_messages.specs.slot_runs.Runs.{IsDepthFirst, AreRunEnds};
 ghost use Rattle.frame_lives.specs.Known.{live_in, some_generation};
 ghost use Rattle.frame_service.specs.State.{frame_in, IsFrameOf};
 
@@ -19,16 +19,21 @@ impl FrameState {
     /// The frame service of a controller at the start: each of its slots that is fixed and not below an
     /// optional one lives with generation 1, its directory tells of such slots of others, and nothing is
     /// lent.
-    pub fn start(alloc: Global, wiring: &Wiring, me: ControllerId) -> Result<FrameState, AllocError>
+    pub fn start(
+        alloc: Global,
+        wiring: &Wiring,
+        runs: SlotRuns,
+        me: ControllerId,
+    ) -> Result<FrameState, AllocError>
         requires order { IsDepthFirst wiring.now }
+        requires runs { AreRunEnds wiring.now runs }
         requires me { me.0 < length wiring.now.controllers }
         ensures fits { IfOk result (IsFrameOf wiring.now) }
         ensures frame { IfOk result (λ s. frame_in s ≡ first_frame wiring.now me.0) }
         ensures me { IfOk result (λ s. s.me ≡ me) }
     {
-        let runs = SlotRuns::new(alloc, wiring)?;
         let lives = first_lives(alloc, wiring, me)?;
-        let imports = Imports::new(alloc, wiring.slot_count())?;
+        let imports = Imports::new(alloc, wiring.slot_count());
         Ok(FrameState {
             alloc,
             me,

@@ -7,6 +7,7 @@ use mail_core::{Mail, MailLocal};
 use plain_messages::message;
 use room_kinds::{ControllerId, Sequence};
 use room_wiring::{Label, Tables, Wiring};
+use service_messages::SlotRuns;
 use std::alloc::{AllocError, Global};
 use std::test::Fail;
 
@@ -28,10 +29,12 @@ fn pair(alloc: Global) -> Result<Plant, AllocError>
     };
     let wiring = Wiring::new(tables);
     let rows = SlotRows::of(alloc, &wiring)?;
+    let runs = SlotRuns::new(alloc, &wiring)?;
     Ok(Plant {
         wiring,
         tables: Vec::new(alloc),
         rows,
+        runs,
     })
 }
 

@@ -1,12 +1,12 @@
 -- What an actor gives back, found among its parts.
-use Rattle.std.proofs.Common.{◌≡◌, ℕ, zero, suc, ◌+◌, ◌<◌, ◌≤◌, Bool, true, false, cond, List, [], ◌∷◌, ◌++◌, length, refl, sym, ap, ◌∙◌, append_assoc, arith, inl, inr}
+use Rattle.std.proofs.Common.{◌≡◌, ℕ, ◌+◌, ◌<◌, ◌≤◌, false, cond, List, [], ◌∷◌, ◌++◌, length, refl, sym, ap, ◌∙◌, append_assoc, arith, inl, inr}
 use Rattle.std.specs.List.{flat_map}
 use Rattle.std.proofs.lemmas.Bool.{and_right, cases_Bool}
 use Rattle.std.proofs.lemmas.List.{flat_map_more}
 use Rattle.room_kinds.specs.declared.message.Msg.{Msg}
 use Rattle.room_kinds.specs.declared.numbers.Incarnation.{Incarnation}
 use Rattle.room_wiring.specs.declared.tables.Tables.{Tables}
-use Rattle.actor_duties.specs.Words.{is_imported, is_part_of, slots_of}
+use Rattle.actor_duties.specs.Words.{is_imported, is_part_of}
 use Rattle.actor_duties.specs.State.{ImportPlace}
 use Rattle.service_messages.specs.slot_runs.Runs.{IsDepthFirst, IsRunEnd}
 use Rattle.service_messages.proofs.slot_runs.Kept.{kept, kept_one, kept_none}

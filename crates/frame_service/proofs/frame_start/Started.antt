@@ -1,7 +1,6 @@
 -- What lives from the start, slot by slot.
-use Rattle.std.proofs.Common.{◌≡◌, ℕ, zero, suc, ◌+◌, ◌<◌, ◌≤◌, Bool, true, false, ◌&&◌, cond, List, [], ◌∷◌, ◌++◌, map, length, get_or, Option, Some, None, refl, sym, ap, ◌∙◌, subst, arith, inl, inr}
+use Rattle.std.proofs.Common.{◌≡◌, ℕ, zero, suc, ◌+◌, ◌<◌, ◌≤◌, Bool, true, false, ◌&&◌, cond, List, [], ◌∷◌, ◌++◌, map, length, get_or, Option, Some, None, refl, sym, ap, ◌∙◌, arith, inl, inr}
 use Rattle.std.proofs.Math.Path.{fun_ext}
-use Rattle.std.specs.Prelude.{slice_get}
 use Rattle.std.specs.List.{range_with_len}
 use Rattle.std.specs.Option.{option_map_or}
 use Rattle.std.proofs.lemmas.Bool.{and_left, and_right, cases_lt}
@@ -10,10 +9,9 @@ use Rattle.std.proofs.lemmas.List.FromFn.{get_or-map-range_with_len, length-map-
 use Rattle.std.proofs.lemmas.Option.{slice_get_past}
 use Rattle.room_wiring.specs.declared.tables.Tables.{Tables}
 use Rattle.room_wiring.specs.declared.slot.Slot.{Slot}
-use Rattle.room_wiring.specs.Slots.{slot_at}
 use Rattle.room_wiring.specs.Places.{is_told}
 use Rattle.actor_duties.specs.Words.{is_own, is_fixed, is_fixed_kind, container_of}
-use Rattle.actor_world.specs.Start.{is_fixed_up, lives_from_start, first_lives, first_frame}
+use Rattle.actor_world.specs.Start.{is_fixed_up, lives_from_start}
 use Rattle.service_messages.specs.slot_runs.Runs.{IsDepthFirst}
 use Rattle.frame_lives.specs.declared.row.Row.{Row}
 use Rattle.frame_lives.specs.Known.{Known}

@@ -122,7 +122,7 @@ pub fn hear(
     if is_container_live(wiring, lives, place) && answer.is_awaited(imports.place(place.slot)) {
         let container = container_frame(wiring, place);
         let last = answer.told_last();
-        imports.set_place(place.slot, answer.place_after());
+        imports.set_place(place.slot, answer.place_after())?;
         out.push(told_of(
             alloc,
             wiring,

@@ -126,7 +126,7 @@ fn ask(
     ensures now { OnOk result (lending imports.new ≡ with_places (lending imports.old) ((asks_for wiring.now me.0 (lending imports.old).places actor slot.0 home).now)) }
     ensures sent { OnOk result (out.new ≡ out.old ++ (asks_for wiring.now me.0 (lending imports.old).places actor slot.0 home).sent) }
 {
-    imports.set_place(slot, ImportPlace::Asking(home));
+    imports.set_place(slot, ImportPlace::Asking(home))?;
     let place = frame_at(slot, actor.generation);
     let payload = Payload::empty(alloc);
     out.push(to_owner(wiring, me, SysKind::Import, place, frame_of(home), payload))?;
@@ -235,7 +235,7 @@ fn give_back(
     ensures now { OnOk result (lending imports.new ≡ with_places (lending imports.old) ((deport_from wiring.now me.0 (lending imports.old).places asked.actor asked.reference asked.index slot.0 (Held home)).now)) }
     ensures sent { OnOk result (out.new ≡ out.old ++ (deport_from wiring.now me.0 (lending imports.old).places asked.actor asked.reference asked.index slot.0 (Held home)).sent) }
 {
-    imports.set_place(slot, ImportPlace::Leaving(home));
+    imports.set_place(slot, ImportPlace::Leaving(home))?;
     let place = frame_at(slot, asked.actor.generation);
     let payload = Payload::empty(alloc);
     out.push(to_owner(wiring, me, SysKind::Deport, place, frame_of(home), payload))?;

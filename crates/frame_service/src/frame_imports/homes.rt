@@ -83,7 +83,7 @@ pub fn import(
         refuse(alloc, me, m, home, place, Code::PortTaken, out)?;
         return Ok(());
     }
-    imports.add_plug(home.slot, whose(place))?;
+    imports.add_plug(alloc, home.slot, whose(place))?;
     let payload = Payload::empty(alloc);
     answer(me, m, SysKind::ImportDone, home, place, payload, out)?;
     Ok(())
@@ -101,7 +101,6 @@ pub fn deport(
     home: Endpoint,
     out: &mut Outbox,
 ) -> Result<(), AllocError>
-    requires own { home.slot.0 < (lending imports.old).slots }
     ensures now { OnOk result (lending imports.new ≡ with_plugs (lending imports.old) ((deport me.0 (shown lives.now).lives (lending imports.old).plugs m.now place home).now)) }
     ensures sent { OnOk result (out.new ≡ out.old ++ (deport me.0 (shown lives.now).lives (lending imports.old).plugs m.now place home).sent) }
 {

@@ -4,6 +4,7 @@
 
 mod place;
 mod plugs;
+mod reach;
 mod table;
 
 pub use place::{ImportPlace, is_same_actor};

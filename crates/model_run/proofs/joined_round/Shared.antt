@@ -27,6 +27,8 @@ use Rattle.chart_run.specs.contracts.chart_tables.tables.Arrow as Arrow
 use Rattle.chart_run.specs.contracts.chart_tables.tables.Row as Row
 use Rattle.chart_run.specs.contracts.chart_tables.tables.Node as Node
 use Rattle.chart_run.specs.contracts.chart_tables.tables.Tables as Tables
+use Rattle.service_messages.specs.contracts.slot_runs.runs.SlotRuns as SlotRuns
+use Rattle.service_messages.proofs.slot_runs.runs.SlotRuns.TheSendSync.{the_sync as runs_sync}
 use Rattle.controller_actors.specs.contracts.plant.Plant as Plant
 use Rattle.controller_actors.specs.contracts.slot_rows.SlotRows as SlotRows
 use Rattle.controller_actors.proofs.slot_rows.SlotRows.TheSendSync.{the_sync as rows_sync}
@@ -96,5 +98,5 @@ tables_sync = declared_sync Tables.the_type (
 pub plant_sync : IsSync Plant.the_row
 plant_sync = declared_sync Plant.the_type (
   as_row_sync Wiring.the_field wiring_sync,
-  (vec_sync (Option.the_row Tables.the_row) (option_row Tables.the_row tables_sync), (as_row_sync SlotRows.the_field rows_sync, tt)),
+  (vec_sync (Option.the_row Tables.the_row) (option_row Tables.the_row tables_sync), (as_row_sync SlotRows.the_field rows_sync, (as_row_sync SlotRuns.the_field runs_sync, tt))),
 )

@@ -12,6 +12,7 @@ use chart_reading::Chart;
 use chart_run::Tables;
 use controller_actors::{Plant, SlotRows};
 use room_wiring::Wiring;
+use service_messages::SlotRuns;
 use std::alloc::{AllocError, Global};
 
 fn tables_of(alloc: Global, chart: &Option<Chart>) -> Result<Option<Tables>, AllocError>
@@ -54,9 +55,11 @@ pub fn plant_of(
 {
     let tables = all_tables(alloc, charts)?;
     let rows = SlotRows::of(alloc, &wiring)?;
+    let runs = SlotRuns::new(alloc, &wiring)?;
     Ok(Plant {
         wiring,
         tables,
         rows,
+        runs,
     })
 }

@@ -5,16 +5,17 @@ ghost use Rattle.service_messages.specs.slot_runs.Runs.{is_inside, IsDepthFirst,
 
 use crate::look_up::is_own;
 use crate::slot_runs::look_up::{is_fixed, is_inside};
-use room_kinds::{ControllerId, SlotId};
+use room_kinds::{ControllerId, SharedSequence, SlotId};
 use room_wiring::Wiring;
 use std::alloc::{AllocError, Global};
 use std::marker::Model;
 
 /// For each slot of a wiring the number behind the last slot that lies below it, or behind the slot
-/// itself where nothing does. Contracts see the list of these numbers.
+/// itself where nothing does. The numbers are kept once, however many controllers share them. Contracts
+/// see the list of these numbers.
 #[derive(Drop, Debug)]
 pub struct SlotRuns {
-    ends: Vec<u32>,
+    ends: SharedSequence<u32>,
 }
 
 impl Model for SlotRuns {
@@ -22,7 +23,7 @@ impl Model for SlotRuns {
 
     ghost Value = { List ℕ };
 
-    ghost view = { λ r. r.ends.items };
+    ghost view = { λ r. r.ends };
 }
 
 impl SlotRuns {
@@ -38,6 +39,15 @@ impl SlotRuns {
             let end = end_from(wiring, ends.as_slice(), slot);
             ends[slot as usize] = end;
         }
+        let ends = SharedSequence::of(alloc, ends)?;
+        Ok(SlotRuns { ends })
+    }
+
+    /// One more owner of the same numbers. It takes no memory.
+    pub fn share(&self) -> Result<SlotRuns, AllocError>
+        ensures { IfOk result (λ runs. runs ≡ self.now) }
+    {
+        let ends = self.ends.share()?;
         Ok(SlotRuns { ends })
     }
 
@@ -48,7 +58,7 @@ impl SlotRuns {
         ensures end { result ≡ slice_index self.now slot.0 }
         ensures run { IsRunEnd wiring.now slot.0 result }
     {
-        self.ends[usize::from(slot.0)]
+        self.ends.as_slice()[usize::from(slot.0)]
     }
 
     /// The next slot behind slot `slot` that is made with slot `top`, in whose run it stands; where

@@ -1,5 +1,5 @@
 -- What the tables of import places and plugs say.
-use Rattle.std.specs.Prelude.{ℕ, ◌&&◌, Bool, false, List, [], length, slice_index_or, if◌then◌else◌}
+use Rattle.std.specs.Prelude.{◌≡◌, ℕ, ◌<◌, ◌≤◌, ◌&&◌, Bool, false, List, [], length, slice_index_or, if◌then◌else◌}
 use Rattle.std.specs.Option.{option_map_or}
 use Rattle.room_kinds.specs.declared.numbers.Incarnation.{Incarnation}
 use Rattle.room_wiring.specs.declared.tables.Tables.{Tables}
@@ -9,10 +9,25 @@ use Rattle.frame_service.specs.declared.frame_imports.import_places.place.Import
 use Rattle.frame_service.specs.declared.frame_imports.import_places.place.ImportPlace.TheVariants as variants
 use Rattle.frame_service.specs.frame_imports.import_places.Places.{place_of}
 
--- the tables, by slot number
+-- how many slots there are, and the tables, by slot number: they may be shorter
 pub record Kept : Type 0 where
+  pub slots : ℕ
   pub places : List ImportPlace
   pub plugs : List (List Incarnation)
+
+-- no table is longer than there are slots
+pub record AreWithin (slots : ℕ) (places : List ImportPlace) (plugs : List (List Incarnation)) : Type 0 where
+  pub few_places : length places ≤ slots
+  pub few_plugs : length plugs ≤ slots
+
+-- a table was lengthened, where it didn't reach place n yet: behind its old end stand defaults
+pub record IsLengthened {A : Type 0} (d : A) (old new : List A) (n : ℕ) : Type 0 where
+  pub there : n < length new
+  pub same : (i : ℕ) → slice_index_or new i d ≡ slice_index_or old i d
+
+-- a table of so many places reaches no further than place n, if it didn't before
+abbrev pub ReachesNoFurther : ℕ → ℕ → ℕ → Type 0
+ReachesNoFurther n old new = (m : ℕ) → old ≤ m → n < m → new ≤ m
 
 -- for so many slots: what each imported slot holds, and the plugs of each slot, oldest first
 pub record Lending : Type 0 where
@@ -23,7 +38,7 @@ pub record Lending : Type 0 where
 -- what tables say
 unfoldable pub lending : Kept → Lending
 lending k = record {
-  slots = length k.places;
+  slots = k.slots;
   places = λ i. place_of (slice_index_or k.places i variants.Empty);
   plugs = λ s. slice_index_or k.plugs s [];
 }

@@ -1,5 +1,5 @@
 //! The table of import places and plugs.
-ghost use Rattle.std.specs.Prelude.{◌≡◌, ◌++◌, ◌∷◌, [], ◌<◌, ℕ, not, filter, length, if◌then◌else◌, All, IfOk, OnOk};
+ghost use Rattle.std.specs.Prelude.{◌≡◌, ◌++◌, ◌∷◌, [], ◌<◌, ℕ, not, filter, length, if◌then◌else◌, All, OnOk};
 ghost use Rattle.actor_duties.specs.State.{Empty};
 ghost use Rattle.actor_duties.specs.Words.{updated, is_incarnation};
 ghost use Rattle.service_messages.specs.slot_runs.Runs.{IsDepthFirst, AreRunEnds};
@@ -10,6 +10,7 @@ ghost use Rattle.frame_service.specs.frame_imports.import_places.Lending.{lendin
 use crate::frame_imports::frame_peers::Lent;
 use crate::frame_imports::import_places::place::ImportPlace;
 use crate::frame_imports::import_places::plugs::Plugs;
+use crate::frame_imports::import_places::reach::{reach_place, reach_plugs};
 use room_kinds::{Incarnation, SlotId};
 use room_wiring::Wiring;
 use service_messages::{SlotRuns, is_imported, is_part_of};
@@ -18,21 +19,25 @@ use std::marker::Model;
 
 /// What each imported slot holds, and the plugs of each slot, by slot number. What the tables say
 /// (`lending`) is a pair of functions of slot numbers. No look-up takes memory.
+///
+/// The tables reach as far as the last slot that has asked for a home or was lent: behind their ends
+/// slots hold nothing and have no plugs. So they take no memory where nothing is lent.
 #[derive(Drop, Debug)]
 pub struct Imports {
+    /// How many slots there are: no table is longer.
+    slots: u32,
     places: Vec<ImportPlace>,
     plugs: Vec<Plugs>,
 }
 
 impl Model for Imports {
-    ghost use Rattle.std.specs.Prelude.{◌≡◌, length};
-    ghost use Rattle.frame_service.specs.frame_imports.import_places.Lending.{Kept};
+    ghost use Rattle.frame_service.specs.frame_imports.import_places.Lending.{Kept, AreWithin};
 
     ghost Value = { Kept };
 
-    ghost view = { λ x. record { places = x.places.items; plugs = x.plugs.items } };
+    ghost view = { λ x. record { slots = x.slots; places = x.places.items; plugs = x.plugs.items } };
 
-    ghost invariant = { λ x. length x.plugs.items ≡ length x.places.items };
+    ghost invariant = { λ x. AreWithin x.slots x.places.items x.plugs.items };
 }
 
 impl Lent for Imports {
@@ -58,18 +63,16 @@ impl Lent for Imports {
 }
 
 impl Imports {
-    /// For so many slots: all import places are empty, and there are no plugs.
-    #[tactic(auto, using(crate::proofs::frame_imports::import_places::Written::one_slot_more))]
-    pub fn new(alloc: Global, slots: u32) -> Result<Imports, AllocError>
-        ensures { IfOk result (λ x. lending x ≡ nothing_lent slots) }
+    /// For so many slots: all import places are empty, and there are no plugs. It takes no memory.
+    #[tactic(auto, unfolding(crate::specs::frame_imports::import_places::Lending::lending))]
+    pub fn new(alloc: Global, slots: u32) -> Imports
+        ensures { lending result ≡ nothing_lent slots }
     {
-        let mut places = Vec::new(alloc);
-        let mut plugs = Vec::new(alloc);
-        while places.len() < slots as usize {
-            places.push(ImportPlace::Empty)?;
-            plugs.push(Plugs::new(alloc))?;
+        Imports {
+            slots,
+            places: Vec::new(alloc),
+            plugs: Vec::new(alloc),
         }
-        Ok(Imports { places, plugs })
     }
 
     /// What a slot holds; nothing where there is no such slot.
@@ -84,48 +87,68 @@ impl Imports {
             .unwrap_or(ImportPlace::Empty)
     }
 
-    /// A slot holds something else.
-    #[tactic(auto, using(crate::proofs::frame_imports::import_places::Written::place_written), unfolding(crate::specs::frame_imports::import_places::Lending::lending))]
-    pub fn set_place(&mut self, slot: SlotId, place: ImportPlace)
+    /// A slot holds something else. The table is lengthened where it doesn't reach the slot.
+    pub fn set_place(&mut self, slot: SlotId, place: ImportPlace) -> Result<(), AllocError>
         requires { slot.0 < (lending self.old).slots }
-        ensures { lending self.new ≡ with_places (lending self.old) (updated (lending self.old).places slot.0 (place_of place)) }
+        ensures { OnOk result (lending self.new ≡ with_places (lending self.old) (updated (lending self.old).places slot.0 (place_of place))) }
     {
+        reach_place(&mut self.places, slot)?;
         self.places[usize::from(slot.0)] = place;
+        Ok(())
     }
 
-    /// A slot has one more plug, its youngest.
-    pub fn add_plug(&mut self, slot: SlotId, plug: Incarnation) -> Result<(), AllocError>
+    /// A slot holds nothing any more. The table stays as long as it was.
+    fn empty_place(&mut self, slot: SlotId)
+        ensures { lending self.new ≡ with_places (lending self.old) (updated (lending self.old).places slot.0 Empty) }
+    {
+        let place = usize::from(slot.0);
+        if place < self.places.len() {
+            self.places[place] = ImportPlace::Empty;
+        }
+    }
+
+    /// A slot has one more plug, its youngest. The table is lengthened where it doesn't reach the slot.
+    pub fn add_plug(
+        &mut self,
+        alloc: Global,
+        slot: SlotId,
+        plug: Incarnation,
+    ) -> Result<(), AllocError>
         requires { slot.0 < (lending self.old).slots }
         ensures { OnOk result (lending self.new ≡ with_plugs (lending self.old) (updated (lending self.old).plugs slot.0 ((lending self.old).plugs slot.0 ++ plug ∷ []))) }
     {
+        reach_plugs(&mut self.plugs, alloc, slot)?;
         self.plugs[usize::from(slot.0)].push(plug)?;
         Ok(())
     }
 
     /// A plug of a slot goes, if it is there.
     pub fn remove_plug(&mut self, slot: SlotId, plug: Incarnation)
-        requires { slot.0 < (lending self.old).slots }
         ensures { lending self.new ≡ with_plugs (lending self.old) (updated (lending self.old).plugs slot.0 (filter (λ q. not (is_incarnation q plug)) ((lending self.old).plugs slot.0))) }
     {
-        self.plugs[usize::from(slot.0)].remove(plug);
+        let place = usize::from(slot.0);
+        if place < self.plugs.len() {
+            self.plugs[place].remove(plug);
+        }
     }
 
     /// All plugs of a slot go.
     fn clear_plugs(&mut self, slot: SlotId)
-        requires { slot.0 < (lending self.old).slots }
         ensures { lending self.new ≡ with_plugs (lending self.old) (updated (lending self.old).plugs slot.0 []) }
     {
-        self.plugs[usize::from(slot.0)].clear();
+        let place = usize::from(slot.0);
+        if place < self.plugs.len() {
+            self.plugs[place].clear();
+        }
     }
 
     /// A slot holds nothing any more, if it is an imported one of a container.
     #[tactic(auto, using(crate::proofs::frame_imports::import_places::Written::place_kept))]
     fn clear_place(&mut self, wiring: &Wiring, container: SlotId, slot: SlotId)
-        requires { slot.0 < (lending self.old).slots }
         ensures { lending self.new ≡ with_places (lending self.old) (updated (lending self.old).places slot.0 (if is_import_of wiring.now container.0 slot.0 then Empty else (lending self.old).places slot.0)) }
     {
         if is_imported(wiring, slot) && is_part_of(wiring, slot, container) {
-            self.set_place(slot, ImportPlace::Empty);
+            self.empty_place(slot);
         }
     }
 
@@ -135,7 +158,6 @@ impl Imports {
         requires order { IsDepthFirst wiring.now }
         requires runs { AreRunEnds wiring.now runs.now }
         requires there { container.0 < length wiring.now.slots }
-        requires whole { (lending self.old).slots ≡ length wiring.now.slots }
         ensures { lending self.new ≡ with_places (lending self.old) (λ i. if is_import_of wiring.now container.0 i then Empty else (lending self.old).places i) }
     {
         let end = runs.end(wiring, container);
@@ -152,7 +174,6 @@ impl Imports {
         requires order { IsDepthFirst wiring.now }
         requires runs { AreRunEnds wiring.now runs.now }
         requires there { slot.0 < length wiring.now.slots }
-        requires whole { (lending self.old).slots ≡ length wiring.now.slots }
         ensures { lending self.new ≡ forgotten wiring.now slot.0 (lending self.old) }
     {
         self.clear_plugs(slot);
@@ -165,7 +186,6 @@ impl Imports {
         requires order { IsDepthFirst wiring.now }
         requires runs { AreRunEnds wiring.now runs.now }
         requires there { All (λ x. x.slot.0 < length wiring.now.slots) ended.now }
-        requires whole { (lending self.old).slots ≡ length wiring.now.slots }
         ensures { lending self.new ≡ forgotten_where wiring.now (is_among ended.now) (lending self.old) }
     {
         for actor in ended {

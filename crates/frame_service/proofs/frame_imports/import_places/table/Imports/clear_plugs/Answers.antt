@@ -1,18 +1,19 @@
-use Rattle.std.proofs.Common.{◌<◌, length, arith, List, []}
+use Rattle.std.proofs.Common.{◌<◌, length, List, [], refl, ◌≤◌, arith}
 use Rattle.room_kinds.specs.declared.numbers.Incarnation.{Incarnation}
-use Rattle.frame_service.proofs.frame_imports.import_places.Written.{plugs_there, plugs_changed}
+use Rattle.frame_service.proofs.frame_imports.import_places.Written.{as_long, plugs_changed, plugs_past}
 use Rattle.frame_service.proofs.frame_imports.import_places.table.Imports.clear_plugs.Goals as goal
 
-pub index_mut-requires : goal.index_mut-requires
-index_mut-requires c =
-    let there : c.from.result < length c.self.inside.plugs.items =
-    plugs_there c.args.self.now c.self.inside.places.items c.self.inside.plugs.items c.args.slot.0 c.from.result c.self.view_is c.self.invariant c.requires c.from.ensures in
-    omega (arith, c.self.inside.plugs.ok.0)
+pub returns-then-place-len : goal.returns-then-place-len
+returns-then-place-len c =
+    let plugs = c.self.inside.plugs.items in
+    let there : c.args.slot.0 < length plugs = omega (arith, c.from-place.ensures, c.len.ensures, c.self.inside.plugs.ok.0, c.if-place-len.true) in
+    plugs_changed c.args.self.now c.self.inside.slots c.self.inside.places.items plugs plugs c.args.slot.0 c.from-place.result c.index_mut.result.now c.clear.new.self
+    (λ (xs : List Incarnation). []) c.self.view_is c.from-place.ensures
+    (as_long [] plugs c.args.slot.0 there)
+    c.index_mut.ensures.value c.clear.ensures
 
-pub returns : goal.returns
-returns c =
-    let plugs : List (List Incarnation) = c.self.inside.plugs.items in
-    let there : c.from.result < length plugs =
-    plugs_there c.args.self.now c.self.inside.places.items plugs c.args.slot.0 c.from.result c.self.view_is c.self.invariant c.requires c.from.ensures in
-    plugs_changed c.args.self.now c.self.inside.places.items plugs c.args.slot.0 c.from.result c.index_mut.result.now c.clear.new.self (λ (xs : List Incarnation). [])
-    c.self.view_is c.from.ensures there c.index_mut.ensures.value c.clear.ensures
+pub returns-else-place-len : goal.returns-else-place-len
+returns-else-place-len c =
+    let past : length c.self.inside.plugs.items ≤ c.from-place.result = omega (arith, c.len.ensures, c.self.inside.plugs.ok.0, c.if-place-len.false) in
+    plugs_past c.args.self.now c.self.inside.slots c.self.inside.places.items c.self.inside.plugs.items c.args.slot.0 c.from-place.result
+    (λ (xs : List Incarnation). []) c.self.view_is c.from-place.ensures past refl
