@@ -17,7 +17,7 @@ use Rattle.chart_reader.specs.chart_nodes.Steps.{StepTree, steps_of}
 use Rattle.chart_reader.proofs.chart_nodes.Members.{In, Contains-from_In, any_In}
 use Rattle.chart_reader.proofs.chart_nodes.Onward.{onward_is}
 use Rattle.chart_compile.specs.chart_places.Places.{state_key}
-use Rattle.chart_compile.specs.chart_parts.Parts.{HasNumber, from_key, target_of}
+use Rattle.chart_compile.specs.chart_parts.Parts.{HasShortNumber, from_key, target_of}
 use Rattle.chart_compile.specs.chart_parts.Nodes.{GoesOn, has_none, node_after}
 use Rattle.chart_compile.specs.Joined.{AllGoOn}
 use Rattle.chart_compile.proofs.chart_compiled.NodeKinds.{filter_made}
@@ -49,7 +49,7 @@ exit_goes : (chart : Chart) (owner : Path) (points : List Point) (x : Name) → 
 exit_goes chart [] points x e p there is = absurd (kinds_apart p.kind (all_passed (goes_on_once chart []) points p e there) (and_both (is_kind an_exit_point p.kind) (same_name p.name x) is).0)
 exit_goes chart (n ∷ owner) points x e p there is = omega arith
 
-target_goes : (chart : Chart) (states : List (List ℕ)) (g : Graph) (t : Target) → IsValid chart → In chart.graphs g → ((n : Name) → has_state g n ≡ true → HasNumber states (state_key (n ∷ g.owner))) → (0 < length g.owner → HasNumber states (state_key g.owner)) → target_is_there chart g t ≡ true
+target_goes : (chart : Chart) (states : List (List ℕ)) (g : Graph) (t : Target) → IsValid chart → In chart.graphs g → ((n : Name) → has_state g n ≡ true → HasShortNumber states (state_key (n ∷ g.owner))) → (0 < length g.owner → HasShortNumber states (state_key g.owner)) → target_is_there chart g t ≡ true
     → GoesOn states (node_of g.owner t) (from_key (target_key g.owner t) (steps_of chart))
 target_goes chart states g (to_state s) valid h inside own e = inside s e
 target_goes chart states g (to_point p s) valid h inside own e = inside s (and_both (has_state g s) (option_map_or (λ (x : Graph). has_point a_transition_point x p) (graph_at chart (s ∷ g.owner)) false) e).0
@@ -64,7 +64,7 @@ target_goes chart states g (to_exit x) valid h inside own e =
     let outside = exit_goes chart g.owner g.points x right.points r.0 r.1 r.2 in
     (outside, own outside)
 
-step_goes : (chart : Chart) (states : List (List ℕ)) (s : StepTree) → IsWhole chart → ((path : Path) → In (states_of chart) path → HasNumber states (state_key path)) → In (steps_of chart) s → GoesOn states (node_after s) (from_key (target_of s) (steps_of chart))
+step_goes : (chart : Chart) (states : List (List ℕ)) (s : StepTree) → IsWhole chart → ((path : Path) → In (states_of chart) path → HasShortNumber states (state_key path)) → In (steps_of chart) s → GoesOn states (node_after s) (from_key (target_of s) (steps_of chart))
 step_goes chart states s whole numbered h =
     let valid = whole.valid in
     let r = step_first [] chart.graphs s h in
@@ -80,5 +80,5 @@ step_goes chart states s whole numbered h =
     subst (λ (x : StepTree). GoesOn states (node_after x) (from_key (target_of x) (steps_of chart))) r.4
     (target_goes chart states g t.target valid inside (λ n e. numbered (n ∷ g.owner) (reached chart whole.graphs g.owner g n found e)) (λ l. numbered g.owner (reached_owner chart whole.graphs g.owner g found l)) there)
 
-pub go_on : (chart : Chart) (steps : List StepTree) (states : List (List ℕ)) → IsWhole chart → steps ≡ steps_of chart → ((path : Path) → In (states_of chart) path → HasNumber states (state_key path)) → AllGoOn states steps
+pub go_on : (chart : Chart) (steps : List StepTree) (states : List (List ℕ)) → IsWhole chart → steps ≡ steps_of chart → ((path : Path) → In (states_of chart) path → HasShortNumber states (state_key path)) → AllGoOn states steps
 go_on chart steps states whole e numbered = subst (AllGoOn states) (sym e) (λ i s here. step_goes chart states s whole numbered (In-slice_get (steps_of chart) i s here))

@@ -5,3 +5,4 @@ pub mod Counting
 pub mod KeyLists
 pub mod Known
 pub mod Reaching
+pub mod FewStates

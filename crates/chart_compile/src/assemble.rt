@@ -24,9 +24,6 @@ use name_tables::NameIndex;
 use room_kinds::Sequence;
 use std::alloc::{AllocError, Global};
 
-/// The most states, graphs or nodes of a chart: their numbers have 16 bits.
-pub(crate) const MOST_NUMBERS: usize = 65535;
-
 /// The rows of states.
 fn state_rows<'b, 'p, 's, 'g, 'n>(
     alloc: Global,
@@ -86,8 +83,7 @@ fn node_rows<'b, 's, 'n>(
     Ok(made)
 }
 
-/// The nodes to which steps lead, in the order of their numbers. It answers as where memory runs out
-/// where there are more than 65,535.
+/// The nodes to which steps lead, in the order of their numbers.
 fn numbered<'a, 'b>(alloc: Global, steps: &'a [Step<'b>]) -> Result<NodeOrder<'a>, AllocError>
     requires keyed { AreKeyed (map step_view steps.now) }
     requires no_circle { NoneContainsItself (parts_of (map step_view steps.now)) }
@@ -95,14 +91,10 @@ fn numbered<'a, 'b>(alloc: Global, steps: &'a [Step<'b>]) -> Result<NodeOrder<'a
     ensures lead { IfOk result (λ nodes. LeadTo nodes.keys (map step_view steps.now)) }
 {
     let nodes = number_nodes(alloc, steps)?;
-    if nodes.targets.len() > MOST_NUMBERS {
-        return Err(AllocError);
-    }
     Ok(nodes)
 }
 
-/// The tables of steps and states, with as many nodes as graphs have. It answers as where memory runs out where the
-/// steps lead to more than 65,535 nodes.
+/// The tables of steps and states, with as many nodes as graphs have.
 pub fn assemble<'b, 'p, 's, 'g>(
     alloc: Global,
     states: &NameIndex<'s>,

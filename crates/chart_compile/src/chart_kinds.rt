@@ -255,7 +255,7 @@ pub fn make_node<'b, 's, 'n>(
 fn all_below(arrows: &[Arrow], n: usize) -> bool
     ensures { result ≡ list_all (λ a. nat_lt a.target n) arrows.now }
 {
-    arrows.iter().all(|arrow| usize::from(arrow.target) < n)
+    arrows.iter().all(|arrow| arrow.target < n)
 }
 
 fn all_lower(arrows: &[Arrow], n: usize) -> bool
@@ -270,11 +270,9 @@ pub fn leads_lower(node: &Node, n: usize) -> bool
 {
     match node {
         Node::Simple(_) => true,
-        Node::Border(_, arrow) => usize::from(arrow.target) < n,
-        Node::Choice(branches, default) => {
-            all_lower(branches, n) && usize::from(default.target) < n
-        }
-        Node::Entry(_, arrow) => usize::from(arrow.target) < n,
-        Node::Exit(_, arrow) => usize::from(arrow.target) < n,
+        Node::Border(_, arrow) => arrow.target < n,
+        Node::Choice(branches, default) => { all_lower(branches, n) && default.target < n }
+        Node::Entry(_, arrow) => arrow.target < n,
+        Node::Exit(_, arrow) => arrow.target < n,
     }
 }

@@ -4,7 +4,7 @@ ghost use Rattle.chart_reading.specs.chart_graphs.Views.{chart_view};
 ghost use Rattle.chart_reader.specs.Whole.{IsWhole};
 ghost use Rattle.chart_compile.specs.chart_parts.Compiled.{Compiles};
 
-use crate::assemble::{MOST_NUMBERS, assemble};
+use crate::assemble::assemble;
 use crate::chart_numbers::state_keys;
 use crate::chart_places::{graph_keys, index_of, places_of};
 use chart_reader::steps_of;
@@ -12,12 +12,11 @@ use chart_reading::Chart;
 use chart_run::Tables;
 use std::alloc::{AllocError, Global};
 
-/// The tables of a valid chart whose graphs are those of its states: a machine over them does what
-/// the chart says. It takes time in proportion to the transitions and states of the chart and the
-/// names of their paths.
+/// The tables of a valid chart whose graphs are those of its states, of which there are at most
+/// 65,535: a machine over them does what the chart says. It takes time in proportion to the
+/// transitions and states of the chart and the names of their paths.
 ///
-/// It answers as where memory runs out where the chart has more than 65,535 states, graphs or nodes
-/// to which transitions lead. Of two graphs under one path the first alone counts.
+/// Of two graphs under one path the first alone counts.
 pub fn compile(alloc: Global, chart: &Chart) -> Result<Tables, AllocError>
     requires { IsWhole (chart_view chart.now) }
     ensures { IfOk result (λ t. Compiles t (chart_view chart.now)) }
@@ -25,13 +24,7 @@ pub fn compile(alloc: Global, chart: &Chart) -> Result<Tables, AllocError>
     let steps = steps_of(alloc, chart)?;
     let graph_keys = graph_keys(alloc, &chart.graphs)?;
     let graphs = index_of(alloc, graph_keys.as_slice())?;
-    if graphs.len() > MOST_NUMBERS {
-        return Err(AllocError);
-    }
     let places = places_of(alloc, chart, &graphs)?;
-    if places.len() > MOST_NUMBERS {
-        return Err(AllocError);
-    }
     let state_keys = state_keys(alloc, places.as_slice())?;
     let states = index_of(alloc, state_keys.as_slice())?;
     let tables = assemble(

@@ -1,5 +1,5 @@
 -- The graphs of a chart that is read are those of its states.
-use Rattle.std.proofs.Common.{◌≡◌, ◌⊎◌, inl, inr, Bool, true, false, cond, List, [], ◌∷◌, ◌++◌, length, map, refl, sym, ap, ◌∙◌, subst, arith, Option, Some, None, append_assoc}
+use Rattle.std.proofs.Common.{◌≡◌, ◌≤◌, ◌⊎◌, inl, inr, Bool, true, false, cond, List, [], ◌∷◌, ◌++◌, length, map, refl, sym, ap, ◌∙◌, subst, arith, Option, Some, None, append_assoc}
 use Rattle.std.specs.Prelude.{◌||◌}
 use Rattle.std.specs.List.{AllByRecursion, IsDistinct, list_any}
 use Rattle.std.proofs.lemmas.List.{length-append, map-append}
@@ -14,7 +14,9 @@ use Rattle.chart_model.specs.Named.{first, same_name, same_path}
 use Rattle.chart_model.specs.Valid.{HasRightNames, IsValid, has_state, names_in}
 use Rattle.chart_reading.specs.Around.{Around, around, list_of}
 use Rattle.chart_reading.specs.Reading.{Piece, begun, state_of, with_actions, with_item, with_state, with_body, with_subgraph, with_items, piece_of, at_first, chart_of}
+use Rattle.room_ast.specs.model_parts.Charts.{states_in}
 use Rattle.chart_reader.specs.Whole.{IsWhole}
+use Rattle.chart_reader.proofs.StateCounts.{states_counted}
 use Rattle.chart_reader.proofs.chart_nodes.GraphKeys.{first_passes}
 use Rattle.chart_reader.proofs.chart_nodes.Members.{In, Contains-from_In}
 use Rattle.chart_reader.proofs.chart_nodes.Onward.{path_is, path_own}
@@ -261,10 +263,11 @@ outside top gs root h n path (inr (x, found, t)) =
     other false e inside m long = e
     other true e inside m long = absurd (omega (arith, ap length (sym root ∙ path_is top.owner path e ∙ long), length-append inside (m ∷ [])))
 
-pub whole_told : (scope : Scope) (names : List Name) (is : GraphItems) → IsValid (chart_of scope names is) → IsWhole (chart_of scope names is)
+pub whole_told : (scope : Scope) (names : List Name) (is : GraphItems) → IsValid (chart_of scope names is) → states_in is ≤ 60000 → IsWhole (chart_of scope names is)
 unfolding chart_of
-whole_told scope names is valid_ = record {
+whole_told scope names is valid_ rule = record {
   valid = valid_;
+  few = omega (arith, rule, states_counted scope names is);
   graphs = λ s owner g e. outside top p.inner refl inner s owner (below [] top.states p.inner inner (map (λ (q : Point). q.name) top.points) (distinct top (inl refl)) (λ x i. distinct x (inr i)) s owner g e);
 }
   where

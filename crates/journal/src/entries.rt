@@ -226,7 +226,8 @@ fn write_turn_and_notes<K: Sink>(
     write_notes_of(out, sink, wiring, did, notes)
 }
 
-/// Writes the notes of a turn.
+/// Writes the notes of a turn. Most turns have none.
+#[inline(always)]
 fn write_notes_of<K: Sink>(
     out: &mut LineBuffer,
     sink: &mut K,
@@ -237,7 +238,10 @@ fn write_notes_of<K: Sink>(
     ensures { Puts result (at_rest (K.written sink.old)) (at_rest (K.written sink.new))
         (note_lines wiring.now (is_duty did) (speaker_of did) notes.now) }
 {
-    write_notes(out, sink, wiring, did.is_duty(), did.speaker(), notes)
+    match notes {
+        [] => Ok(()),
+        _ => write_notes(out, sink, wiring, did.is_duty(), did.speaker(), notes),
+    }
 }
 
 /// Writes an entry and its notes.

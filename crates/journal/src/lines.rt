@@ -126,6 +126,7 @@ fn put_source<K: Sink>(
 }
 
 /// The end of a message's line: its signal and its numbers.
+#[inline(always)]
 fn put_signal<'a, K: Sink>(
     out: &mut LineBuffer,
     sink: &mut K,

@@ -79,6 +79,7 @@ pub fn state_label(wiring: &Wiring, s: SlotId, state: u16) -> &[u8]
 }
 
 /// The name of a message's signal.
+#[inline(always)]
 pub fn signal_name<'a>(wiring: &'a Wiring, msg: &Msg) -> &'a [u8]
     ensures { result.now ≡ signal_text wiring.now msg.now }
 {

@@ -2,6 +2,7 @@
 //! through which it goes. Nothing here takes memory.
 
 mod buffer;
+mod laying;
 mod lines;
 mod part;
 mod short_numbers;

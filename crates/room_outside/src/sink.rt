@@ -34,6 +34,7 @@ pub struct WriteFault {
 ///
 /// A refusal says how many bytes of the piece were appended, fewer than all. It comes only where
 /// the sink's count of faults rose in this call.
+#[inline(always)]
 pub fn write_whole<K: Sink>(sink: &mut K, piece: &[u8]) -> Result<(), WriteFault>
     ensures ok { OnOk result (Appends (K.written sink.old) (K.written sink.new) piece.now) }
     ensures fault { IfErr result (λ e. BreaksOffAt (K.written sink.old) (K.written sink.new) piece.now e.taken) }

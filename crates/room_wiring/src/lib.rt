@@ -8,6 +8,7 @@
 
 mod label;
 mod names;
+mod path;
 mod single;
 mod slot;
 mod tables;
@@ -16,6 +17,7 @@ pub mod wiring_names;
 
 pub use label::Label;
 pub use names::{AttrNames, ClassNames, PortNames, RefNames, SignalNames};
+pub use path::Path;
 pub use room_kinds::{NumberType, PortKind, ReferenceKind as Kind};
 pub use slot::{Partner, Slot};
 pub use tables::{PlaceSpan, Tables};

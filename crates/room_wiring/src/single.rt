@@ -4,6 +4,7 @@ ghost use Rattle.room_wiring.specs.Single.{single_tables, one_place};
 
 use crate::label::Label;
 use crate::names::ClassNames;
+use crate::path::Path;
 use crate::slot::{Partner, Slot};
 use crate::tables::{PlaceSpan, Tables};
 use crate::wiring::Wiring;
@@ -26,7 +27,7 @@ fn tables_of_one(alloc: Global, path: Label, class: ClassNames) -> Result<Tables
 {
     let ports = one_place_each(alloc, class.ports.len())?;
     let slot = Slot {
-        path,
+        path: Path::from_bytes(alloc, path.as_bytes())?,
         class: 0,
         kind: Kind::Fixed,
         parent: None,

@@ -1,5 +1,5 @@
 //! Slots, and what a place is joined to.
-use crate::label::Label;
+use crate::path::Path;
 use room_kinds::{ControllerId, ReferenceKind as Kind, SlotId};
 
 /// A place in the tree of actor references.
@@ -7,7 +7,7 @@ use room_kinds::{ControllerId, ReferenceKind as Kind, SlotId};
 pub struct Slot {
     /// The names from the top down to this slot, joined by `/`; a replicated reference's is
     /// `name:index`.
-    pub path: Label,
+    pub path: Path,
     /// The number of its actor class.
     pub class: u16,
     pub kind: Kind,

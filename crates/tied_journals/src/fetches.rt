@@ -43,6 +43,7 @@ fn begin_fetches<K: Sink>(
 }
 
 /// A further fetch in the line that stands open.
+#[inline(always)]
 fn put_further<K: Sink>(
     out: &mut LineBuffer,
     sink: &mut K,

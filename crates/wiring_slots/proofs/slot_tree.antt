@@ -1,6 +1,8 @@
 pub mod Orders
 pub mod Depths
 pub mod Placed
+pub mod Sharing
+pub mod PlacedSharing
 pub mod Growing
 pub mod PlaceSums
 pub mod KnownSlots

@@ -6,6 +6,7 @@ pub mod Slots
 pub mod Orders
 pub mod Places
 pub mod Placing
+pub mod Sharing
 pub mod Sums
 pub mod Known
 pub mod Leading

@@ -3,7 +3,10 @@
 //! A slot is a place at which an actor may stand (ROOM: Selic, Gullekson and Ward 1994). The order of
 //! the numbers, the owners and the limits are this project's own. The slots are made with a stack of
 //! those that wait, so that neither deep containment nor a structure that stands for more slots than
-//! the limit takes more room than the limit.
+//! the limit takes more room than the limit. The paths of slots each inside the one before have one text,
+//! so a chain of containers takes room in proportion to its depth; of a tree the texts are those of its
+//! leaves, whose sum still grows with the square of the depth where each container of a chain holds a
+//! leaf beside the next one.
 
 mod children;
 mod counts;
@@ -11,6 +14,7 @@ mod leading;
 mod mapping_order;
 mod names;
 mod owners;
+mod placed_slots;
 mod places;
 mod runs;
 mod slots;

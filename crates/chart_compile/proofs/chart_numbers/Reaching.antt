@@ -18,7 +18,7 @@ use Rattle.chart_reader.specs.chart_nodes.Steps.{StepTree, step_of, steps_in, st
 use Rattle.chart_reader.proofs.chart_nodes.Members.{In, In_any, any_In}
 use Rattle.chart_reader.proofs.chart_nodes.Onward.{path_is, path_own}
 use Rattle.chart_compile.specs.chart_places.Places.{PlaceTree, keys_of, places_of, shared_key, state_key}
-use Rattle.chart_compile.specs.chart_parts.Parts.{ArePlaced, HasNumber, HaveNumbers, LeadTo, key_of, outer}
+use Rattle.chart_compile.specs.chart_parts.Parts.{ArePlaced, HasShortNumber, HasNumber, HaveShortNumbers, LeadTo, key_of, outer}
 use Rattle.chart_compile.specs.chart_numbers.Order.{AllNumbered}
 use Rattle.chart_compile.specs.Joined.{AreKeyed}
 use Rattle.chart_compile.proofs.chart_places.PlaceLaws.{owner_is, paths_are}
@@ -160,23 +160,26 @@ stands chart (suc n) owner path h =
       ))
     ]
 
--- ---- numbers of 16 bits
+-- ---- numbers
 
-pub has_number : (keys : List (List ℕ)) (key : List ℕ) → is_among keys key ≡ true → length keys ≤ 65535 → HasNumber keys key
-has_number keys key e few = let r = number_among keys key e in (r.0, r.1, omega (arith, r.2, few))
+pub has_number : (keys : List (List ℕ)) (key : List ℕ) → is_among keys key ≡ true → HasNumber keys key
+has_number keys key e = let r = number_among keys key e in (r.0, r.1)
+
+pub has_short_number : (keys : List (List ℕ)) (key : List ℕ) → is_among keys key ≡ true → length keys ≤ 65535 → HasShortNumber keys key
+has_short_number keys key e few = let r = number_among keys key e in (r.0, r.1, omega (arith, r.2, few))
 
 -- each step leads to a node with a number
-pub lead_to : (steps : List StepTree) (keys : List (List ℕ)) → AllNumbered steps keys → AreKeyed steps → length keys ≤ 65535 → LeadTo keys steps
-lead_to steps keys all keyed few = λ i s e. has_number keys _ (subst (λ k. is_among keys k ≡ true) (keyed i s e) (all i s e)) few
+pub lead_to : (steps : List StepTree) (keys : List (List ℕ)) → AllNumbered steps keys → AreKeyed steps → LeadTo keys steps
+lead_to steps keys all keyed = λ i s e. has_number keys _ (subst (λ k. is_among keys k ≡ true) (keyed i s e) (all i s e))
 
-module _ (chart : Chart) (places : List PlaceTree) (states graphs : List (List ℕ)) (p : places ≡ places_of chart) (k : states ≡ map key_of places) (gk : graphs ≡ keys_of chart.graphs) (few : length places ≤ 65535) (few_graphs : length graphs ≤ 65535) where
+module _ (chart : Chart) (places : List PlaceTree) (states graphs : List (List ℕ)) (p : places ≡ places_of chart) (k : states ≡ map key_of places) (gk : graphs ≡ keys_of chart.graphs) (few : length places ≤ 65535) where
   keys_are : states ≡ map state_key (states_of chart)
   keys_are = k ∙ ap (map key_of) p ∙ keys_of_paths (places_of chart) ∙ ap (map state_key) (paths_are chart)
 
-  pub state_numbered : (path : Path) → In (states_of chart) path → HasNumber states (state_key path)
+  pub state_numbered : (path : Path) → In (states_of chart) path → HasShortNumber states (state_key path)
   state_numbered path h =
       let there : In states (state_key path) = subst (λ (l : List (List ℕ)). In l (state_key path)) (sym keys_are) (In-map state_key (states_of chart) path h) in
-      has_number states (state_key path) (In_any (same (state_key path)) states (state_key path) there (key_own (state_key path))) (omega (arith, ap length k, length-map places key_of, few))
+      has_short_number states (state_key path) (In_any (same (state_key path)) states (state_key path) there (key_own (state_key path))) (omega (arith, ap length k, length-map places key_of, few))
 
   graph_numbered : (path : Path) (g : Graph) → graph_at chart path ≡ Some g → HasNumber graphs (shared_key path)
   graph_numbered path g e =
@@ -184,15 +187,15 @@ module _ (chart : Chart) (places : List PlaceTree) (states graphs : List (List �
       let there : In graphs (shared_key path) =
       subst (λ (l : List (List ℕ)). In l (shared_key path)) (sym gk) (subst (λ q. In (keys_of chart.graphs) (shared_key q)) (owner_is chart path g e) (In-map (λ (g : Graph). shared_key g.owner) chart.graphs g i))
       in
-      has_number graphs (shared_key path) (In_any (same (shared_key path)) graphs (shared_key path) there (key_own (shared_key path))) few_graphs
+      has_number graphs (shared_key path) (In_any (same (shared_key path)) graphs (shared_key path) there (key_own (shared_key path)))
 
-  up_numbered : (path : Path) → In (states_of chart) path → HaveNumbers states path
+  up_numbered : (path : Path) → In (states_of chart) path → HaveShortNumbers states path
   unfolding states_of
   up_numbered [] h = tt
   up_numbered (s ∷ owner) h =
       let r = stands chart (length chart.graphs) [] (s ∷ owner) h in
       let own : owner ≡ r.1 = (let e : s ∷ owner ≡ r.0 ∷ r.1 = r.3 in cc) in
-      (state_numbered (s ∷ owner) h, elim r.5 [ inl e ↦ subst (HaveNumbers states) (sym (own ∙ e)) tt | inr j ↦ up_numbered owner (subst (In (states_below chart (length chart.graphs) [])) (sym own) j) ])
+      (state_numbered (s ∷ owner) h, elim r.5 [ inl e ↦ subst (HaveShortNumbers states) (sym (own ∙ e)) tt | inr j ↦ up_numbered owner (subst (In (states_below chart (length chart.graphs) [])) (sym own) j) ])
 
   path_placed : (path : Path) → In (states_of chart) path → HasNumber graphs (shared_key (outer path))
   unfolding states_of

@@ -11,7 +11,7 @@ use Rattle.chart_run.specs.declared.chart_tables.tables.Arrow.{Arrow}
 use Rattle.chart_run.specs.declared.chart_tables.tables.Node.{Node as CodeNode}
 use Rattle.chart_reader.specs.chart_nodes.Steps.{StepTree}
 use Rattle.chart_compile.specs.chart_places.Places.{state_key}
-use Rattle.chart_compile.specs.chart_parts.Parts.{HasNumber, IsArrow, IsState, from_key, target_of}
+use Rattle.chart_compile.specs.chart_parts.Parts.{HasShortNumber, IsArrow, IsState, from_key, target_of}
 
 -- the node that a step leads to
 abbrev pub node_after : StepTree → Node
@@ -39,10 +39,10 @@ kind_by (an_exit (s ∷ owner) x) steps = by_first (s ∷ owner) (λ t. Exit (s 
 -- a choice point has a branch without a condition among the steps that begin at it; the state that another node is
 -- or is a point of has a number, so an exit point isn't one of the top graph
 abbrev pub GoesOn : List (List ℕ) → Node → List StepTree → Type 0
-GoesOn states (a_state path) steps = HasNumber states (state_key path)
+GoesOn states (a_state path) steps = HasShortNumber states (state_key path)
 GoesOn states (a_choice graph c) steps = 0 < length (filter has_none steps)
-GoesOn states (an_entry owner e) steps = HasNumber states (state_key owner)
-GoesOn states (an_exit owner x) steps = (0 < length owner) × HasNumber states (state_key owner)
+GoesOn states (an_entry owner e) steps = HasShortNumber states (state_key owner)
+GoesOn states (an_exit owner x) steps = (0 < length owner) × HasShortNumber states (state_key owner)
 
 -- the branch of a step with a condition, if there is one, stands behind other branches
 abbrev pub AddsBranch : List (List ℕ) → Option StepTree → (old new : List Arrow) → Type 0

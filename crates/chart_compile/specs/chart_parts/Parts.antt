@@ -22,9 +22,13 @@ from_key key steps = filter (λ (s : StepTree). same s.origin key) steps
 abbrev pub IsNumber : List (List ℕ) → List ℕ → ℕ → Type 0
 IsNumber keys key n = position (same key) keys ≡ Some n
 
--- a key has a number of 16 bits among keys
+-- a key has a number among keys
 abbrev pub HasNumber : List (List ℕ) → List ℕ → Type 0
-HasNumber keys key = (n : ℕ) × IsNumber keys key n × (n < 2 ^ 16)
+HasNumber keys key = (n : ℕ) × IsNumber keys key n
+
+-- and one of 16 bits
+abbrev pub HasShortNumber : List (List ℕ) → List ℕ → Type 0
+HasShortNumber keys key = (n : ℕ) × IsNumber keys key n × (n < 2 ^ 16)
 
 -- a number is that of the state at a path
 abbrev pub IsState : List (List ℕ) → ℕ → Path → Type 0
@@ -58,14 +62,14 @@ abbrev pub outer : Path → Path
 outer [] = []
 outer (s ∷ owner) = owner
 
--- the state at a path and those that have it have numbers
-abbrev pub HaveNumbers : List (List ℕ) → Path → Type 0
-HaveNumbers states [] = Unit {0}
-HaveNumbers states (s ∷ owner) = HasNumber states (state_key (s ∷ owner)) × HaveNumbers states owner
+-- the state at a path and those that have it have numbers of 16 bits
+abbrev pub HaveShortNumbers : List (List ℕ) → Path → Type 0
+HaveShortNumbers states [] = Unit {0}
+HaveShortNumbers states (s ∷ owner) = HasShortNumber states (state_key (s ∷ owner)) × HaveShortNumbers states owner
 
--- so has the graph in which a state stands
+-- a state and those that have it have numbers of 16 bits, and the graph in which it stands has one
 pub record IsPlaced (states graphs : List (List ℕ)) (p : PlaceTree) : Type 0 where
-  pub up : HaveNumbers states p.path
+  pub up : HaveShortNumbers states p.path
   pub graph : HasNumber graphs (shared_key (outer p.path))
 
 abbrev pub ArePlaced : List (List ℕ) → List (List ℕ) → List PlaceTree → Type 0

@@ -4,7 +4,7 @@ ghost use Rattle.name_tables.specs.name_numbers.Names.{same, is_among};
 ghost use Rattle.chart_reader.specs.chart_nodes.Steps.{StepTree};
 ghost use Rattle.chart_compile.specs.chart_places.Groups.{IsGrouped, picked};
 ghost use Rattle.chart_compile.specs.chart_places.Places.{state_key};
-ghost use Rattle.chart_compile.specs.chart_parts.Parts.{HasNumber, IsNumber, IsState, from_key};
+ghost use Rattle.chart_compile.specs.chart_parts.Parts.{HasShortNumber, HasNumber, IsNumber, IsState, from_key};
 
 use chart_reader::{Step, named_key};
 use name_tables::NameIndex;
@@ -13,8 +13,19 @@ use room_kinds::Sequence;
 use std::alloc::{AllocError, Global};
 
 /// The number of a key that has one.
-pub fn number<'c>(numbers: &NameIndex<'c>, key: &[u8]) -> u16
+pub fn number<'c>(numbers: &NameIndex<'c>, key: &[u8]) -> usize
     requires { HasNumber numbers.now key.now }
+    ensures { IsNumber numbers.now key.now result }
+{
+    match numbers.place_of(key) {
+        Some(n) => n,
+        None => unreachable!(),
+    }
+}
+
+/// The number of a key that has one of 16 bits.
+fn short_number<'c>(numbers: &NameIndex<'c>, key: &[u8]) -> u16
+    requires { HasShortNumber numbers.now key.now }
     ensures { IsNumber numbers.now key.now result }
 {
     match numbers.place_of(key) {
@@ -30,11 +41,11 @@ pub fn state_number<'c>(
     name: &Name,
     owner: &[Name],
 ) -> Result<u16, AllocError>
-    requires { HasNumber states.now (state_key (name.now ∷ owner.now)) }
+    requires { HasShortNumber states.now (state_key (name.now ∷ owner.now)) }
     ensures { IfOk result (λ n. IsState states.now n (name.now ∷ owner.now)) }
 {
     let key = named_key(alloc, 1, name, owner)?;
-    Ok(number(states, key.as_slice()))
+    Ok(short_number(states, key.as_slice()))
 }
 
 /// The step with a number.

@@ -6,7 +6,7 @@ ghost use Rattle.chart_model.specs.Named.{outward};
 ghost use Rattle.chart_reader.specs.chart_nodes.Steps.{step_view};
 ghost use Rattle.chart_compile.specs.chart_places.Places.{place_view};
 ghost use Rattle.chart_compile.specs.chart_places.Groups.{IsGrouped};
-ghost use Rattle.chart_compile.specs.chart_parts.Parts.{ArePlaced, HaveNumbers, IsPlaced, IsRow, IsShared, IsState, LeadTo, key_of};
+ghost use Rattle.chart_compile.specs.chart_parts.Parts.{ArePlaced, HaveShortNumbers, IsPlaced, IsRow, IsShared, IsState, LeadTo, key_of};
 
 use crate::chart_places::Place;
 use crate::chart_rows::arrows::arrows_of;
@@ -26,7 +26,7 @@ fn up_line<'c>(
     name: &Name,
     owner: &[Name],
 ) -> Result<Vec<u16>, AllocError>
-    requires { HaveNumbers states.now (name.now ∷ owner.now) }
+    requires { HaveShortNumbers states.now (name.now ∷ owner.now) }
     ensures { IfOk result (λ up. Each (IsState states.now) up.items (outward (name.now ∷ owner.now))) }
 {
     let mut up = Vec::new(alloc);

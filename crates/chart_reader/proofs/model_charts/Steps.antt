@@ -1,11 +1,12 @@
 -- Reading class after class.
 use Rattle.std.proofs.Common.{◌≡◌, ℕ, zero, suc, ◌+◌, ◌<◌, ◌≤◌, List, [], ◌∷◌, ◌++◌, length, drop, get_or, map, Option, Some, None, Ok, Err, refl, sym, ap, ◌∙◌, subst, arith, append_assoc, add-one}
 use Rattle.std.specs.Prelude.{option_map, option_and_then, slice_get}
+use Rattle.std.specs.Option.{option_map_or}
 use Rattle.std.proofs.lemmas.List.{map-append, length-map, append-nil, drop_all}
 use Rattle.room_ast.specs.declared.scope.Scope.{Scope}
 use Rattle.room_ast.specs.ChartTree.{GraphItems}
 use Rattle.room_ast.specs.Trees.{ModelTree, ActorTree}
-use Rattle.room_ast.specs.model_parts.Charts.{chart_of as machine_of}
+use Rattle.room_ast.specs.model_parts.Charts.{chart_of as machine_of, states_in}
 use Rattle.chart_reading.specs.declared.chart_graphs.Chart.{Chart as CodeChart}
 use Rattle.chart_reading.specs.chart_graphs.Views.{chart_view}
 use Rattle.chart_model.specs.Chart.{Name, Chart}
@@ -13,6 +14,7 @@ use Rattle.chart_reading.specs.Reading.{reading}
 use Rattle.chart_reader.specs.Reads.{Reads}
 use Rattle.chart_reader.proofs.Lowest.{valid_told}
 use Rattle.chart_reader.proofs.NestedGraphs.{whole_told}
+use Rattle.chart_reader.proofs.model_charts.Few.{HaveFewStates}
 use Rattle.chart_reader.specs.declared.fault.ChartFault.{ChartFault}
 use Rattle.chart_reader.specs.declared.fault.ChartFault.TheVariants as chart_faults
 use Rattle.check_scopes.specs.class_scopes.Views.{ScopeView, scope_view}
@@ -143,17 +145,19 @@ all_read all rest charts h none =
       charts_are = h.charts_are ∙ ap (map chart_in) (sym whole);
     }
 
-valid_one : (scope : Scope) (names : List Name) (machine : Option GraphItems) (ws : List (Option Written)) → HasFault (option_map (written scope names) machine) None → AreValid (map chart_in ws) → AreValid (map chart_in (option_map (written scope names) machine ∷ ws))
-valid_one scope names None ws f h = h
-valid_one scope names (Some is) ws f h = (whole_told scope names is (valid_told (written scope names is).chart (written scope names is).events_fit (written scope names is).codes_fit f), h)
+valid_one : (scope : Scope) (names : List Name) (machine : Option GraphItems) (ws : List (Option Written)) → option_map_or states_in machine 0 ≤ 60000
+    → HasFault (option_map (written scope names) machine) None → AreValid (map chart_in ws) → AreValid (map chart_in (option_map (written scope names) machine ∷ ws))
+valid_one scope names None ws rule f h = h
+valid_one scope names (Some is) ws rule f h = (whole_told scope names is (valid_told (written scope names is).chart (written scope names is).events_fit (written scope names is).codes_fit f) rule, h)
 
-valid_all : (names : List Name) (ss : List Scope) (ks : List ActorTree) → NoneIsFaulty (written_from names ss ks) → AreValid (map chart_in (written_from names ss ks))
-valid_all names [] ks h = tt
-valid_all names (s ∷ ss) [] h = tt
-valid_all names (s ∷ ss) (a ∷ ks) h = valid_one s names (machine_of a) (written_from (names_after s names (machine_of a)) ss ks) h.0 (valid_all (names_after s names (machine_of a)) ss ks h.1)
+valid_all : (names : List Name) (ss : List Scope) (ks : List ActorTree) → HaveFewStates ks → NoneIsFaulty (written_from names ss ks) → AreValid (map chart_in (written_from names ss ks))
+valid_all names [] ks rules h = tt
+valid_all names (s ∷ ss) [] rules h = tt
+valid_all names (s ∷ ss) (a ∷ ks) rules h =
+    valid_one s names (machine_of a) (written_from (names_after s names (machine_of a)) ss ks) rules.0 h.0 (valid_all (names_after s names (machine_of a)) ss ks rules.1 h.1)
 
-pub valid_when_read : (ss : List Scope) (ks : List ActorTree) (charts : List (Option Chart)) → AllRead (written_from [] ss ks) charts → AreValid charts
-valid_when_read ss ks charts h = subst AreValid (sym h.charts_are) (valid_all [] ss ks h.faultless)
+pub valid_when_read : (ss : List Scope) (ks : List ActorTree) (charts : List (Option Chart)) → HaveFewStates ks → AllRead (written_from [] ss ks) charts → AreValid charts
+valid_when_read ss ks charts rules h = subst AreValid (sym h.charts_are) (valid_all [] ss ks rules h.faultless)
 
 -- nothing is written behind the last class
 pub none_behind : (names : List Name) (ss : List Scope) (ks : List ActorTree) (i : ℕ) → length ss ≤ i → written_from names (drop i ss) (drop i ks) ≡ []

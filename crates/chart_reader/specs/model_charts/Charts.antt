@@ -28,7 +28,7 @@ IsFirstFaulty (w ∷ ws) (suc i) fault = HasFault w None × IsFirstFaulty ws i f
 abbrev pub chart_in : Option Written → Option Chart
 chart_in w = option_map (λ (x : Written). x.chart) w
 
--- Each of the charts is valid, and its graphs are those of its states.
+-- Each of the charts is valid, its graphs are those of its states, and of these there are few.
 abbrev pub AreValid : List (Option Chart) → Type 0
 AreValid [] = Unit {0}
 AreValid (None ∷ cs) = AreValid cs

@@ -204,14 +204,14 @@ impl Mind {
         alloc: Global,
         tables: &'a Tables,
         began: Option<u16>,
-        node: u16,
+        node: usize,
         at: &Moment,
     ) -> Result<Step<'a>, AllocError>
         requires sound { IsSound tables.now }
         requires size { length self.old.past.items ≡ length tables.now.states.items }
         ensures { IfOk result (λ r. Gives self.old self.new (next_of r) (arrive (plan tables.entry.now) (acting at.now) began ((plan tables.entry.now).node node) (memory_of self.old))) }
     {
-        match tables.nodes.get(usize::from(node)) {
+        match tables.nodes.get(node) {
             Some(node) => {
                 let step = self.arrive(alloc, tables, began, node, at)?;
                 Ok(step)

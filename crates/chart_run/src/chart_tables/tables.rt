@@ -28,7 +28,7 @@ pub struct Arrow {
     pub triggers: Vec<Trigger>,
     pub condition: Option<BoundExpr>,
     pub action: Bound,
-    pub target: u16,
+    pub target: usize,
 }
 
 /// A state: itself and the composite states that have it, from inner to outer; its actions on entry
@@ -39,7 +39,7 @@ pub struct Row {
     pub entry: Bound,
     pub exit: Bound,
     pub own: Vec<Arrow>,
-    pub graph: u16,
+    pub graph: usize,
 }
 
 /// Where a transition leads.
@@ -100,10 +100,10 @@ impl Tables {
     }
 
     /// The transitions from transition points of a graph.
-    fn graph(&self, graph: u16) -> &[Arrow]
+    fn graph(&self, graph: usize) -> &[Arrow]
         ensures { arrow_views result.now ≡ graph_arrows self.now graph }
     {
-        match self.graphs.get(usize::from(graph)) {
+        match self.graphs.get(graph) {
             Some(arrows) => arrows,
             None => &[],
         }

@@ -134,7 +134,7 @@ impl<'a> Trace<'a> {
         for _step in 0..self.tables.nodes.len().saturating_add(1) {
             self.passed.push(Passed::Went)?;
             self.run(&arrow.action)?;
-            let Some(node) = self.tables.nodes.as_slice().get(usize::from(arrow.target)) else {
+            let Some(node) = self.tables.nodes.as_slice().get(arrow.target) else {
                 break;
             };
             match self.arrive(node)? {

@@ -1,24 +1,23 @@
 //! The buffer through which lines go to a sink.
-ghost use Rattle.std.specs.Prelude.{◌≡◌, ◌==◌, ◌+◌, ◌-◌, ◌<◌, ◌≤◌, [], ◌∷◌, ◌++◌, length, take, drop, decimal, OnOk};
+ghost use Rattle.std.specs.Prelude.{◌≡◌, ◌↔◌, ◌==◌, ◌+◌, ◌-◌, ◌<◌, ◌≤◌, [], ◌∷◌, ◌++◌, length, take, drop, decimal, IsTrue, OnOk};
 ghost use Rattle.std.specs.Fmt.{signed_decimal};
 ghost use Rattle.room_outside.specs.line_text.Lines.{numbers_text};
 ghost use Rattle.std.specs.List.{concat};
 ghost use Rattle.room_outside.specs.line_text.Parts.{part_text, part_texts};
 ghost use Rattle.room_outside.specs.line_text.Output.{Puts, at_rest};
 
-use crate::line_text::part::Part;
-use crate::line_text::short_numbers::{five_digits, four_digits, three_digits, two_digits};
+use crate::line_text::laying::{
+    PIECE, Piece, lay_four, lay_number, lay_part, lay_signed, lay_three, lay_two,
+};
+use crate::line_text::part::{Part, most_of_number, most_of_signed};
 use crate::{Sink, WriteFault, write_whole};
 use itoa::Buffer;
 use std::marker::Model;
 
-/// The most bytes that are written in one piece.
-const PIECE: usize = 4096;
-
 /// The bytes of a line that were not written yet, at most a piece.
 #[derive(Drop)]
 pub struct LineBuffer {
-    bytes: [u8; PIECE],
+    bytes: Piece,
     len: usize,
 }
 
@@ -78,17 +77,20 @@ impl LineBuffer {
         self.len += 1;
     }
 
+    /// Whether there is room for so many bytes.
+    #[inline(always)]
+    fn has_room(&self, bytes: usize) -> bool
+        ensures { IsTrue result ↔ (length self.now + bytes ≤ 4096) }
+    {
+        bytes <= PIECE - self.len
+    }
+
     /// Takes bytes for which there is room.
     #[inline(always)]
     fn append(&mut self, bytes: &[u8])
         requires { length self.old + length bytes.now ≤ 4096 }
         ensures { self.new ≡ self.old ++ bytes.now }
     {
-        // Many parts of a line are one byte, for which a copy of slices isn't worth its call.
-        if let [byte] = bytes {
-            self.push(*byte);
-            return;
-        }
         let end = self.len + bytes.len();
         self.bytes[self.len..end].copy_from_slice(bytes);
         self.len = end;
@@ -132,14 +134,13 @@ impl LineBuffer {
     }
 
     /// Adds bytes to the line. Whole pieces are written as the line goes on.
-    #[inline(always)]
     pub fn put<K: Sink>(&mut self, sink: &mut K, bytes: &[u8]) -> Result<(), WriteFault>
         ensures { Puts result
             (record { written = K.written sink.old; held = self.old })
             (record { written = K.written sink.new; held = self.new })
             bytes.now }
     {
-        if bytes.len() <= PIECE - self.len {
+        if self.has_room(bytes.len()) {
             self.append(bytes);
             return Ok(());
         }
@@ -163,54 +164,18 @@ impl LineBuffer {
     }
 
     /// Adds a number.
-    #[inline(always)]
-    #[tactic(auto, using(crate::proofs::line_text::Digits::one_digit))]
     pub fn put_number<K: Sink>(&mut self, sink: &mut K, number: u64) -> Result<(), WriteFault>
         ensures { Puts result
             (record { written = K.written sink.old; held = self.old })
             (record { written = K.written sink.new; held = self.new })
             (decimal number) }
     {
-        if number < 10 {
-            return self.put_byte(sink, b'0' + number as u8);
+        if self.has_room(most_of_number(number)) {
+            self.len = lay_number(&mut self.bytes, self.len, number);
+            return Ok(());
         }
-        self.put_digits(sink, number)
-    }
-
-    /// Adds a number of more than one digit. The stamps of a run have few.
-    #[inline(never)]
-    fn put_digits<K: Sink>(&mut self, sink: &mut K, number: u64) -> Result<(), WriteFault>
-        requires { 10 ≤ number }
-        ensures { Puts result
-            (record { written = K.written sink.old; held = self.old })
-            (record { written = K.written sink.new; held = self.new })
-            (decimal number) }
-    {
-        if number >= 100_000 {
-            return self.put_many_digits(sink, number);
-        }
-        let number = number as u32;
-        if number < 100 {
-            return self.put(sink, &two_digits(number));
-        }
-        if number < 1_000 {
-            return self.put(sink, &three_digits(number));
-        }
-        if number < 10_000 {
-            return self.put(sink, &four_digits(number));
-        }
-        self.put(sink, &five_digits(number))
-    }
-
-    #[inline(never)]
-    fn put_many_digits<K: Sink>(&mut self, sink: &mut K, number: u64) -> Result<(), WriteFault>
-        ensures { Puts result
-            (record { written = K.written sink.old; held = self.old })
-            (record { written = K.written sink.new; held = self.new })
-            (decimal number) }
-    {
         let mut digits = Buffer::new();
-        self.put(sink, digits.format(number).as_bytes())
+        self.put_pieces(sink, digits.format(number).as_bytes())
     }
 
     /// Adds a number with its sign.
@@ -221,11 +186,12 @@ impl LineBuffer {
             (signed_decimal number.now) }
     {
         let value = *number;
-        if value >= 0 {
-            return self.put_number(sink, value as u64);
+        if self.has_room(most_of_signed(value)) {
+            self.len = lay_signed(&mut self.bytes, self.len, value);
+            return Ok(());
         }
         let mut digits = Buffer::new();
-        self.put(sink, digits.format(value).as_bytes())
+        self.put_pieces(sink, digits.format(value).as_bytes())
     }
 
     /// Adds a number with a blank before it.
@@ -252,23 +218,39 @@ impl LineBuffer {
         Ok(())
     }
 
+    /// Adds a part of a line.
     #[inline(always)]
-    fn put_part<K: Sink>(&mut self, sink: &mut K, part: &Part) -> Result<(), WriteFault>
+    fn put_part<K: Sink>(&mut self, sink: &mut K, part: Part) -> Result<(), WriteFault>
         ensures { Puts result
             (record { written = K.written sink.old; held = self.old })
             (record { written = K.written sink.new; held = self.new })
-            (part_text part.now) }
+            (part_text part.entry) }
+    {
+        if self.has_room(part.most()) {
+            self.len = lay_part(&mut self.bytes, self.len, part);
+            return Ok(());
+        }
+        self.put_long(sink, part)
+    }
+
+    /// Adds a part for which there may be no room.
+    #[inline(never)]
+    fn put_long<K: Sink>(&mut self, sink: &mut K, part: Part) -> Result<(), WriteFault>
+        ensures { Puts result
+            (record { written = K.written sink.old; held = self.old })
+            (record { written = K.written sink.new; held = self.new })
+            (part_text part.entry) }
     {
         match part {
             Part::Text(text) => self.put(sink, text),
-            Part::Number(number) => self.put_number(sink, *number),
-            Part::Signed(number) => self.put_signed(sink, number),
+            Part::Number(number) => self.put_number(sink, number),
+            Part::Signed(number) => self.put_signed(sink, &number),
             Part::Numbers(numbers) => self.put_numbers(sink, numbers),
         }
     }
 
-    /// Adds a part of a line. With the three that follow, a part that is known where they are called
-    /// costs no more than its bytes.
+    /// Adds a part of a line. With the three that follow, parts that are known where they are called
+    /// cost no more than their bytes, and one test of the room is for them all.
     #[inline(always)]
     pub fn put_one<K: Sink>(&mut self, sink: &mut K, part: Part) -> Result<(), WriteFault>
         ensures { Puts result
@@ -276,7 +258,7 @@ impl LineBuffer {
             (record { written = K.written sink.new; held = self.new })
             (concat (part_text part.entry ∷ [])) }
     {
-        self.put_part(sink, &part)
+        self.put_part(sink, part)
     }
 
     /// Adds two parts of a line.
@@ -287,8 +269,11 @@ impl LineBuffer {
             (record { written = K.written sink.new; held = self.new })
             (concat (part_text a.entry ∷ part_text b.entry ∷ [])) }
     {
-        self.put_part(sink, &a)?;
-        self.put_one(sink, b)
+        if self.has_room(a.most() + b.most()) {
+            self.len = lay_two(&mut self.bytes, self.len, a, b);
+            return Ok(());
+        }
+        self.put_all(sink, &[a, b])
     }
 
     /// Adds three parts of a line.
@@ -305,8 +290,11 @@ impl LineBuffer {
             (record { written = K.written sink.new; held = self.new })
             (concat (part_text a.entry ∷ part_text b.entry ∷ part_text c.entry ∷ [])) }
     {
-        self.put_part(sink, &a)?;
-        self.put_two(sink, b, c)
+        if self.has_room(a.most() + b.most() + c.most()) {
+            self.len = lay_three(&mut self.bytes, self.len, a, b, c);
+            return Ok(());
+        }
+        self.put_all(sink, &[a, b, c])
     }
 
     /// Adds four parts of a line.
@@ -324,8 +312,11 @@ impl LineBuffer {
             (record { written = K.written sink.new; held = self.new })
             (concat (part_text a.entry ∷ part_text b.entry ∷ part_text c.entry ∷ part_text d.entry ∷ [])) }
     {
-        self.put_part(sink, &a)?;
-        self.put_three(sink, b, c, d)
+        if self.has_room(a.most() + b.most() + c.most() + d.most()) {
+            self.len = lay_four(&mut self.bytes, self.len, a, b, c, d);
+            return Ok(());
+        }
+        self.put_all(sink, &[a, b, c, d])
     }
 
     /// Adds the parts of a line.
@@ -336,7 +327,7 @@ impl LineBuffer {
             (concat (part_texts parts.now)) }
     {
         for part in parts {
-            self.put_part(sink, part)?;
+            self.put_part(sink, *part)?;
         }
         Ok(())
     }

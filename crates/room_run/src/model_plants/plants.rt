@@ -40,9 +40,6 @@ fn all_tables(alloc: Global, charts: &[Option<Chart>]) -> Result<Vec<Option<Tabl
 
 /// What a model with this wiring and these charts, one for each class that has a state machine, runs
 /// as. The charts are compiled, each once.
-///
-/// It answers as where memory runs out where a chart is too large for its tables: `compile` of
-/// `chart_compile` says which are.
 pub fn plant_of(
     alloc: Global,
     wiring: Wiring,

@@ -2,7 +2,6 @@
 
 ghost use Rattle.std.specs.Prelude.{◌≡◌, ◌∷◌, ◌++◌, ◌<◌, ◌≤◌, ◌+◌, Some, [], decimal, length, option_map, IfOk, OnOk};
 ghost use Rattle.std.specs.Option.{option_map_or};
-ghost use Rattle.std.specs.String.{string_bytes};
 ghost use Rattle.wiring_slots.specs.slot_tree.Slots.{index_text, segment_text, path_text, owner_of, pending_with, slots_of_reference, slots_of_references, above_in};
 ghost use Rattle.wiring_slots.specs.slot_tree.Leading.{trails_through};
 ghost use Rattle.wiring_slots.specs.slot_tree.Placing.{Adds, Fits};
@@ -13,8 +12,8 @@ use crate::slot_tree::names::ReferenceLabel;
 use crate::slot_tree::owners::owner_at;
 use crate::slot_tree::runs::Trails;
 use itoa::Buffer;
-use room_kinds::{ControllerId, ReferenceKind, SlotId};
-use room_wiring::{Label, Slot};
+use room_kinds::{ControllerId, ReferenceKind, Sequence, SlotId};
+use room_wiring::{Path, Slot};
 use std::alloc::{AllocError, Global};
 use std::mem;
 use wiring_plan::ReferencePlan;
@@ -32,7 +31,7 @@ pub(crate) struct Pending {
 #[derive(Drop)]
 pub(crate) struct Above {
     /// What stands before their names in their paths.
-    pub(crate) prefix: Label,
+    pub(crate) prefix: Sequence<u8>,
     /// The container's number; none for the subsystem.
     pub(crate) parent: Option<SlotId>,
     pub(crate) owner: ControllerId,
@@ -41,26 +40,26 @@ pub(crate) struct Above {
     pub(crate) depth: usize,
 }
 
-fn push_index(text: &mut String, replicated: bool, index: u32) -> Result<(), AllocError>
-    ensures { OnOk result (string_bytes text.new ≡ string_bytes text.old ++ index_text replicated index) }
+fn push_index(text: &mut Vec<u8>, replicated: bool, index: u32) -> Result<(), AllocError>
+    ensures { OnOk result (text.new.items ≡ text.old.items ++ index_text replicated index) }
 {
     if replicated {
         let mut digits = Buffer::new();
-        text.push_str(":")?;
-        text.push_str(digits.format(index))?;
+        text.push(b':')?;
+        text.extend_from_slice(digits.format(index).as_bytes())?;
     }
     Ok(())
 }
 
 fn push_segment(
-    text: &mut String,
+    text: &mut Vec<u8>,
     label: Option<&ReferenceLabel>,
     index: u32,
 ) -> Result<(), AllocError>
-    ensures { OnOk result (string_bytes text.new ≡ string_bytes text.old ++ option_map_or (segment_text index) (option_map (λ l. l.now) label.entry) []) }
+    ensures { OnOk result (text.new.items ≡ text.old.items ++ option_map_or (segment_text index) (option_map (λ l. l.now) label.entry) []) }
 {
     if let Some(label) = label {
-        text.push_str(label.name.as_str())?;
+        text.extend_from_slice(label.name.as_bytes())?;
         push_index(text, label.replicated, index)?;
     }
     Ok(())
@@ -69,16 +68,16 @@ fn push_segment(
 /// The path of a slot: what stands before its name, its name, and its index if it has one.
 fn path_text(
     alloc: Global,
-    prefix: &Label,
+    prefix: &[u8],
     labels: &[ReferenceLabel],
     reference: u16,
     index: u32,
-) -> Result<Label, AllocError>
-    ensures { IfOk result (λ l. l ≡ path_text prefix.now labels.now reference index) }
+) -> Result<Path, AllocError>
+    ensures { IfOk result (λ p. p ≡ path_text prefix.now labels.now reference index) }
 {
-    let mut text = String::from_str(alloc, prefix.as_str())?;
+    let mut text = Vec::from_slice(alloc, prefix)?;
     push_segment(&mut text, labels.get(usize::from(reference)), index)?;
-    Label::from_text(alloc, text.as_str())
+    Path::from_bytes(alloc, text.as_slice())
 }
 
 /// The owner of a slot; an imported slot has its container's owner.
@@ -111,7 +110,7 @@ fn pending_with(
     ensures { IfOk result (λ p.
         p ≡ pending_with mappings.now above.now labels.now number reference.now index trails) }
 {
-    let path = path_text(alloc, &above.prefix, labels, number, index)?;
+    let path = path_text(alloc, above.prefix.as_slice(), labels, number, index)?;
     let owner = owner_of(mappings, above.owner, reference.kind, &trails);
     Ok(Pending {
         slot: Slot {
@@ -195,12 +194,12 @@ pub(crate) fn slots_of_references(
     Ok(Some(children))
 }
 
-fn prefix_in(alloc: Global, path: &Label) -> Result<Label, AllocError>
+fn prefix_in(alloc: Global, path: &Path) -> Result<Sequence<u8>, AllocError>
     ensures { IfOk result (λ l. l ≡ path.now ++ 47 ∷ []) }
 {
-    let mut text = String::from_str(alloc, path.as_str())?;
-    text.push_str("/")?;
-    Label::from_text(alloc, text.as_str())
+    let mut text = Vec::from_slice(alloc, path.as_bytes())?;
+    text.push(b'/')?;
+    Ok(Sequence::from(text))
 }
 
 /// What the slots inside a slot with this number have from it.

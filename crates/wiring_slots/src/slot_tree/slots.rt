@@ -8,9 +8,10 @@ ghost use Rattle.wiring_slots.specs.slot_tree.Slots.{references_of_class, labels
 use crate::slot_tree::children::{Above, Pending, above_in, slots_of_references};
 use crate::slot_tree::mapping_order::MappingOrder;
 use crate::slot_tree::names::{ReferenceLabel, SlotNames};
+use crate::slot_tree::placed_slots::Placed;
 use crate::slot_tree::runs::Trails;
 use room_kinds::{ControllerId, Sequence};
-use room_wiring::{Label, Slot};
+use room_wiring::Slot;
 use std::alloc::{AllocError, Global};
 use wiring_plan::{ReferencePlan, StructurePlan};
 
@@ -74,7 +75,6 @@ fn push_all(stack: &mut Vec<Pending>, slots: Vec<Pending>) -> Result<(), AllocEr
 
 /// Places the slots that wait, the last one first, and what is inside them; none where there are too
 /// many.
-
 fn place(
     alloc: Global,
     plan: &StructurePlan,
@@ -86,29 +86,29 @@ fn place(
     requires few { length waiting.items ≤ 4096 }
     ensures { IfOk result (λ v. Fits most_slots (all_from plan.now names.now mappings.now 0 (reverse waiting.items)) v) }
 {
-    let mut slots = Vec::new(alloc);
+    let mut placed = Placed::new(alloc);
     let mut stack = waiting;
     while let Some(pending) = stack.pop() {
-        let number = slots.len();
+        let number = placed.len();
         let room = MOST_SLOTS - 1 - stack.len() - number;
         let Some(children) = inside_of(alloc, room, plan, names, mappings, number as u16, &pending)?
         else {
             return Ok(None);
         };
-        slots.push(pending.slot)?;
+        let is_leaf = children.is_empty();
+        placed.add(pending.slot, is_leaf)?;
         push_all(&mut stack, children)?;
     }
-    Ok(Some(slots))
+    Ok(Some(placed.slots))
 }
 
 /// What the slots directly inside the subsystem have from it.
 fn top(alloc: Global, plan: &StructurePlan, mappings: &MappingOrder) -> Result<Above, AllocError>
     ensures { IfOk result (λ a. a ≡ top plan.now mappings.now) }
 {
-    let prefix = Label::from_text(alloc, "")?;
     let trails = Trails::all(alloc, mappings.len())?;
     Ok(Above {
-        prefix,
+        prefix: Sequence::new(alloc),
         parent: None,
         owner: ControllerId(0),
         trails,

@@ -1,5 +1,4 @@
 use Rattle.std.proofs.Common.{List, ◌≡◌, ◌≤◌, ◌∙◌, ap, arith, length, map, sum, sym}
-use Rattle.std.proofs.lemmas.List.{length-map}
 use Rattle.chart_model.specs.Named.{nodes_in}
 use Rattle.chart_reading.specs.chart_graphs.Views.{chart_view, graph_view}
 use Rattle.chart_reading.specs.declared.chart_graphs.Graph.{Graph as CodeGraph}
@@ -8,6 +7,7 @@ use Rattle.chart_compile.specs.chart_places.Places.{keys_of, place_view, places_
 use Rattle.chart_compile.specs.declared.chart_places.places.Place.{Place}
 use Rattle.chart_compile.specs.chart_parts.Parts.{key_of}
 use Rattle.chart_compile.proofs.chart_numbers.Distinct.{states_distinct_as}
+use Rattle.chart_compile.proofs.chart_numbers.FewStates.{few_places}
 use Rattle.chart_compile.proofs.chart_numbers.Reaching.{are_placed, state_numbered}
 use Rattle.chart_compile.proofs.Going.{go_on}
 use Rattle.chart_compile.proofs.Making.{are_keyed, enough, no_circle, starts, tables_of}
@@ -28,10 +28,9 @@ assemble-requires-clause-go_on c =
     let are_states : c.in_ok-states.states ≡ map key_of places =
     c.in_ok-states.ensures ∙ c.as_slice-3.ensures.value ∙ c.in_ok-state_keys.ensures ∙ ap (λ (l : List Place). map key_of (map place_view l)) (c.as_slice-2.ensures.value ∙ sym c.as_slice-6.ensures.value)
     in
-    let few : length places ≤ 65535 = omega (arith, c.if-len-gt-MOST_NUMBERS-2.false, c.len-2.ensures, ap length c.as_slice-6.ensures.value, length-map c.as_slice-6.result.now place_view) in
+    let few : length places ≤ 65535 = omega (arith, few_places chart c.requires, ap length are_places) in
     let are_graphs : c.in_ok-graphs.graphs ≡ keys_of chart.graphs = c.in_ok-graphs.ensures ∙ c.as_slice.ensures.value ∙ c.in_ok-graph_keys.ensures ∙ ap (λ (l : List CodeGraph). keys_of (map graph_view l)) c.deref.ensures.value in
-    let few_graphs : length c.in_ok-graphs.graphs ≤ 65535 = omega (arith, c.if-len-gt-MOST_NUMBERS.false, c.len.ensures) in
-    go_on chart (map step_view c.as_slice-5.result.now) c.in_ok-states.states c.requires (ap (map step_view) c.as_slice-5.ensures.value ∙ c.in_ok-steps.ensures) (state_numbered chart places c.in_ok-states.states c.in_ok-graphs.graphs are_places are_states are_graphs few few_graphs)
+    go_on chart (map step_view c.as_slice-5.result.now) c.in_ok-states.states c.requires (ap (map step_view) c.as_slice-5.ensures.value ∙ c.in_ok-steps.ensures) (state_numbered chart places c.in_ok-states.states c.in_ok-graphs.graphs are_places are_states are_graphs few)
 
 pub assemble-requires-clause-placed : goal.assemble-requires-clause-placed
 assemble-requires-clause-placed c =
@@ -41,10 +40,9 @@ assemble-requires-clause-placed c =
     let are_states : c.in_ok-states.states ≡ map key_of places =
     c.in_ok-states.ensures ∙ c.as_slice-3.ensures.value ∙ c.in_ok-state_keys.ensures ∙ ap (λ (l : List Place). map key_of (map place_view l)) (c.as_slice-2.ensures.value ∙ sym c.as_slice-6.ensures.value)
     in
-    let few : length places ≤ 65535 = omega (arith, c.if-len-gt-MOST_NUMBERS-2.false, c.len-2.ensures, ap length c.as_slice-6.ensures.value, length-map c.as_slice-6.result.now place_view) in
+    let few : length places ≤ 65535 = omega (arith, few_places chart c.requires, ap length are_places) in
     let are_graphs : c.in_ok-graphs.graphs ≡ keys_of chart.graphs = c.in_ok-graphs.ensures ∙ c.as_slice.ensures.value ∙ c.in_ok-graph_keys.ensures ∙ ap (λ (l : List CodeGraph). keys_of (map graph_view l)) c.deref.ensures.value in
-    let few_graphs : length c.in_ok-graphs.graphs ≤ 65535 = omega (arith, c.if-len-gt-MOST_NUMBERS.false, c.len.ensures) in
-    are_placed chart places c.in_ok-states.states c.in_ok-graphs.graphs are_places are_states are_graphs few few_graphs
+    are_placed chart places c.in_ok-states.states c.in_ok-graphs.graphs are_places are_states are_graphs few
 
 pub assemble-requires-clause-no_circle : goal.assemble-requires-clause-no_circle
 assemble-requires-clause-no_circle c = no_circle (chart_view c.args.chart.now) (map step_view c.as_slice-5.result.now) c.requires.valid (ap (map step_view) c.as_slice-5.ensures.value ∙ c.in_ok-steps.ensures)
@@ -65,7 +63,7 @@ returns c =
     let are_states : c.in_ok-states.states ≡ map key_of places =
     c.in_ok-states.ensures ∙ c.as_slice-3.ensures.value ∙ c.in_ok-state_keys.ensures ∙ ap (λ (l : List Place). map key_of (map place_view l)) (c.as_slice-2.ensures.value ∙ sym c.as_slice-6.ensures.value)
     in
-    let few : length places ≤ 65535 = omega (arith, c.if-len-gt-MOST_NUMBERS-2.false, c.len-2.ensures, ap length c.as_slice-6.ensures.value, length-map c.as_slice-6.result.now place_view) in
+    let few : length places ≤ 65535 = omega (arith, few_places chart c.requires, ap length are_places) in
     tables_of chart c.in_ok-tables.tables (map step_view c.as_slice-5.result.now) places c.in_ok-states.states c.in_ok-graphs.graphs (sum (map nodes_in (map graph_view c.deref-2.result.now))) c.requires.valid (ap (map step_view) c.as_slice-5.ensures.value ∙ c.in_ok-steps.ensures) are_places are_states
     (c.in_ok-graphs.ensures ∙ c.as_slice.ensures.value ∙ c.in_ok-graph_keys.ensures ∙ ap (λ (l : List CodeGraph). keys_of (map graph_view l)) c.deref.ensures.value) (ap (λ (l : List CodeGraph). sum (map nodes_in (map graph_view l))) c.deref-2.ensures.value)
     c.in_ok-tables.ensures.tables (states_distinct_as chart places c.in_ok-states.states c.requires.valid are_places are_states) few (c.in_ok-tables.ensures.values ∙ c.as_slice-7.ensures.value)

@@ -1,6 +1,6 @@
 use Rattle.std.proofs.Common.{◌≡◌, ◌++◌, ◌∷◌, ◌∙◌, [], ap, subst}
 use Rattle.chart_model.specs.Named.{outward}
-use Rattle.chart_compile.specs.chart_parts.Parts.{HaveNumbers}
+use Rattle.chart_compile.specs.chart_parts.Parts.{HaveShortNumbers}
 use Rattle.chart_compile.proofs.chart_rows.Lines.{line_done, line_more, line_start, nothing_left}
 use Rattle.chart_compile.proofs.chart_rows.rows.up_line.Goals as goal
 
@@ -13,7 +13,7 @@ outward-init c = (
 pub outward-preserved : goal.outward-preserved
 outward-preserved c =
     let rest : c.outward.rest.now ≡ c.in-Some.outer.now ∷ c.in-Some.others.now = cc (c.in-Some.ensures.cases.0) in
-    let numbers = subst (HaveNumbers c.args.states.now) rest c.outward.invariant.0 in (
+    let numbers = subst (HaveShortNumbers c.args.states.now) rest c.outward.invariant.0 in (
       numbers.1,
       line_more c.args.states.now c.in_ok-next.next c.outward.up.items c.push-in-Some.new.self.items (outward (c.args.name.now ∷ c.args.owner.now)) c.outward.rest.now c.in-Some.others.now c.in-Some.outer.now rest c.in_ok-push-2.ensures.items c.in_ok-next.ensures c.outward.invariant.1,
     )

@@ -8,7 +8,7 @@ use Rattle.chart_reading.specs.chart_graphs.Views.{chart_view}
 use Rattle.chart_reader.specs.model_charts.Written.{written_from}
 use Rattle.chart_reader.specs.model_charts.Charts.{IsFirstFaulty}
 use Rattle.chart_reader.specs.model_charts.Making.{IsRead}
-use Rattle.chart_reader.proofs.model_charts.Few.{few_actors}
+use Rattle.chart_reader.proofs.model_charts.Few.{few_actors, few_states}
 use Rattle.chart_reader.proofs.model_charts.Steps.{as_many, next_read, next_refused, first_answered, all_read, none_behind, valid_when_read}
 use Rattle.chart_reader.proofs.model_charts.charts.charts_of.Goals as goal
 
@@ -49,5 +49,6 @@ loop-scope-preserved c =
 pub returns-clause-valid : goal.returns-clause-valid
 returns-clause-valid c =
     valid_when_read c.args.checked.now.scopes.items (actors (model_view c.args.checked.now.model.now)) (map (option_map chart_view) c.loop-scope.charts.items)
+    (few_states (model_view c.args.checked.now.model.now) c.requires.rules)
     (all_read (written_from [] c.args.checked.now.scopes.items (actors (model_view c.args.checked.now.model.now))) _ (map (option_map chart_view) c.loop-scope.charts.items) c.loop-scope.invariant.read
     (none_behind c.loop-scope.names c.args.checked.now.scopes.items (actors (model_view c.args.checked.now.model.now)) c.loop-scope.scope-index (rw c.deref-scope-items.ensures.value at c.loop-scope-test.false)))
