@@ -3,3 +3,4 @@ pub mod Making
 pub mod EndSteps
 pub mod Reached
 pub mod Gone
+pub mod Paging

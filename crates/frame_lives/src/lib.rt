@@ -8,7 +8,9 @@ mod creation;
 mod done;
 mod ending;
 pub mod frame_requests;
+mod page;
 mod row;
+mod row_pages;
 mod slot_lives;
 
 pub use done::DutyDone;

@@ -1,4 +1,5 @@
 //! What is known of one slot.
+ghost use Rattle.std.specs.Prelude.{◌≡◌, IsTrue};
 
 /// The last generation of an own slot, 0 before the first, and whether it lives; and the generation that
 /// the owner of another slot told last, 0 for none.
@@ -7,6 +8,15 @@ pub struct Row {
     pub generation: u32,
     pub lives: bool,
     pub told: u32,
+}
+
+impl Row {
+    /// Whether two rows say the same.
+    pub fn is_same(self, other: Row) -> bool
+        ensures { IsTrue result → self ≡ other }
+    {
+        self.generation == other.generation && self.lives == other.lives && self.told == other.told
+    }
 }
 
 /// A slot in which nothing ever stood.

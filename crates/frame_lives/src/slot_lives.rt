@@ -1,23 +1,25 @@
 //! The table of slots.
-ghost use Rattle.std.specs.Prelude.{◌≡◌, ◌+◌, ◌<◌, ℕ, IfOk, OnOk};
+ghost use Rattle.std.specs.Prelude.{◌≡◌, ◌+◌, ◌<◌, ◌++◌, ◌∷◌, [], ℕ, length, IfOk, OnOk};
 ghost use Rattle.actor_duties.specs.Words.{updated, incarnation};
 ghost use Rattle.actor_duties.specs.Lives.{is_live, counts_as_live, last_of, announce};
 ghost use Rattle.frame_lives.specs.Known.{live_in, known_in, some_generation};
 ghost use Rattle.frame_lives.specs.Shown.{shown, with_lives, with_told, with_row};
 ghost use Rattle.frame_lives.specs.Steps.{raised, ended};
 
-use crate::row::{NO_ROW, Row};
+use crate::row::Row;
+use crate::row_pages::RowPages;
 use room_kinds::{ControllerId, Generation, Incarnation, SlotId};
 use room_wiring::Wiring;
 use service_messages::is_own;
-use std::alloc::AllocError;
+use std::alloc::{AllocError, Global};
 use std::marker::Model;
 
 /// What a controller knows of the actors in slots: a row for each slot. What the rows say (`shown`) is
-/// the lives of the controller's own slots and the directory of the others. No look-up takes memory.
+/// the lives of the controller's own slots and the directory of the others. Rows of which there is nothing
+/// to say take little memory (`RowPages`). No look-up takes memory.
 #[derive(Drop, Debug)]
 pub struct SlotLives {
-    rows: Vec<Row>,
+    rows: RowPages,
 }
 
 impl Model for SlotLives {
@@ -26,15 +28,25 @@ impl Model for SlotLives {
 
     ghost Value = { List Row };
 
-    ghost view = { λ x. x.rows.items };
+    ghost view = { λ x. x.rows };
 }
 
 impl SlotLives {
-    /// The table with these rows, for the slots from 0 on.
-    pub fn new(rows: Vec<Row>) -> SlotLives
-        ensures { result ≡ rows.items }
+    /// The table of no slot.
+    pub fn new(alloc: Global) -> SlotLives
+        ensures { result ≡ [] }
     {
-        SlotLives { rows }
+        SlotLives {
+            rows: RowPages::new(alloc),
+        }
+    }
+
+    /// One slot more, with this row.
+    pub fn push(&mut self, row: Row) -> Result<(), AllocError>
+        requires { length self.old < 65536 }
+        ensures { OnOk result (self.new ≡ self.old ++ row ∷ []) }
+    {
+        self.rows.push(row)
     }
 
     #[tactic(auto, unfolding(crate::specs::Shown::shown))]
@@ -43,18 +55,16 @@ impl SlotLives {
         ensures lives { result.lives ≡ (shown self.now).lives.lives slot.0 }
         ensures told { result.told ≡ (shown self.now).told slot.0 }
     {
-        self.rows
-            .get(usize::from(slot.0))
-            .copied()
-            .unwrap_or(NO_ROW)
+        self.rows.row(slot)
     }
 
     #[tactic(auto, using(crate::proofs::Rows::shown_set), unfolding(crate::specs::Shown::shown))]
-    fn set_row(&mut self, slot: SlotId, row: Row)
+    fn set_row(&mut self, slot: SlotId, row: Row) -> Result<(), AllocError>
         requires { slot.0 < (shown self.old).slots }
-        ensures { shown self.new ≡ with_row slot.0 row (shown self.old) }
+        ensures { OnOk result (shown self.new ≡ with_row slot.0 row (shown self.old)) }
     {
-        self.rows[usize::from(slot.0)] = row;
+        self.rows.set(slot, row)?;
+        Ok(())
     }
 
     /// The generation that lives in a slot of the controller's own.
@@ -146,7 +156,7 @@ impl SlotLives {
                 lives: true,
                 told: row.told,
             },
-        );
+        )?;
         Ok(Incarnation {
             slot,
             generation: Generation(generation),
@@ -155,9 +165,9 @@ impl SlotLives {
 
     /// The actor of a slot has ended.
     #[tactic(auto, using(crate::proofs::Rows::row_of_end))]
-    pub fn end(&mut self, slot: SlotId)
+    pub fn end(&mut self, slot: SlotId) -> Result<(), AllocError>
         requires { slot.0 < (shown self.old).slots }
-        ensures { shown self.new ≡ with_lives (shown self.old) (ended slot.0 (shown self.old).lives) }
+        ensures { OnOk result (shown self.new ≡ with_lives (shown self.old) (ended slot.0 (shown self.old).lives)) }
     {
         let row = self.row(slot);
         self.set_row(
@@ -167,13 +177,14 @@ impl SlotLives {
                 lives: false,
                 told: row.told,
             },
-        );
+        )?;
+        Ok(())
     }
 
     #[tactic(auto, using(crate::proofs::Rows::row_of_told))]
-    fn tell(&mut self, slot: SlotId, generation: u32)
+    fn tell(&mut self, slot: SlotId, generation: u32) -> Result<(), AllocError>
         requires { slot.0 < (shown self.old).slots }
-        ensures { shown self.new ≡ with_told (shown self.old) (updated (shown self.old).told slot.0 generation) }
+        ensures { OnOk result (shown self.new ≡ with_told (shown self.old) (updated (shown self.old).told slot.0 generation)) }
     {
         let row = self.row(slot);
         self.set_row(
@@ -183,19 +194,21 @@ impl SlotLives {
                 lives: row.lives,
                 told: generation,
             },
-        );
+        )?;
+        Ok(())
     }
 
     /// The owner of an actor's slot says that the actor came up (1) or went down (0).
     #[tactic(auto, unfolding(actor_duties::specs::Lives::announce))]
-    pub fn hear(&mut self, actor: Incarnation, up: u64)
+    pub fn hear(&mut self, actor: Incarnation, up: u64) -> Result<(), AllocError>
         requires { actor.slot.0 < (shown self.old).slots }
-        ensures { shown self.new ≡ with_told (shown self.old) (announce (shown self.old).told actor up) }
+        ensures { OnOk result (shown self.new ≡ with_told (shown self.old) (announce (shown self.old).told actor up)) }
     {
         if up == 1 {
-            self.tell(actor.slot, actor.generation.0);
+            self.tell(actor.slot, actor.generation.0)?;
         } else if up == 0 {
-            self.tell(actor.slot, 0);
+            self.tell(actor.slot, 0)?;
         }
+        Ok(())
     }
 }

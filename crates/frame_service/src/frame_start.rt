@@ -58,12 +58,12 @@ pub fn first_lives(
     ensures { IfOk result (λ known. shown known ≡ first_known wiring.now me.0) }
 {
     let mut starts = Vec::new(alloc);
-    let mut rows = Vec::new(alloc);
+    let mut known = SlotLives::new(alloc);
     for number in 0..wiring.slot_count() {
         let slot = SlotId(number as u16);
         let lives = lives_from_start(wiring, starts.as_slice(), slot);
-        rows.push(first_row(wiring, me, slot, lives))?;
+        known.push(first_row(wiring, me, slot, lives))?;
         starts.push(lives)?;
     }
-    Ok(SlotLives::new(rows))
+    Ok(known)
 }

@@ -73,7 +73,7 @@ impl FrameState {
         let Some(up) = one_of(first_number(m), 1, 0) else {
             return Ok(nothing(self.alloc));
         };
-        self.lives.hear(whose(actor), u64::from(up));
+        self.lives.hear(whose(actor), u64::from(up))?;
         Ok(nothing(self.alloc))
     }
 }

@@ -8,6 +8,6 @@ loop-number-preserved c =
     let lives = c.lives_from_start-lives.result in record {
       starts = starts_more t n c.loop-number.starts.items c.push-in-loop-number.new.self.items lives c.loop-number.invariant.starts c.lives_from_start-lives.ensures c.in_ok-push-2.ensures.items;
       rows =
-          rows_more t c.args.me.0 n c.loop-number.rows.items c.push.new.self.items c.first_row.result lives c.loop-number.invariant.rows
-          c.lives_from_start-lives.ensures c.first_row.ensures c.in_ok-push.ensures.items;
+          rows_more t c.args.me.0 n c.loop-number.known c.push.new.self c.first_row.result lives c.loop-number.invariant.rows
+          c.lives_from_start-lives.ensures c.first_row.ensures c.in_ok-push.ensures;
     }

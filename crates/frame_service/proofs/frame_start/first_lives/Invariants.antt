@@ -7,5 +7,5 @@ use Rattle.frame_service.proofs.frame_start.first_lives.Given as goal
 abbrev pub invariant-loop-number : goal.invariant-loop-number
 invariant-loop-number l = record {
   starts : l.starts.items ≡ map (lives_from_start l.wiring) (range_with_len 0 l.number);
-  rows : l.rows.items ≡ map (row_at l.wiring l.me.0) (range_with_len 0 l.number);
+  rows : l.known ≡ map (row_at l.wiring l.me.0) (range_with_len 0 l.number);
 }

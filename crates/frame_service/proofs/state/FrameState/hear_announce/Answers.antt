@@ -49,7 +49,7 @@ returns c =
     let same = to_z-of_z w64 c.first_number.result fits in
     let said : ℤ → FrameDone = λ z. of_natural (frame_in s) z (λ up. duties.with_told (frame_in s) (announce (frame_in s).told (whose actor) up)) in
     told_done t s c.hear.new.self (announce (shown s.lives).told (whose actor) c.in-Some.up) (frame_duty_of t me (frame_in s) m kinds.Announce actor again) c.args.out.now c.nothing-2.result c.requires.fits
-    (c.hear.ensures
+    (c.in_ok-hear.ensures
     ∙ ap (λ (x : Incarnation). with_told (shown s.lives) (announce (shown s.lives).told x c.from.result)) c.whose.ensures
     ∙ ap (λ (n : ℕ). with_told (shown s.lives) (announce (shown s.lives).told (whose actor) n)) c.from.ensures)
     (number_fit (frame_in s) (is_announced t me actor again) m.payload said c.requires.form ∙ ap said (sym c.first_number.ensures ∙ sym same ∙ c.in-Some.ensures))
