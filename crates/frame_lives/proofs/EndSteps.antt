@@ -1,5 +1,5 @@
 -- Actors that end.
-use Rattle.std.proofs.Common.{◌≡◌, ℕ, zero, suc, ◌+◌, ◌<◌, ◌≤◌, ◌==◌, Bool, true, false, not, ◌&&◌, ◌||◌, cond, List, [], ◌∷◌, ◌++◌, map, filter, reverse, length, Some, ◌⊎◌, refl, sym, ap, ◌∙◌, subst, eqb-true, arith, inl, inr}
+use Rattle.std.proofs.Common.{◌≡◌, ℕ, ◌+◌, ◌<◌, ◌≤◌, ◌==◌, Bool, true, false, ◌&&◌, ◌||◌, cond, List, [], ◌∷◌, ◌++◌, map, reverse, length, Some, refl, sym, ap, ◌∙◌, subst, eqb-true, arith, inl, inr}
 use Rattle.std.proofs.lemmas.Bool.{cases_lt, eq-eqb, and_right, and_left, or_cases}
 use Rattle.std.proofs.lemmas.List.{map-append, reverse-append}
 use Rattle.room_kinds.specs.declared.numbers.Incarnation.{Incarnation}

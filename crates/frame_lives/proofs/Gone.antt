@@ -1,9 +1,9 @@
 -- Lives without actors that have ended.
-use Rattle.std.proofs.Common.{◌≡◌, ℕ, zero, suc, ◌+◌, ◌<◌, ◌≤◌, ◌==◌, Bool, true, false, not, ◌&&◌, ◌||◌, cond, List, [], ◌∷◌, map, filter, reverse, length, get_or, drop, drop-cons, add-one, refl, sym, ap, ◌∙◌, subst, eqb-true, arith, inl, inr}
+use Rattle.std.proofs.Common.{◌≡◌, ℕ, zero, suc, ◌+◌, ◌<◌, ◌≤◌, ◌==◌, Bool, true, false, not, ◌&&◌, ◌||◌, cond, List, [], ◌∷◌, map, filter, reverse, length, get_or, drop, drop-cons, add-one, refl, sym, ap, ◌∙◌, arith, inl, inr}
 use mathlib.Core.List.{reverse_aux}
 use Rattle.std.proofs.Math.Path.{fun_ext}
 use Rattle.std.specs.List.{list_any, range_with_len}
-use Rattle.std.proofs.lemmas.Bool.{and_left, and_parts, cases_lt, cases_order, eq-eqb, ne_eqb}
+use Rattle.std.proofs.lemmas.Bool.{and_left, cases_lt, cases_order, eq-eqb, ne_eqb}
 use Rattle.room_kinds.specs.declared.numbers.Incarnation.{Incarnation}
 use Rattle.std.proofs.lemmas.Option.{slice_get_within}
 use Rattle.room_wiring.specs.declared.tables.Tables.{Tables}
@@ -16,7 +16,6 @@ use Rattle.service_messages.proofs.slot_runs.RunLemmas.{held_true, false_from}
 use Rattle.frame_lives.specs.Known.{Known}
 use Rattle.frame_lives.specs.Shown.{with_lives}
 use Rattle.frame_lives.specs.Steps.{ended, is_among, lives_without}
-use Rattle.frame_lives.proofs.Rows.{updated_here, updated_else}
 
 same_lives : (l : Lives) {a b : ℕ → Bool} → a ≡ b → ◌≡◌ {A = Lives} (record { generation = l.generation; lives = a }) (record { generation = l.generation; lives = b })
 same_lives l e = cc

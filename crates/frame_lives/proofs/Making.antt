@@ -1,8 +1,8 @@
 -- Actors that are made one after another.
-use Rattle.std.proofs.Common.{◌≡◌, ℕ, zero, suc, ◌+◌, ◌<◌, ◌≤◌, ◌==◌, Bool, true, false, not, ◌&&◌, ◌||◌, cond, List, [], ◌∷◌, ◌++◌, map, filter, length, pos, ◌⊎◌, refl, sym, ap, ◌∙◌, subst, append_assoc, arith, inl, inr}
+use Rattle.std.proofs.Common.{◌≡◌, ℕ, ◌+◌, ◌<◌, ◌≤◌, ◌==◌, Bool, true, false, not, ◌&&◌, ◌||◌, cond, List, [], ◌∷◌, ◌++◌, map, length, pos, ◌⊎◌, refl, sym, ap, ◌∙◌, subst, append_assoc, arith, inl, inr}
 use Rattle.std.proofs.Math.Path.{fun_ext}
-use Rattle.std.specs.Prelude.{nat_lt, nat_le}
-use Rattle.std.specs.List.{flat_map, range_with_len}
+use Rattle.std.specs.Prelude.{nat_lt}
+use Rattle.std.specs.List.{flat_map}
 use Rattle.std.proofs.lemmas.Bool.{cases_eq, cases_lt, cases_order, eq-eqb, ne_eqb, lt-ltb, le-ltb, and_right, and_left}
 use Rattle.std.proofs.lemmas.List.{map-append}
 use Rattle.room_kinds.specs.declared.message.Msg.{Msg}
@@ -13,7 +13,7 @@ use Rattle.actor_duties.specs.State.{Lives}
 use Rattle.actor_duties.specs.Lives.{is_made_with, is_vacant, comes_up, lives_made, made_slots, last_of, announces}
 use Rattle.service_messages.specs.slot_runs.Runs.{IsDepthFirst, IsRunEnd, IsNextMade}
 use Rattle.service_messages.proofs.slot_runs.Kept.{kept, kept_one, kept_none}
-use Rattle.service_messages.proofs.slot_runs.Made.{made_with_itself, made_in_run, not_made_outside}
+use Rattle.service_messages.proofs.slot_runs.Made.{made_with_itself, not_made_outside}
 use Rattle.frame_lives.specs.Known.{Known}
 use Rattle.frame_lives.specs.Steps.{raised}
 use Rattle.frame_lives.proofs.Rows.{updated_here, updated_else}

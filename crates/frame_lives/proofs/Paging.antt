@@ -1,26 +1,29 @@
 -- Rows in pages, as a list of rows.
-use Rattle.std.proofs.Common.{◌≡◌, ℕ, zero, suc, ◌+◌, ◌*◌, ◌/◌, ◌%◌, ◌<◌, ◌≤◌, List, [], ◌∷◌, ◌++◌, length, map, get_or, set, refl, sym, ap, subst, ◌∙◌, arith, inl, inr}
+use Rattle.std.proofs.Common.{◌≡◌, ℕ, ◌+◌, ◌*◌, ◌/◌, ◌%◌, ◌<◌, ◌≤◌, List, [], ◌∷◌, ◌++◌, length, get_or, set, refl, sym, ap, ◌∙◌, arith, inl, inr}
 use Rattle.std.proofs.Math.Path.{fun_ext}
 use Rattle.std.specs.Prelude.{slice_set}
-use Rattle.std.specs.List.{range_with_len}
-use Rattle.std.proofs.lemmas.Bool.{cases_eq, cases_lt}
+use Rattle.std.proofs.lemmas.Bool.{cases_eq}
 use Rattle.std.proofs.lemmas.List.{ext_get_or, length-set, get_or_past, get_or_read, get_or-set_same, get_or-set_other}
 use Rattle.std.proofs.lemmas.List.FromFn.{get_or-map-range_with_len, length-map-range_with_len, map-range_with_len_more}
 use Rattle.std.proofs.lemmas.Nat.{div-add-mod'}
 use Rattle.actor_duties.specs.Words.{updated}
 use Rattle.frame_lives.specs.declared.row.Row.{Row}
 use Rattle.frame_lives.specs.Shown.{no_row, row_of}
-use Rattle.frame_lives.specs.Paged.{row_in, rows_in, IsLengthened}
+use Rattle.frame_lives.specs.Lengthened.{IsLengthened}
+use Rattle.frame_lives.specs.Paged.{without_life, ended_at, row_in, rows_in}
+use Rattle.frame_lives.proofs.Lengthened.{as_long, written}
 use Rattle.frame_lives.proofs.Rows.{updated_here, updated_else, updated_same}
 
--- a list that is lengthened and then written, as a function
-pub written : {A : Type 0} (d : A) (xs longer : List A) (s : ℕ) (a : A) → IsLengthened d xs longer s
-    → (λ n. get_or (set longer s a) n d) ≡ updated (λ n. get_or xs n d) s a
-written d xs longer s a l = fun_ext (λ n.
-    elim (cases_eq n s) [
-      | inl e ↦ ap (λ m. get_or (set longer s a) m d) e ∙ get_or-set_same longer s a d l.there ∙ sym (updated_here (λ m. get_or xs m d) s n a e)
-      | inr other ↦ get_or-set_other longer s n a d other ∙ l.same n ∙ sym (updated_else (λ m. get_or xs m d) s n a other)
-    ])
+-- a row after its actor has ended, in its page; and a row behind the page's end
+pub row_ended : (rows : List Row) (place : ℕ) (read : Row) → place < length rows → read ≡ get_or rows place read
+    → row_of (slice_set rows place (without_life read)) ≡ ended_at (row_of rows) place
+row_ended rows place read there was =
+    written no_row rows rows place (without_life read) (as_long no_row rows place there)
+    ∙ ap (λ (r : Row). updated (row_of rows) place (without_life r)) (get_or_read rows place read there was no_row)
+
+pub no_row_ended : (rows : List Row) (place : ℕ) → length rows ≤ place → row_of rows ≡ ended_at (row_of rows) place
+no_row_ended rows place past = let none = get_or_past rows place no_row past in
+    sym (updated_same (row_of rows) place (without_life (row_of rows place)) (ap without_life none ∙ sym none))
 
 -- a place is told by its page and its place in the page
 same_place : (s n : ℕ) → s / 32 ≡ n / 32 → s % 32 ≡ n % 32 → s ≡ n
@@ -49,6 +52,21 @@ page_written pages longer place p q read next r p_is q_is l was put = fun_ext (�
           ap (λ (page : List Row). row_of page (s % 32)) (get_or-set_other longer p (s / 32) next [] other ∙ l.same (s / 32))
           ∙ sym (updated_else (row_in pages) place s r (λ e. other (ap (λ k. k / 32) e ∙ sym p_is)))
     ])
+
+-- a row after its actor has ended, in the pages; and where there is no page
+pub page_ended : (pages : List (List Row)) (place : ℕ) (read next : List Row) → place / 32 < length pages → read ≡ get_or pages (place / 32) read
+    → row_of next ≡ ended_at (row_of read) (place % 32)
+    → row_in (slice_set pages (place / 32) next) ≡ ended_at (row_in pages) place
+page_ended pages place read next there was ended =
+    page_written pages pages place (place / 32) (place % 32) read next (without_life (row_in pages place)) refl refl (as_long [] pages (place / 32) there) was
+    (ended ∙ ap (λ (page : List Row). updated (row_of read) (place % 32) (without_life (row_of page (place % 32)))) (get_or_read pages (place / 32) read there was []))
+
+pub no_page_ended : (pages : List (List Row)) (place : ℕ) → length pages ≤ place / 32 → row_in pages ≡ ended_at (row_in pages) place
+no_page_ended pages place past =
+    sym (updated_same (row_in pages) place (without_life (row_in pages place)) (ap without_life none ∙ sym none))
+  where
+    none : row_in pages place ≡ no_row
+    none = ap (λ (page : List Row). row_of page (place % 32)) (get_or_past pages (place / 32) [] past)
 
 -- how many rows there are
 pub rows_many : (count : ℕ) (pages : List (List Row)) → length (rows_in count pages) ≡ count
@@ -103,3 +121,10 @@ row_pushed count pages after r is =
 -- a row that stands there already
 pub row_stands : (pages : List (List Row)) (place : ℕ) (r : Row) → row_in pages place ≡ r → row_in pages ≡ updated (row_in pages) place r
 row_stands pages place r is = sym (updated_same (row_in pages) place r (sym is))
+
+-- all rows, after the actor of a slot has ended
+pub rows_ended : (count : ℕ) (pages after : List (List Row)) (s : ℕ) → s < count → row_in after ≡ ended_at (row_in pages) s
+    → rows_in count after ≡ slice_set (rows_in count pages) s (without_life (row_of (rows_in count pages) s))
+rows_ended count pages after s there is =
+    row_set count pages after s (without_life (row_in pages s)) there is
+    ∙ ap (λ (r : Row). slice_set (rows_in count pages) s (without_life r)) (row_there count pages s there)

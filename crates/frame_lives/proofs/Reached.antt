@@ -1,5 +1,5 @@
 -- What the end of a slot reaches, found by going over its run.
-use Rattle.std.proofs.Common.{◌≡◌, ℕ, zero, suc, ◌+◌, ◌<◌, ◌≤◌, ◌==◌, Bool, true, false, ◌&&◌, ◌||◌, length, Option, Some, None, refl, sym, ◌∙◌, subst, eqb-true, eq-eqb, arith, ⊎_elim, inl, inr}
+use Rattle.std.proofs.Common.{◌≡◌, ℕ, zero, suc, ◌<◌, ◌≤◌, ◌==◌, true, false, ◌&&◌, length, Some, refl, sym, subst, eqb-true, eq-eqb, arith, ⊎_elim, inl, inr}
 use Rattle.std.specs.Option.{option_map_or}
 use Rattle.std.proofs.lemmas.Bool.{and_parts, and_from, or_cases, or_left, or_right, cases_lt, cases_order}
 use Rattle.room_wiring.specs.declared.tables.Tables.{Tables}

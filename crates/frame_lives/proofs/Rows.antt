@@ -1,13 +1,13 @@
 -- A row that is written.
-use Rattle.std.proofs.Common.{◌≡◌, ℕ, zero, suc, ◌+◌, ◌<◌, ◌==◌, Bool, true, false, cond, List, length, get_or, set, refl, sym, ap, ◌∙◌, subst, eqb-true, eq-eqb, get_or-set_same, get_or-set_other, length-set, arith, inl, inr}
+use Rattle.std.proofs.Common.{◌≡◌, ℕ, ◌+◌, ◌<◌, Bool, true, false, cond, List, length, refl, sym, ap, ◌∙◌, eq-eqb, get_or-set_same, get_or-set_other, length-set, inl, inr}
 use Rattle.std.proofs.Math.Path.{fun_ext}
 use Rattle.std.specs.Prelude.{slice_set}
 use Rattle.std.proofs.lemmas.Bool.{cases_eq, ne_eqb}
 use Rattle.actor_duties.specs.Words.{updated}
-use Rattle.actor_duties.specs.State.{Lives}
 use Rattle.frame_lives.specs.declared.row.Row.{Row}
 use Rattle.frame_lives.specs.Known.{Known}
-use Rattle.frame_lives.specs.Shown.{no_row, row_of, shown, with_row}
+use Rattle.frame_lives.specs.Shown.{no_row, row_of, shown, with_lives, with_row}
+use Rattle.frame_lives.specs.Paged.{without_life}
 use Rattle.frame_lives.specs.Steps.{raised, ended}
 
 -- a function that is updated, at the number
@@ -51,12 +51,16 @@ pub row_of_lives : (k : Known) (s told : ℕ) → told ≡ k.told s
 row_of_lives k s told e =
     ap (λ (f : ℕ → ℕ). record { slots = k.slots; lives = raised s k.lives; told = f }) (updated_same k.told s told e)
 
-pub row_of_end : (k : Known) (s generation told : ℕ) → generation ≡ k.lives.generation s → told ≡ k.told s
-    → with_row s (record { generation = generation; lives = false; told = told }) k ≡ record k { lives = ended s k.lives }
-row_of_end k s generation told g e =
-    ap (λ (f : ℕ → ℕ). record { slots = k.slots; lives = record { generation = updated k.lives.generation s generation; lives = updated k.lives.lives s false }; told = f }) (updated_same k.told s told e)
-    ∙ ap (λ (f : ℕ → ℕ). record { slots = k.slots; lives = record { generation = f; lives = updated k.lives.lives s false }; told = k.told }) (updated_same k.lives.generation s generation g)
+-- what rows say after the actor of a slot has ended
+pub shown_end : (rows : List Row) (s : ℕ) → s < length rows
+    → shown (slice_set rows s (without_life (row_of rows s))) ≡ with_lives (shown rows) (ended s (shown rows).lives)
+unfolding shown
+shown_end rows s l = let k = shown rows in
+    shown_set rows s (without_life (row_of rows s)) l
+    ∙ ap (λ (f : ℕ → ℕ). record { slots = k.slots; lives = record { generation = updated k.lives.generation s (k.lives.generation s); lives = updated k.lives.lives s false }; told = f }) (updated_same k.told s (k.told s) refl)
+    ∙ ap (λ (f : ℕ → ℕ). record { slots = k.slots; lives = record { generation = f; lives = updated k.lives.lives s false }; told = k.told }) (updated_same k.lives.generation s (k.lives.generation s) refl)
 
+-- a row that changes the directory alone
 pub row_of_told : (k : Known) (s generation : ℕ) (b : Bool) (told : ℕ) → generation ≡ k.lives.generation s → b ≡ k.lives.lives s
     → with_row s (record { generation = generation; lives = b; told = told }) k ≡ record k { told = updated k.told s told }
 row_of_told k s generation b told g e =

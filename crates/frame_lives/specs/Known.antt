@@ -1,6 +1,6 @@
 -- What a controller knows of the actors in slots: which of its own live, and what the owners of other
 -- slots told of theirs.
-use Rattle.std.specs.Prelude.{ℕ, ◌==◌, Bool, Option, Some, None, if◌then◌else◌}
+use Rattle.std.specs.Prelude.{ℕ, ◌==◌, Option, Some, None, if◌then◌else◌}
 use Rattle.room_kinds.specs.declared.numbers.Generation.{Generation}
 use Rattle.room_wiring.specs.declared.tables.Tables.{Tables}
 use Rattle.actor_duties.specs.Words.{is_own}

@@ -1,5 +1,6 @@
 pub mod Known
 pub mod Shown
+pub mod Lengthened
 pub mod Paged
 pub mod Steps
 pub mod Done

@@ -86,13 +86,12 @@ impl SlotLives {
     }
 
     /// These actors have ended. The time is in proportion to their number.
-    pub fn end_all(&mut self, ended: &[Incarnation]) -> Result<(), AllocError>
+    pub fn end_all(&mut self, ended: &[Incarnation])
         requires { All (λ x. x.slot.0 < (shown self.old).slots) ended.now }
-        ensures { OnOk result (shown self.new ≡ with_lives (shown self.old) (lives_without ended.now (shown self.old).lives)) }
+        ensures { shown self.new ≡ with_lives (shown self.old) (lives_without ended.now (shown self.old).lives) }
     {
         for actor in ended {
-            self.end(actor.slot)?;
+            self.end(actor.slot);
         }
-        Ok(())
     }
 }

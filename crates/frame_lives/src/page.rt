@@ -2,7 +2,8 @@
 ghost use Rattle.std.specs.Prelude.{◌≡◌, [], OnOk};
 ghost use Rattle.actor_duties.specs.Words.{updated};
 ghost use Rattle.frame_lives.specs.Shown.{no_row, row_of};
-ghost use Rattle.frame_lives.specs.Paged.{IsLengthened};
+ghost use Rattle.frame_lives.specs.Lengthened.{IsLengthened};
+ghost use Rattle.frame_lives.specs.Paged.{ended_at};
 
 use crate::row::{NO_ROW, Row};
 use std::alloc::{AllocError, Global};
@@ -47,6 +48,15 @@ impl Page {
         reach(&mut self.rows, place)?;
         self.rows[place] = row;
         Ok(())
+    }
+
+    /// The actor at a place has ended. It takes no memory: behind the end of the rows nobody lives.
+    pub fn end(&mut self, place: usize)
+        ensures { row_of self.new ≡ ended_at (row_of self.old) place }
+    {
+        if place < self.rows.len() {
+            self.rows[place].lives = false;
+        }
     }
 }
 

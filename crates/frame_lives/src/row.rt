@@ -13,7 +13,8 @@ pub struct Row {
 impl Row {
     /// Whether two rows say the same.
     pub fn is_same(self, other: Row) -> bool
-        ensures { IsTrue result → self ≡ other }
+        ensures same { IsTrue result → self ≡ other }
+        ensures found { self ≡ other → IsTrue result }
     {
         self.generation == other.generation && self.lives == other.lives && self.told == other.told
     }

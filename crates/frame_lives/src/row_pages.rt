@@ -2,7 +2,8 @@
 ghost use Rattle.std.specs.Prelude.{◌≡◌, ◌++◌, ◌∷◌, [], ◌<◌, length, slice_set, OnOk};
 ghost use Rattle.actor_duties.specs.Words.{updated};
 ghost use Rattle.frame_lives.specs.Shown.{row_of};
-ghost use Rattle.frame_lives.specs.Paged.{row_in, IsLengthened};
+ghost use Rattle.frame_lives.specs.Lengthened.{IsLengthened};
+ghost use Rattle.frame_lives.specs.Paged.{row_in, ended_at, without_life};
 
 use crate::page::Page;
 use crate::row::{NO_ROW, Row};
@@ -57,13 +58,21 @@ impl RowPages {
         }
     }
 
-    /// Another row for a slot.
+    /// Another row for a slot. It takes no memory where the slot has that row already.
     pub fn set(&mut self, slot: SlotId, row: Row) -> Result<(), AllocError>
         requires { slot.0 < length self.old }
         ensures { OnOk result (self.new ≡ slice_set self.old slot.0 row) }
     {
-        write(&mut self.pages, self.alloc, usize::from(slot.0), row)?;
+        put(&mut self.pages, self.alloc, usize::from(slot.0), row)?;
         Ok(())
+    }
+
+    /// The actor of a slot has ended. It takes no memory: where an actor lives, its row stands in a page.
+    pub fn end(&mut self, slot: SlotId)
+        requires { slot.0 < length self.old }
+        ensures { self.new ≡ slice_set self.old slot.0 (without_life (row_of self.old slot.0)) }
+    {
+        end_at(&mut self.pages, usize::from(slot.0));
     }
 
     /// One slot more, with this row.
@@ -116,4 +125,14 @@ fn put(pages: &mut Vec<Page>, alloc: Global, place: usize, row: Row) -> Result<(
     }
     write(pages, alloc, place, row)?;
     Ok(())
+}
+
+/// The actor at a place of pages has ended.
+fn end_at(pages: &mut Vec<Page>, place: usize)
+    ensures { row_in pages.new.items ≡ ended_at (row_in pages.old.items) place }
+{
+    let page = place / PAGE;
+    if page < pages.len() {
+        pages[page].end(place % PAGE);
+    }
 }

@@ -164,21 +164,12 @@ impl SlotLives {
     }
 
     /// The actor of a slot has ended.
-    #[tactic(auto, using(crate::proofs::Rows::row_of_end))]
-    pub fn end(&mut self, slot: SlotId) -> Result<(), AllocError>
+    #[tactic(auto, using(crate::proofs::Rows::shown_end), unfolding(crate::specs::Shown::shown))]
+    pub fn end(&mut self, slot: SlotId)
         requires { slot.0 < (shown self.old).slots }
-        ensures { OnOk result (shown self.new ≡ with_lives (shown self.old) (ended slot.0 (shown self.old).lives)) }
+        ensures { shown self.new ≡ with_lives (shown self.old) (ended slot.0 (shown self.old).lives) }
     {
-        let row = self.row(slot);
-        self.set_row(
-            slot,
-            Row {
-                generation: row.generation,
-                lives: false,
-                told: row.told,
-            },
-        )?;
-        Ok(())
+        self.rows.end(slot);
     }
 
     #[tactic(auto, using(crate::proofs::Rows::row_of_told))]

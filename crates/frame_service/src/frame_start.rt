@@ -46,7 +46,8 @@ fn first_row(wiring: &Wiring, me: ControllerId, slot: SlotId, starts: bool) -> R
 
 /// What a controller knows at the start: each of its slots that is fixed and not below an optional one
 /// lives with generation 1, every other has generation 0; and its directory tells 1 of each such slot
-/// that is announced to it. The time is in proportion to the number of slots.
+/// that is announced to it. The time is in proportion to the number of slots; only what lives or is told
+/// makes a page of rows.
 #[tactic(auto, using(crate::proofs::frame_start::Started::one_more, crate::proofs::frame_start::Started::all_started))]
 pub fn first_lives(
     alloc: Global,

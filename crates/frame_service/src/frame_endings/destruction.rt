@@ -87,7 +87,7 @@ impl FrameState {
             out,
         )?;
         end_parts(self.alloc, wiring, &self.runs, self.me, actors, out)?;
-        self.lives.end_all(actors)?;
+        self.lives.end_all(actors);
         self.imports.end_all(wiring, &self.runs, actors);
         Ok(ended)
     }

@@ -8,19 +8,13 @@ use Rattle.room_kinds.specs.declared.numbers.Incarnation.{Incarnation}
 use Rattle.room_wiring.specs.declared.tables.Tables.{Tables}
 use Rattle.actor_duties.specs.Words.{updated}
 use Rattle.actor_duties.specs.State as rows
+use Rattle.frame_lives.specs.Lengthened.{IsLengthened}
+use Rattle.frame_lives.proofs.Lengthened.{written}
 use Rattle.frame_lives.proofs.Rows.{updated_here, updated_else, updated_same}
 use Rattle.frame_service.specs.declared.frame_imports.import_places.place.ImportPlace.{ImportPlace}
 use Rattle.frame_service.specs.declared.frame_imports.import_places.place.ImportPlace.TheVariants as variants
 use Rattle.frame_service.specs.frame_imports.import_places.Places.{place_of}
-use Rattle.frame_service.specs.frame_imports.import_places.Lending.{Kept, Lending, lending, with_places, with_plugs, is_import_of, AreWithin, IsLengthened, ReachesNoFurther}
-
--- a list with another item at a place, as a function
-written : {A : Type 0} (d : A) (xs : List A) (s : ℕ) (a : A) → s < length xs → (λ n. get_or (set xs s a) n d) ≡ updated (λ n. get_or xs n d) s a
-written d xs s a l = fun_ext (λ n.
-    elim (cases_eq n s) [
-      | inl e ↦ ap (λ m. get_or (set xs s a) m d) e ∙ get_or-set_same xs s a d l ∙ sym (updated_here (λ m. get_or xs m d) s n a e)
-      | inr other ↦ get_or-set_other xs s n a d other ∙ sym (updated_else (λ m. get_or xs m d) s n a other)
-    ])
+use Rattle.frame_service.specs.frame_imports.import_places.Lending.{Kept, Lending, lending, with_places, with_plugs, is_import_of, AreWithin, ReachesNoFurther}
 
 -- what another function makes of an updated one
 mapped : {A B : Type 0} (h : A → B) (f : ℕ → A) (s : ℕ) (a : A) → (λ n. h (updated f s a n)) ≡ updated (λ n. h (f n)) s (h a)
@@ -52,17 +46,12 @@ pub place_written : (k : Kept) (slots : ℕ) (places longer : List ImportPlace) 
     → lending (record { slots = slots; places = slice_set longer n p; plugs = plugs }) ≡ with_places (lending k) (updated (lending k).places s (place_of p))
 unfolding lending
 place_written k slots places longer plugs s n p is same longer_is =
-    let there : n < length longer = subst (λ (m : ℕ). m < length longer) (sym same) longer_is.there in
+    let reaches : IsLengthened variants.Empty places longer n = subst (λ (m : ℕ). IsLengthened variants.Empty places longer m) (sym same) longer_is in
     same_lending refl
-    (ap (λ (f : ℕ → ImportPlace). λ m. place_of (f m)) (written variants.Empty longer n p there) ∙ mapped place_of (λ m. get_or longer m variants.Empty) n p
-    ∙ ap (λ (f : ℕ → ImportPlace). updated (λ m. place_of (f m)) n (place_of p)) (fun_ext longer_is.same))
+    (ap (λ (f : ℕ → ImportPlace). λ m. place_of (f m)) (written variants.Empty places longer n p reaches) ∙ mapped place_of (λ m. get_or places m variants.Empty) n p)
     refl
     ∙ ap (λ (m : ℕ). with_places (lending (record { slots = slots; places = places; plugs = plugs })) (updated (lending (record { slots = slots; places = places; plugs = plugs })).places m (place_of p))) same
     ∙ ap (λ (k : Kept). with_places (lending k) (updated (lending k).places s (place_of p))) is
-
--- a table is as long as before
-pub as_long : {A : Type 0} (d : A) (xs : List A) (n : ℕ) → n < length xs → IsLengthened d xs xs n
-as_long d xs n there = record { there = there; same = λ i. refl }
 
 -- behind the table's end an import place holds nothing
 pub place_past : (k : Kept) (slots : ℕ) (places : List ImportPlace) (plugs : List (List Incarnation)) (s n : ℕ)
@@ -87,11 +76,10 @@ pub plugs_changed : (k : Kept) (slots : ℕ) (places : List ImportPlace) (plugs 
     → lending (record { slots = slots; places = places; plugs = slice_set longer n next }) ≡ with_plugs (lending k) (updated (lending k).plugs s (change ((lending k).plugs s)))
 unfolding lending
 plugs_changed k slots places plugs longer s n read next change is same longer_is was put =
-    let here : n < length longer = subst (λ (m : ℕ). m < length longer) (sym same) longer_is.there in
-    let read_is : read ≡ get_or plugs n [] = get_or_read longer n read here was [] ∙ longer_is.same n in
+    let reaches : IsLengthened [] plugs longer n = subst (λ (m : ℕ). IsLengthened [] plugs longer m) (sym same) longer_is in
+    let read_is : read ≡ get_or plugs n [] = get_or_read longer n read reaches.there was [] ∙ longer_is.same n in
     same_lending refl refl
-    (written [] longer n next here
-    ∙ ap (λ (f : ℕ → List Incarnation). updated f n next) (fun_ext longer_is.same)
+    (written [] plugs longer n next reaches
     ∙ ap (updated (λ m. get_or plugs m []) n) (put ∙ ap change read_is))
     ∙ ap (λ (m : ℕ). with_plugs (lending (record { slots = slots; places = places; plugs = plugs })) (updated (lending (record { slots = slots; places = places; plugs = plugs })).plugs m (change (get_or plugs m [])))) same
     ∙ ap (λ (k : Kept). with_plugs (lending k) (updated (lending k).plugs s (change ((lending k).plugs s)))) is

@@ -1,4 +1,7 @@
-use Rattle.frame_service.proofs.frame_start.Started.{starts_more, rows_more}
+use Rattle.std.proofs.Common.{◌<◌, length, List, ap, ◌∙◌, arith}
+use Rattle.std.proofs.lemmas.List.FromFn.{length-map-range_with_len}
+use Rattle.frame_lives.specs.declared.row.Row.{Row}
+use Rattle.frame_service.proofs.frame_start.Started.{row_at, starts_more, rows_more}
 use Rattle.frame_service.proofs.frame_start.first_lives.Goals as goal
 
 pub loop-number-preserved : goal.loop-number-preserved
@@ -11,3 +14,10 @@ loop-number-preserved c =
           rows_more t c.args.me.0 n c.loop-number.known c.push.new.self c.first_row.result lives c.loop-number.invariant.rows
           c.lives_from_start-lives.ensures c.first_row.ensures c.in_ok-push.ensures;
     }
+
+pub push-requires : goal.push-requires
+push-requires c =
+    let t = c.args.wiring.now in
+    let n = c.loop-number.number in
+    let many = ap (λ (rows : List Row). length rows) c.loop-number.invariant.rows ∙ length-map-range_with_len (row_at t c.args.me.0) 0 n in
+    omega (arith, many, c.slot_count.ensures.count, c.slot_count.ensures.consistent.slots_numbered)

@@ -20,11 +20,6 @@ pub record AreWithin (slots : ℕ) (places : List ImportPlace) (plugs : List (Li
   pub few_places : length places ≤ slots
   pub few_plugs : length plugs ≤ slots
 
--- a table was lengthened, where it didn't reach place n yet: behind its old end stand defaults
-pub record IsLengthened {A : Type 0} (d : A) (old new : List A) (n : ℕ) : Type 0 where
-  pub there : n < length new
-  pub same : (i : ℕ) → slice_index_or new i d ≡ slice_index_or old i d
-
 -- a table of so many places reaches no further than place n, if it didn't before
 abbrev pub ReachesNoFurther : ℕ → ℕ → ℕ → Type 0
 ReachesNoFurther n old new = (m : ℕ) → old ≤ m → n < m → new ≤ m

@@ -1,7 +1,8 @@
 //! Tables that are lengthened until they reach a slot.
 ghost use Rattle.std.specs.Prelude.{[], length, OnOk};
+ghost use Rattle.frame_lives.specs.Lengthened.{IsLengthened};
 ghost use Rattle.frame_service.specs.declared.frame_imports.import_places.place.ImportPlace.TheVariants as variants;
-ghost use Rattle.frame_service.specs.frame_imports.import_places.Lending.{IsLengthened, ReachesNoFurther};
+ghost use Rattle.frame_service.specs.frame_imports.import_places.Lending.{ReachesNoFurther};
 
 use crate::frame_imports::import_places::place::ImportPlace;
 use crate::frame_imports::import_places::plugs::Plugs;

@@ -2,7 +2,7 @@ use Rattle.std.proofs.Common.{◌∙◌, ap, List}
 use Rattle.actor_duties.specs.Words.{updated}
 use Rattle.frame_lives.specs.declared.row.Row.{Row}
 use Rattle.frame_lives.specs.Shown.{no_row, row_of}
-use Rattle.frame_lives.proofs.Paging.{written}
+use Rattle.frame_lives.proofs.Lengthened.{written}
 use Rattle.frame_lives.proofs.page.Page.set.Goals as goal
 
 pub returns : goal.returns

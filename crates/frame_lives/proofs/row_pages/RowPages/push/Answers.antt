@@ -1,4 +1,4 @@
-use Rattle.std.proofs.Common.{◌<◌, ◌+◌, ◌∷◌, [], ◌++◌, length, List, ap, ◌∙◌, arith}
+use Rattle.std.proofs.Common.{◌∷◌, [], ◌++◌, length, List, ap, ◌∙◌, arith}
 use Rattle.frame_lives.specs.declared.row.Row.{Row}
 use Rattle.frame_lives.proofs.Paging.{row_pushed, rows_many}
 use Rattle.frame_lives.proofs.row_pages.RowPages.push.Goals as goal

@@ -1,4 +1,4 @@
-use Rattle.std.proofs.Common.{◌≡◌, ℕ, List, reverse, subst, sym, ap, ◌∙◌}
+use Rattle.std.proofs.Common.{ℕ, List, reverse, subst, sym, ap, ◌∙◌}
 use Rattle.room_kinds.specs.declared.numbers.Incarnation.{Incarnation}
 use Rattle.frame_lives.specs.Shown.{shown}
 use Rattle.frame_lives.proofs.EndSteps.{Ending, ending_begun, ending_on, ending_past, ending_done}

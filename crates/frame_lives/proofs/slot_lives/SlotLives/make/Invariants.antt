@@ -1,5 +1,5 @@
 use Rattle.std.proofs.Common.{◌-◌}
-use Rattle.frame_lives.specs.Shown.{shown, with_lives}
+use Rattle.frame_lives.specs.Shown.{shown}
 use Rattle.frame_lives.proofs.Making.{Making}
 use Rattle.frame_lives.proofs.slot_lives.SlotLives.make.Given as goal
 

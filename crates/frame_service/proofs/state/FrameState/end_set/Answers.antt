@@ -23,7 +23,7 @@ returns c =
     c.requires.fits c.in_ok-ended.ensures
     (c.in_ok-end_actors.ensures ∙ ap (λ (xs : List Incarnation). c.args.out.now ++ flat_map (end_sends t me places plugs) xs) c.as_slice-actors.ensures)
     (c.in_ok-end_parts.ensures ∙ ap (λ (xs : List Incarnation). c.end_actors.new.out ++ flat_map (part_sends t me) xs) c.as_slice-actors.ensures)
-    (c.in_ok-end_all.ensures ∙ ap (λ (xs : List Incarnation). with_lives (shown s.lives) (lives_without xs (shown s.lives).lives)) c.as_slice-actors.ensures)
+    (c.end_all.ensures ∙ ap (λ (xs : List Incarnation). with_lives (shown s.lives) (lives_without xs (shown s.lives).lives)) c.as_slice-actors.ensures)
     (c.end_all-2.ensures ∙ ap (λ (xs : List Incarnation). forgotten_where t (is_among xs) (lending s.imports)) c.as_slice-actors.ensures)
 
 pub end_actors-requires-clause-there : goal.end_actors-requires-clause-there

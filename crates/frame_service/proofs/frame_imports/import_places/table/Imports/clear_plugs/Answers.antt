@@ -1,6 +1,7 @@
 use Rattle.std.proofs.Common.{◌<◌, length, List, [], refl, ◌≤◌, arith}
 use Rattle.room_kinds.specs.declared.numbers.Incarnation.{Incarnation}
-use Rattle.frame_service.proofs.frame_imports.import_places.Written.{as_long, plugs_changed, plugs_past}
+use Rattle.frame_lives.proofs.Lengthened.{as_long}
+use Rattle.frame_service.proofs.frame_imports.import_places.Written.{plugs_changed, plugs_past}
 use Rattle.frame_service.proofs.frame_imports.import_places.table.Imports.clear_plugs.Goals as goal
 
 pub returns-then-place-len : goal.returns-then-place-len

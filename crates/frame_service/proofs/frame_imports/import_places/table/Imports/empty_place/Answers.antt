@@ -1,6 +1,7 @@
 use Rattle.std.proofs.Common.{◌<◌, length, ◌≤◌, arith}
 use Rattle.frame_service.specs.declared.frame_imports.import_places.place.ImportPlace.TheVariants as variants
-use Rattle.frame_service.proofs.frame_imports.import_places.Written.{as_long, place_written, place_past}
+use Rattle.frame_lives.proofs.Lengthened.{as_long}
+use Rattle.frame_service.proofs.frame_imports.import_places.Written.{place_written, place_past}
 use Rattle.frame_service.proofs.frame_imports.import_places.table.Imports.empty_place.Goals as goal
 
 pub returns-then-place-len : goal.returns-then-place-len

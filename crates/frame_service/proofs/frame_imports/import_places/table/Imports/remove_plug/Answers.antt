@@ -2,7 +2,8 @@ use Rattle.std.proofs.Common.{◌<◌, length, [], not, refl, ◌≤◌, arith}
 use Rattle.std.specs.Prelude.{filter}
 use Rattle.room_kinds.specs.declared.numbers.Incarnation.{Incarnation}
 use Rattle.actor_duties.specs.Words.{is_incarnation}
-use Rattle.frame_service.proofs.frame_imports.import_places.Written.{as_long, plugs_changed, plugs_past}
+use Rattle.frame_lives.proofs.Lengthened.{as_long}
+use Rattle.frame_service.proofs.frame_imports.import_places.Written.{plugs_changed, plugs_past}
 use Rattle.frame_service.proofs.frame_imports.import_places.table.Imports.remove_plug.Goals as goal
 
 pub returns-then-place-len : goal.returns-then-place-len
