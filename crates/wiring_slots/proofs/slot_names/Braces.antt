@@ -11,15 +11,11 @@ use Rattle.wiring_plan.specs.structure_plan.Parts.{number_of}
 use Rattle.wiring_slots.specs.declared.slot_tree.names.MappingPlan.{MappingPlan}
 use Rattle.wiring_slots.specs.declared.slot_tree.names.StepPlan.{StepPlan}
 use Rattle.wiring_slots.specs.slot_tree.MappingOrders.{EndsAlike}
+use Rattle.wiring_slots.specs.slot_names.Behind.{Longer}
 use Rattle.wiring_slots.specs.slot_names.Ways.{WayTree, stepped, step_in, further, walked, path_end, mappings_of, mapped_to, all_mappings}
 use Rattle.wiring_slots.proofs.slot_tree.MappingOrders.{known_on}
 
--- steps that go on from others
-pub record Longer (short long : List StepPlan) : Type 0 where
-  pub rest : List StepPlan
-  pub is : long ≡ short ++ rest
-
-longer_on : (a b c : List StepPlan) → Longer a b → Longer b c → Longer a c
+pub longer_on : (a b c : List StepPlan) → Longer a b → Longer b c → Longer a c
 longer_on a b c h k = record {
   rest = h.rest ++ k.rest;
   is = k.is ∙ ap (λ (xs : List StepPlan). xs ++ k.rest) h.is ∙ append_assoc a h.rest k.rest;

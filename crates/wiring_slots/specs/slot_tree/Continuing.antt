@@ -1,5 +1,5 @@
 -- Mappings of which what each adds to the path before it is kept.
-use Rattle.std.specs.Prelude.{◌≡◌, ℕ, ◌+◌, ◌<◌, ◌≤◌, ◌^◌, List, [], ◌∷◌, ◌++◌, length, take}
+use Rattle.std.specs.Prelude.{ℕ, ◌+◌, ◌<◌, ◌≤◌, ◌^◌, List, [], ◌∷◌, ◌++◌, length, take}
 use Rattle.wiring_slots.specs.declared.slot_tree.mapping_order.Continued.{Continued}
 use Rattle.wiring_slots.specs.declared.slot_tree.names.MappingPlan.{MappingPlan}
 use Rattle.wiring_slots.specs.declared.slot_tree.names.StepPlan.{StepPlan}
@@ -33,7 +33,6 @@ pub record IsOrder (kept : List Continued) (ends : List ℕ) : Type 0 where
   pub continued : AreContinued [] kept
   pub ended : AreEnds (plans_behind [] kept) ends
 
--- One more mapping, whose path has the first so many steps of the last one's, and its own; they are this many.
-pub record Pushes (kept : ℕ) (own : MappingPlan) (old new : List MappingPlan) (count : ℕ) : Type 0 where
-  pub added : new ≡ old ++ whole (last_steps [] old) (record { kept = kept; own = own }) ∷ []
-  pub steps : count ≡ kept + length own.steps
+-- One more mapping, whose path has the first so many steps of the last one's, and its own.
+abbrev pub with_mapping : ℕ → MappingPlan → List MappingPlan → List MappingPlan
+with_mapping kept own ms = ms ++ whole (last_steps [] ms) (record { kept = kept; own = own }) ∷ []

@@ -1,11 +1,10 @@
 //! Mapped paths by number.
-ghost use Rattle.std.specs.Prelude.{◌≡◌, ◌≤◌, ◌++◌, [], Some, length, IfOk, OnOk, map, option_map, option_and_then};
+ghost use Rattle.std.specs.Prelude.{◌≡◌, ◌++◌, [], Some, IfOk, OnOk, map, option_map, option_and_then};
 ghost use Rattle.room_ast.specs.MappingTree.{mapping_view, mappings_of as mappings_tree};
 ghost use Rattle.room_ast.specs.Trees.{subsystem_item_view};
 ghost use Rattle.wiring_slots.specs.slot_names.Ways.{stepped, step_in, further, walked, path_end, byte_or_zero, controller_of, mappings_of, all_mappings, item_mappings};
-ghost use Rattle.wiring_slots.specs.slot_names.Behind.{LeadsBehind, AddsBehind, start_view};
+ghost use Rattle.wiring_slots.specs.slot_names.Behind.{LeadsBehind, LastBegins, AddsBehind};
 ghost use Rattle.wiring_slots.specs.slot_names.Wireds.{way_view};
-ghost use Rattle.wiring_slots.specs.slot_tree.Continuing.{last_steps};
 
 use crate::slot_tree::{MappingOrder, MappingPlan, StepPlan};
 use check_tables::Container;
@@ -149,45 +148,43 @@ fn own_plan(alloc: Global, way: &Way, controller: ControllerId) -> Result<Mappin
     })
 }
 
-/// Where the path of a mapping begins: behind the first so many steps of the last mapping's path, in a
-/// class, if there is one.
-#[derive(Clone, Copy, Drop)]
-pub(crate) struct Start<'t> {
-    pub(crate) count: usize,
-    pub(crate) place: Option<&'t Container<'t>>,
-}
-
-/// Adds a mapping, and then those in its braces.
+/// Adds a mapping, and then those in its braces. Its path goes on behind these steps, in a class, if
+/// there is one. Its own steps are put behind them while those in its braces are added, so that how
+/// many steps a path has is always the length of what stands in memory.
 #[cycle(mappings)]
 fn add_mapping<'t>(
     alloc: Global,
     plans: &mut MappingOrder,
+    path: &mut Vec<StepPlan>,
     actors: &'t [Container<'t>],
     threads: &NameIndex,
-    start: Start<'t>,
+    place: Option<&'t Container<'t>>,
     mapping: &Mapping,
 ) -> Result<(), AllocError>
-    requires there { start.count ≤ length (last_steps [] plans.old) }
-    ensures { OnOk result (AddsBehind start.entry.count plans.old plans.new (mappings_of actors.entry.now threads.now (start_view plans.old start.entry) (mapping_view mapping.now))) }
+    requires there { LastBegins path.old.items plans.old }
+    ensures back { OnOk result (path.new.items ≡ path.old.items) }
+    ensures added { OnOk result (AddsBehind path.old.items plans.old plans.new (mappings_of actors.entry.now threads.now (record { steps = path.old.items; place = option_map (λ c. c.now) place.entry }) (mapping_view mapping.now))) }
 {
-    let Some(end) = path_from(alloc, actors, start.place, &mapping.path)? else {
+    let Some(end) = path_from(alloc, actors, place, &mapping.path)? else {
         return Ok(());
     };
     let controller = controller_of(threads, mapping.thread.as_bytes());
     let own = own_plan(alloc, &end, controller)?;
+    let kept = path.len();
+    path.extend_from_slice(end.steps.as_slice())?;
     let first = plans.len();
-    let count = plans.push(start.count, own)?;
+    plans.push(kept, own)?;
     match &mapping.nested {
         Some(nested) => {
-            let inside = Start {
-                count,
-                place: end.place,
-            };
-            add_all(alloc, plans, actors, threads, inside, nested)?;
+            add_all(alloc, plans, path, actors, threads, end.place, nested)?;
             plans.close(first);
+            path.truncate(kept);
             Ok(())
         }
-        None => Ok(()),
+        None => {
+            path.truncate(kept);
+            Ok(())
+        }
     }
 }
 
@@ -195,21 +192,24 @@ fn add_mapping<'t>(
 fn add_all<'t>(
     alloc: Global,
     plans: &mut MappingOrder,
+    path: &mut Vec<StepPlan>,
     actors: &'t [Container<'t>],
     threads: &NameIndex,
-    start: Start<'t>,
+    place: Option<&'t Container<'t>>,
     mappings: &Vec<Mapping>,
 ) -> Result<(), AllocError>
-    requires there { start.count ≤ length (last_steps [] plans.old) }
-    ensures { OnOk result (AddsBehind start.entry.count plans.old plans.new (all_mappings actors.entry.now threads.now (start_view plans.old start.entry) (mappings_tree (map mapping_view mappings.now.items)))) }
+    requires there { LastBegins path.old.items plans.old }
+    ensures back { OnOk result (path.new.items ≡ path.old.items) }
+    ensures added { OnOk result (AddsBehind path.old.items plans.old plans.new (all_mappings actors.entry.now threads.now (record { steps = path.old.items; place = option_map (λ c. c.now) place.entry }) (mappings_tree (map mapping_view mappings.now.items)))) }
 {
     for mapping in mappings {
-        add_mapping(alloc, plans, actors, threads, start, mapping)?;
+        add_mapping(alloc, plans, path, actors, threads, place, mapping)?;
     }
     Ok(())
 }
 
 /// Adds the mappings that an item of a subsystem class is, which begin in this class.
+#[tactic(auto, using(crate::proofs::slot_names::Behind::begins_all))]
 pub(crate) fn add_item<'t>(
     alloc: Global,
     plans: &mut MappingOrder,
@@ -222,11 +222,16 @@ pub(crate) fn add_item<'t>(
 {
     match item {
         SubsystemItem::Mapping(mapping) => {
-            let start = Start {
-                count: 0,
-                place: Some(class),
-            };
-            add_mapping(alloc, plans, actors, threads, start, mapping)
+            let mut path = Vec::new(alloc);
+            add_mapping(
+                alloc,
+                plans,
+                &mut path,
+                actors,
+                threads,
+                Some(class),
+                mapping,
+            )
         }
         _ => Ok(()),
     }

@@ -4,8 +4,8 @@
 //! one look tells of all. And of the path of each only what it adds to the path before it is kept, so
 //! that mappings nested in each other take room in proportion to what is written.
 
-ghost use Rattle.std.specs.Prelude.{◌≡◌, ◌<◌, ◌≤◌, ◌+◌, ◌^◌, [], length, IfOk, OnSome};
-ghost use Rattle.wiring_slots.specs.slot_tree.Continuing.{last_steps, Pushes};
+ghost use Rattle.std.specs.Prelude.{◌≡◌, ◌<◌, ◌≤◌, ◌+◌, ◌^◌, [], length, OnOk, OnSome};
+ghost use Rattle.wiring_slots.specs.slot_tree.Continuing.{last_steps, with_mapping};
 ghost use Rattle.wiring_slots.specs.slot_tree.MappingOrders.{EndsAlike, IsGroup};
 ghost use Rattle.wiring_slots.specs.slot_tree.Owners.{next_step, mapped_at};
 
@@ -65,17 +65,15 @@ impl MappingOrder {
     }
 
     /// Adds a mapping: its path has the first so many steps of the path of the last one, and then
-    /// these. Gives how many steps they are together.
-    pub(crate) fn push(&mut self, kept: usize, own: MappingPlan) -> Result<usize, AllocError>
-        requires { kept ≤ length (last_steps [] self.old) }
-        ensures { IfOk result (λ n. Pushes kept own self.old self.new n) }
+    /// these. Who walks the mappings has the whole path in memory, and so knows that they are few.
+    pub(crate) fn push(&mut self, kept: usize, own: MappingPlan) -> Result<(), AllocError>
+        requires there { kept ≤ length (last_steps [] self.old) }
+        requires few { kept + length own.steps < 2 ^ 64 }
+        ensures { OnOk result (self.new ≡ with_mapping kept own self.old) }
     {
-        let Some(count) = kept.checked_add(own.steps.len()) else {
-            return Err(AllocError);
-        };
         self.ends.push(0)?;
         self.plans.push(Continued { kept, own })?;
-        Ok(count)
+        Ok(())
     }
 
     /// Says that all mappings from this one on are it and those in its braces.

@@ -1,16 +1,12 @@
-use Rattle.std.proofs.Common.{◌∙◌, ◌+◌, ◌<◌, ◌^◌, [], length, ap, arith}
+use Rattle.std.proofs.Common.{◌∙◌, [], ap}
 use Rattle.wiring_slots.specs.slot_tree.Continuing.{plans_behind}
 use Rattle.wiring_slots.proofs.slot_tree.Continuing.{order_pushed, plans_pushed}
 use Rattle.wiring_slots.proofs.slot_tree.mapping_order.MappingOrder.push.Goals as goal
 
 pub invariant_of-self-2 : goal.invariant_of-self-2
 invariant_of-self-2 c =
-    let few : c.args.kept + length c.args.own.steps < 2 ^ 64 = omega (arith, c.len.ensures, c.in-Some.ensures.0) in
     rw (c.in_ok-push-2.ensures.items, c.in_ok-push.ensures.items)
-    (order_pushed c.args.self.now c.self.inside.plans.items c.self.inside.ends.items (record { kept = c.args.kept; own = c.args.own }) c.self.view_is c.self.invariant c.requires few)
+    (order_pushed c.args.self.now c.self.inside.plans.items c.self.inside.ends.items (record { kept = c.args.kept; own = c.args.own }) c.self.view_is c.self.invariant c.requires.there c.requires.few)
 
 pub returns : goal.returns
-returns c = record {
-  added = ap (plans_behind []) c.in_ok-push-2.ensures.items ∙ plans_pushed c.args.self.now c.self.inside.plans.items (record { kept = c.args.kept; own = c.args.own }) c.self.view_is;
-  steps = c.in-Some.ensures.1 ∙ ap (λ n. c.args.kept + n) c.len.ensures;
-}
+returns c = ap (plans_behind []) c.in_ok-push-2.ensures.items ∙ plans_pushed c.args.self.now c.self.inside.plans.items (record { kept = c.args.kept; own = c.args.own }) c.self.view_is
