@@ -20,4 +20,4 @@ push-requires c =
     let t = c.args.wiring.now in
     let n = c.loop-number.number in
     let many = ap (λ (rows : List Row). length rows) c.loop-number.invariant.rows ∙ length-map-range_with_len (row_at t c.args.me.0) 0 n in
-    omega (arith, many, c.slot_count.ensures.count, c.slot_count.ensures.consistent.slots_numbered)
+    omega (arith, many, c.slot_count-number-end.ensures.count, c.slot_count-number-end.ensures.consistent.slots_numbered)
