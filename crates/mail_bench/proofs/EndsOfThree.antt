@@ -1,10 +1,11 @@
--- The ends of three parties, taken from the back.
-use Rattle.std.proofs.Common.{◌≡◌, List, [], ◌∷◌, ◌++◌, length, slice_get, Some, ap, ◌∙◌, arith}
-use Rattle.std.proofs.lemmas.List.{length_push}
+-- The ends of three parties, of which the first two are taken from the front.
+use Rattle.std.proofs.Common.{◌≡◌, List, [], ◌∷◌, length, get_or, slice_get, Some, sym, ap, ◌∙◌, arith}
+use Rattle.std.specs.List.{remove}
 
-pub first_two : {X : Type 0} (all one two rest : List X) (a b c : X) → length all ≡ 3 → all ≡ one ++ c ∷ [] → one ≡ two ++ b ∷ [] → two ≡ rest ++ a ∷ [] → (slice_get all 0 ≡ Some a) × (slice_get all 1 ≡ Some b)
-first_two all one two [] a b c count e f g =
-    let whole : all ≡ a ∷ b ∷ c ∷ [] = e ∙ ap (λ l. l ++ c ∷ []) (f ∙ ap (λ l. l ++ b ∷ []) g) in
-    (ap (λ l. slice_get l 0) whole, ap (λ l. slice_get l 1) whole)
-first_two all one two (x ∷ xs) a b c count e f g =
-    absurd (omega (arith, count, ap length e, length_push one c, ap length f, length_push two b, ap length g, length_push (x ∷ xs) a))
+pub first_two : {X : Type 0} (all rest : List X) (a b : X) → length all ≡ 3 → a ≡ get_or all 0 a → rest ≡ remove all 0 → b ≡ get_or rest 0 b → (slice_get all 0 ≡ Some a) × (slice_get all 1 ≡ Some b)
+first_two [] rest a b count is_a cut is_b = absurd (omega arith)
+first_two (x ∷ []) rest a b count is_a cut is_b = absurd (omega arith)
+first_two (x ∷ (y ∷ ys)) rest a b count is_a cut is_b = (
+  ap Some (sym is_a),
+  ap Some (sym (is_b ∙ ap (λ l. get_or l 0 b) cut)),
+)

@@ -21,7 +21,8 @@ fn post_and_take<M: Mail>(
     requires prio { m.prio.0 < 6 }
     requires in_range { b < M.box_count (M.log end.old).party (M.log end.old).parties }
     requires tied { IsTied M.tied (M.log end.old).party office.old end.old }
-    ensures who { ((M.log end.new).party ≡ (M.log end.old).party) × ((M.log end.new).parties ≡ (M.log end.old).parties) }
+    ensures party { (M.log end.new).party ≡ (M.log end.old).party }
+    ensures parties { (M.log end.new).parties ≡ (M.log end.old).parties }
     ensures tied { StaysTied M.tied (M.log end.old).party office.old office.new end.old end.new }
 {
     if end.post(office, m).is_err() {

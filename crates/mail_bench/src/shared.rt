@@ -92,15 +92,8 @@ pub(crate) fn shared_two<R: Threads + Wait + Sync>(
     count: u64,
 ) -> Result<u64, AllocError> {
     let mut ends = MailSeg::set_up(alloc, 3)?;
-    let Some(_environment) = ends.pop() else {
-        return Err(AllocError);
-    };
-    let Some(second) = ends.pop() else {
-        return Err(AllocError);
-    };
-    let Some(first) = ends.pop() else {
-        return Err(AllocError);
-    };
+    let first = ends.remove(0);
+    let second = ends.remove(0);
     let done = AtomicBool::new(false);
     let over = &done;
     let (sent, found) = thread::join(

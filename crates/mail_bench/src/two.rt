@@ -84,15 +84,8 @@ pub(crate) fn two<M: Mail<Office = ()> + Send + Drop, R: Threads>(
     requires { b < M.box_count 1 3 }
 {
     let (_office, mut ends) = M::set_up(alloc, 3)?;
-    let Some(_environment) = ends.pop() else {
-        return Err(AllocError);
-    };
-    let Some(second) = ends.pop() else {
-        return Err(AllocError);
-    };
-    let Some(first) = ends.pop() else {
-        return Err(AllocError);
-    };
+    let first = ends.remove(0);
+    let second = ends.remove(0);
     let done = AtomicBool::new(false);
     let over = &done;
     let (sent, found) = thread::join(
@@ -101,7 +94,8 @@ pub(crate) fn two<M: Mail<Office = ()> + Send + Drop, R: Threads>(
             requires { ((M.log first).party ≡ 0) × ((M.log first).parties ≡ 3) × IsTied M.tied 0 tt first }
         { send_all(alloc, first, count, over) },
         move || -> u64
-            requires { (b < M.box_count (M.log second).party (M.log second).parties) × IsTied M.tied (M.log second).party tt second }
+            requires { let log = M.log second in
+                (b < M.box_count log.party log.parties) × IsTied M.tied log.party tt second }
         { receive_all(second, b, over) },
     );
     sent?;

@@ -23,18 +23,15 @@ const APART: &str = "ActorInstanceMapping top -> t0 ActorInstanceMapping top2 ->
 const ACROSS: &str = "ActorInstanceMapping top -> t0 ActorInstanceMapping top/b -> t1
 ActorInstanceMapping top2 -> t1 ActorInstanceMapping top2/b -> t0";
 
-/// The model twice, as `top` and `top2`, with these declarations of threads and mappings.
+/// What stands in the subsystem of the model, as its text has it.
+const PARTS: &str =
+    "ActorRef top: T LogicalThread t0 LogicalThread t1 ActorInstanceMapping top/b -> t1";
+
+/// The model twice, as `top` and `top2`, with these declarations of threads and mappings. Did its text
+/// not have the parts so, there would be no `top2`, and the injections would be refused.
 fn twice(alloc: Global, threads: &str, mappings: &str) -> Result<String, AllocError> {
-    let Some((head, rest)) = MODEL.split_once("SubSystemClass") else {
-        return Err(AllocError);
-    };
-    let Some((_, classes)) = rest.split_once("ProtocolClass") else {
-        return Err(AllocError);
-    };
-    format!(in alloc;
-        "{head}SubSystemClass S {{ ActorRef top: T ActorRef top2: T {threads} {mappings} }}
-ProtocolClass{classes}"
-    )
+    let parts = format!(in alloc; "ActorRef top: T ActorRef top2: T {threads} {mappings}")?;
+    MODEL.replace(alloc, PARTS, parts.as_str())
 }
 
 /// The run of the model twice at a gate at which two controllers meet. It tells whether one of them entered

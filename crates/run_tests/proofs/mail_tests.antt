@@ -1,2 +1,2 @@
 pub mod HalfLemmas
-pub mod SeatLemmas
+pub mod WorkerLemmas

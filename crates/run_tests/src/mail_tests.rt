@@ -11,11 +11,11 @@ mod halves;
 #[cfg(test)]
 mod messages;
 mod round;
-mod seat;
 #[cfg(test)]
 mod shared_tests;
 #[cfg(test)]
 mod thread_tests;
+mod worker;
 
 pub use round::{Ran, run};
-pub use seat::Seat;
+pub use worker::Worker;

@@ -1,29 +1,29 @@
 //! All controllers at once, each in a thread.
 ghost use Rattle.std.specs.Prelude.{◌≡◌, ◌+◌, ◌<◌, All, length};
 ghost use denote.Param.Send.{IsSync, IsSend};
-ghost use Rattle.run_tests.specs.mail_tests.Seats.{CanAct, Acted, AllActed};
+ghost use Rattle.run_tests.specs.mail_tests.Workers.{CanAct, Acted, AllActed};
 
-use crate::mail_tests::seat::{Seat, act};
+use crate::mail_tests::worker::{Worker, act};
 use mail_core::Mail;
 use std::alloc::Global;
 use std::thread::{Threads, join_mut};
 
-/// All at once. The seats are halved at each step, and one half goes to another thread.
+/// All at once. The workers are halved at each step, and one half goes to another thread.
 #[cycle(halves)]
 pub(crate) fn act_all<M: Mail<Office = ()> + Send, R: Threads + Sync>(
     rt: &R,
     alloc: Global,
     count: u64,
-    seats: &mut [Seat<M>],
+    workers: &mut [Worker<M>],
 )
-    requires { All (CanAct M.log M.tied) seats.old }
-    ensures { AllActed M.tied seats.old seats.new }
+    requires { All (CanAct M.log M.tied) workers.old }
+    ensures { AllActed M.tied workers.old workers.new }
 {
-    match seats {
+    match workers {
         [] => {}
-        [seat] => act(alloc, seat, count),
+        [worker] => act(alloc, worker, count),
         _ => {
-            let (front, back) = seats.split_at_mut(seats.len() / 2);
+            let (front, back) = workers.split_at_mut(workers.len() / 2);
             both(rt, alloc, count, front, back);
         }
     }
@@ -36,8 +36,8 @@ fn both<M: Mail<Office = ()> + Send, R: Threads + Sync>(
     rt: &R,
     alloc: Global,
     count: u64,
-    front: &mut [Seat<M>],
-    back: &mut [Seat<M>],
+    front: &mut [Worker<M>],
+    back: &mut [Worker<M>],
 )
     requires some { (0 < length front.old) × (0 < length back.old) }
     requires front { All (CanAct M.log M.tied) front.old }

@@ -1,59 +1,58 @@
 //! A round of all controllers at once.
-ghost use Rattle.std.specs.Prelude.{ℕ, ◌≡◌, ◌+◌, ◌<◌, map, length, slice_index_or, IfOk};
+ghost use Rattle.std.specs.Prelude.{◌≡◌, ◌+◌, ◌<◌, map, length, IfOk};
+ghost use Rattle.run_tests.specs.mail_tests.Workers.{AreNumbered};
 
 use crate::mail_tests::halves::act_all;
-use crate::mail_tests::seat::Seat;
+use crate::mail_tests::worker::Worker;
 use mail_core::Mail;
 use room_kinds::Msg;
 use std::alloc::{AllocError, Global};
 use std::collections::VecDeque;
 use std::thread::Threads;
 
-/// A seat for each controller.
-#[tactic(auto, using(crate::proofs::mail_tests::SeatLemmas::seat_steps))]
-fn seated<M: Mail<Office = ()> + Drop>(
+/// A worker for each controller.
+#[tactic(auto, using(crate::proofs::mail_tests::WorkerLemmas::worker_steps))]
+fn workers_of<M: Mail<Office = ()> + Drop>(
     alloc: Global,
     ends: Vec<M>,
     parties: u8,
-) -> Result<Vec<Seat<M>>, AllocError>
+) -> Result<Vec<Worker<M>>, AllocError>
     requires { length ends.items + 1 ≡ parties }
-    ensures ends { IfOk result (λ seats. map (λ s. s.end) seats.items ≡ ends.items) }
-    ensures numbers { IfOk result (λ seats. (i : ℕ) (d : _) → i < length seats.items → ((slice_index_or seats.items i d).party ≡ i) × ((slice_index_or seats.items i d).parties ≡ parties)) }
+    ensures ends { IfOk result (λ workers. map (λ w. w.end) workers.items ≡ ends.items) }
+    ensures numbers { IfOk result (λ workers. AreNumbered parties workers.items) }
 {
     let mut ends = VecDeque::from(ends);
-    let mut seats = Vec::new(alloc);
+    let mut workers = Vec::new(alloc);
     for party in 0..parties - 1 {
         let Some(end) = ends.pop_front() else {
-            return Err(AllocError);
+            unreachable!()
         };
-        seats.push(Seat {
+        workers.push(Worker {
             party,
             parties,
             took: Vec::new(alloc),
-            failed: false,
+            outcome: Ok(()),
             end,
         })?;
     }
-    Ok(seats)
+    Ok(workers)
 }
 
-/// The ends and what they took, unless one failed.
-#[tactic(auto, using(crate::proofs::mail_tests::SeatLemmas::seat_steps))]
+/// The ends and what they took, unless a worker found no memory.
+#[tactic(auto, using(crate::proofs::mail_tests::WorkerLemmas::worker_steps))]
 fn gathered<M: Mail<Office = ()> + Drop>(
     alloc: Global,
-    seats: Vec<Seat<M>>,
+    workers: Vec<Worker<M>>,
 ) -> Result<(Vec<M>, Vec<Vec<Msg>>), AllocError>
-    ensures { IfOk result (λ r. map (λ s. s.end) seats.items ≡ r.0.items) }
+    ensures { IfOk result (λ r. map (λ w. w.end) workers.items ≡ r.0.items) }
 {
-    let mut seats = VecDeque::from(seats);
+    let mut workers = VecDeque::from(workers);
     let mut ends = Vec::new(alloc);
     let mut taken = Vec::new(alloc);
-    while let Some(seat) = seats.pop_front() {
-        if seat.failed {
-            return Err(AllocError);
-        }
-        ends.push(seat.end)?;
-        taken.push(seat.took)?;
+    while let Some(worker) = workers.pop_front() {
+        worker.outcome?;
+        ends.push(worker.end)?;
+        taken.push(worker.took)?;
     }
     Ok((ends, taken))
 }
@@ -77,11 +76,11 @@ pub fn run<M: Mail<Office = ()> + Send + Drop, R: Threads + Sync>(
 {
     let (_office, mut ends) = M::set_up(alloc, parties)?;
     let Some(environment) = ends.pop() else {
-        return Err(AllocError);
+        unreachable!()
     };
-    let mut seats = seated(alloc, ends, parties)?;
-    act_all(rt, alloc, count, seats.as_mut_slice());
-    let (mut ends, taken) = gathered(alloc, seats)?;
+    let mut workers = workers_of(alloc, ends, parties)?;
+    act_all(rt, alloc, count, workers.as_mut_slice());
+    let (mut ends, taken) = gathered(alloc, workers)?;
     ends.push(environment)?;
     let left = M::close(alloc, (), ends)?;
     Ok(Ran { taken, left })

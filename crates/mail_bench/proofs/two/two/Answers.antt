@@ -12,10 +12,10 @@ join-sent-requires-after_bounds g c κs within =
     let all = c.in_ok-_office.ends.items in
     let together = c.in_ok-_office.ensures.tied in
     let new = c.in_ok-_office.ensures.fresh in
-    let first = c.in-Some-pop-2.first in
-    let second = c.in-Some-pop.second in
+    let first = c.remove-first.result in
+    let second = c.remove-second.result in
     let count : length all ≡ 3 = sym (length-map all log) ∙ new.count in
-    let at = first_two all c.pop.new.self.items c.pop-2.new.self.items c.pop-3.new.self.items first second c.in-Some._environment count c.in-Some.ensures.items c.in-Some-pop.ensures.items c.in-Some-pop-2.ensures.items in
+    let at = first_two all c.remove-first.new.self.items first second count c.remove-first.ensures.value c.remove-first.ensures.items c.remove-second.ensures.value in
     let one : log first ≡ fresh 3 0 = sym (log_at-map log all 0 first at.0) ∙ new.each 0 (omega arith) in
     let two : log second ≡ fresh 3 1 = sym (log_at-map log all 1 second at.1) ∙ new.each 1 (omega arith) in
     let tied_one : IsTied g.M.Mail.tied 0 tt first = record { ends = all; together = together; here = at.0 } in

@@ -1,6 +1,6 @@
 use Rattle.std.proofs.Common.{◌≡◌, ◌++◌, List, subst, sym}
-use Rattle.run_tests.specs.declared.mail_tests.seat.Seat.{Seat}
-use Rattle.run_tests.specs.mail_tests.Seats.{AllActed}
+use Rattle.run_tests.specs.declared.mail_tests.worker.Worker.{Worker}
+use Rattle.run_tests.specs.mail_tests.Workers.{AllActed}
 use Rattle.run_tests.proofs.mail_tests.HalfLemmas.{both_acted}
 use Rattle.run_tests.proofs.mail_tests.halves.+halves.Goals as goal
 
@@ -9,6 +9,6 @@ act_all-returns-in_default g t c =
     let cut = c.split_at_mut-front in
     let xs = cut.result.0.now in
     let ys = cut.result.1.now in
-    let whole : xs ++ ys ≡ c.args.seats.now = sym cut.ensures.value in
-    subst (λ (old : List (Seat g.row.M.Denot)). AllActed g.M.Mail.tied old (c.both.new.front ++ c.both.new.back)) whole
+    let whole : xs ++ ys ≡ c.args.workers.now = sym cut.ensures.value in
+    subst (λ (old : List (Worker g.row.M.Denot)). AllActed g.M.Mail.tied old (c.both.new.front ++ c.both.new.back)) whole
     (both_acted g.M.Mail.tied xs ys c.both.new.front c.both.new.back c.both.ensures.front c.both.ensures.back)

@@ -2,7 +2,7 @@ use Rattle.std.proofs.Common.{◌+◌, ◌-◌, ◌*◌, length}
 use Rattle.run_tests.proofs.mail_tests.halves.+halves.Given as goal
 
 abbrev pub decreases-act_all : goal.decreases-act_all
-decreases-act_all g l = 4 * length l.seats.now
+decreases-act_all g l = 4 * length l.workers.now
 
 abbrev pub decreases-both : goal.decreases-both
 decreases-both g l = 4 * (length l.front.now + length l.back.now) - 1

@@ -1,20 +1,20 @@
 //! A controller that posts and takes.
 ghost use Rattle.std.specs.Prelude.{◌≡◌, ◌+◌, ◌<◌};
 ghost use Rattle.mail_core.specs.Tied.{IsTied, StaysTied};
-ghost use Rattle.run_tests.specs.mail_tests.Seats.{CanAct, Acted};
+ghost use Rattle.run_tests.specs.mail_tests.Workers.{CanAct, Acted};
 
 use mail_core::Mail;
 use plain_messages::message;
 use room_kinds::Msg;
 use std::alloc::{AllocError, Global};
 
-/// A controller's end, with what a thread took from it.
+/// A controller with its end, at which a thread posts and takes, and what came of that.
 #[derive(Drop)]
-pub struct Seat<M> {
+pub struct Worker<M> {
     pub party: u8,
     pub parties: u8,
     pub took: Vec<Msg>,
-    pub failed: bool,
+    pub outcome: Result<(), AllocError>,
     pub end: M,
 }
 
@@ -23,7 +23,8 @@ pub struct Seat<M> {
 fn look<M: Mail<Office = ()>>(end: &mut M, b: u32, took: &mut Vec<Msg>) -> Result<(), AllocError>
     requires in_range { b < M.box_count (M.log end.old).party (M.log end.old).parties }
     requires tied { IsTied M.tied (M.log end.old).party tt end.old }
-    ensures who { ((M.log end.new).party ≡ (M.log end.old).party) × ((M.log end.new).parties ≡ (M.log end.old).parties) }
+    ensures party { (M.log end.new).party ≡ (M.log end.old).party }
+    ensures parties { (M.log end.new).parties ≡ (M.log end.old).parties }
     ensures tied { StaysTied M.tied (M.log end.old).party tt tt end.old end.new }
 {
     match end.take(&mut (), b) {
@@ -39,13 +40,11 @@ fn post_one<M: Mail<Office = ()>>(end: &mut M, m: Msg) -> Result<(), AllocError>
     requires to { m.to.0 + 1 < (M.log end.old).parties }
     requires prio { m.prio.0 < 6 }
     requires tied { IsTied M.tied (M.log end.old).party tt end.old }
-    ensures who { ((M.log end.new).party ≡ (M.log end.old).party) × ((M.log end.new).parties ≡ (M.log end.old).parties) }
+    ensures party { (M.log end.new).party ≡ (M.log end.old).party }
+    ensures parties { (M.log end.new).parties ≡ (M.log end.old).parties }
     ensures tied { StaysTied M.tied (M.log end.old).party tt tt end.old end.new }
 {
-    match end.post(&mut (), m) {
-        Ok(()) => Ok(()),
-        Err(_refused) => Err(AllocError),
-    }
+    end.post(&mut (), m).map_err(|_refused| AllocError)
 }
 
 /// Looks at two boxes.
@@ -59,7 +58,8 @@ fn look_twice<M: Mail<Office = ()>>(
     requires first { first < M.box_count (M.log end.old).party (M.log end.old).parties }
     requires second { second < M.box_count (M.log end.old).party (M.log end.old).parties }
     requires tied { IsTied M.tied (M.log end.old).party tt end.old }
-    ensures who { ((M.log end.new).party ≡ (M.log end.old).party) × ((M.log end.new).parties ≡ (M.log end.old).parties) }
+    ensures party { (M.log end.new).party ≡ (M.log end.old).party }
+    ensures parties { (M.log end.new).parties ≡ (M.log end.old).parties }
     ensures tied { StaysTied M.tied (M.log end.old).party tt tt end.old end.new }
 {
     look(end, first, took)?;
@@ -81,7 +81,8 @@ fn post_and_look<M: Mail<Office = ()>>(
     requires first { first < M.box_count (M.log end.old).party (M.log end.old).parties }
     requires second { second < M.box_count (M.log end.old).party (M.log end.old).parties }
     requires tied { IsTied M.tied (M.log end.old).party tt end.old }
-    ensures who { ((M.log end.new).party ≡ (M.log end.old).party) × ((M.log end.new).parties ≡ (M.log end.old).parties) }
+    ensures party { (M.log end.new).party ≡ (M.log end.old).party }
+    ensures parties { (M.log end.new).parties ≡ (M.log end.old).parties }
     ensures tied { StaysTied M.tied (M.log end.old).party tt tt end.old end.new }
 {
     post_one(end, m)?;
@@ -92,54 +93,55 @@ fn post_and_look<M: Mail<Office = ()>>(
 #[tactic(auto, using(mail_core::proofs::Tied::tied_steps))]
 fn step<M: Mail<Office = ()>>(
     alloc: Global,
-    seat: &mut Seat<M>,
+    worker: &mut Worker<M>,
     boxes: u32,
     number: u64,
 ) -> Result<(), AllocError>
-    requires controller { seat.old.party + 1 < seat.old.parties }
-    requires who { ((M.log seat.old.end).party ≡ seat.old.party) × ((M.log seat.old.end).parties ≡ seat.old.parties) }
-    requires boxes { (0 < boxes) × (boxes ≡ M.box_count seat.old.party seat.old.parties) }
-    requires tied { IsTied M.tied seat.old.party tt seat.old.end }
-    ensures same { (seat.new.party ≡ seat.old.party) × (seat.new.parties ≡ seat.old.parties) }
-    ensures who { ((M.log seat.new.end).party ≡ seat.old.party) × ((M.log seat.new.end).parties ≡ seat.old.parties) }
-    ensures tied { StaysTied M.tied seat.old.party tt tt seat.old.end seat.new.end }
+    requires controller { worker.old.party + 1 < worker.old.parties }
+    requires party { (M.log worker.old.end).party ≡ worker.old.party }
+    requires parties { (M.log worker.old.end).parties ≡ worker.old.parties }
+    requires boxes { (0 < boxes) × (boxes ≡ M.box_count worker.old.party worker.old.parties) }
+    requires tied { IsTied M.tied worker.old.party tt worker.old.end }
+    ensures number { worker.new.party ≡ worker.old.party }
+    ensures numbers { worker.new.parties ≡ worker.old.parties }
+    ensures party { (M.log worker.new.end).party ≡ worker.old.party }
+    ensures parties { (M.log worker.new.end).parties ≡ worker.old.parties }
+    ensures tied { StaysTied M.tied worker.old.party tt tt worker.old.end worker.new.end }
 {
-    let controllers = u64::from(seat.parties) - 1;
+    let controllers = u64::from(worker.parties) - 1;
     let to = (number % controllers) as u8;
     let prio = (number / controllers % 6) as u8;
-    let m = message(alloc, seat.party, to, prio, number);
+    let m = message(alloc, worker.party, to, prio, number);
     let b = (number % u64::from(boxes)) as u32;
-    post_and_look(&mut seat.end, m, b, boxes - 1 - b, &mut seat.took)
+    post_and_look(&mut worker.end, m, b, boxes - 1 - b, &mut worker.took)
 }
 
 /// Posts so many messages to the controllers in turn, at priorities in turn, and takes meanwhile.
 #[tactic(auto, using(mail_core::proofs::Tied::tied_steps))]
 fn work<M: Mail<Office = ()>>(
     alloc: Global,
-    seat: &mut Seat<M>,
+    worker: &mut Worker<M>,
     count: u64,
 ) -> Result<(), AllocError>
-    requires controller { seat.old.party + 1 < seat.old.parties }
-    requires who { ((M.log seat.old.end).party ≡ seat.old.party) × ((M.log seat.old.end).parties ≡ seat.old.parties) }
-    requires tied { IsTied M.tied seat.old.party tt seat.old.end }
-    ensures tied { StaysTied M.tied seat.old.party tt tt seat.old.end seat.new.end }
+    requires controller { worker.old.party + 1 < worker.old.parties }
+    requires party { (M.log worker.old.end).party ≡ worker.old.party }
+    requires parties { (M.log worker.old.end).parties ≡ worker.old.parties }
+    requires tied { IsTied M.tied worker.old.party tt worker.old.end }
+    ensures tied { StaysTied M.tied worker.old.party tt tt worker.old.end worker.new.end }
 {
-    let boxes = seat.end.boxes();
-    if boxes == 0 {
-        return Err(AllocError);
-    }
+    let boxes = worker.end.boxes();
     for number in 0..count {
-        step(alloc, seat, boxes, number)?;
+        step(alloc, worker, boxes, number)?;
     }
     Ok(())
 }
 
-/// Posts and takes; notes where that failed.
+/// Posts and takes, and notes whether there was memory for it.
 #[tactic(auto, using(mail_core::proofs::Tied::tied_steps))]
-pub(crate) fn act<M: Mail<Office = ()>>(alloc: Global, seat: &mut Seat<M>, count: u64)
-    requires { CanAct M.log M.tied seat.old }
-    ensures { Acted M.tied seat.old seat.new }
+pub(crate) fn act<M: Mail<Office = ()>>(alloc: Global, worker: &mut Worker<M>, count: u64)
+    requires { CanAct M.log M.tied worker.old }
+    ensures { Acted M.tied worker.old worker.new }
 {
-    let failed = work(alloc, seat, count).is_err();
-    seat.failed = failed;
+    let outcome = work(alloc, worker, count);
+    worker.outcome = outcome;
 }
