@@ -1,7 +1,7 @@
 -- A plant may be shared among threads.
 use denote.RattleType.{RattleType}
 use denote.Hole.{as_row}
-use denote.Struct.Field.{u16-field, row_field}
+use denote.Struct.Field.{u16-field, usize-field, row_field}
 use denote.Builtin.{u16, i64}
 use denote.Struct.Declared.{shape}
 use denote.Enum.Declared.{shape as enum_shape}
@@ -65,6 +65,9 @@ stmt_sync = as_row_sync BoundStmt.the_field stmt_row
 u16_sync : IsSync (as_row u16-field)
 u16_sync = as_row_sync u16-field (search sendable)
 
+usize_sync : IsSync (as_row usize-field)
+usize_sync = as_row_sync usize-field (search sendable)
+
 event_sync : IsSync Event.the_row
 event_sync = declared_sync Event.the_type (u16_sync, (u16_sync, tt))
 
@@ -75,10 +78,10 @@ bound_sync : IsSync Bound.the_row
 bound_sync = declared_sync Bound.the_type (vec_sync BoundStmt.the_row stmt_sync, tt)
 
 arrow_sync : IsSync Arrow.the_row
-arrow_sync = declared_sync Arrow.the_type (vec_sync Trigger.the_row trigger_sync, (option_row BoundExpr.the_row expr_sync, (bound_sync, (u16_sync, tt))))
+arrow_sync = declared_sync Arrow.the_type (vec_sync Trigger.the_row trigger_sync, (option_row BoundExpr.the_row expr_sync, (bound_sync, (usize_sync, tt))))
 
 row_sync : IsSync Row.the_row
-row_sync = declared_sync Row.the_type (vec_sync u16 (search sendable), (bound_sync, (bound_sync, (vec_sync Arrow.the_row arrow_sync, (u16_sync, tt)))))
+row_sync = declared_sync Row.the_type (vec_sync u16 (search sendable), (bound_sync, (bound_sync, (vec_sync Arrow.the_row arrow_sync, (usize_sync, tt)))))
 
 node_sync : IsSync Node.the_row
 node_sync = variants_sync Node.enum (
