@@ -2,7 +2,8 @@ pub mod Orders
 pub mod Depths
 pub mod Placed
 pub mod Sharing
-pub mod PlacedSharing
+pub mod WaitingSlots
+pub mod PlacedWaiting
 pub mod Growing
 pub mod PlaceSums
 pub mod KnownSlots

@@ -7,6 +7,7 @@ pub mod Orders
 pub mod Places
 pub mod Placing
 pub mod Sharing
+pub mod WaitingSlots
 pub mod Sums
 pub mod Known
 pub mod Leading

@@ -4,9 +4,9 @@
 //! the numbers, the owners and the limits are this project's own. The slots are made with a stack of
 //! those that wait, so that neither deep containment nor a structure that stands for more slots than
 //! the limit takes more room than the limit. The paths of slots each inside the one before have one text,
-//! so a chain of containers takes room in proportion to its depth; of a tree the texts are those of its
-//! leaves, whose sum still grows with the square of the depth where each container of a chain holds a
-//! leaf beside the next one.
+//! to which each adds its segment, so a chain of containers takes time and room in proportion to its
+//! depth; of a tree the texts are those of its leaves, whose sum still grows with the square of the depth
+//! where each container of a chain holds a leaf beside the next one.
 
 mod children;
 mod counts;
@@ -14,6 +14,7 @@ mod leading;
 mod mapping_order;
 mod names;
 mod owners;
+mod paths;
 mod placed_slots;
 mod places;
 mod runs;

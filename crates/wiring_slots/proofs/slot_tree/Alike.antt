@@ -6,14 +6,12 @@ use Rattle.room_kinds.specs.Structure.{is_imported}
 use Rattle.room_wiring.specs.declared.slot.Slot.{Slot}
 use Rattle.wiring_plan.specs.declared.structure_plan.plan.ReferencePlan.{ReferencePlan}
 use Rattle.wiring_plan.specs.declared.structure_plan.plan.StructurePlan.{StructurePlan}
-use Rattle.wiring_slots.specs.declared.slot_tree.children.Above.{Above}
-use Rattle.wiring_slots.specs.declared.slot_tree.children.Pending.{Pending}
 use Rattle.wiring_slots.specs.declared.slot_tree.names.MappingPlan.{MappingPlan}
 use Rattle.wiring_slots.specs.declared.slot_tree.names.ReferenceLabel.{ReferenceLabel}
 use Rattle.wiring_slots.specs.declared.slot_tree.names.SlotNames.{SlotNames}
 use Rattle.wiring_slots.specs.slot_tree.Orders.{in_order}
 use Rattle.wiring_slots.specs.slot_tree.Placing.{at_most, TellsFew}
-use Rattle.wiring_slots.specs.slot_tree.Slots.{pending_at, slots_of_reference, slots_of_references, above_in, labels_of_class, references_of_class, inside, subtree, top, top_slots, slots_of}
+use Rattle.wiring_slots.specs.slot_tree.Slots.{Pending, Above, pending_at, slots_of_reference, slots_of_references, above_in, labels_of_class, references_of_class, inside, subtree, top, top_slots, slots_of}
 
 -- two slots that wait of one kind and one class
 record Alike (p q : Pending) : Type 0 where

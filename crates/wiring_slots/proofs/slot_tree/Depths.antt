@@ -3,13 +3,11 @@ use Rattle.std.proofs.Common.{◌≡◌, ◌∙◌, ℕ, zero, suc, ◌+◌, Boo
 use Rattle.std.specs.List.{enumerate_from, flat_map, range_with_len}
 use Rattle.wiring_plan.specs.declared.structure_plan.plan.ReferencePlan.{ReferencePlan}
 use Rattle.wiring_plan.specs.declared.structure_plan.plan.StructurePlan.{StructurePlan}
-use Rattle.wiring_slots.specs.declared.slot_tree.children.Pending.{Pending}
-use Rattle.wiring_slots.specs.declared.slot_tree.children.Above.{Above}
 use Rattle.wiring_slots.specs.declared.slot_tree.names.MappingPlan.{MappingPlan}
 use Rattle.wiring_slots.specs.declared.slot_tree.names.ReferenceLabel.{ReferenceLabel}
 use Rattle.wiring_slots.specs.declared.slot_tree.names.SlotNames.{SlotNames}
 use Rattle.room_kinds.specs.Structure.{is_imported}
-use Rattle.wiring_slots.specs.slot_tree.Slots.{pending_at, slots_of_reference, slots_of_references, above_in, labels_of_class, references_of_class, inside, subtree}
+use Rattle.wiring_slots.specs.slot_tree.Slots.{Pending, Above, pending_at, slots_of_reference, slots_of_references, above_in, labels_of_class, references_of_class, inside, subtree}
 use Rattle.wiring_slots.specs.slot_tree.Orders.{in_order}
 use Rattle.wiring_slots.specs.slot_tree.Placing.{all_from}
 

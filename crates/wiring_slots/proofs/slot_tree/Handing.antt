@@ -4,14 +4,13 @@ use Rattle.std.specs.List.{filter_map, cons_option, range_with_len}
 use Rattle.std.proofs.lemmas.List.{drop_more, drop-drop, drop-set-lt, length-drop}
 use Rattle.std.proofs.lemmas.List.FromFn.{get_or-map-range_with_len, length-map-range_with_len}
 use Rattle.wiring_plan.specs.declared.structure_plan.plan.ReferencePlan.{ReferencePlan}
-use Rattle.wiring_slots.specs.declared.slot_tree.children.Above.{Above}
-use Rattle.wiring_slots.specs.declared.slot_tree.children.Pending.{Pending}
+use Rattle.wiring_slots.specs.declared.slot_tree.children.Container.{Container}
+use Rattle.wiring_slots.specs.declared.slot_tree.children.Waiting.{Waiting}
 use Rattle.wiring_slots.specs.declared.slot_tree.names.MappingPlan.{MappingPlan}
-use Rattle.wiring_slots.specs.declared.slot_tree.names.ReferenceLabel.{ReferenceLabel}
 use Rattle.wiring_slots.specs.declared.slot_tree.names.StepPlan.{StepPlan}
 use Rattle.wiring_slots.specs.declared.slot_tree.owners.Trail.{Trail}
 use Rattle.wiring_slots.specs.slot_tree.Owners.{next_step, goes_on, trails_at}
-use Rattle.wiring_slots.specs.slot_tree.Slots.{pending_with, pending_at}
+use Rattle.wiring_slots.specs.slot_tree.WaitingSlots.{waiting_with, waiting_at}
 use Rattle.wiring_slots.specs.slot_tree.Leading.{through, trails_through, by_reference, by_index}
 
 module _ (mappings : List MappingPlan) (r : ℕ) where
@@ -61,10 +60,10 @@ pub left_behind : {X : Type 0} (lists all : List X) (i : ℕ) (x : X) → drop i
 left_behind {X} lists all i x rest = drop-set-lt (i + 1) lists i x (omega arith) ∙ sym (drop-drop 1 i lists) ∙ ap (λ (xs : List X). drop 1 xs) rest ∙ drop-drop 1 i all
 
 -- a slot with the trails that lead to it
-pub pending_is : (mappings : List MappingPlan) (above : Above) (labels : List ReferenceLabel) (number : ℕ) (r : ReferencePlan) (index : ℕ) (trails : List Trail) (p : Pending)
-    → p ≡ pending_with mappings above labels number r index trails → trails ≡ trails_at mappings number index above.trails → p ≡ pending_at mappings above labels number r index
-unfolding pending_at
-pending_is mappings above labels number r index trails p is led = is ∙ ap (λ (ts : List Trail). pending_with mappings above labels number r index ts) led
+pub waiting_is : (mappings : List MappingPlan) (c : Container) (number : ℕ) (r : ReferencePlan) (index : ℕ) (trails : List Trail) (w : Waiting)
+    → w ≡ waiting_with mappings c number r index trails → trails ≡ trails_at mappings number index c.trails → w ≡ waiting_at mappings c number r index
+unfolding waiting_at
+waiting_is mappings c number r index trails w is led = is ∙ ap (λ (ts : List Trail). waiting_with mappings c number r index ts) led
 
 -- there is a list for each reference
 pub length-by_reference : (mappings : List MappingPlan) (n : ℕ) (trails : List Trail) → length (by_reference mappings n trails) ≡ n

@@ -9,8 +9,6 @@ use Rattle.room_kinds.specs.declared.structure.ReferenceKind.{ReferenceKind}
 use Rattle.wiring_plan.specs.declared.structure_plan.plan.ClassPlan.{ClassPlan}
 use Rattle.wiring_plan.specs.declared.structure_plan.plan.ReferencePlan.{ReferencePlan}
 use Rattle.wiring_plan.specs.declared.structure_plan.plan.StructurePlan.{StructurePlan}
-use Rattle.wiring_slots.specs.declared.slot_tree.children.Pending.{Pending}
-use Rattle.wiring_slots.specs.declared.slot_tree.children.Above.{Above}
 use Rattle.wiring_slots.specs.declared.slot_tree.names.MappingPlan.{MappingPlan}
 use Rattle.wiring_slots.specs.declared.slot_tree.names.ReferenceLabel.{ReferenceLabel}
 use Rattle.wiring_slots.specs.declared.slot_tree.names.SlotNames.{SlotNames}
@@ -18,7 +16,7 @@ use Rattle.wiring_slots.specs.declared.slot_tree.owners.Trail.{Trail}
 use Rattle.wiring_slots.specs.slot_tree.Owners.{mapped_at, owner_at, trails_at}
 use Rattle.wiring_slots.specs.slot_tree.Orders.{in_order}
 use Rattle.room_kinds.specs.Structure.{is_imported}
-use Rattle.wiring_slots.specs.slot_tree.Slots.{owner_of, pending_at, slots_of_reference, slots_of_references, above_in, labels_of_class, references_of_class, inside, subtree, top, top_slots, slots_of}
+use Rattle.wiring_slots.specs.slot_tree.Slots.{Pending, Above, owner_of, pending_at, slots_of_reference, slots_of_references, above_in, labels_of_class, references_of_class, inside, subtree, top, top_slots, slots_of}
 use Rattle.wiring_slots.specs.slot_tree.Known.{NamesClasses, NamesKnown, IsKnownSlot}
 
 all_in_order : {X S : Type 0} (P : X → Type 0) (Q : S → Type 0) (f : ℕ → X → List S) → ((n : ℕ) (x : X) → P x → All Q (f n x)) → (n : ℕ) (xs : List X) → All P xs → All Q (in_order f n xs)

@@ -10,15 +10,14 @@ use Rattle.room_kinds.specs.Structure.{is_imported}
 use Rattle.room_wiring.specs.declared.slot.Slot.{Slot}
 use Rattle.wiring_plan.specs.declared.structure_plan.plan.ReferencePlan.{ReferencePlan}
 use Rattle.wiring_plan.specs.declared.structure_plan.plan.StructurePlan.{StructurePlan}
-use Rattle.wiring_slots.specs.declared.slot_tree.children.Pending.{Pending}
 use Rattle.wiring_slots.specs.declared.slot_tree.names.MappingPlan.{MappingPlan}
 use Rattle.wiring_slots.specs.declared.slot_tree.names.ReferenceLabel.{ReferenceLabel}
 use Rattle.wiring_slots.specs.declared.slot_tree.names.SlotNames.{SlotNames}
 use Rattle.wiring_slots.specs.declared.slot_tree.placed_slots.Opened.{Opened}
 use Rattle.wiring_slots.specs.declared.slot_tree.placed_slots.Placed.{Placed}
 use Rattle.wiring_slots.specs.slot_tree.Placing.{inside_to, inside_of}
-use Rattle.wiring_slots.specs.slot_tree.Slots.{segment_text, pending_at, slots_of_reference, slots_of_references, above_in, labels_of_class, references_of_class}
-use Rattle.wiring_slots.specs.slot_tree.Sharing.{without_path, shared, all_placed, AddsSlot, next_path, Sharing}
+use Rattle.wiring_slots.specs.slot_tree.Slots.{Pending, segment_text, pending_at, slots_of_reference, slots_of_references, above_in, labels_of_class, references_of_class}
+use Rattle.wiring_slots.specs.slot_tree.Sharing.{with_path, without_path, shared, all_placed, AddsSlot, next_path, Sharing}
 
 -- ---- the paths of the slots directly inside a slot begin with its path
 abbrev pub Begins : Pending → Pending → Type 0
@@ -68,7 +67,7 @@ module _ (here next : List ℕ) (begins : take (length here) next ≡ here) wher
       ap (λ (t : List ℕ). shared_at t o) same
     where
       shared_at : List ℕ → Opened → Slot
-      shared_at t o = record { path = t; class = o.class; kind = o.kind; parent = o.parent; owner = o.owner; reference = o.reference; index = o.index }
+      shared_at t o = with_path t o.slot
 
   same_slots : (os : List Opened) → All (λ (o : Opened). o.path_end ≤ length here) os → map (shared next) os ≡ map (shared here) os
   same_slots [] h = refl

@@ -1,14 +1,13 @@
 -- Placing the slots that wait, one after another, within a limit.
-use Rattle.std.specs.Prelude.{◌≡◌, ℕ, zero, suc, ◌+◌, ◌<◌, ◌≤◌, nat_le, Bool, true, false, List, [], ◌++◌, length, reverse, Option, Some, None, if◌then◌else◌}
+use Rattle.std.specs.Prelude.{◌≡◌, ℕ, zero, suc, ◌+◌, ◌<◌, ◌≤◌, nat_le, Bool, true, false, List, [], ◌++◌, length, Option, Some, None, if◌then◌else◌}
 use Rattle.std.specs.Global.{Vec}
 use Rattle.std.specs.List.{All}
 use Rattle.room_wiring.specs.declared.slot.Slot.{Slot}
 use Rattle.wiring_plan.specs.declared.structure_plan.plan.ClassPlan.{ClassPlan}
 use Rattle.wiring_plan.specs.declared.structure_plan.plan.StructurePlan.{StructurePlan}
-use Rattle.wiring_slots.specs.declared.slot_tree.children.Pending.{Pending}
 use Rattle.wiring_slots.specs.declared.slot_tree.names.MappingPlan.{MappingPlan}
 use Rattle.wiring_slots.specs.declared.slot_tree.names.SlotNames.{SlotNames}
-use Rattle.wiring_slots.specs.slot_tree.Slots.{inside, subtree, slots_of}
+use Rattle.wiring_slots.specs.slot_tree.Slots.{Pending, inside, subtree, slots_of}
 use Rattle.wiring_slots.specs.slot_tree.Orders.{in_order}
 
 -- The most slots.
@@ -51,7 +50,7 @@ inside_of plan names mappings number p = inside_to plan names mappings p.depth n
 unfoldable pub all_from : StructurePlan → SlotNames → List MappingPlan → ℕ → List Pending → List Slot
 all_from plan names mappings first ps = in_order (λ n (p : Pending). subtree plan names mappings p.depth n p) first ps
 
--- What the loop keeps: the slots so far and those that wait, the last one first, are all; there are few.
-pub record Placing (plan : StructurePlan) (names : SlotNames) (mappings : List MappingPlan) (all : List Slot) (slots : List Slot) (stack : List Pending) : Type 0 where
-  pub so_far : slots ++ all_from plan names mappings (length slots) (reverse stack) ≡ all
-  pub few : length slots + length stack ≤ 4096
+-- What the loop keeps: the slots so far and those that wait, the next one first, are all; there are few.
+pub record Placing (plan : StructurePlan) (names : SlotNames) (mappings : List MappingPlan) (all : List Slot) (slots : List Slot) (waiting : List Pending) : Type 0 where
+  pub so_far : slots ++ all_from plan names mappings (length slots) waiting ≡ all
+  pub few : length slots + length waiting ≤ 4096

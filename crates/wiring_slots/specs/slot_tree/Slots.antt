@@ -1,22 +1,35 @@
 -- The slots of a structure, depth first, in order of declaration and index.
-use Rattle.std.specs.Prelude.{ℕ, zero, suc, ◌+◌, Bool, List, [], ◌∷◌, ◌++◌, length, map, decimal, Some, None, slice_get, if◌then◌else◌}
+use Rattle.std.specs.Prelude.{ℕ, zero, suc, ◌+◌, Bool, List, [], ◌∷◌, ◌++◌, length, map, decimal, Option, Some, None, slice_get, if◌then◌else◌}
 use Rattle.std.specs.List.{enumerate_from, flat_map, range_with_len, slice_index_or}
 use Rattle.std.specs.Option.{option_map_or}
 use Rattle.room_kinds.specs.declared.numbers.ControllerId.{ControllerId}
+use Rattle.room_kinds.specs.declared.numbers.SlotId.{SlotId}
 use Rattle.room_kinds.specs.declared.structure.ReferenceKind.{ReferenceKind}
 use Rattle.room_kinds.specs.Structure.{is_imported}
 use Rattle.room_wiring.specs.declared.slot.Slot.{Slot}
 use Rattle.wiring_plan.specs.declared.structure_plan.plan.ClassPlan.{ClassPlan}
 use Rattle.wiring_plan.specs.declared.structure_plan.plan.ReferencePlan.{ReferencePlan}
 use Rattle.wiring_plan.specs.declared.structure_plan.plan.StructurePlan.{StructurePlan}
-use Rattle.wiring_slots.specs.declared.slot_tree.children.Pending.{Pending}
-use Rattle.wiring_slots.specs.declared.slot_tree.children.Above.{Above}
 use Rattle.wiring_slots.specs.declared.slot_tree.names.MappingPlan.{MappingPlan}
 use Rattle.wiring_slots.specs.declared.slot_tree.names.ReferenceLabel.{ReferenceLabel}
 use Rattle.wiring_slots.specs.declared.slot_tree.names.SlotNames.{SlotNames}
 use Rattle.wiring_slots.specs.declared.slot_tree.owners.Trail.{Trail}
 use Rattle.wiring_slots.specs.slot_tree.Owners.{trails_at, owner_at}
 use Rattle.wiring_slots.specs.slot_tree.Orders.{in_order}
+
+-- A slot that has no number yet, the mappings that lead to it, and how many containers deep its inside is looked into.
+pub record Pending : Type 0 where
+  pub slot : Slot
+  pub trails : List Trail
+  pub depth : ℕ
+
+-- What slots have from their container: what stands before their names in their paths, its number if it is no subsystem, its owner, its trails, and how many containers deep the insides of these slots are looked into.
+pub record Above : Type 0 where
+  pub prefix : List ℕ
+  pub parent : Option SlotId
+  pub owner : ControllerId
+  pub trails : List Trail
+  pub depth : ℕ
 
 -- `:` and the index, where the reference is replicated.
 abbrev pub index_text : Bool → ℕ → List ℕ

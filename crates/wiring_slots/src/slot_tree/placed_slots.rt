@@ -1,16 +1,15 @@
 //! The slots that have been placed. Those inside each other share the text of their paths.
 
 ghost use Rattle.std.specs.Prelude.{◌≡◌, ◌+◌, ◌≤◌, ◌++◌, [], true, length, map, IfOk, OnOk};
-ghost use Rattle.wiring_slots.specs.slot_tree.Sharing.{without_path, shared, AddsSlot};
+ghost use Rattle.wiring_slots.specs.slot_tree.Sharing.{with_path, shared, AddsSlot};
 
 use room_kinds::{ControllerId, ReferenceKind, SlotId};
 use room_wiring::{Path, Slot};
 use std::alloc::{AllocError, Global};
 
-/// A slot without its path, which is the beginning, up to `path_end`, of the next slot's path.
+/// A slot without its path.
 #[derive(Clone, Copy, Drop)]
-pub(crate) struct Opened {
-    pub(crate) path_end: usize,
+pub(crate) struct BareSlot {
     pub(crate) class: u16,
     pub(crate) kind: ReferenceKind,
     pub(crate) parent: Option<SlotId>,
@@ -19,11 +18,18 @@ pub(crate) struct Opened {
     pub(crate) index: u32,
 }
 
-fn without_path(slot: &Slot) -> Opened
-    ensures { result ≡ without_path slot.now }
+/// A slot whose path is the beginning, up to `path_end`, of the next slot's path.
+#[derive(Clone, Copy, Drop)]
+pub(crate) struct Opened {
+    pub(crate) path_end: usize,
+    pub(crate) slot: BareSlot,
+}
+
+fn with_path(path: Path, slot: BareSlot) -> Slot
+    ensures { result ≡ with_path path slot }
 {
-    Opened {
-        path_end: slot.path.as_bytes().len(),
+    Slot {
+        path,
         class: slot.class,
         kind: slot.kind,
         parent: slot.parent,
@@ -34,18 +40,11 @@ fn without_path(slot: &Slot) -> Opened
 }
 
 /// The slot again, with a path that shares the text of the next slot's path.
-fn shared(next: &Path, slot: Opened) -> Result<Slot, AllocError>
-    ensures { IfOk result (λ s. s ≡ shared next.now slot) }
+fn shared(next: &Path, opened: Opened) -> Result<Slot, AllocError>
+    ensures { IfOk result (λ s. s ≡ shared next.now opened) }
 {
-    Ok(Slot {
-        path: next.beginning(slot.path_end)?,
-        class: slot.class,
-        kind: slot.kind,
-        parent: slot.parent,
-        owner: slot.owner,
-        reference: slot.reference,
-        index: slot.index,
-    })
+    let path = next.beginning(opened.path_end)?;
+    Ok(with_path(path, opened.slot))
 }
 
 /// Adds slots with paths that share the text of the next slot's path.
@@ -84,26 +83,35 @@ impl Placed {
         self.slots.len() + self.opened.len()
     }
 
-    /// Adds the next slot, of which is told whether it is a leaf. Unless it is, the slot that comes next
-    /// has to be the first one inside it.
-    pub(crate) fn add(&mut self, slot: Slot, is_leaf: bool) -> Result<(), AllocError>
-        ensures { OnOk result (AddsSlot self.old self.new slot is_leaf) }
+    /// Adds the next slot, which has this path, and of which is told whether it is a leaf. Unless it is,
+    /// the slot that comes next has to be the first one inside it.
+    pub(crate) fn add(
+        &mut self,
+        alloc: Global,
+        path: &[u8],
+        slot: BareSlot,
+        is_leaf: bool,
+    ) -> Result<(), AllocError>
+        ensures { OnOk result (AddsSlot self.old self.new (with_path path.now slot) is_leaf) }
     {
         if is_leaf {
-            self.close(slot)
+            self.close(Path::from_bytes(alloc, path)?, slot)
         } else {
-            self.opened.push(without_path(&slot))?;
+            self.opened.push(Opened {
+                path_end: path.len(),
+                slot,
+            })?;
             Ok(())
         }
     }
 
     /// Adds a leaf: its path has the text of those before it that it begins with.
-    fn close(&mut self, leaf: Slot) -> Result<(), AllocError>
-        ensures { OnOk result (AddsSlot self.old self.new leaf true) }
+    fn close(&mut self, path: Path, leaf: BareSlot) -> Result<(), AllocError>
+        ensures { OnOk result (AddsSlot self.old self.new (with_path path leaf) true) }
     {
-        push_shared(&mut self.slots, self.opened.as_slice(), &leaf.path)?;
+        push_shared(&mut self.slots, self.opened.as_slice(), &path)?;
         self.opened.clear();
-        self.slots.push(leaf)?;
+        self.slots.push(with_path(path, leaf))?;
         Ok(())
     }
 }

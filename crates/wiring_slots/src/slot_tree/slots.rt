@@ -1,13 +1,14 @@
 //! All slots of a structure.
 
-ghost use Rattle.std.specs.Prelude.{◌≡◌, ◌<◌, ◌≤◌, ◌+◌, ◌++◌, [], length, map, reverse, slice_get, IfOk, OnOk};
-ghost use Rattle.std.specs.List.{range_with_len};
-ghost use Rattle.wiring_slots.specs.slot_tree.Placing.{IsNumbered, Fits, inside_of, all_from, at_most, most_slots};
-ghost use Rattle.wiring_slots.specs.slot_tree.Slots.{references_of_class, labels_of_class, top, top_slots, slots_of};
+ghost use Rattle.std.specs.Prelude.{◌≡◌, ◌≤◌, ◌++◌, [], length, map, reverse, IfOk, OnOk};
+ghost use Rattle.wiring_slots.specs.slot_tree.Placing.{IsNumbered, Fits, all_from, at_most, most_slots};
+ghost use Rattle.wiring_slots.specs.slot_tree.Slots.{references_of_class, slots_of};
+ghost use Rattle.wiring_slots.specs.slot_tree.WaitingSlots.{subsystem, waiting_inside, waiting_tops, pending_of, EndsFall};
 
-use crate::slot_tree::children::{Above, Pending, above_in, slots_of_references};
+use crate::slot_tree::children::{Container, Waiting, container_of, waiting_of_references};
 use crate::slot_tree::mapping_order::MappingOrder;
-use crate::slot_tree::names::{ReferenceLabel, SlotNames};
+use crate::slot_tree::names::SlotNames;
+use crate::slot_tree::paths::write_path;
 use crate::slot_tree::placed_slots::Placed;
 use crate::slot_tree::runs::Trails;
 use room_kinds::{ControllerId, Sequence};
@@ -30,40 +31,31 @@ fn references_of<'a>(plan: &'a StructurePlan, class: u16) -> &'a [ReferencePlan]
     }
 }
 
-/// The labels of the references of a class.
-fn labels_of<'a>(names: &'a SlotNames, class: u16) -> &'a [ReferenceLabel]
-    ensures { result.now ≡ labels_of_class names.entry.now class }
-{
-    match names.classes.as_slice().get(usize::from(class)) {
-        Some(labels) => labels.as_slice(),
-        None => &[],
-    }
-}
-
-/// The slots directly inside a slot that gets this number, if they fit in the room.
-fn inside_of(
+/// The slots directly inside a slot that gets this number, if they fit in the room; its path ends there
+/// in the text.
+fn waiting_inside(
     alloc: Global,
     room: usize,
     plan: &StructurePlan,
-    names: &SlotNames,
     mappings: &MappingOrder,
     number: u16,
-    pending: &Pending,
-) -> Result<Option<Vec<Pending>>, AllocError>
+    path_end: usize,
+    slot: &Waiting,
+) -> Result<Option<Vec<Waiting>>, AllocError>
     requires { IsNumbered plan.now }
-    ensures { IfOk result (λ v. Fits room (inside_of plan.now names.now mappings.now number pending.now) v) }
+    ensures { IfOk result (λ v.
+        Fits room (waiting_inside plan.now mappings.now number path_end slot.now) v) }
 {
-    if pending.depth == 0 || pending.slot.kind.is_imported() {
+    if slot.depth == 0 || slot.slot.kind.is_imported() {
         return Ok(Some(Vec::new(alloc)));
     }
-    let above = above_in(alloc, pending.depth - 1, number, pending)?;
-    let labels = labels_of(names, pending.slot.class);
-    let references = references_of(plan, pending.slot.class);
-    slots_of_references(alloc, room, mappings, &above, labels, references)
+    let container = container_of(alloc, slot.depth - 1, number, path_end, slot)?;
+    let references = references_of(plan, slot.slot.class);
+    waiting_of_references(alloc, room, mappings, &container, references)
 }
 
 /// Puts slots on the stack, the first one on top.
-fn push_all(stack: &mut Vec<Pending>, slots: Vec<Pending>) -> Result<(), AllocError>
+fn push_all(stack: &mut Vec<Waiting>, slots: Vec<Waiting>) -> Result<(), AllocError>
     ensures { OnOk result (stack.new.items ≡ stack.old.items ++ reverse slots.items) }
 {
     let mut left = slots;
@@ -74,42 +66,54 @@ fn push_all(stack: &mut Vec<Pending>, slots: Vec<Pending>) -> Result<(), AllocEr
 }
 
 /// Places the slots that wait, the last one first, and what is inside them; none where there are too
-/// many.
+/// many. The paths are written into one text, of whose beginning a slot further down the stack needs no
+/// more than the one on top of it.
 fn place(
     alloc: Global,
     plan: &StructurePlan,
     names: &SlotNames,
     mappings: &MappingOrder,
-    waiting: Vec<Pending>,
+    tops: Vec<Waiting>,
 ) -> Result<Option<Vec<Slot>>, AllocError>
     requires numbered { IsNumbered plan.now }
-    requires few { length waiting.items ≤ 4096 }
-    ensures { IfOk result (λ v. Fits most_slots (all_from plan.now names.now mappings.now 0 (reverse waiting.items)) v) }
+    requires few { length tops.items ≤ 4096 }
+    requires ends { EndsFall 0 (reverse tops.items) }
+    ensures { IfOk result (λ v.
+        let first = map (pending_of names.now []) (reverse tops.items) in
+        Fits most_slots (all_from plan.now names.now mappings.now 0 first) v) }
 {
     let mut placed = Placed::new(alloc);
-    let mut stack = waiting;
-    while let Some(pending) = stack.pop() {
+    let mut path = Vec::new(alloc);
+    let mut stack = tops;
+    while let Some(waiting) = stack.pop() {
+        write_path(&mut path, names, &waiting)?;
         let number = placed.len();
         let room = MOST_SLOTS - 1 - stack.len() - number;
-        let Some(children) = inside_of(alloc, room, plan, names, mappings, number as u16, &pending)?
-        else {
+        let end = path.len();
+        let inside = waiting_inside(alloc, room, plan, mappings, number as u16, end, &waiting)?;
+        let Some(children) = inside else {
             return Ok(None);
         };
         let is_leaf = children.is_empty();
-        placed.add(pending.slot, is_leaf)?;
+        placed.add(alloc, path.as_slice(), waiting.slot, is_leaf)?;
         push_all(&mut stack, children)?;
     }
     Ok(Some(placed.slots))
 }
 
-/// What the slots directly inside the subsystem have from it.
-fn top(alloc: Global, plan: &StructurePlan, mappings: &MappingOrder) -> Result<Above, AllocError>
-    ensures { IfOk result (λ a. a ≡ top plan.now mappings.now) }
+/// The subsystem as a container.
+fn subsystem(
+    alloc: Global,
+    plan: &StructurePlan,
+    mappings: &MappingOrder,
+) -> Result<Container, AllocError>
+    ensures { IfOk result (λ c. c ≡ subsystem plan.now mappings.now) }
 {
     let trails = Trails::all(alloc, mappings.len())?;
-    Ok(Above {
-        prefix: Sequence::new(alloc),
-        parent: None,
+    Ok(Container {
+        path_end: 0,
+        class: None,
+        number: None,
         owner: ControllerId(0),
         trails,
         depth: plan.classes.len(),
@@ -117,28 +121,22 @@ fn top(alloc: Global, plan: &StructurePlan, mappings: &MappingOrder) -> Result<A
 }
 
 /// The slots directly inside the subsystem, if they are not too many.
-fn top_slots(
+fn waiting_tops(
     alloc: Global,
     plan: &StructurePlan,
-    names: &SlotNames,
     mappings: &MappingOrder,
-) -> Result<Option<Vec<Pending>>, AllocError>
+) -> Result<Option<Vec<Waiting>>, AllocError>
     requires { IsNumbered plan.now }
-    ensures { IfOk result (λ v. Fits most_slots (top_slots plan.now names.now mappings.now) v) }
+    ensures { IfOk result (λ v. Fits most_slots (waiting_tops plan.now mappings.now) v) }
 {
-    let above = top(alloc, plan, mappings)?;
-    slots_of_references(
-        alloc,
-        MOST_SLOTS,
-        mappings,
-        &above,
-        names.subsystem.as_slice(),
-        plan.subsystem.references.as_slice(),
-    )
+    let container = subsystem(alloc, plan, mappings)?;
+    let references = plan.subsystem.references.as_slice();
+    waiting_of_references(alloc, MOST_SLOTS, mappings, &container, references)
 }
 
 /// The slots of a structure, by number; none where it has more than 4,096. It takes time and room in
-/// proportion to the slots and their mappings, and never places more slots than that.
+/// proportion to the slots, their mappings and the paths of the leaves, and never places more slots
+/// than that.
 pub fn slots_of(
     alloc: Global,
     plan: &StructurePlan,
@@ -148,7 +146,7 @@ pub fn slots_of(
     requires { IsNumbered plan.now }
     ensures { IfOk result (λ slots. slots ≡ at_most most_slots (slots_of plan.now names.now mappings.now)) }
 {
-    let Some(tops) = top_slots(alloc, plan, names, mappings)? else {
+    let Some(tops) = waiting_tops(alloc, plan, mappings)? else {
         return Ok(None);
     };
     let mut waiting = Vec::new(alloc);
