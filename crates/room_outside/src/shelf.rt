@@ -36,7 +36,7 @@ pub enum ReadRefused {
     Memory,
 }
 
-/// How many bytes a read asks for. A shelf of files opens one for each read.
+/// How many bytes a read asks for. A shelf of files keeps the file open from one to the next.
 const PIECE: usize = 65_536;
 
 /// The most bytes of a text that `read_whole` reads.

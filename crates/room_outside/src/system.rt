@@ -10,18 +10,86 @@ use std::marker::Model;
 use std::rt::Files;
 use std::{fs, io};
 
+/// A file that is open, and the offset that its next read begins at.
+#[derive(Drop)]
+struct OpenFile<F> {
+    file: F,
+    at: u64,
+}
+
+/// The file at a path. It seeks even to the front, so that what can be read only once, as a pipe,
+/// is refused: a second reading would take it for an empty text.
+fn open_at<R: Files>(files: &R, path: &str, from: u64) -> io::Result<OpenFile<R::File>> {
+    let mut file = fs::open(files, path)?;
+    file.seek(SeekFrom::Start(from))?;
+    Ok(OpenFile { file, at: from })
+}
+
+impl<F: Read + Seek> OpenFile<F> {
+    /// Reads from an offset on, and seeks only where the last read ended elsewhere.
+    fn read_from(&mut self, from: u64, buf: &mut [u8]) -> io::Result<usize>
+        ensures { IfOk result (λ n. n ≤ length buf.new) }
+    {
+        if from != self.at {
+            self.file.seek(SeekFrom::Start(from))?;
+        }
+        let n = self.file.read(buf)?;
+        self.at = from.saturating_add(n as u64);
+        Ok(n)
+    }
+}
+
+/// The file that was read last, and its path.
+#[derive(Drop)]
+struct LastFile<F> {
+    path: String,
+    open: OpenFile<F>,
+}
+
+/// Reads on from the last file where it has this path, and else closes it and opens the file at the
+/// path. That file becomes the last one until its end is read or a read fails.
+fn read_file<R: Files + AllocGlobal>(
+    files: &R,
+    last: &mut Option<LastFile<R::File>>,
+    path: &str,
+    from: u64,
+    buf: &mut [u8],
+) -> io::Result<usize>
+    ensures { IfOk result (λ n. n ≤ length buf.new) }
+{
+    let mut file = match last.take().filter(|file| file.path.as_str() == path) {
+        Some(file) => file,
+        None => {
+            let mut open = open_at(files, path, from)?;
+            // Without memory for the path the file is opened for this read alone.
+            let Ok(path) = String::from_str(files.alloc(), path) else {
+                return open.read_from(from, buf);
+            };
+            LastFile { path, open }
+        }
+    };
+    let n = file.open.read_from(from, buf)?;
+    if n > 0 {
+        *last = Some(file);
+    }
+    Ok(n)
+}
+
 /// The files of a system, each under its path. It tells no text, and has one count of faults,
 /// which is that of every name.
 ///
-/// A file is opened for each read and closed after it, so that nothing of ours is kept between two
-/// reads. Whatever the system lacks to open it, memory too, is a failed read.
-#[derive(Drop, Debug)]
-pub struct FileShelf<R> {
+/// The file that was read last stays open, so that a text that is read in pieces from front to end
+/// is opened once, and all its pieces are of one file. A read of another path, the end of the text
+/// and a failed read close it. Whatever the system lacks to open a file, memory too, is a failed
+/// read.
+#[derive(Drop)]
+pub struct FileShelf<R: Files> {
     files: R,
+    last: Option<LastFile<R::File>>,
     faults: u64,
 }
 
-impl<R> Model for FileShelf<R> {
+impl<R: Files> Model for FileShelf<R> {
     ghost use Rattle.std.specs.Prelude.{ℕ};
 
     ghost Value = { ℕ };
@@ -29,12 +97,16 @@ impl<R> Model for FileShelf<R> {
     ghost view = { λ s. s.faults };
 }
 
-impl<R> FileShelf<R> {
+impl<R: Files> FileShelf<R> {
     /// The files that this runtime reaches.
     pub fn new(files: R) -> FileShelf<R>
         ensures { result ≡ 0 }
     {
-        FileShelf { files, faults: 0 }
+        FileShelf {
+            files,
+            last: None,
+            faults: 0,
+        }
     }
 
     /// How many reads have failed.
@@ -45,15 +117,7 @@ impl<R> FileShelf<R> {
     }
 }
 
-fn read_file<R: Files>(files: &R, path: &str, from: u64, buf: &mut [u8]) -> io::Result<usize>
-    ensures { IfOk result (λ n. n ≤ length buf.new) }
-{
-    let mut file = fs::open(files, path)?;
-    file.seek(SeekFrom::Start(from))?;
-    file.read(buf)
-}
-
-impl<R: Files> Shelf for FileShelf<R> {
+impl<R: Files + AllocGlobal> Shelf for FileShelf<R> {
     ghost use Rattle.room_outside.specs.Shown.{untold};
 
     ghost shown = { untold };
@@ -67,7 +131,7 @@ impl<R: Files> Shelf for FileShelf<R> {
         ensures ok { OnOk result (self.new ≡ self.old) }
         ensures err { OnErr result (self.new ≡ one_more self.old) }
     {
-        match read_file(&self.files, name, from, buf) {
+        match read_file(&self.files, &mut self.last, name, from, buf) {
             Ok(n) => Ok(n),
             Err(_) => {
                 self.faults = self.faults.saturating_add(1);

@@ -210,6 +210,32 @@ fn files_are_read_by_their_paths(rt: HostRuntime) -> Result<(), Fail> {
 }
 
 #[test]
+fn a_file_stays_open_between_its_pieces(rt: HostRuntime) -> Result<(), Fail> {
+    let path = "text_that_is_removed";
+    let other = "text_that_stays";
+    fs::write(&rt, path, b"abcdef".as_slice())?;
+    fs::write(&rt, other, b"xyz".as_slice())?;
+    let mut shelf = FileShelf::new(rt);
+    let mut piece = [0u8; 4];
+    assert_eq!(rt; shelf.read_at(path, 0, &mut piece), Ok(4));
+    fs::remove_file(&rt, path)?;
+    assert_eq!(rt; shelf.read_at(path, 4, &mut piece), Ok(2));
+    assert_eq!(rt; piece, *b"efcd");
+    assert_eq!(rt; shelf.read_at(path, 1, &mut piece), Ok(4));
+    assert_eq!(rt; piece, *b"bcde");
+
+    // Another path closes it, and so does the end of a text.
+    assert_eq!(rt; shelf.read_at(other, 0, &mut piece), Ok(3));
+    assert_eq!(rt; shelf.read_at(path, 0, &mut piece), Err(Failed));
+    assert_eq!(rt; shelf.read_at(other, 1, &mut piece), Ok(2));
+    fs::remove_file(&rt, other)?;
+    assert_eq!(rt; shelf.read_at(other, 3, &mut piece), Ok(0));
+    assert_eq!(rt; shelf.read_at(other, 0, &mut piece), Err(Failed));
+    assert_eq!(rt; shelf.faults(), 2);
+    Ok(())
+}
+
+#[test]
 fn standard_streams_are_written(rt: HostRuntime) {
     let mut output = OutSink::output(rt.stdout());
     assert_eq!(rt;
