@@ -1,7 +1,6 @@
 -- The loop that places the slots that wait.
-use Rattle.std.proofs.Common.{◌≡◌, ◌∙◌, ℕ, zero, suc, ◌+◌, ◌-◌, ◌<◌, ◌≤◌, Bool, true, false, cond, nat_le, List, [], ◌∷◌, ◌++◌, Option, Some, None, length, reverse, subst, append_assoc, append-nil, length-append, refl, sym, ap, arith}
-use Rattle.std.proofs.lemmas.List.{reverse-append, reverse-reverse, length-reverse, length_push}
-use Rattle.std.specs.Global.{Vec}
+use Rattle.std.proofs.Common.{◌≡◌, ◌∙◌, ℕ, zero, suc, ◌+◌, ◌-◌, ◌<◌, ◌≤◌, Bool, true, false, cond, nat_le, List, [], ◌∷◌, ◌++◌, Some, None, length, append_assoc, append-nil, length-append, refl, sym, ap, arith}
+use Rattle.std.proofs.lemmas.List.{length_push}
 use Rattle.std.proofs.lemmas.Bool.Decides.{nat_tests}
 use Rattle.room_wiring.specs.declared.slot.Slot.{Slot}
 use Rattle.wiring_plan.specs.declared.structure_plan.plan.StructurePlan.{StructurePlan}
@@ -9,7 +8,7 @@ use Rattle.wiring_slots.specs.declared.slot_tree.names.MappingPlan.{MappingPlan}
 use Rattle.wiring_slots.specs.declared.slot_tree.names.SlotNames.{SlotNames}
 use Rattle.wiring_slots.specs.slot_tree.Slots.{Pending, inside, subtree, top, top_slots, slots_of}
 use Rattle.wiring_slots.specs.slot_tree.Orders.{in_order}
-use Rattle.wiring_slots.specs.slot_tree.Placing.{at_most, Fits, inside_to, inside_of, all_from, Placing}
+use Rattle.wiring_slots.specs.slot_tree.Placing.{at_most, inside_to, inside_of, all_from, Placing}
 use Rattle.wiring_slots.proofs.slot_tree.Orders.{in_order_append, in_order_long}
 use Rattle.wiring_slots.proofs.slot_tree.Depths.{same_depth, inside_depth, children_depth}
 

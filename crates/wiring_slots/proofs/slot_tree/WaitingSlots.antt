@@ -1,5 +1,5 @@
 -- Slots that wait without their paths are those of the definition.
-use Rattle.std.proofs.Common.{◌≡◌, ◌∙◌, ℕ, zero, suc, ◌≤◌, Bool, true, false, cond, Option, List, [], ◌∷◌, ◌++◌, length, map, take, append_assoc, length-append, length-take, take-take, take_at, refl, sym, ap, subst, arith}
+use Rattle.std.proofs.Common.{◌≡◌, ◌∙◌, ℕ, zero, suc, ◌≤◌, Bool, true, false, cond, List, [], ◌∷◌, ◌++◌, length, map, take, append_assoc, length-append, length-take, take-take, take_at, refl, sym, ap, subst, arith}
 use Rattle.std.specs.Prelude.{All, slice_get}
 use Rattle.std.specs.List.{enumerate_from, flat_map, range_with_len}
 use Rattle.std.specs.Option.{option_map_or}
@@ -15,7 +15,7 @@ use Rattle.wiring_slots.specs.declared.slot_tree.names.SlotNames.{SlotNames}
 use Rattle.wiring_slots.specs.slot_tree.Placing.{inside_to, inside_of}
 use Rattle.wiring_slots.specs.slot_tree.Slots.{Pending, Above, segment_text, pending_at, slots_of_reference, slots_of_references, above_in, labels_of_class, references_of_class, top_slots}
 use Rattle.wiring_slots.specs.slot_tree.Sharing.{with_path}
-use Rattle.wiring_slots.specs.slot_tree.WaitingSlots.{slash_behind, prefix_in, labels_in, path_in, pending_of, above_of, waiting_at, waiting_of_reference, waiting_of_references, container_of, waiting_to, waiting_inside, subsystem, waiting_tops, EndsFall}
+use Rattle.wiring_slots.specs.slot_tree.WaitingSlots.{slash_behind, labels_in, path_in, pending_of, above_of, waiting_at, waiting_of_reference, waiting_of_references, container_of, waiting_to, waiting_inside, subsystem, waiting_tops, EndsFall}
 
 -- ---- the slots inside a container, with their paths
 module _ (names : SlotNames) (mappings : List MappingPlan) (text : List ℕ) (c : Container) where

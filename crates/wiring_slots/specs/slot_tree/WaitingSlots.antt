@@ -3,7 +3,6 @@ use Rattle.std.specs.Prelude.{ℕ, zero, suc, ◌≤◌, List, [], ◌∷◌, �
 use Rattle.std.specs.List.{enumerate_from, flat_map, range_with_len}
 use Rattle.room_kinds.specs.Structure.{is_imported}
 use Rattle.room_wiring.specs.declared.slot.Slot.{Slot}
-use Rattle.wiring_plan.specs.declared.structure_plan.plan.ClassPlan.{ClassPlan}
 use Rattle.wiring_plan.specs.declared.structure_plan.plan.ReferencePlan.{ReferencePlan}
 use Rattle.wiring_plan.specs.declared.structure_plan.plan.StructurePlan.{StructurePlan}
 use Rattle.wiring_slots.specs.declared.slot_tree.children.Container.{Container}

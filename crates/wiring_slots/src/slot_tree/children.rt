@@ -17,8 +17,7 @@ use std::mem;
 use wiring_plan::ReferencePlan;
 
 /// A slot that has no number yet, the mappings that lead to it, and how many containers deep its inside
-/// is looked into. Its path is not written before it is placed, so that a slot of long paths takes no
-/// more than another.
+/// is looked into. Its path is written only when it is placed.
 #[derive(Drop)]
 pub(crate) struct Waiting {
     /// Where its container's path ends in the text that has the path of the slot that is placed.

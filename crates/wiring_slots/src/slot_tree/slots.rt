@@ -66,8 +66,8 @@ fn push_all(stack: &mut Vec<Waiting>, slots: Vec<Waiting>) -> Result<(), AllocEr
 }
 
 /// Places the slots that wait, the last one first, and what is inside them; none where there are too
-/// many. The paths are written into one text, so that of slots each inside the one before each costs
-/// what it adds.
+/// many. The paths are written into one text, of whose beginning a slot further down the stack needs no
+/// more than the one on top of it.
 fn place(
     alloc: Global,
     plan: &StructurePlan,
@@ -135,7 +135,8 @@ fn waiting_tops(
 }
 
 /// The slots of a structure, by number; none where it has more than 4,096. It takes time and room in
-/// proportion to the slots and their mappings, and never places more slots than that.
+/// proportion to the slots, their mappings and the paths of the leaves, and never places more slots
+/// than that.
 pub fn slots_of(
     alloc: Global,
     plan: &StructurePlan,

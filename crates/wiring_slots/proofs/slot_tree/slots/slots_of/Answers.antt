@@ -1,7 +1,7 @@
 use Rattle.std.proofs.Common.{◌∙◌, ap, ◌++◌, reverse, Some, List}
 use Rattle.wiring_slots.specs.declared.slot_tree.children.Waiting.{Waiting}
 use Rattle.room_wiring.specs.declared.slot.Slot.{Slot}
-use Rattle.wiring_slots.proofs.slot_tree.PlacedWaiting.{too_many_at_top, few_waiting, ends_waiting, placed_all, placed_none}
+use Rattle.wiring_slots.proofs.slot_tree.PlacedWaiting.{too_many_at_top, ends_waiting, placed_all, placed_none}
 use Rattle.wiring_slots.proofs.slot_tree.slots.slots_of.Goals as goal
 
 pub returns-in_default : goal.returns-in_default
