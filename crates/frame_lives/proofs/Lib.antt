@@ -3,5 +3,5 @@ pub mod Making
 pub mod EndSteps
 pub mod Reached
 pub mod Gone
-pub mod Lengthened
+pub mod Items
 pub mod Paging

@@ -1,72 +1,16 @@
 -- Rows in pages, as a list of rows.
-use Rattle.std.proofs.Common.{◌≡◌, ℕ, ◌+◌, ◌*◌, ◌/◌, ◌%◌, ◌<◌, ◌≤◌, List, [], ◌∷◌, ◌++◌, length, get_or, set, refl, sym, ap, ◌∙◌, arith, inl, inr}
-use Rattle.std.proofs.Math.Path.{fun_ext}
+use Rattle.std.proofs.Common.{◌≡◌, ℕ, ◌+◌, ◌<◌, ◌≤◌, Bool, true, List, [], ◌∷◌, ◌++◌, length, get_or, set, refl, sym, ap, subst, ◌∙◌, arith, inl, inr}
 use Rattle.std.specs.Prelude.{slice_set}
 use Rattle.std.proofs.lemmas.Bool.{cases_eq}
-use Rattle.std.proofs.lemmas.List.{ext_get_or, length-set, get_or_past, get_or_read, get_or-set_same, get_or-set_other}
+use Rattle.std.proofs.lemmas.List.{ext_get_or, length-set, get_or_past, get_or-set_same, get_or-set_other}
 use Rattle.std.proofs.lemmas.List.FromFn.{get_or-map-range_with_len, length-map-range_with_len, map-range_with_len_more}
-use Rattle.std.proofs.lemmas.Nat.{div-add-mod'}
 use Rattle.actor_duties.specs.Words.{updated}
 use Rattle.frame_lives.specs.declared.row.Row.{Row}
-use Rattle.frame_lives.specs.Shown.{no_row, row_of}
-use Rattle.frame_lives.specs.Lengthened.{IsLengthened}
-use Rattle.frame_lives.specs.Paged.{without_life, ended_at, row_in, rows_in}
-use Rattle.frame_lives.proofs.Lengthened.{as_long, written}
-use Rattle.frame_lives.proofs.Rows.{updated_here, updated_else, updated_same}
-
--- a row after its actor has ended, in its page; and a row behind the page's end
-pub row_ended : (rows : List Row) (place : ℕ) (read : Row) → place < length rows → read ≡ get_or rows place read
-    → row_of (slice_set rows place (without_life read)) ≡ ended_at (row_of rows) place
-row_ended rows place read there was =
-    written no_row rows rows place (without_life read) (as_long no_row rows place there)
-    ∙ ap (λ (r : Row). updated (row_of rows) place (without_life r)) (get_or_read rows place read there was no_row)
-
-pub no_row_ended : (rows : List Row) (place : ℕ) → length rows ≤ place → row_of rows ≡ ended_at (row_of rows) place
-no_row_ended rows place past = let none = get_or_past rows place no_row past in
-    sym (updated_same (row_of rows) place (without_life (row_of rows place)) (ap without_life none ∙ sym none))
-
--- a place is told by its page and its place in the page
-same_place : (s n : ℕ) → s / 32 ≡ n / 32 → s % 32 ≡ n % 32 → s ≡ n
-same_place s n p q =
-    sym (div-add-mod' s 32) ∙ ap (λ k. k * 32 + s % 32) p ∙ ap (λ k. n / 32 * 32 + k) q ∙ div-add-mod' n 32
-
--- a row is written in its page
-pub page_written : (pages longer : List (List Row)) (place p q : ℕ) (read next : List Row) (r : Row) → p ≡ place / 32 → q ≡ place % 32
-    → IsLengthened [] pages longer p → read ≡ get_or longer p read → row_of next ≡ updated (row_of read) q r
-    → row_in (slice_set longer p next) ≡ updated (row_in pages) place r
-page_written pages longer place p q read next r p_is q_is l was put = fun_ext (λ s.
-    elim (cases_eq (s / 32) p) [
-      | inl here ↦
-          ap (λ (page : List Row). row_of page (s % 32)) (ap (λ m. get_or (set longer p next) m []) here ∙ get_or-set_same longer p next [] l.there)
-          ∙ ap (λ (f : ℕ → Row). f (s % 32)) put
-          ∙ elim (cases_eq (s % 32) q) [
-            | inl same ↦
-                updated_here (row_of read) q (s % 32) r same
-                ∙ sym (updated_here (row_in pages) place s r (same_place s place (here ∙ p_is) (same ∙ q_is)))
-            | inr other ↦
-                updated_else (row_of read) q (s % 32) r other
-                ∙ ap (λ (page : List Row). row_of page (s % 32)) (get_or_read longer p read l.there was [] ∙ l.same p ∙ ap (λ m. get_or pages m []) (sym here))
-                ∙ sym (updated_else (row_in pages) place s r (λ e. other (ap (λ k. k % 32) e ∙ sym q_is)))
-          ]
-      | inr other ↦
-          ap (λ (page : List Row). row_of page (s % 32)) (get_or-set_other longer p (s / 32) next [] other ∙ l.same (s / 32))
-          ∙ sym (updated_else (row_in pages) place s r (λ e. other (ap (λ k. k / 32) e ∙ sym p_is)))
-    ])
-
--- a row after its actor has ended, in the pages; and where there is no page
-pub page_ended : (pages : List (List Row)) (place : ℕ) (read next : List Row) → place / 32 < length pages → read ≡ get_or pages (place / 32) read
-    → row_of next ≡ ended_at (row_of read) (place % 32)
-    → row_in (slice_set pages (place / 32) next) ≡ ended_at (row_in pages) place
-page_ended pages place read next there was ended =
-    page_written pages pages place (place / 32) (place % 32) read next (without_life (row_in pages place)) refl refl (as_long [] pages (place / 32) there) was
-    (ended ∙ ap (λ (page : List Row). updated (row_of read) (place % 32) (without_life (row_of page (place % 32)))) (get_or_read pages (place / 32) read there was []))
-
-pub no_page_ended : (pages : List (List Row)) (place : ℕ) → length pages ≤ place / 32 → row_in pages ≡ ended_at (row_in pages) place
-no_page_ended pages place past =
-    sym (updated_same (row_in pages) place (without_life (row_in pages place)) (ap without_life none ∙ sym none))
-  where
-    none : row_in pages place ≡ no_row
-    none = ap (λ (page : List Row). row_of page (place % 32)) (get_or_past pages (place / 32) [] past)
+use Rattle.frame_lives.specs.Known.{Known}
+use Rattle.frame_lives.specs.Shown.{no_row, row_of, shown, with_lives, with_told, with_row}
+use Rattle.frame_lives.specs.Steps.{raised, ended}
+use Rattle.frame_lives.specs.Paged.{without_life, row_in, rows_in}
+use Rattle.frame_lives.proofs.Rows.{updated_here, updated_else, updated_same, shown_set, row_of_lives, row_of_end, row_of_told}
 
 -- how many rows there are
 pub rows_many : (count : ℕ) (pages : List (List Row)) → length (rows_in count pages) ≡ count
@@ -122,9 +66,76 @@ row_pushed count pages after r is =
 pub row_stands : (pages : List (List Row)) (place : ℕ) (r : Row) → row_in pages place ≡ r → row_in pages ≡ updated (row_in pages) place r
 row_stands pages place r is = sym (updated_same (row_in pages) place r (sym is))
 
--- all rows, after the actor of a slot has ended
-pub rows_ended : (count : ℕ) (pages after : List (List Row)) (s : ℕ) → s < count → row_in after ≡ ended_at (row_in pages) s
-    → rows_in count after ≡ slice_set (rows_in count pages) s (without_life (row_of (rows_in count pages) s))
-rows_ended count pages after s there is =
-    row_set count pages after s (without_life (row_in pages s)) there is
-    ∙ ap (λ (r : Row). slice_set (rows_in count pages) s (without_life r)) (row_there count pages s there)
+-- what all rows say, after one was written
+written_in : (count : ℕ) (pages after : List (List Row)) (s : ℕ) (r : Row) → s < (shown (rows_in count pages)).slots → row_in after ≡ updated (row_in pages) s r
+    → shown (rows_in count after) ≡ with_row s r (shown (rows_in count pages))
+unfolding shown
+written_in count pages after s r there is =
+    let many = rows_many count pages in
+    ap shown (row_set count pages after s r (omega (arith, many, there)) is) ∙ shown_set (rows_in count pages) s r there
+
+pub shown_written : (count : ℕ) (pages after : List (List Row)) (now : List Row) (s n : ℕ) (r : Row) → rows_in count pages ≡ now → s < (shown now).slots → n ≡ s
+    → row_in after ≡ updated (row_in pages) n r → shown (rows_in count after) ≡ with_row s r (shown now)
+shown_written count pages after now s n r view there same is =
+    subst (λ (rows : List Row). shown (rows_in count after) ≡ with_row s r (shown rows)) view
+    (written_in count pages after s r (subst (λ (rows : List Row). s < (shown rows).slots) (sym view) there) (is ∙ ap (λ m. updated (row_in pages) m r) same))
+
+-- the row of a slot, as the table shows it
+abbrev pub row_shown : Known → ℕ → Row
+row_shown k s = record { generation = k.lives.generation s; lives = k.lives.lives s; told = k.told s }
+
+row_in_all : (count : ℕ) (pages : List (List Row)) (s : ℕ) → s < (shown (rows_in count pages)).slots → row_in pages s ≡ row_shown (shown (rows_in count pages)) s
+unfolding shown
+row_in_all count pages s there = let many = rows_many count pages in row_there count pages s (omega (arith, many, there))
+
+pub shown_row : (count : ℕ) (pages : List (List Row)) (now : List Row) (s n : ℕ) (x : Row) → rows_in count pages ≡ now → s < (shown now).slots → n ≡ s
+    → x ≡ row_in pages n → x ≡ row_shown (shown now) s
+shown_row count pages now s n x view there same was =
+    was ∙ ap (row_in pages) same
+    ∙ subst (λ (rows : List Row). row_in pages s ≡ row_shown (shown rows) s) view (row_in_all count pages s (subst (λ (rows : List Row). s < (shown rows).slots) (sym view) there))
+
+same_row : {g h told heard : ℕ} {a b : Bool} → g ≡ h → a ≡ b → told ≡ heard
+    → ◌≡◌ {A = Row} (record { generation = g; lives = a; told = told }) (record { generation = h; lives = b; told = heard })
+same_row e f g = cc
+
+-- what rows say after an actor is made
+pub shown_raised : (count : ℕ) (pages after : List (List Row)) (now : List Row) (s n : ℕ) (x : Row) (g : ℕ) → rows_in count pages ≡ now → s < (shown now).slots → n ≡ s
+    → x ≡ row_in pages n → g ≡ x.generation + 1 → row_in after ≡ updated (row_in pages) n (record { generation = g; lives = true; told = x.told })
+    → shown (rows_in count after) ≡ with_lives (shown now) (raised s (shown now).lives)
+shown_raised count pages after now s n x g view there same was next is =
+    let k = shown now in
+    let row = shown_row count pages now s n x view there same was in
+    shown_written count pages after now s n (record { generation = g; lives = true; told = x.told }) view there same is
+    ∙ ap (λ (r : Row). with_row s r k) (same_row (next ∙ ap (λ (r : Row). r.generation + 1) row) refl (ap (λ (r : Row). r.told) row))
+    ∙ row_of_lives k s (k.told s) refl
+
+-- and after the actor of a slot has ended
+pub shown_ended : (count : ℕ) (pages after : List (List Row)) (now : List Row) (s n : ℕ) (x : Row) → rows_in count pages ≡ now → s < (shown now).slots → n ≡ s
+    → x ≡ row_in pages n → row_in after ≡ updated (row_in pages) n (without_life x)
+    → shown (rows_in count after) ≡ with_lives (shown now) (ended s (shown now).lives)
+shown_ended count pages after now s n x view there same was is =
+    let k = shown now in
+    shown_written count pages after now s n (without_life x) view there same is
+    ∙ ap (λ (r : Row). with_row s (without_life r) k) (shown_row count pages now s n x view there same was)
+    ∙ row_of_end k s
+
+-- and after another generation was told
+pub shown_told : (count : ℕ) (pages after : List (List Row)) (now : List Row) (s n : ℕ) (x : Row) (g : ℕ) → rows_in count pages ≡ now → s < (shown now).slots → n ≡ s
+    → x ≡ row_in pages n → row_in after ≡ updated (row_in pages) n (record x { told = g })
+    → shown (rows_in count after) ≡ with_told (shown now) (updated (shown now).told s g)
+shown_told count pages after now s n x g view there same was is =
+    let k = shown now in
+    shown_written count pages after now s n (record x { told = g }) view there same is
+    ∙ ap (λ (r : Row). with_row s (record r { told = g }) k) (shown_row count pages now s n x view there same was)
+    ∙ row_of_told k s (k.lives.generation s) (k.lives.lives s) g refl refl
+
+-- where no row was written nobody lives, and nobody is told of
+pub stays_ended : (count : ℕ) (pages : List (List Row)) (now : List Row) (s n : ℕ) → rows_in count pages ≡ now → s < (shown now).slots → n ≡ s → no_row ≡ row_in pages n
+    → shown (rows_in count pages) ≡ with_lives (shown now) (ended s (shown now).lives)
+stays_ended count pages now s n view there same none =
+    shown_ended count pages pages now s n no_row view there same none (row_stands pages n no_row (sym none))
+
+pub stays_untold : (count : ℕ) (pages : List (List Row)) (now : List Row) (s n : ℕ) → rows_in count pages ≡ now → s < (shown now).slots → n ≡ s → no_row ≡ row_in pages n
+    → shown (rows_in count pages) ≡ with_told (shown now) (updated (shown now).told s 0)
+stays_untold count pages now s n view there same none =
+    shown_told count pages pages now s n no_row 0 view there same none (row_stands pages n no_row (sym none))

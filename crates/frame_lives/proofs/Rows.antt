@@ -6,8 +6,7 @@ use Rattle.std.proofs.lemmas.Bool.{cases_eq, ne_eqb}
 use Rattle.actor_duties.specs.Words.{updated}
 use Rattle.frame_lives.specs.declared.row.Row.{Row}
 use Rattle.frame_lives.specs.Known.{Known}
-use Rattle.frame_lives.specs.Shown.{no_row, row_of, shown, with_lives, with_row}
-use Rattle.frame_lives.specs.Paged.{without_life}
+use Rattle.frame_lives.specs.Shown.{no_row, row_of, shown, with_row}
 use Rattle.frame_lives.specs.Steps.{raised, ended}
 
 -- a function that is updated, at the number
@@ -51,13 +50,11 @@ pub row_of_lives : (k : Known) (s told : ℕ) → told ≡ k.told s
 row_of_lives k s told e =
     ap (λ (f : ℕ → ℕ). record { slots = k.slots; lives = raised s k.lives; told = f }) (updated_same k.told s told e)
 
--- what rows say after the actor of a slot has ended
-pub shown_end : (rows : List Row) (s : ℕ) → s < length rows
-    → shown (slice_set rows s (without_life (row_of rows s))) ≡ with_lives (shown rows) (ended s (shown rows).lives)
-unfolding shown
-shown_end rows s l = let k = shown rows in
-    shown_set rows s (without_life (row_of rows s)) l
-    ∙ ap (λ (f : ℕ → ℕ). record { slots = k.slots; lives = record { generation = updated k.lives.generation s (k.lives.generation s); lives = updated k.lives.lives s false }; told = f }) (updated_same k.told s (k.told s) refl)
+-- a row that ends the life alone
+pub row_of_end : (k : Known) (s : ℕ)
+    → with_row s (record { generation = k.lives.generation s; lives = false; told = k.told s }) k ≡ record k { lives = ended s k.lives }
+row_of_end k s =
+    ap (λ (f : ℕ → ℕ). record { slots = k.slots; lives = record { generation = updated k.lives.generation s (k.lives.generation s); lives = updated k.lives.lives s false }; told = f }) (updated_same k.told s (k.told s) refl)
     ∙ ap (λ (f : ℕ → ℕ). record { slots = k.slots; lives = record { generation = f; lives = updated k.lives.lives s false }; told = k.told }) (updated_same k.lives.generation s (k.lives.generation s) refl)
 
 -- a row that changes the directory alone

@@ -1,6 +1,9 @@
 pub mod Known
 pub mod Shown
 pub mod Lengthened
+pub mod Items
+pub mod PageLends
+pub mod PagesLend
 pub mod Paged
 pub mod Steps
 pub mod Done

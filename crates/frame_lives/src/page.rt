@@ -1,71 +1,69 @@
-//! A page of rows.
-ghost use Rattle.std.specs.Prelude.{◌≡◌, [], OnOk};
-ghost use Rattle.actor_duties.specs.Words.{updated};
-ghost use Rattle.frame_lives.specs.Shown.{no_row, row_of};
+//! A page of items.
+ghost use Rattle.std.specs.Prelude.{◌≡◌, ◌<◌, [], length, IsSome, OnOk};
+ghost use Rattle.std.specs.Borrow.{sem};
 ghost use Rattle.frame_lives.specs.Lengthened.{IsLengthened};
-ghost use Rattle.frame_lives.specs.Paged.{ended_at};
+ghost use Rattle.frame_lives.specs.Items.{item_or, item_or_mut, item_of};
+ghost use Rattle.frame_lives.specs.PageLends.{lends_item, lends_if_there};
 
-use crate::row::{NO_ROW, Row};
+use crate::blank::{Blank, lengthen};
 use std::alloc::{AllocError, Global};
 use std::marker::Model;
 
-/// Rows from the first of a page to the last that was written. Behind their end stand rows of slots in
-/// which nothing ever stood.
+/// Items from the first of a page to the last that was reached. Behind their end stand blanks.
 #[derive(Drop, Debug)]
-pub struct Page {
-    rows: Vec<Row>,
+pub struct Page<T> {
+    items: Vec<T>,
 }
 
-impl Model for Page {
+impl<T> Model for Page<T> {
     ghost use Rattle.std.specs.Prelude.{List};
-    ghost use Rattle.frame_lives.specs.declared.row.Row.{Row};
 
-    ghost Value = { List Row };
+    ghost Value = { List T };
 
-    ghost view = { λ p. p.rows.items };
+    ghost view = { λ p. p.items.items };
 }
 
-impl Page {
-    /// No rows. It takes no memory.
-    pub fn new(alloc: Global) -> Page
-        ensures { result ≡ [] }
-    {
+impl<T: Blank + Drop> Blank for Page<T> {
+    ghost no_item = { [] };
+
+    fn blank(alloc: Global) -> Page<T> {
         Page {
-            rows: Vec::new(alloc),
+            items: Vec::new(alloc),
         }
     }
+}
 
-    pub fn row(&self, place: usize) -> Row
-        ensures { result ≡ row_of self.now place }
+impl<T: Blank + Drop> Page<T> {
+    /// The item at a place, if the page reaches it.
+    pub fn get(&self, place: usize) -> Option<&T>
+        ensures { item_or T.no_item result ≡ item_of T.no_item self.now place }
     {
-        self.rows.as_slice().get(place).copied().unwrap_or(NO_ROW)
+        self.items.as_slice().get(place)
     }
 
-    /// Another row at a place.
-    pub fn set(&mut self, place: usize, row: Row) -> Result<(), AllocError>
-        ensures { OnOk result (row_of self.new ≡ updated (row_of self.old) place row) }
+    /// The item at a place, to be changed, if the page reaches it.
+    pub fn get_mut(&mut self, place: usize) -> Option<&mut T>
+        ensures* writes_back { sem 𝓛 (lends_if_there T.row self.entry place result) }
+        ensures there { IsSome result → place < length self.old }
+        ensures value { item_or_mut T.no_item result ≡ item_of T.no_item self.old place }
     {
-        reach(&mut self.rows, place)?;
-        self.rows[place] = row;
+        self.items.get_mut(place)
+    }
+
+    /// The page reaches a place.
+    pub fn lengthen(&mut self, alloc: Global, place: usize) -> Result<(), AllocError>
+        ensures { OnOk result (IsLengthened T.no_item self.old self.new place) }
+    {
+        lengthen(&mut self.items, alloc, place)?;
         Ok(())
     }
 
-    /// The actor at a place has ended. It takes no memory: behind the end of the rows nobody lives.
-    pub fn end(&mut self, place: usize)
-        ensures { row_of self.new ≡ ended_at (row_of self.old) place }
+    /// The item at a place that the page reaches, to be changed.
+    pub fn item_mut(&mut self, place: usize) -> &mut T
+        requires { place < length self.old }
+        ensures* writes_back { sem 𝓛 (lends_item T.row self.entry place result) }
+        ensures value { result.now ≡ item_of T.no_item self.old place }
     {
-        if place < self.rows.len() {
-            self.rows[place].lives = false;
-        }
+        &mut self.items[place]
     }
-}
-
-/// Rows are lengthened until they reach a place.
-fn reach(rows: &mut Vec<Row>, place: usize) -> Result<(), AllocError>
-    ensures { OnOk result (IsLengthened no_row rows.old.items rows.new.items place) }
-{
-    while rows.len() <= place {
-        rows.push(NO_ROW)?;
-    }
-    Ok(())
 }

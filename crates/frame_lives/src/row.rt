@@ -1,6 +1,9 @@
 //! What is known of one slot.
 ghost use Rattle.std.specs.Prelude.{◌≡◌, IsTrue};
 
+use crate::blank::Blank;
+use std::alloc::Global;
+
 /// The last generation of an own slot, 0 before the first, and whether it lives; and the generation that
 /// the owner of another slot told last, 0 for none.
 #[derive(Clone, Copy, Debug)]
@@ -26,3 +29,13 @@ pub const NO_ROW: Row = Row {
     lives: false,
     told: 0,
 };
+
+impl Blank for Row {
+    ghost use Rattle.std.specs.Prelude.{false};
+
+    ghost no_item = { record { generation = 0; lives = false; told = 0 } };
+
+    fn blank(_alloc: Global) -> Row {
+        NO_ROW
+    }
+}

@@ -3,11 +3,12 @@ ghost use Rattle.std.specs.Prelude.{◌≡◌, ◌+◌, ◌<◌, ◌++◌, ◌�
 ghost use Rattle.actor_duties.specs.Words.{updated, incarnation};
 ghost use Rattle.actor_duties.specs.Lives.{is_live, counts_as_live, last_of, announce};
 ghost use Rattle.frame_lives.specs.Known.{live_in, known_in, some_generation};
-ghost use Rattle.frame_lives.specs.Shown.{shown, with_lives, with_told, with_row};
+ghost use Rattle.frame_lives.specs.Shown.{row_of, shown, with_lives, with_told};
+ghost use Rattle.frame_lives.specs.Paged.{row_in};
 ghost use Rattle.frame_lives.specs.Steps.{raised, ended};
 
-use crate::row::Row;
-use crate::row_pages::RowPages;
+use crate::pages::Pages;
+use crate::row::{NO_ROW, Row};
 use room_kinds::{ControllerId, Generation, Incarnation, SlotId};
 use room_wiring::Wiring;
 use service_messages::is_own;
@@ -16,19 +17,21 @@ use std::marker::Model;
 
 /// What a controller knows of the actors in slots: a row for each slot. What the rows say (`shown`) is
 /// the lives of the controller's own slots and the directory of the others. Rows of which there is nothing
-/// to say take little memory (`RowPages`). No look-up takes memory.
+/// to say take little memory (`Pages`). No look-up takes memory.
 #[derive(Drop, Debug)]
 pub struct SlotLives {
-    rows: RowPages,
+    count: u32,
+    rows: Pages<Row>,
 }
 
 impl Model for SlotLives {
     ghost use Rattle.std.specs.Prelude.{List};
     ghost use Rattle.frame_lives.specs.declared.row.Row.{Row};
+    ghost use Rattle.frame_lives.specs.Paged.{rows_in};
 
     ghost Value = { List Row };
 
-    ghost view = { λ x. x.rows };
+    ghost view = { λ x. rows_in x.count x.rows };
 }
 
 impl SlotLives {
@@ -37,7 +40,8 @@ impl SlotLives {
         ensures { result ≡ [] }
     {
         SlotLives {
-            rows: RowPages::new(alloc),
+            count: 0,
+            rows: Pages::new(alloc),
         }
     }
 
@@ -46,7 +50,19 @@ impl SlotLives {
         requires { length self.old < 65536 }
         ensures { OnOk result (self.new ≡ self.old ++ row ∷ []) }
     {
-        self.rows.push(row)
+        put(&mut self.rows, self.count as usize, row)?;
+        self.count += 1;
+        Ok(())
+    }
+
+    fn row_at(&self, slot: SlotId) -> Row
+        ensures { result ≡ row_of self.now slot.0 }
+    {
+        if u32::from(slot.0) < self.count {
+            self.rows.item(usize::from(slot.0))
+        } else {
+            NO_ROW
+        }
     }
 
     #[tactic(auto, unfolding(crate::specs::Shown::shown))]
@@ -55,16 +71,7 @@ impl SlotLives {
         ensures lives { result.lives ≡ (shown self.now).lives.lives slot.0 }
         ensures told { result.told ≡ (shown self.now).told slot.0 }
     {
-        self.rows.row(slot)
-    }
-
-    #[tactic(auto, using(crate::proofs::Rows::shown_set), unfolding(crate::specs::Shown::shown))]
-    fn set_row(&mut self, slot: SlotId, row: Row) -> Result<(), AllocError>
-        requires { slot.0 < (shown self.old).slots }
-        ensures { OnOk result (shown self.new ≡ with_row slot.0 row (shown self.old)) }
-    {
-        self.rows.set(slot, row)?;
-        Ok(())
+        self.row_at(slot)
     }
 
     /// The generation that lives in a slot of the controller's own.
@@ -139,54 +146,51 @@ impl SlotLives {
 
     /// An actor is made in a slot, with the next generation. Where the numbers of generations are used
     /// up, after 4,294,967,295 actors in the slot, want of memory is answered.
-    #[tactic(auto, using(crate::proofs::Rows::row_of_lives))]
     pub fn raise(&mut self, slot: SlotId) -> Result<Incarnation, AllocError>
         requires { slot.0 < (shown self.old).slots }
         ensures actor { IfOk result (λ x. x ≡ incarnation slot.0 ((shown self.old).lives.generation slot.0 + 1)) }
         ensures now { OnOk result (shown self.new ≡ with_lives (shown self.old) (raised slot.0 (shown self.old).lives)) }
     {
-        let row = self.row(slot);
+        let row = self.rows.reach(usize::from(slot.0))?;
         let Some(generation) = row.generation.checked_add(1) else {
             return Err(AllocError);
         };
-        self.set_row(
-            slot,
-            Row {
-                generation,
-                lives: true,
-                told: row.told,
-            },
-        )?;
+        row.generation = generation;
+        row.lives = true;
         Ok(Incarnation {
             slot,
             generation: Generation(generation),
         })
     }
 
-    /// The actor of a slot has ended.
-    #[tactic(auto, using(crate::proofs::Rows::shown_end), unfolding(crate::specs::Shown::shown))]
+    /// The actor of a slot has ended. It takes no memory: where an actor lives, its row stands in a page.
     pub fn end(&mut self, slot: SlotId)
         requires { slot.0 < (shown self.old).slots }
         ensures { shown self.new ≡ with_lives (shown self.old) (ended slot.0 (shown self.old).lives) }
     {
-        self.rows.end(slot);
+        if let Some(row) = self.rows.get_mut(usize::from(slot.0)) {
+            row.lives = false;
+        }
     }
 
-    #[tactic(auto, using(crate::proofs::Rows::row_of_told))]
+    /// This generation is known in a slot.
     fn tell(&mut self, slot: SlotId, generation: u32) -> Result<(), AllocError>
         requires { slot.0 < (shown self.old).slots }
         ensures { OnOk result (shown self.new ≡ with_told (shown self.old) (updated (shown self.old).told slot.0 generation)) }
     {
-        let row = self.row(slot);
-        self.set_row(
-            slot,
-            Row {
-                generation: row.generation,
-                lives: row.lives,
-                told: generation,
-            },
-        )?;
+        let row = self.rows.reach(usize::from(slot.0))?;
+        row.told = generation;
         Ok(())
+    }
+
+    /// Nobody is known in a slot any more. It takes no memory.
+    fn tell_none(&mut self, slot: SlotId)
+        requires { slot.0 < (shown self.old).slots }
+        ensures { shown self.new ≡ with_told (shown self.old) (updated (shown self.old).told slot.0 0) }
+    {
+        if let Some(row) = self.rows.get_mut(usize::from(slot.0)) {
+            row.told = 0;
+        }
     }
 
     /// The owner of an actor's slot says that the actor came up (1) or went down (0).
@@ -198,8 +202,19 @@ impl SlotLives {
         if up == 1 {
             self.tell(actor.slot, actor.generation.0)?;
         } else if up == 0 {
-            self.tell(actor.slot, 0)?;
+            self.tell_none(actor.slot);
         }
         Ok(())
     }
+}
+
+/// A row stands at a place of pages: it is written where another stands.
+fn put(rows: &mut Pages<Row>, place: usize, row: Row) -> Result<(), AllocError>
+    ensures { OnOk result (row_in rows.new ≡ updated (row_in rows.old) place row) }
+{
+    if rows.item(place).is_same(row) {
+        return Ok(());
+    }
+    *rows.reach(place)? = row;
+    Ok(())
 }

@@ -64,7 +64,7 @@ pub plugs_done : (t : Tables) (s : FrameState) (k : Kept) (step : rows.Done (ℕ
     → lending k ≡ with_plugs (lending s.imports) step.now → out ≡ before ++ step.sent → r ≡ duties.with_plugs (frame_in s) step → d ≡ nothing_left → IsDone t s (lends s k) r before out d
 unfolding frame_in
 plugs_done t s k step r before out d fits now sent is left = record {
-  fits = imports_fit t s k fits (ap (λ (l : Lending). l.slots) now);
+  fits = imports_fit t s k fits;
   me = refl;
   frame = frame_lends s k (with_plugs (lending s.imports) step.now) now ∙ sym (ap (λ (x : FrameDone). x.frame) is);
   sent = sent ∙ sym (ap (λ (x : FrameDone). before ++ x.sent) is);
@@ -76,7 +76,7 @@ pub places_done : (t : Tables) (s : FrameState) (k : Kept) (step : rows.Done (�
     → lending k ≡ with_places (lending s.imports) step.now → out ≡ before ++ step.sent → r ≡ duties.with_places (frame_in s) step → d ≡ nothing_left → IsDone t s (lends s k) r before out d
 unfolding frame_in
 places_done t s k step r before out d fits now sent is left = record {
-  fits = imports_fit t s k fits (ap (λ (l : Lending). l.slots) now);
+  fits = imports_fit t s k fits;
   me = refl;
   frame = frame_lends s k (with_places (lending s.imports) step.now) now ∙ sym (ap (λ (x : FrameDone). x.frame) is);
   sent = sent ∙ sym (ap (λ (x : FrameDone). before ++ x.sent) is);
@@ -117,7 +117,7 @@ pub places_requested : (t : Tables) (s : FrameState) (k : Kept) (step : rows.Don
     → IsRequested t s (lends s k) (record { now = record (frame_in s) { places = step.now }; sent = step.sent }) before out
 unfolding frame_in
 places_requested t s k step before out fits now sent = record {
-  fits = imports_fit t s k fits (ap (λ (l : Lending). l.slots) now);
+  fits = imports_fit t s k fits;
   me = refl;
   frame = frame_lends s k (with_places (lending s.imports) step.now) now;
   sent = sent;

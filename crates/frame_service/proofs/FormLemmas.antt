@@ -17,7 +17,7 @@ use Rattle.room_wiring.specs.Consistent.{IsConsistent}
 use Rattle.actor_duties.specs.Words.{is_frame, is_endpoint, is_own, is_optional, is_imported, is_home, is_part_of, is_imported_kind}
 use Rattle.actor_duties.specs.State.{Frame}
 use Rattle.actor_duties.specs.Lives.{destroy_done, announce, has_part}
-use Rattle.actor_duties.specs.Frame.{FrameDone, nothing, only_sends, with_told, plainly, with_number, of_natural, frame_duty_of, is_request, is_forth, is_back, is_announced, is_part_told}
+use Rattle.actor_duties.specs.Frame.{FrameDone, nothing, only_sends, with_told, plainly, with_number, of_natural, frame_duty_of, is_request, is_forth, is_announced, is_part_told}
 use Rattle.frame_service.proofs.frame_imports.frame_forms.Told.{told_past, optional_there}
 use Rattle.frame_service.specs.Forms.{may_go, has_form, first_number}
 
@@ -103,19 +103,13 @@ part_there t me ns o again h =
     let slot = (and_parts (is_frame o && is_endpoint o again && not (o.generation.0 == 0)) (is_optional t o.slot.0 && (not (is_own t me o.slot.0) && has_part t me o.slot.0)) form).1 in
     optional_there t o.slot.0 (and_parts (is_optional t o.slot.0) (not (is_own t me o.slot.0) && has_part t me o.slot.0) slot).0
 
--- the import place and the home of an Import or a Deport
-pub forth_there : (t : Tables) (me : ℕ) (ns : List ℤ) (i h : Endpoint) → ((length ns == 0) && is_forth t me i h) ≡ true → (i.slot.0 < length t.slots) × (h.slot.0 < length t.slots)
+-- the import place of an Import or a Deport
+pub forth_there : (t : Tables) (me : ℕ) (ns : List ℤ) (i h : Endpoint) → ((length ns == 0) && is_forth t me i h) ≡ true → i.slot.0 < length t.slots
 forth_there t me ns i h e =
     let form = (and_parts (length ns == 0) (is_forth t me i h) e).1 in
     let all = and_parts (is_frame i && is_frame h && is_imported t i.slot.0 && is_home t h.slot.0) (is_own t me h.slot.0) form in
     let front = (and_parts (is_frame i && is_frame h && is_imported t i.slot.0) (is_home t h.slot.0) all.0).0 in
-    (imported_there t i.slot.0 (and_parts (is_frame i && is_frame h) (is_imported t i.slot.0) front).1, own_there t me h.slot.0 all.1)
-
--- the import place of an answer
-pub back_there : (t : Tables) (me n : ℕ) (ns : List ℤ) (h i : Endpoint) → ((length ns == n) && is_back t me h i) ≡ true → i.slot.0 < length t.slots
-back_there t me n ns h i e =
-    let form = (and_parts (length ns == n) (is_back t me h i) e).1 in
-    own_there t me i.slot.0 (and_parts (is_frame i && is_frame h && is_imported t i.slot.0 && is_home t h.slot.0) (is_own t me i.slot.0) form).1
+    imported_there t i.slot.0 (and_parts (is_frame i && is_frame h) (is_imported t i.slot.0) front).1
 
 -- the actor of an announcement
 pub announced_there : (t : Tables) → IsConsistent t → (me : ℕ) (ns : List ℤ) (x y : Endpoint) → ((length ns == 1) && is_announced t me x y) ≡ true → x.slot.0 < length t.slots

@@ -24,4 +24,3 @@ pub record IsFrameOf (t : Tables) (s : FrameState) : Type 0 where
   pub me : s.me.0 < length t.controllers
   pub runs : AreRunEnds t s.runs
   pub lives : (shown s.lives).slots ≡ length t.slots
-  pub imports : (lending s.imports).slots ≡ length t.slots

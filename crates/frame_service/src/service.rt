@@ -33,7 +33,7 @@ impl FrameState {
         ensures me { IfOk result (λ s. s.me ≡ me) }
     {
         let lives = first_lives(alloc, wiring, me)?;
-        let imports = Imports::new(alloc, wiring.slot_count());
+        let imports = Imports::new(alloc);
         Ok(FrameState {
             alloc,
             me,

@@ -112,7 +112,6 @@ set_ended t s rows k o before middle out ended fits who first then lives lent =
         me = fits.me;
         runs = fits.runs;
         lives = ap (λ (j : Known). j.slots) lives ∙ fits.lives;
-        imports = ap (λ (j : Lending). j.slots) lent ∙ fits.imports;
       };
       me = refl;
       frame = ended_frame t s o rows k lives_is lent_is ∙ sym (frame_is t s.me.0 f o);

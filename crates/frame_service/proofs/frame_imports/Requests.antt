@@ -1,7 +1,5 @@
 -- What the commands on imports find.
-use Rattle.std.proofs.Common.{◌≡◌, ℕ, ◌<◌, ◌≤◌, Bool, false, cond, not, ◌||◌, List, length, ℤ, pos, negsuc, Option, Some, None, refl, sym, ap, ◌∙◌, subst, arith, inl, inr}
-use Rattle.std.specs.Prelude.{position}
-use Rattle.std.specs.List.{position_or_len}
+use Rattle.std.proofs.Common.{◌≡◌, ℕ, ◌<◌, ◌≤◌, false, cond, not, ◌||◌, length, ℤ, Option, Some, None, refl, sym, ap, ◌∙◌, arith, inl, inr}
 use Rattle.std.specs.Option.{option_map_or}
 use Rattle.std.proofs.lemmas.Bool.{cases_lt, lt-ltb, le-ltb}
 use Rattle.std.proofs.lemmas.Option.{slice_get_within}
@@ -10,27 +8,10 @@ use Rattle.room_wiring.specs.declared.tables.Tables.{Tables}
 use Rattle.room_wiring.specs.declared.slot.Slot.{Slot}
 use Rattle.room_wiring.specs.Slots.{slot_at}
 use Rattle.actor_duties.specs.State.{ImportPlace, Done}
-use Rattle.actor_duties.specs.Words.{part_at, is_slot_for, is_home, is_fixed, is_optional, is_fixed_kind, is_optional_kind, class_number}
+use Rattle.actor_duties.specs.Words.{is_home, is_fixed, is_optional, is_fixed_kind, is_optional_kind, class_number}
 use Rattle.actor_duties.specs.Messages.{StaleId, WrongClass}
 use Rattle.actor_duties.specs.Frame.{import_code, import_with, busy_code, is_same_class}
 use Rattle.frame_service.specs.frame_imports.Homes.{home_there}
-
-position_there : {A : Type 0} (p : A → Bool) (xs : List A) (i : ℕ) → position p xs ≡ Some i → i < length xs
-position_there p xs i h = elim (cases_lt (position_or_len p xs) (length xs)) [
-  | inl l ↦
-      let some : position p xs ≡ Some (position_or_len p xs) = ap (λ b. cond b (Some (position_or_len p xs)) None) (lt-ltb (position_or_len p xs) (length xs) l) in
-      let same : position_or_len p xs ≡ i = cc in
-      omega arith
-  | inr l ↦
-      let none : position p xs ≡ None = ap (λ b. cond b (Some (position_or_len p xs)) None) (le-ltb (position_or_len p xs) (length xs) l) in
-      absurd cc
-]
-
--- a part that is found is there
-pub part_there : (t : Tables) (c r : ℕ) (z : ℤ) (s n : ℕ) → n ≡ length t.slots → Some s ≡ part_at t c r z → s < n
-unfolding part_at
-part_there t c r (pos i) s n is h = subst (λ m. s < m) (sym is) (position_there (is_slot_for c r i) t.slots s (sym h))
-part_there t c r (negsuc i) s n is h = absurd cc
 
 -- no slot has a number that isn't one
 not_there : (t : Tables) (s : ℕ) → length t.slots ≤ s → slot_at t s ≡ None

@@ -114,7 +114,6 @@ pub fn hear(
     answer: Answer,
     out: &mut Outbox,
 ) -> Result<(), AllocError>
-    requires { answer.place.slot.0 < (lending imports.old).slots }
     ensures now { OnOk result (lending imports.new ≡ with_places (lending imports.old) ((answered wiring.now me.0 (shown lives.now).lives (lending imports.old).places answer).now)) }
     ensures sent { OnOk result (out.new ≡ out.old ++ (answered wiring.now me.0 (shown lives.now).lives (lending imports.old).places answer).sent) }
 {

@@ -122,7 +122,6 @@ fn ask(
     home: Incarnation,
     out: &mut Outbox,
 ) -> Result<(), AllocError>
-    requires { slot.0 < (lending imports.old).slots }
     ensures now { OnOk result (lending imports.new ≡ with_places (lending imports.old) ((asks_for wiring.now me.0 (lending imports.old).places actor slot.0 home).now)) }
     ensures sent { OnOk result (out.new ≡ out.old ++ (asks_for wiring.now me.0 (lending imports.old).places actor slot.0 home).sent) }
 {
@@ -145,7 +144,6 @@ fn import_with(
     code: Option<Code>,
     out: &mut Outbox,
 ) -> Result<(), AllocError>
-    requires { slot.0 < (lending imports.old).slots }
     ensures now { OnOk result (lending imports.new ≡ with_places (lending imports.old) ((import_with wiring.now me.0 (lending imports.old).places asked.actor asked.reference asked.index slot.0 home (option_map code_of code)).now)) }
     ensures sent { OnOk result (out.new ≡ out.old ++ (import_with wiring.now me.0 (lending imports.old).places asked.actor asked.reference asked.index slot.0 home (option_map code_of code)).sent) }
 {
@@ -176,7 +174,6 @@ fn import_into(
     slot: SlotId,
     out: &mut Outbox,
 ) -> Result<(), AllocError>
-    requires { slot.0 < (lending imports.old).slots }
     ensures now { OnOk result (lending imports.new ≡ with_places (lending imports.old) ((import_into wiring.now me.0 (lending imports.old).places asked.actor asked.reference asked.index id (Some slot.0)).now)) }
     ensures sent { OnOk result (out.new ≡ out.old ++ (import_into wiring.now me.0 (lending imports.old).places asked.actor asked.reference asked.index id (Some slot.0)).sent) }
 {
@@ -190,7 +187,7 @@ fn import_into(
 /// It is refused at once with code 2 where the index is out of range, with 4 where the number names no
 /// fixed or optional slot, with 7 where that slot has another class, with 1 where the imported slot
 /// holds an actor, and with 6 where it waits for an answer.
-#[tactic(auto, using(crate::proofs::frame_imports::Requests::part_there), unfolding(actor_duties::specs::Frame::import_command))]
+#[tactic(auto, unfolding(actor_duties::specs::Frame::import_command))]
 pub fn request_import(
     imports: &mut Imports,
     alloc: Global,
@@ -204,7 +201,6 @@ pub fn request_import(
     requires order { IsDepthFirst wiring.now }
     requires runs { AreRunEnds wiring.now runs.now }
     requires there { asked.actor.slot.0 < length wiring.now.slots }
-    requires whole { (lending imports.old).slots ≡ length wiring.now.slots }
     ensures now { OnOk result (lending imports.new ≡ with_places (lending imports.old) ((import_command wiring.now me.0 (lending imports.old).places asked.actor asked.reference asked.index id).now)) }
     ensures sent { OnOk result (out.new ≡ out.old ++ (import_command wiring.now me.0 (lending imports.old).places asked.actor asked.reference asked.index id).sent) }
 {
@@ -231,7 +227,6 @@ fn give_back(
     home: Incarnation,
     out: &mut Outbox,
 ) -> Result<(), AllocError>
-    requires { slot.0 < (lending imports.old).slots }
     ensures now { OnOk result (lending imports.new ≡ with_places (lending imports.old) ((deport_from wiring.now me.0 (lending imports.old).places asked.actor asked.reference asked.index slot.0 (Held home)).now)) }
     ensures sent { OnOk result (out.new ≡ out.old ++ (deport_from wiring.now me.0 (lending imports.old).places asked.actor asked.reference asked.index slot.0 (Held home)).sent) }
 {
@@ -252,7 +247,6 @@ fn deport_from(
     slot: SlotId,
     out: &mut Outbox,
 ) -> Result<(), AllocError>
-    requires { slot.0 < (lending imports.old).slots }
     ensures now { OnOk result (lending imports.new ≡ with_places (lending imports.old) ((deport_from wiring.now me.0 (lending imports.old).places asked.actor asked.reference asked.index slot.0 ((lending imports.old).places slot.0)).now)) }
     ensures sent { OnOk result (out.new ≡ out.old ++ (deport_from wiring.now me.0 (lending imports.old).places asked.actor asked.reference asked.index slot.0 ((lending imports.old).places slot.0)).sent) }
 {
@@ -275,7 +269,7 @@ fn deport_from(
 /// `deport`: the actor's imported slot of a reference at an index gives back what it holds. It is
 /// refused at once with code 2 where the index is out of range, with 3 where the slot is empty, and
 /// with 6 where it waits for an answer.
-#[tactic(auto, using(crate::proofs::frame_imports::Requests::part_there), unfolding(actor_duties::specs::Frame::deport_command))]
+#[tactic(auto, unfolding(actor_duties::specs::Frame::deport_command))]
 pub fn request_deport(
     imports: &mut Imports,
     alloc: Global,
@@ -288,7 +282,6 @@ pub fn request_deport(
     requires order { IsDepthFirst wiring.now }
     requires runs { AreRunEnds wiring.now runs.now }
     requires there { asked.actor.slot.0 < length wiring.now.slots }
-    requires whole { (lending imports.old).slots ≡ length wiring.now.slots }
     ensures now { OnOk result (lending imports.new ≡ with_places (lending imports.old) ((deport_command wiring.now me.0 (lending imports.old).places asked.actor asked.reference asked.index).now)) }
     ensures sent { OnOk result (out.new ≡ out.old ++ (deport_command wiring.now me.0 (lending imports.old).places asked.actor asked.reference asked.index).sent) }
 {

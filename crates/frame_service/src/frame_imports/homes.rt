@@ -66,7 +66,6 @@ pub fn import(
 ) -> Result<(), AllocError>
     requires ports { ArePortsNumbered wiring.now }
     requires there { place.slot.0 < length wiring.now.slots }
-    requires own { home.slot.0 < (lending imports.old).slots }
     ensures now { OnOk result (lending imports.new ≡ with_plugs (lending imports.old) ((import wiring.now me.0 (shown lives.now).lives (lending imports.old).plugs m.now place home).now)) }
     ensures sent { OnOk result (out.new ≡ out.old ++ (import wiring.now me.0 (shown lives.now).lives (lending imports.old).plugs m.now place home).sent) }
 {
@@ -74,16 +73,12 @@ pub fn import(
         refuse(alloc, me, m, home, place, Code::StaleId, out)?;
         return Ok(());
     }
-    if is_port_taken(
-        wiring,
-        imports.plugs_of(home.slot),
-        whose(place),
-        whose(home),
-    ) {
+    let plugs = imports.plugs_of(home.slot);
+    if is_port_taken(wiring, plugs, whose(place), whose(home)) {
         refuse(alloc, me, m, home, place, Code::PortTaken, out)?;
         return Ok(());
     }
-    imports.add_plug(alloc, home.slot, whose(place))?;
+    imports.add_plug(home.slot, whose(place))?;
     let payload = Payload::empty(alloc);
     answer(me, m, SysKind::ImportDone, home, place, payload, out)?;
     Ok(())

@@ -4,7 +4,6 @@
 
 mod place;
 mod plugs;
-mod reach;
 mod table;
 
 pub use place::{ImportPlace, is_same_actor};

@@ -14,10 +14,7 @@ use Rattle.frame_lives.specs.Steps.{is_among}
 use Rattle.frame_lives.proofs.Rows.{updated_here, updated_else}
 use Rattle.frame_lives.proofs.Making.{one_below, and_true}
 use Rattle.frame_service.specs.frame_imports.import_places.Lending.{Lending, is_import_of, with_places, forgotten, forgotten_where}
-
-same_lending : {slots : ℕ} {f g : ℕ → rows.ImportPlace} {h k : ℕ → List Incarnation} → f ≡ g → h ≡ k
-    → ◌≡◌ {A = Lending} (record { slots = slots; places = f; plugs = h }) (record { slots = slots; places = g; plugs = k })
-same_lending f h = cc
+use Rattle.frame_service.proofs.frame_imports.import_places.Written.{same_lending}
 
 -- of the import places that pass a test those below n hold nothing
 abbrev pub cleared_below : (ℕ → Bool) → ℕ → (ℕ → rows.ImportPlace) → ℕ → rows.ImportPlace

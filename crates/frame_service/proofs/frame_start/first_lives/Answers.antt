@@ -1,4 +1,4 @@
-use Rattle.std.proofs.Common.{◌<◌, length, List, ap, ◌∙◌, arith}
+use Rattle.std.proofs.Common.{length, List, ap, ◌∙◌, arith}
 use Rattle.std.proofs.lemmas.List.FromFn.{length-map-range_with_len}
 use Rattle.frame_lives.specs.declared.row.Row.{Row}
 use Rattle.frame_service.proofs.frame_start.Started.{row_at, starts_more, rows_more}

@@ -1,41 +1,30 @@
 -- What the tables of import places and plugs say.
-use Rattle.std.specs.Prelude.{◌≡◌, ℕ, ◌<◌, ◌≤◌, ◌&&◌, Bool, false, List, [], length, slice_index_or, if◌then◌else◌}
+use Rattle.std.specs.Prelude.{ℕ, ◌&&◌, Bool, false, List, [], if◌then◌else◌}
 use Rattle.std.specs.Option.{option_map_or}
 use Rattle.room_kinds.specs.declared.numbers.Incarnation.{Incarnation}
 use Rattle.room_wiring.specs.declared.tables.Tables.{Tables}
 use Rattle.actor_duties.specs.Words.{updated, is_imported, is_part_of, container_of}
 use Rattle.actor_duties.specs.State as rows
+use Rattle.frame_lives.specs.Items.{item_in}
 use Rattle.frame_service.specs.declared.frame_imports.import_places.place.ImportPlace.{ImportPlace}
 use Rattle.frame_service.specs.declared.frame_imports.import_places.place.ImportPlace.TheVariants as variants
 use Rattle.frame_service.specs.frame_imports.import_places.Places.{place_of}
 
--- how many slots there are, and the tables, by slot number: they may be shorter
+-- the tables, in pages
 pub record Kept : Type 0 where
-  pub slots : ℕ
-  pub places : List ImportPlace
-  pub plugs : List (List Incarnation)
+  pub places : List (List ImportPlace)
+  pub plugs : List (List (List Incarnation))
 
--- no table is longer than there are slots
-pub record AreWithin (slots : ℕ) (places : List ImportPlace) (plugs : List (List Incarnation)) : Type 0 where
-  pub few_places : length places ≤ slots
-  pub few_plugs : length plugs ≤ slots
-
--- a table of so many places reaches no further than place n, if it didn't before
-abbrev pub ReachesNoFurther : ℕ → ℕ → ℕ → Type 0
-ReachesNoFurther n old new = (m : ℕ) → old ≤ m → n < m → new ≤ m
-
--- for so many slots: what each imported slot holds, and the plugs of each slot, oldest first
+-- what each imported slot holds, and the plugs of each slot, oldest first
 pub record Lending : Type 0 where
-  pub slots : ℕ
   pub places : ℕ → rows.ImportPlace
   pub plugs : ℕ → List Incarnation
 
 -- what tables say
 unfoldable pub lending : Kept → Lending
 lending k = record {
-  slots = k.slots;
-  places = λ i. place_of (slice_index_or k.places i variants.Empty);
-  plugs = λ s. slice_index_or k.plugs s [];
+  places = λ i. place_of (item_in variants.Empty k.places i);
+  plugs = item_in [] k.plugs;
 }
 
 -- the same with other import places
@@ -47,8 +36,8 @@ abbrev pub with_plugs : Lending → (ℕ → List Incarnation) → Lending
 with_plugs l f = record l { plugs = f }
 
 -- nothing is lent
-abbrev pub nothing_lent : ℕ → Lending
-nothing_lent slots = record { slots = slots; places = λ i. rows.Empty; plugs = λ s. [] }
+abbrev pub nothing_lent : Lending
+nothing_lent = record { places = λ i. rows.Empty; plugs = λ s. [] }
 
 -- whether a slot is an imported one of a container
 abbrev pub is_import_of : Tables → ℕ → ℕ → Bool
@@ -57,7 +46,6 @@ is_import_of t s i = is_imported t i && is_part_of t i s
 -- a slot has no plugs any more, and its imported slots hold nothing
 abbrev pub forgotten : Tables → ℕ → Lending → Lending
 forgotten t s l = record {
-  slots = l.slots;
   places = λ i. if is_import_of t s i then rows.Empty else l.places i;
   plugs = updated l.plugs s [];
 }
@@ -65,7 +53,6 @@ forgotten t s l = record {
 -- the same of all slots that pass a test
 abbrev pub forgotten_where : Tables → (ℕ → Bool) → Lending → Lending
 forgotten_where t test l = record {
-  slots = l.slots;
   places = λ i. if is_imported t i && option_map_or test (container_of t i) false then rows.Empty else l.places i;
   plugs = λ s. if test s then [] else l.plugs s;
 }

@@ -84,8 +84,7 @@ pub fn peer<I: Lent>(
                 Partner::End { slot, port, place } => {
                     known_end(lives, wiring, me, slot, port, place)
                 }
-                Partner::Socket { .. } => None,
-                Partner::Nobody => None,
+                Partner::Socket { .. } | Partner::Nobody => None,
             }
         }
     }

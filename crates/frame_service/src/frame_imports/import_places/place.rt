@@ -5,7 +5,9 @@ ghost use Rattle.actor_duties.specs.Imports.{is_asking, is_held, is_leaving, tie
 ghost use Rattle.frame_service.specs.frame_imports.frame_peers.Parts.{held_home};
 ghost use Rattle.frame_service.specs.frame_imports.import_places.Places.{place_of};
 
+use frame_lives::Blank;
 use room_kinds::Incarnation;
+use std::alloc::Global;
 
 /// What an imported slot of a live container holds: nothing; or an actor of another slot, its home, that
 /// it asks for, holds or gives back.
@@ -15,6 +17,16 @@ pub enum ImportPlace {
     Asking(Incarnation),
     Held(Incarnation),
     Leaving(Incarnation),
+}
+
+impl Blank for ImportPlace {
+    ghost use Rattle.frame_service.specs.declared.frame_imports.import_places.place.ImportPlace.TheVariants.{Empty};
+
+    ghost no_item = { Empty };
+
+    fn blank(_alloc: Global) -> ImportPlace {
+        ImportPlace::Empty
+    }
 }
 
 /// Whether two actors are one.

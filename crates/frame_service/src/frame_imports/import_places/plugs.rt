@@ -3,6 +3,7 @@ ghost use Rattle.std.specs.Prelude.{◌≡◌, ◌++◌, ◌∷◌, [], not, fil
 ghost use Rattle.actor_duties.specs.Words.{is_incarnation};
 
 use crate::frame_imports::import_places::place::is_same_actor;
+use frame_lives::Blank;
 use room_kinds::Incarnation;
 use std::alloc::{AllocError, Global};
 use std::marker::Model;
@@ -23,16 +24,17 @@ impl Model for Plugs {
     ghost view = { λ p. p.items.items };
 }
 
-impl Plugs {
-    /// No plugs. It takes no memory.
-    pub fn new(alloc: Global) -> Plugs
-        ensures { result ≡ [] }
-    {
+impl Blank for Plugs {
+    ghost no_item = { [] };
+
+    fn blank(alloc: Global) -> Plugs {
         Plugs {
             items: Vec::new(alloc),
         }
     }
+}
 
+impl Plugs {
     pub fn as_slice(&self) -> &[Incarnation]
         ensures { result.now ≡ self.now }
     {

@@ -1,5 +1,5 @@
 //! The table of import places and plugs.
-ghost use Rattle.std.specs.Prelude.{◌≡◌, ◌++◌, ◌∷◌, [], ◌<◌, ℕ, not, filter, length, if◌then◌else◌, All, OnOk};
+ghost use Rattle.std.specs.Prelude.{◌≡◌, ◌++◌, ◌∷◌, [], ◌<◌, not, filter, length, if◌then◌else◌, All, OnOk};
 ghost use Rattle.actor_duties.specs.State.{Empty};
 ghost use Rattle.actor_duties.specs.Words.{updated, is_incarnation};
 ghost use Rattle.service_messages.specs.slot_runs.Runs.{IsDepthFirst, AreRunEnds};
@@ -10,7 +10,7 @@ ghost use Rattle.frame_service.specs.frame_imports.import_places.Lending.{lendin
 use crate::frame_imports::frame_peers::Lent;
 use crate::frame_imports::import_places::place::ImportPlace;
 use crate::frame_imports::import_places::plugs::Plugs;
-use crate::frame_imports::import_places::reach::{reach_place, reach_plugs};
+use frame_lives::Pages;
 use room_kinds::{Incarnation, SlotId};
 use room_wiring::Wiring;
 use service_messages::{SlotRuns, is_imported, is_part_of};
@@ -20,24 +20,20 @@ use std::marker::Model;
 /// What each imported slot holds, and the plugs of each slot, by slot number. What the tables say
 /// (`lending`) is a pair of functions of slot numbers. No look-up takes memory.
 ///
-/// The tables reach as far as the last slot that has asked for a home or was lent: behind their ends
-/// slots hold nothing and have no plugs. So they take no memory where nothing is lent.
+/// They stand in pages, which take memory for a slot only where it, or a later one of its page, has asked
+/// for a home or was lent (`Pages`). So they take none where nothing is lent.
 #[derive(Drop, Debug)]
 pub struct Imports {
-    /// How many slots there are: no table is longer.
-    slots: u32,
-    places: Vec<ImportPlace>,
-    plugs: Vec<Plugs>,
+    places: Pages<ImportPlace>,
+    plugs: Pages<Plugs>,
 }
 
 impl Model for Imports {
-    ghost use Rattle.frame_service.specs.frame_imports.import_places.Lending.{Kept, AreWithin};
+    ghost use Rattle.frame_service.specs.frame_imports.import_places.Lending.{Kept};
 
     ghost Value = { Kept };
 
-    ghost view = { λ x. record { slots = x.slots; places = x.places.items; plugs = x.plugs.items } };
-
-    ghost invariant = { λ x. AreWithin x.slots x.places.items x.plugs.items };
+    ghost view = { λ x. record { places = x.places; plugs = x.plugs } };
 }
 
 impl Lent for Imports {
@@ -55,7 +51,7 @@ impl Lent for Imports {
 
     #[tactic(auto, unfolding(crate::specs::frame_imports::import_places::Lending::lending))]
     fn plugs_of(&self, slot: SlotId) -> &[Incarnation] {
-        match self.plugs.as_slice().get(usize::from(slot.0)) {
+        match self.plugs.get(usize::from(slot.0)) {
             Some(plugs) => plugs.as_slice(),
             None => &[],
         }
@@ -63,62 +59,49 @@ impl Lent for Imports {
 }
 
 impl Imports {
-    /// For so many slots: all import places are empty, and there are no plugs. It takes no memory.
+    /// All import places are empty, and there are no plugs. It takes no memory.
     #[tactic(auto, unfolding(crate::specs::frame_imports::import_places::Lending::lending))]
-    pub fn new(alloc: Global, slots: u32) -> Imports
-        ensures { lending result ≡ nothing_lent slots }
+    pub fn new(alloc: Global) -> Imports
+        ensures { lending result ≡ nothing_lent }
     {
         Imports {
-            slots,
-            places: Vec::new(alloc),
-            plugs: Vec::new(alloc),
+            places: Pages::new(alloc),
+            plugs: Pages::new(alloc),
         }
     }
 
-    /// What a slot holds; nothing where there is no such slot.
+    /// What a slot holds.
     #[tactic(auto, unfolding(crate::specs::frame_imports::import_places::Lending::lending))]
     pub fn place(&self, slot: SlotId) -> ImportPlace
         ensures { place_of result ≡ (lending self.now).places slot.0 }
     {
-        self.places
-            .as_slice()
-            .get(usize::from(slot.0))
-            .copied()
-            .unwrap_or(ImportPlace::Empty)
+        self.places.item(usize::from(slot.0))
     }
 
-    /// A slot holds something else. The table is lengthened where it doesn't reach the slot.
+    /// A slot holds something else.
     pub fn set_place(&mut self, slot: SlotId, place: ImportPlace) -> Result<(), AllocError>
-        requires { slot.0 < (lending self.old).slots }
         ensures { OnOk result (lending self.new ≡ with_places (lending self.old) (updated (lending self.old).places slot.0 (place_of place))) }
     {
-        reach_place(&mut self.places, slot)?;
-        self.places[usize::from(slot.0)] = place;
+        let held = self.places.reach(usize::from(slot.0))?;
+        *held = place;
         Ok(())
     }
 
-    /// A slot holds nothing any more. The table stays as long as it was.
+    /// A slot holds nothing any more. It takes no memory.
     fn empty_place(&mut self, slot: SlotId)
         ensures { lending self.new ≡ with_places (lending self.old) (updated (lending self.old).places slot.0 Empty) }
     {
-        let place = usize::from(slot.0);
-        if place < self.places.len() {
-            self.places[place] = ImportPlace::Empty;
+        if let Some(place) = self.places.get_mut(usize::from(slot.0)) {
+            *place = ImportPlace::Empty;
         }
     }
 
-    /// A slot has one more plug, its youngest. The table is lengthened where it doesn't reach the slot.
-    pub fn add_plug(
-        &mut self,
-        alloc: Global,
-        slot: SlotId,
-        plug: Incarnation,
-    ) -> Result<(), AllocError>
-        requires { slot.0 < (lending self.old).slots }
+    /// A slot has one more plug, its youngest.
+    pub fn add_plug(&mut self, slot: SlotId, plug: Incarnation) -> Result<(), AllocError>
         ensures { OnOk result (lending self.new ≡ with_plugs (lending self.old) (updated (lending self.old).plugs slot.0 ((lending self.old).plugs slot.0 ++ plug ∷ []))) }
     {
-        reach_plugs(&mut self.plugs, alloc, slot)?;
-        self.plugs[usize::from(slot.0)].push(plug)?;
+        let plugs = self.plugs.reach(usize::from(slot.0))?;
+        plugs.push(plug)?;
         Ok(())
     }
 
@@ -126,9 +109,8 @@ impl Imports {
     pub fn remove_plug(&mut self, slot: SlotId, plug: Incarnation)
         ensures { lending self.new ≡ with_plugs (lending self.old) (updated (lending self.old).plugs slot.0 (filter (λ q. not (is_incarnation q plug)) ((lending self.old).plugs slot.0))) }
     {
-        let place = usize::from(slot.0);
-        if place < self.plugs.len() {
-            self.plugs[place].remove(plug);
+        if let Some(plugs) = self.plugs.get_mut(usize::from(slot.0)) {
+            plugs.remove(plug);
         }
     }
 
@@ -136,9 +118,8 @@ impl Imports {
     fn clear_plugs(&mut self, slot: SlotId)
         ensures { lending self.new ≡ with_plugs (lending self.old) (updated (lending self.old).plugs slot.0 []) }
     {
-        let place = usize::from(slot.0);
-        if place < self.plugs.len() {
-            self.plugs[place].clear();
+        if let Some(plugs) = self.plugs.get_mut(usize::from(slot.0)) {
+            plugs.clear();
         }
     }
 

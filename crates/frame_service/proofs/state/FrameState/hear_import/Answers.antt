@@ -1,4 +1,3 @@
-use Rattle.std.proofs.Common.{◌<◌, sym, subst, ℕ}
 use Rattle.room_kinds.specs.declared.system.SysKind.TheVariants as kinds
 use Rattle.actor_duties.specs.Imports.{import}
 use Rattle.actor_duties.specs.Frame as duties
@@ -18,17 +17,7 @@ import-requires-clause-there c =
     let m = c.args.m.now in
     let place = c.args.place in
     let home = c.args.home in
-    (forth_there t me m.payload place home c.requires.form).0
-
-pub import-requires-clause-own : goal.import-requires-clause-own
-import-requires-clause-own c =
-    let t = c.args.wiring.now in
-    let s = c.args.self.now in
-    let me = s.me.0 in
-    let m = c.args.m.now in
-    let place = c.args.place in
-    let home = c.args.home in
-    subst (λ (n : ℕ). home.slot.0 < n) (sym c.requires.fits.imports) (forth_there t me m.payload place home c.requires.form).1
+    forth_there t me m.payload place home c.requires.form
 
 pub returns : goal.returns
 unfolding frame_in

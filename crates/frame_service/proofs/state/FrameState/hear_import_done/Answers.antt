@@ -1,4 +1,3 @@
-use Rattle.std.proofs.Common.{◌<◌, sym, subst, ℕ}
 use Rattle.room_kinds.specs.declared.system.SysKind.TheVariants as kinds
 use Rattle.actor_duties.specs.Imports.{import_done}
 use Rattle.actor_duties.specs.Frame as duties
@@ -6,19 +5,9 @@ use Rattle.actor_duties.specs.Frame.{frame_duty_of, is_back}
 use Rattle.frame_lives.specs.Shown.{shown}
 use Rattle.frame_service.specs.frame_imports.import_places.Lending.{lending}
 use Rattle.frame_service.specs.State.{frame_in}
-use Rattle.frame_service.proofs.FormLemmas.{back_there, plain_fit}
+use Rattle.frame_service.proofs.FormLemmas.{plain_fit}
 use Rattle.frame_service.proofs.DutyLemmas.{places_done}
 use Rattle.frame_service.proofs.state.FrameState.hear_import_done.Goals as goal
-
-pub hear-requires : goal.hear-requires
-hear-requires c =
-    let t = c.args.wiring.now in
-    let s = c.args.self.now in
-    let me = s.me.0 in
-    let m = c.args.m.now in
-    let place = c.args.place in
-    let home = c.args.home in
-    subst (λ (n : ℕ). place.slot.0 < n) (sym c.requires.fits.imports) (back_there t me 0 m.payload home place c.requires.form)
 
 pub returns : goal.returns
 unfolding frame_in import_done

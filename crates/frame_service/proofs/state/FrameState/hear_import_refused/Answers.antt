@@ -1,4 +1,4 @@
-use Rattle.std.proofs.Common.{◌<◌, sym, subst, ℕ, ℤ, SFits, w64, rules, ap, ◌∙◌, ◌++◌}
+use Rattle.std.proofs.Common.{ℤ, SFits, w64, rules, ap, ◌∙◌, ◌++◌}
 use Rattle.std.proofs.lemmas.Int.{to_z-of_z}
 use Rattle.room_kinds.specs.declared.system.SysKind.TheVariants as kinds
 use Rattle.actor_duties.specs.Imports.{import_refused}
@@ -8,19 +8,9 @@ use Rattle.frame_lives.specs.Shown.{shown}
 use Rattle.frame_service.specs.frame_imports.import_places.Lending.{lending, with_places}
 use Rattle.frame_service.specs.State.{frame_in}
 use Rattle.frame_service.specs.Forms.{first_number}
-use Rattle.frame_service.proofs.FormLemmas.{back_there, number_fit}
+use Rattle.frame_service.proofs.FormLemmas.{number_fit}
 use Rattle.frame_service.proofs.DutyLemmas.{places_done}
 use Rattle.frame_service.proofs.state.FrameState.hear_import_refused.Goals as goal
-
-pub hear-requires : goal.hear-requires
-hear-requires c =
-    let t = c.args.wiring.now in
-    let s = c.args.self.now in
-    let me = s.me.0 in
-    let m = c.args.m.now in
-    let place = c.args.place in
-    let home = c.args.home in
-    subst (λ (n : ℕ). place.slot.0 < n) (sym c.requires.fits.imports) (back_there t me 1 m.payload home place c.requires.form)
 
 pub returns : goal.returns
 unfolding frame_in import_refused

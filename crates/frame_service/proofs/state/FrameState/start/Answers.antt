@@ -1,12 +1,10 @@
-use Rattle.std.proofs.Common.{ap, ◌∙◌}
-use Rattle.frame_service.specs.frame_imports.import_places.Lending.{nothing_lent}
 use Rattle.frame_service.proofs.StateLemmas.{start_fits, start_frame}
 use Rattle.frame_service.proofs.state.FrameState.start.Goals as goal
 
 pub returns-clause-fits : goal.returns-clause-fits
 returns-clause-fits c =
-    start_fits c.args.wiring.now _ c.requires.order c.requires.me c.requires.runs c.in_ok-lives.ensures (c.new-imports.ensures ∙ ap nothing_lent c.slot_count.ensures.count)
+    start_fits c.args.wiring.now _ c.requires.order c.requires.me c.requires.runs c.in_ok-lives.ensures
 
 pub returns-clause-frame : goal.returns-clause-frame
 returns-clause-frame c =
-    start_frame c.args.wiring.now _ c.args.me.0 c.in_ok-lives.ensures (c.new-imports.ensures ∙ ap nothing_lent c.slot_count.ensures.count)
+    start_frame c.args.wiring.now _ c.args.me.0 c.in_ok-lives.ensures c.new-imports.ensures

@@ -1,18 +1,22 @@
-use Rattle.std.proofs.Common.{◌<◌, length, ◌≤◌, arith}
-use Rattle.frame_service.specs.declared.frame_imports.import_places.place.ImportPlace.TheVariants as variants
-use Rattle.frame_lives.proofs.Lengthened.{as_long}
-use Rattle.frame_service.proofs.frame_imports.import_places.Written.{place_written, place_past}
+use Rattle.std.proofs.Common.{refl}
+use Rattle.frame_lives.specs.Items.{with_item}
+use Rattle.frame_lives.proofs.Items.{written_there, stays_blank}
+use Rattle.frame_service.specs.declared.frame_imports.import_places.place.ImportPlace.TheVariants.{Empty}
+use Rattle.frame_service.proofs.frame_imports.import_places.Written.{place_written}
+use Rattle.frame_service.proofs.frame_imports.import_places.table.Imports.empty_place.Goals.{in-Some, in_default}
 use Rattle.frame_service.proofs.frame_imports.import_places.table.Imports.empty_place.Goals as goal
 
-pub returns-then-place-len : goal.returns-then-place-len
-returns-then-place-len c =
-    let places = c.self.inside.places.items in
-    let there : c.args.slot.0 < length places = omega (arith, c.from-place.ensures, c.len.ensures, c.self.inside.places.ok.0, c.if-place-len.true) in
-    place_written c.args.self.now c.self.inside.slots places places c.self.inside.plugs.items c.args.slot.0 c.from-place.result variants.Empty c.self.view_is c.from-place.ensures
-    (as_long variants.Empty places c.args.slot.0 there)
-
-pub returns-else-place-len : goal.returns-else-place-len
-returns-else-place-len c =
-    let past : length c.self.inside.places.items ≤ c.from-place.result = omega (arith, c.len.ensures, c.self.inside.places.ok.0, c.if-place-len.false) in
-    place_past c.args.self.now c.self.inside.slots c.self.inside.places.items c.self.inside.plugs.items c.args.slot.0 c.from-place.result c.self.view_is c.from-place.ensures
-    past
+pub returns : goal.returns
+returns c =
+    let places = c.self.inside.places in
+    let plugs = c.self.inside.plugs in
+    elim c.match-get_mut.branch [
+      | in-Some w ↦
+          rw w.self-inside-is
+          (place_written c.args.self.now places (with_item places c.from.result Empty) plugs c.args.slot.0 c.from.result Empty
+          c.self.view_is c.from.ensures (written_there Empty places c.from.result Empty (w.in-Some.ensures.there refl)))
+      | in_default w ↦
+          rw w.self-inside-is
+          (place_written c.args.self.now places places plugs c.args.slot.0 c.from.result Empty
+          c.self.view_is c.from.ensures (stays_blank Empty places c.from.result w.in_default.ensures.value))
+    ]
