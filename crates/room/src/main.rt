@@ -1,6 +1,9 @@
 //! The program `room`: runs models of real-time actors and prints their journals.
 #![tactic(auto)]
 
+mod read_before;
+
+use crate::read_before::{ReadBefore, ReadText};
 use room_outside::{FileShelf, OpenGate, OutSink, read_whole, write_whole};
 use room_run::{LEAST_STACK, Status, room_top, stack_for};
 use std::process::ExitCode;
@@ -39,23 +42,33 @@ fn model_file(words: &[String]) -> Option<&str> {
     }
 }
 
-/// How large a stack the work takes that words ask for.
-fn stack_of_words(rt: HostRuntime, words: &[String]) -> usize {
-    let Some(name) = model_file(words) else {
-        return LEAST_STACK;
-    };
-    match read_whole(rt.alloc(), &mut FileShelf::new(rt), name) {
-        Ok(text) => stack_for(&text),
-        Err(_) => LEAST_STACK,
+/// The text of the model that words name, if it can be read.
+fn model_text(rt: HostRuntime, words: &[String]) -> Option<ReadText> {
+    let path = model_file(words)?;
+    let text = read_whole(rt.alloc(), &mut FileShelf::new(rt), path).ok()?;
+    let name = String::from_str(rt.alloc(), path).ok()?;
+    Some(ReadText { name, text })
+}
+
+/// How large a stack the work on a model takes. The work reads this very text, so what it nests is known.
+fn stack_of(model: &Option<ReadText>) -> usize {
+    match model {
+        Some(model) => stack_for(&model.text),
+        None => LEAST_STACK,
     }
 }
 
-/// The work that words ask for, on the stack of the thread that calls it; the controllers of a run work on
-/// threads of their own.
-fn work<R: Threads + Sync>(rt: HostRuntime, threads: &R, words: &[String]) -> Status {
+/// The work that words ask for, on the stack of the thread that calls it, over a model that was read before;
+/// the controllers of a run work on threads of their own.
+fn work<R: Threads + Sync>(
+    rt: HostRuntime,
+    threads: &R,
+    words: &[String],
+    model: Option<ReadText>,
+) -> Status {
     let mut out = OutSink::output(rt.stdout());
     let mut notes = OutSink::errors(rt.stderr());
-    let mut shelf = FileShelf::new(rt);
+    let mut shelf = ReadBefore::new(rt, model);
     room_top(
         threads,
         rt.alloc(),
@@ -73,8 +86,9 @@ fn main(rt: HostRuntime) -> ExitCode {
     let Ok(words) = words_of(&rt) else {
         return ExitCode::from(without_memory(rt).number());
     };
-    let thread = Builder::new().stack_size(stack_of_words(rt, &words));
-    let status = match thread.spawn(&rt, move || work(rt, &rt, &words)) {
+    let model = model_text(rt, &words);
+    let thread = Builder::new().stack_size(stack_of(&model));
+    let status = match thread.spawn(&rt, move || work(rt, &rt, &words, model)) {
         Ok(thread) => thread.join(&rt),
         Err(_) => without_memory(rt),
     };
