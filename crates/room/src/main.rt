@@ -1,11 +1,8 @@
 //! The program `room`: runs models of real-time actors and prints their journals.
 #![tactic(auto)]
 
-mod read_before;
-
-use crate::read_before::{ReadBefore, ReadText};
-use room_outside::{FileShelf, OpenGate, OutSink, read_whole, write_whole};
-use room_run::{LEAST_STACK, Status, room_top, stack_for};
+use room_outside::{OpenGate, OutSink, ReadBefore, ReadText, write_whole};
+use room_run::{Status, room_top, stack_of};
 use std::process::ExitCode;
 use std::rt::Env;
 use std::thread::{Builder, Threads};
@@ -42,22 +39,6 @@ fn model_file(words: &[String]) -> Option<&str> {
     }
 }
 
-/// The text of the model that words name, if it can be read.
-fn model_text(rt: HostRuntime, words: &[String]) -> Option<ReadText> {
-    let path = model_file(words)?;
-    let text = read_whole(rt.alloc(), &mut FileShelf::new(rt), path).ok()?;
-    let name = String::from_str(rt.alloc(), path).ok()?;
-    Some(ReadText { name, text })
-}
-
-/// How large a stack the work on a model takes. The work reads this very text, so what it nests is known.
-fn stack_of(model: &Option<ReadText>) -> usize {
-    match model {
-        Some(model) => stack_for(&model.text),
-        None => LEAST_STACK,
-    }
-}
-
 /// The work that words ask for, on the stack of the thread that calls it, over a model that was read before;
 /// the controllers of a run work on threads of their own.
 fn work<R: Threads + Sync>(
@@ -86,7 +67,7 @@ fn main(rt: HostRuntime) -> ExitCode {
     let Ok(words) = words_of(&rt) else {
         return ExitCode::from(without_memory(rt).number());
     };
-    let model = model_text(rt, &words);
+    let model = model_file(&words).and_then(|path| ReadText::of_file(rt, path));
     let thread = Builder::new().stack_size(stack_of(&model));
     let status = match thread.spawn(&rt, move || work(rt, &rt, &words, model)) {
         Ok(thread) => thread.join(&rt),

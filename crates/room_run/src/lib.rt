@@ -30,6 +30,6 @@ pub use model_fault::ModelFault;
 pub use model_plants::plant_of;
 pub use model_run::{run_local, run_model};
 pub use refusal::Refusal;
-pub use stack::{LEAST_STACK, stack_for};
+pub use stack::stack_of;
 pub use status::Status;
 pub use top::room_top;

@@ -31,8 +31,8 @@ use crate::why::tell_model;
 use crate::words::{Asked, FORMS, Question, question_of};
 use journal_views::view_pages::{Named, Page};
 use model_lint::tell_findings;
-use room_outside::{FileShelf, OutSink, read_whole, write_whole};
-use room_run::{LEAST_STACK, Status, stack_for};
+use room_outside::{OutSink, ReadBefore, ReadText, write_whole};
+use room_run::{Status, stack_of};
 use room_wiring::Wiring;
 use std::alloc::AllocError;
 use std::process::ExitCode;
@@ -90,9 +90,15 @@ fn tell_lint(
     Ok(Status::Done)
 }
 
-/// The page for a question, and the status.
-fn tell(rt: HostRuntime, page: &mut Page, question: Question<'_>) -> Result<Status, AllocError> {
-    let text = match read(rt, page, question.model, Kind::Model)? {
+/// The page for a question, and the status. The model may have been read before.
+fn tell(
+    rt: HostRuntime,
+    page: &mut Page,
+    question: Question<'_>,
+    model: Option<ReadText>,
+) -> Result<Status, AllocError> {
+    let mut shelf = ReadBefore::new(rt, model);
+    let text = match read(rt.alloc(), &mut shelf, page, question.model, Kind::Model)? {
         Ok(text) => text,
         Err(status) => return Ok(status),
     };
@@ -132,30 +138,19 @@ fn write_page(rt: HostRuntime, page: &Page, status: Status) -> Status {
     }
 }
 
-/// Writes the page for words.
-fn work(rt: HostRuntime, words: &[String]) -> Status {
+/// Writes the page for words, of a model that may have been read before.
+fn work(rt: HostRuntime, words: &[String], model: Option<ReadText>) -> Status {
     let mut notes = OutSink::errors(rt.stderr());
     let Some(question) = question_of(words) else {
         let _ = write_whole(&mut notes, FORMS);
         return Status::WordsRefused;
     };
     let mut page = Page::new(rt.alloc());
-    let Ok(status) = tell(rt, &mut page, question) else {
+    let Ok(status) = tell(rt, &mut page, question, model) else {
         let _ = write_whole(&mut notes, b"room_view: memory\n");
         return Status::Memory;
     };
     write_page(rt, &page, status)
-}
-
-/// How large a stack the work takes that words ask for.
-fn stack_of_words(rt: HostRuntime, words: &[String]) -> usize {
-    let Some(question) = question_of(words) else {
-        return LEAST_STACK;
-    };
-    match read_whole(rt.alloc(), &mut FileShelf::new(rt), question.model) {
-        Ok(text) => stack_for(&text),
-        Err(_) => LEAST_STACK,
-    }
 }
 
 /// Does the work on a thread of its own, whose stack the model's text can't exhaust.
@@ -163,8 +158,9 @@ fn main(rt: HostRuntime) -> ExitCode {
     let Ok(words) = words_of(&rt) else {
         return ExitCode::from(Status::Memory.number());
     };
-    let thread = Builder::new().stack_size(stack_of_words(rt, &words));
-    let status = match thread.spawn(&rt, move || work(rt, &words)) {
+    let model = question_of(&words).and_then(|asked| ReadText::of_file(rt, asked.model));
+    let thread = Builder::new().stack_size(stack_of(&model));
+    let status = match thread.spawn(&rt, move || work(rt, &words, model)) {
         Ok(thread) => thread.join(&rt),
         Err(_) => Status::Memory,
     };

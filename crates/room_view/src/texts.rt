@@ -3,9 +3,9 @@ ghost use Rattle.std.specs.Prelude.{◌≤◌};
 
 use crate::why::tell_refused;
 use journal_views::view_pages::{Named, Page};
-use room_outside::{FileShelf, MAX_TEXT, ReadRefused, read_limit};
+use room_outside::{MAX_TEXT, ReadRefused, Shelf, read_limit};
 use room_run::Status;
-use std::alloc::AllocError;
+use std::alloc::{AllocError, Global};
 
 /// The most bytes of the text of journals.
 const MAX_JOURNALS: u64 = 268_435_456;
@@ -46,14 +46,15 @@ impl Kind {
 }
 
 /// The text of a file, or what is told of it and the status.
-pub(crate) fn read(
-    rt: HostRuntime,
+pub(crate) fn read<S: Shelf>(
+    alloc: Global,
+    shelf: &mut S,
     page: &mut Page,
     name: &str,
     kind: Kind,
 ) -> Result<Result<Vec<u8>, Status>, AllocError> {
     let limit = kind.limit();
-    match read_limit(rt.alloc(), &mut FileShelf::new(rt), name, limit) {
+    match read_limit(alloc, shelf, name, limit) {
         Ok(text) => Ok(Ok(text)),
         Err(ReadRefused::Memory) => Err(AllocError),
         Err(ReadRefused::ReadFault) => {

@@ -3,7 +3,8 @@ ghost use Rattle.std.specs.Prelude.{◌≡◌, ◌≤◌, length, IfOk, IfSome, 
 ghost use Rattle.room_outside.specs.Faults.{Rose};
 ghost use Rattle.room_outside.specs.Shown.{Keeps, IsReadAt};
 
-use room_outside::{Failed, FileShelf, Shelf};
+use crate::files::copy_at;
+use crate::{Failed, FileShelf, Shelf, read_whole};
 use std::marker::Model;
 use std::rt::Files;
 
@@ -12,6 +13,17 @@ use std::rt::Files;
 pub struct ReadText {
     pub name: String,
     pub text: Vec<u8>,
+}
+
+impl ReadText {
+    /// The text of the file at a path, if there is one of at most 1,048,576 bytes that can be read.
+    pub fn of_file<R: Files + AllocGlobal + Drop>(files: R, path: &str) -> Option<ReadText>
+        ensures { IfSome result (λ read. length read.text.items ≤ 1048576) }
+    {
+        let name = String::from_str(files.alloc(), path).ok()?;
+        let text = read_whole(files.alloc(), &mut FileShelf::new(files), path).ok()?;
+        Some(ReadText { name, text })
+    }
 }
 
 /// The files of a system, of which one may have been read before: that one is given as it was then, and
@@ -40,18 +52,6 @@ impl<R: Files> ReadBefore<R> {
             files: FileShelf::new(files),
         }
     }
-}
-
-/// Copies the bytes of a text from an offset on to the front of a buffer, as many as fit.
-fn copy_at(text: &[u8], from: u64, buf: &mut [u8]) -> usize
-    ensures within { result ≤ length buf.new }
-    ensures read { IsReadAt text.now from result buf.new }
-{
-    let start = (from as usize).min(text.len());
-    let rest = text.split_at(start).1;
-    let n = buf.len().min(rest.len());
-    buf[..n].copy_from_slice(&rest[..n]);
-    n
 }
 
 impl<R: Files + AllocGlobal> Shelf for ReadBefore<R> {
