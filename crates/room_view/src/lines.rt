@@ -6,7 +6,6 @@ use inject_reader::{InjectFault, read_injections};
 use journal_views::view_pages::{Named, Page};
 use journal_views::{incoming, is_end, place_count, type_name};
 use room_kinds::{ReferenceKind, SlotId};
-use room_outside::FileShelf;
 use room_run::Status;
 use room_wiring::{ClassNames, SignalNames, Wiring};
 use std::alloc::AllocError;
@@ -222,13 +221,7 @@ pub(crate) fn injections_of(
     wiring: &Wiring,
     name: &str,
 ) -> Result<Result<Vec<u8>, Status>, AllocError> {
-    let lines = match read(
-        rt.alloc(),
-        &mut FileShelf::new(rt),
-        page,
-        name,
-        Kind::Injections,
-    )? {
+    let lines = match read(rt, page, name, Kind::Injections)? {
         Ok(lines) => lines,
         Err(status) => return Ok(Err(status)),
     };

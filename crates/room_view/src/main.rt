@@ -26,12 +26,12 @@ use crate::lines::injections_of;
 use crate::messages::tell_message_of;
 use crate::pictures::{tell_picture, tell_run_picture};
 use crate::runs::{tell_end_of, tell_story_of};
-use crate::texts::{Kind, read};
+use crate::texts::read_model;
 use crate::why::tell_model;
 use crate::words::{Asked, FORMS, Question, question_of};
 use journal_views::view_pages::{Named, Page};
 use model_lint::tell_findings;
-use room_outside::{OutSink, ReadBefore, ReadText, write_whole};
+use room_outside::{OutSink, ReadText, write_whole};
 use room_run::{Status, stack_of};
 use room_wiring::Wiring;
 use std::alloc::AllocError;
@@ -97,8 +97,7 @@ fn tell(
     question: Question<'_>,
     model: Option<ReadText>,
 ) -> Result<Status, AllocError> {
-    let mut shelf = ReadBefore::new(rt, model);
-    let text = match read(rt.alloc(), &mut shelf, page, question.model, Kind::Model)? {
+    let text = match read_model(rt, page, question.model, model)? {
         Ok(text) => text,
         Err(status) => return Ok(status),
     };

@@ -7,7 +7,6 @@ use journal_reader::{ReadFaultOf, read_journals};
 use journal_views::view_pages::{Named, Page};
 use journal_views::{Wanted, find_signal, tell_end, tell_story};
 use room_kinds::SlotId;
-use room_outside::FileShelf;
 use room_run::Status;
 use room_wiring::Wiring;
 use std::alloc::AllocError;
@@ -58,13 +57,7 @@ pub(crate) fn journals_of(
     wiring: &Wiring,
     name: &str,
 ) -> Result<Result<Journals, Status>, AllocError> {
-    let text = match read(
-        rt.alloc(),
-        &mut FileShelf::new(rt),
-        page,
-        name,
-        Kind::Journals,
-    )? {
+    let text = match read(rt, page, name, Kind::Journals)? {
         Ok(text) => text,
         Err(status) => return Ok(Err(status)),
     };

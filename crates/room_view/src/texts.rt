@@ -3,7 +3,7 @@ ghost use Rattle.std.specs.Prelude.{◌≤◌};
 
 use crate::why::tell_refused;
 use journal_views::view_pages::{Named, Page};
-use room_outside::{MAX_TEXT, ReadRefused, Shelf, read_limit};
+use room_outside::{FileShelf, MAX_TEXT, ReadBefore, ReadRefused, ReadText, Shelf, read_limit};
 use room_run::Status;
 use std::alloc::{AllocError, Global};
 
@@ -45,8 +45,8 @@ impl Kind {
     }
 }
 
-/// The text of a file, or what is told of it and the status.
-pub(crate) fn read<S: Shelf>(
+/// The text of this name, or what is told of it and the status.
+fn read_from<S: Shelf>(
     alloc: Global,
     shelf: &mut S,
     page: &mut Page,
@@ -68,4 +68,25 @@ pub(crate) fn read<S: Shelf>(
             Ok(Err(kind.refused()))
         }
     }
+}
+
+/// The text of a file, or what is told of it and the status.
+pub(crate) fn read(
+    rt: HostRuntime,
+    page: &mut Page,
+    name: &str,
+    kind: Kind,
+) -> Result<Result<Vec<u8>, Status>, AllocError> {
+    read_from(rt.alloc(), &mut FileShelf::new(rt), page, name, kind)
+}
+
+/// The text of a model, which may have been read before, or what is told of it and the status.
+pub(crate) fn read_model(
+    rt: HostRuntime,
+    page: &mut Page,
+    name: &str,
+    before: Option<ReadText>,
+) -> Result<Result<Vec<u8>, Status>, AllocError> {
+    let mut shelf = ReadBefore::new(rt, before);
+    read_from(rt.alloc(), &mut shelf, page, name, Kind::Model)
 }
