@@ -101,6 +101,14 @@ named_le name w xs =
     let whole : position_or_len (same w) (map name xs) ≡ position_or_len (λ x. same (name x) w) xs = named_place name w xs in
     omega arith
 
+-- and so it is where the names aren't numbered
+pub placed_le : {A : Type 0} (name : A → List ℕ) (w : List ℕ) (xs : List A) → place_of (map name xs) w ≤ position_or_len (λ (x : A). same (name x) w) xs
+unfolding place_of
+placed_le name w xs =
+    let small : narrowed (position (same w) (map name xs)) ≤ position_or_len (same w) (map name xs) = narrowed_le (position_or_len (same w) (map name xs)) (length (map name xs)) in
+    let whole : position_or_len (same w) (map name xs) ≡ position_or_len (λ x. same (name x) w) xs = named_place name w xs in
+    omega arith
+
 -- ---- a guess that is right
 
 there : {A : Type 0} (p : A → Bool) (xs : List A) (k : ℕ) (o : Option A) → slice_get xs k ≡ o → option_map_or p o false ≡ true → (x : A) × (slice_get xs k ≡ Some x) × (p x ≡ true)

@@ -16,7 +16,7 @@ use Rattle.room_wiring.specs.WellNamed.{signals_of}
 use Rattle.room_wiring.specs.wiring_names.Lookup.{slot_called, port_in, port_called, signal_in, signal_called, port_of}
 use Rattle.inject_reader.specs.Guesses.{IsNoLater}
 use Rattle.inject_reader.specs.Meaning.{coming, first_coming}
-use Rattle.inject_reader.proofs.GuessLemmas.{named_le, front_guess, back_guess, guess_right}
+use Rattle.inject_reader.proofs.GuessLemmas.{named_le, placed_le, front_guess, back_guess, guess_right}
 
 -- a slot with a class is one of the wiring's
 slot_inside : (t : Tables) (s : ℕ) (o : Option Slot) (c : ClassNames) → slot_at t s ≡ o → option_and_then (λ (x : Slot). class_at t x.class) o ≡ Some c → s < length t.slots
@@ -36,7 +36,7 @@ port_inside t self s p c is h lt = let all : port_count self s ≡ length c.port
 
 -- no slot before the one of this number has the path
 slot_guess : (t : Tables) (path : List ℕ) → IsNoLater (slot_called t path) (λ (x : Slot). same x.path path) t.slots
-slot_guess t path = let le : slot_called t path ≤ position_or_len (λ (x : Slot). same x.path path) t.slots = named_le (λ (x : Slot). x.path) path t.slots in omega arith
+slot_guess t path = let le : slot_called t path ≤ position_or_len (λ (x : Slot). same x.path path) t.slots = placed_le (λ (x : Slot). x.path) path t.slots in omega arith
 
 port_guess : (t : Tables) (s : ℕ) (c : ClassNames) (name : List ℕ) → class_of t s ≡ Some c → IsNoLater (port_called t s name) (λ (x : PortNames). same x.name name) c.ports
 unfolding port_called

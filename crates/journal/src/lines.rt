@@ -23,9 +23,9 @@ fn put_incarnation<K: Sink>(
         (record { written = K.written sink.new; held = out.new })
         (concat (incarnation_parts wiring.now who)) }
 {
-    out.put_three(
+    naming::put_path(out, sink, wiring, who.slot)?;
+    out.put_two(
         sink,
-        Part::Text(naming::path(wiring, who.slot)),
         Part::Text(b"#"),
         Part::Number(u64::from(who.generation.0)),
     )
@@ -62,9 +62,9 @@ fn put_actor<K: Sink>(
         (concat (path_text wiring.now endpoint.slot.0 ∷ codes "#"
         ∷ decimal endpoint.generation.0 ∷ codes "." ∷ [])) }
 {
-    out.put_four(
+    naming::put_path(out, sink, wiring, endpoint.slot)?;
+    out.put_three(
         sink,
-        Part::Text(naming::path(wiring, endpoint.slot)),
         Part::Text(b"#"),
         Part::Number(u64::from(endpoint.generation.0)),
         Part::Text(b"."),

@@ -5,9 +5,10 @@ ghost use Rattle.std.specs.List.{slice_index_or};
 ghost use Rattle.journal.specs.Names.{party_text, path_text, port_text, state_text, kind_text, signal_of_port_text, port_signal_text, signal_text};
 ghost use Rattle.journal.specs.Lines.{speaking_port_text};
 ghost use Rattle.room_outside.specs.line_text.Parts.{part_text};
+ghost use Rattle.room_outside.specs.line_text.Output.{Puts};
 
 use room_kinds::{ControllerId, Msg, SlotId, SysKind};
-use room_outside::Part;
+use room_outside::{LineBuffer, Part, Sink, WriteFault};
 use room_wiring::{PortNames, Wiring};
 
 /// A controller's number, or the word for the environment.
@@ -32,14 +33,23 @@ pub fn controller_name(wiring: &Wiring, c: usize) -> &[u8]
     }
 }
 
-/// The path of a slot.
+/// Adds the path of a slot to a line.
+#[inline(always)]
 #[tactic(auto, unfolding(crate::specs::Names::path_text))]
-pub fn path(wiring: &Wiring, s: SlotId) -> &[u8]
-    ensures { result.now ≡ path_text wiring.now s.0 }
+pub fn put_path<K: Sink>(
+    out: &mut LineBuffer,
+    sink: &mut K,
+    wiring: &Wiring,
+    s: SlotId,
+) -> Result<(), WriteFault>
+    ensures { Puts result
+        (record { written = K.written sink.old; held = out.old })
+        (record { written = K.written sink.new; held = out.new })
+        (path_text wiring.now s.0) }
 {
     match wiring.get_slot(s) {
-        Some(slot) => slot.path.as_bytes(),
-        None => b"",
+        Some(slot) => slot.path.put(out, sink),
+        None => out.put(sink, b""),
     }
 }
 

@@ -39,7 +39,9 @@ pub fn put_priority(page: &mut Page, prio: Priority) -> Result<(), AllocError> {
 
 /// The path of an actor; from the second one of its slot on with its generation.
 pub fn put_actor(page: &mut Page, wiring: &Wiring, who: Incarnation) -> Result<(), AllocError> {
-    page.put(naming::path(wiring, who.slot))?;
+    if let Some(slot) = wiring.get_slot(who.slot) {
+        page.put_path(&slot.path)?;
+    }
     if who.generation.0 > 1 {
         page.put(b"#")?;
         page.put_number(u64::from(who.generation.0))?;

@@ -1,5 +1,6 @@
 //! Lists of things of which the first are told.
 use itoa::Buffer;
+use room_wiring::Path;
 use std::alloc::{AllocError, Global};
 
 /// The most things that are told.
@@ -36,14 +37,35 @@ impl Listing {
         self.count == 0
     }
 
-    /// Adds a thing, whose text is that of these parts.
-    pub(crate) fn add(&mut self, parts: &[&[u8]]) -> Result<(), AllocError> {
+    /// Counts one more thing, and says whether it is told.
+    fn begin(&mut self) -> Result<bool, AllocError> {
         self.count = self.count.saturating_add(1);
-        if self.count > MOST_TOLD {
+        let is_told = self.count <= MOST_TOLD;
+        if is_told && self.count > 1 {
+            self.bytes.extend_from_slice(b", ")?;
+        }
+        Ok(is_told)
+    }
+
+    /// Adds a thing with this text.
+    pub(crate) fn add(&mut self, text: &[u8]) -> Result<(), AllocError> {
+        if self.begin()? {
+            self.bytes.extend_from_slice(text)?;
+        }
+        Ok(())
+    }
+
+    /// Adds a part of a slot: the path, and then the text of these parts.
+    pub(crate) fn add_at(
+        &mut self,
+        path: Option<&Path>,
+        parts: &[&[u8]],
+    ) -> Result<(), AllocError> {
+        if !self.begin()? {
             return Ok(());
         }
-        if self.count > 1 {
-            self.bytes.extend_from_slice(b", ")?;
+        if let Some(path) = path {
+            path.push_to(&mut self.bytes)?;
         }
         for part in parts {
             self.bytes.extend_from_slice(part)?;

@@ -6,7 +6,7 @@ use fault_places::Item;
 use indexmap::{IndexMap, IndexSet};
 use room_kinds::{ReferenceKind, SlotId};
 use room_lexer::Word;
-use room_wiring::{ClassNames, Wiring};
+use room_wiring::{ClassNames, Path, Wiring};
 use std::alloc::{AllocError, Global};
 
 /// A port of a class, by their numbers.
@@ -204,11 +204,8 @@ impl<'a> LintedModel<'a> {
     }
 
     /// The path of a slot.
-    pub(crate) fn path(&self, slot: SlotId) -> &[u8] {
-        match self.wiring.get_slot(slot) {
-            Some(slot) => slot.path.as_bytes(),
-            None => &[],
-        }
+    pub(crate) fn path(&self, slot: SlotId) -> Option<&Path> {
+        Some(&self.wiring.get_slot(slot)?.path)
     }
 
     /// Where the reference is declared that a slot stands for.
@@ -216,7 +213,8 @@ impl<'a> LintedModel<'a> {
         let Some(here) = self.wiring.get_slot(slot) else {
             return Ok(None);
         };
-        let name = name_in(here.path.as_bytes());
+        let path = here.path.to_vec(self.source.alloc)?;
+        let name = name_in(path.as_slice());
         match here.parent {
             Some(parent) => Ok(self.inner_reference(parent, name)),
             None => self.top_reference(name),

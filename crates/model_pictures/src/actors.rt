@@ -197,7 +197,8 @@ fn title_of(
     id: SlotId,
     slot: &Slot,
 ) -> Result<Vec<u8>, AllocError> {
-    let mut title = name_of(alloc, name_in(slot.path.as_bytes()))?;
+    let path = slot.path.to_vec(alloc)?;
+    let mut title = name_of(alloc, name_in(path.as_slice()))?;
     title.extend_from_slice(b" : ")?;
     if let Some(class) = wiring.class_of(id) {
         add_name(&mut title, class.name.as_bytes())?;

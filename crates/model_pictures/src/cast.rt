@@ -122,7 +122,8 @@ impl Columns {
                 owner = Some(seat.owner);
             }
             self.sit(seat.slot, sequence.lifelines.len());
-            add_lifeline(sequence, naming::path(wiring, SlotId(seat.slot)))?;
+            let path = path_of(sequence.alloc, wiring, SlotId(seat.slot))?;
+            add_lifeline(sequence, path.as_slice())?;
         }
         Ok(())
     }
@@ -179,6 +180,14 @@ fn add_controller(
 }
 
 /// Adds a lifeline to the group that was added last.
+/// The path of a slot.
+fn path_of(alloc: Global, wiring: &Wiring, slot: SlotId) -> Result<Vec<u8>, AllocError> {
+    match wiring.get_slot(slot) {
+        Some(slot) => slot.path.to_vec(alloc),
+        None => Ok(Vec::new(alloc)),
+    }
+}
+
 fn add_lifeline(sequence: &mut Sequence, title: &[u8]) -> Result<(), AllocError> {
     let group = sequence.groups.len().saturating_sub(1);
     let title = Vec::from_slice(sequence.alloc, tail_of(title))?;

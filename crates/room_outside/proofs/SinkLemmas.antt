@@ -1,10 +1,10 @@
 -- Writes to a sink, one after another.
-use Rattle.std.proofs.Common.{◌≡◌, ℕ, ◌+◌, List, [], length, take, drop, ◌++◌, None, Some, Option, refl, sym, ◌∙◌, ap, subst, arith, append_assoc, length-append, length-drop}
-use Rattle.std.proofs.lemmas.List.{append-nil, drop-drop, take_all, take-append-le}
-use Rattle.std.proofs.Math.Seq.{take-append-add}
-use Rattle.room_outside.specs.Written.{Written, appended, Appends, BreaksOffAt, BreaksOff}
+use Rattle.std.proofs.Common.{◌≡◌, ℕ, ◌<◌, List, [], length, take, drop, ◌++◌, None, Some, Option, refl, sym, ◌∙◌, ap, subst, arith, append_assoc, length-append}
+use Rattle.std.proofs.lemmas.List.{append-nil, take-append-drop}
+use Rattle.std.proofs.Math.Seq.{take-append_seam}
+use Rattle.room_outside.specs.Faults.{Rose}
+use Rattle.room_outside.specs.Written.{Written, appended, Appends, BreaksOff}
 use Rattle.room_outside.proofs.FaultLemmas.{Rose-later}
-use Rattle.room_outside.proofs.ShelfLemmas.{take-further}
 
 pub appended-none : (o : Option (List ℕ)) → appended o [] ≡ o
 appended-none None = refl
@@ -27,59 +27,38 @@ Appends-then {a} {b} {c} {x} {y} p q =
     }
 
 -- a front of the piece was appended, and the rest is still to be written
-pub record WritesFront (before now : Written) (piece : List ℕ) (taken : ℕ) (left : List ℕ) : Type 0 where
-  pub rest : left ≡ drop taken piece
-  pub front : Appends before now (take taken piece)
+pub record WritesFront (before now : Written) (piece left : List ℕ) : Type 0 where
+  pub front : List ℕ
+  pub appends : Appends before now front
+  pub split : piece ≡ front ++ left
 
 -- before the first write
-pub WritesFront-none : (a : Written) (piece : List ℕ) → WritesFront a a piece 0 piece
-WritesFront-none a piece = record { rest = refl; front = Appends-none a }
+pub WritesFront-none : (a : Written) (piece : List ℕ) → WritesFront a a piece piece
+WritesFront-none a piece = record { front = []; appends = Appends-none a; split = refl }
 
 -- one more write
-pub WritesFront-more : {a b c : Written} {piece rest : List ℕ} {taken : ℕ} (n : ℕ) → WritesFront a b piece taken rest → Appends b c (take n rest) → WritesFront a c piece (taken + n) (drop n rest)
-WritesFront-more {a} {b} {c} {piece} {rest} {taken} n p q =
+pub WritesFront-more : {a b c : Written} {piece left : List ℕ} (n : ℕ) → WritesFront a b piece left → Appends b c (take n left) → WritesFront a c piece (drop n left)
+WritesFront-more {a} {b} {c} {piece} {left} n p q =
     record {
-      rest = ap (drop n) p.rest ∙ drop-drop n taken piece;
-      front = subst (Appends a c) (ap (λ r. take taken piece ++ take n r) p.rest ∙ sym (take-further taken n piece)) (Appends-then p.front q);
+      front = p.front ++ take n left;
+      appends = Appends-then p.appends q;
+      split = p.split ∙ (ap (λ l. p.front ++ l) (sym (take-append-drop n left)) ∙ sym (append_assoc p.front (take n left) (drop n left)));
     }
 
--- a write that took nothing
-pub WritesFront-failed : {a b c : Written} {piece rest : List ℕ} {taken : ℕ} → WritesFront a b piece taken rest → Appends b c [] → Appends a c (take taken piece)
-WritesFront-failed {a} {b} {c} {piece} {rest} {taken} p q =
-    subst (Appends a c) (append-nil (take taken piece)) (Appends-then p.front q)
+-- a write that took nothing, while something was left
+pub WritesFront-breaks : {a b c : Written} {piece left : List ℕ} → WritesFront a b piece left → 0 < length left → Appends b c [] → Rose b.faults c.faults → BreaksOff a c piece
+WritesFront-breaks {a} {b} {c} {piece} {left} p some q r =
+    let front : take (length p.front) piece ≡ p.front = rw p.split (take-append_seam p.front left) in
+    record {
+      taken = length p.front;
+      place = record {
+        within = rw p.split (omega (arith, length-append p.front left, some));
+        front = subst (Appends a c) (append-nil p.front ∙ sym front) (Appends-then p.appends q);
+        fault = Rose-later p.appends.faults r;
+      };
+    }
 
 -- nothing is left to be written
-pub WritesFront-all : {a b : Written} {piece rest : List ℕ} {taken : ℕ} → WritesFront a b piece taken rest → length rest ≡ 0 → Appends a b piece
-WritesFront-all {a} {b} {piece} {rest} {taken} p h =
-    subst (Appends a b) (take_all taken piece (omega (arith, ap length p.rest, length-drop taken piece))) p.front
-
--- a fault in a later piece
-pub BreaksOffAt-later : {a b c : Written} {x y : List ℕ} {n : ℕ} → Appends a b x → BreaksOffAt b c y n → BreaksOffAt a c (x ++ y) (length x + n)
-BreaksOffAt-later {a} {b} {c} {x} {y} {n} p q =
-    record {
-      within = omega (arith, length-append x y, q.within);
-      front = subst (Appends a c) (sym (take-append-add x y n)) (Appends-then p q.front);
-      fault = Rose-later p.faults q.fault;
-    }
-
--- a fault in a first piece
-pub BreaksOffAt-earlier : {a b : Written} {x : List ℕ} {n : ℕ} (y : List ℕ) → BreaksOffAt a b x n → BreaksOffAt a b (x ++ y) n
-BreaksOffAt-earlier {a} {b} {x} {n} y p =
-    record {
-      within = omega (arith, length-append x y, p.within);
-      front = subst (Appends a b) (sym (take-append-le n x y (omega (arith, p.within)))) p.front;
-      fault = p.fault;
-    }
-
--- the same, wherever the fault was
-pub BreaksOff-at : {a b : Written} {x : List ℕ} {n : ℕ} → BreaksOffAt a b x n → BreaksOff a b x
-BreaksOff-at {a} {b} {x} {n} p = record { taken = n; place = p }
-
-pub BreaksOff-later : {a b c : Written} {x y : List ℕ} → Appends a b x → BreaksOff b c y → BreaksOff a c (x ++ y)
-BreaksOff-later p q = BreaksOff-at (BreaksOffAt-later p q.place)
-
-pub BreaksOff-earlier : {a b : Written} {x : List ℕ} (y : List ℕ) → BreaksOff a b x → BreaksOff a b (x ++ y)
-BreaksOff-earlier y p = BreaksOff-at (BreaksOffAt-earlier y p.place)
-
--- one piece written whole, and then another
-pub ruleset sink_steps = (Appends-none, Appends-then, BreaksOffAt-later, BreaksOffAt-earlier, BreaksOff-at, BreaksOff-later, BreaksOff-earlier)
+pub WritesFront-all : {a b : Written} {piece left : List ℕ} → WritesFront a b piece left → left ≡ [] → Appends a b piece
+WritesFront-all {a} {b} {piece} {left} p none =
+    subst (Appends a b) (sym (p.split ∙ (ap (λ l. p.front ++ l) none ∙ append-nil p.front))) p.appends

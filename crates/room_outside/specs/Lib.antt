@@ -3,6 +3,7 @@ pub mod Faults
 pub mod Files
 pub mod MemShelf
 pub mod MemSink
+pub mod ReadBefore
 pub mod Shown
 pub mod Written
 pub mod line_text

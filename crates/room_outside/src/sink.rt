@@ -1,7 +1,7 @@
 //! A stream of bytes that can only grow.
-ghost use Rattle.std.specs.Prelude.{◌≡◌, ◌<◌, ◌≤◌, [], length, take, Ok, IfOk, IfErr, OnOk, OnErr};
+ghost use Rattle.std.specs.Prelude.{◌≡◌, ◌<◌, ◌≤◌, [], length, take, Ok, IfOk, OnOk, OnErr};
 ghost use Rattle.room_outside.specs.Faults.{Rose};
-ghost use Rattle.room_outside.specs.Written.{Written, Appends, BreaksOffAt, BreaksOff};
+ghost use Rattle.room_outside.specs.Written.{Written, Appends, BreaksOff};
 
 use crate::Failed;
 
@@ -24,31 +24,24 @@ pub trait Sink {
         ensures none { result ≡ Ok 0 → 0 < length piece.now → Rose (written self.old).faults (written self.new).faults };
 }
 
-/// A write that failed after `taken` bytes of its piece.
+/// A write failed, after a front of the bytes was taken.
 #[derive(Clone, Copy, Debug, PartialEq, Eq)]
-pub struct WriteFault {
-    pub taken: usize,
-}
+pub struct WriteFault;
 
 /// Writes a whole piece, in as many writes as it needs. It takes no memory.
 ///
-/// A refusal says how many bytes of the piece were appended, fewer than all. It comes only where
-/// the sink's count of faults rose in this call.
+/// At a fault a front of the piece was appended, shorter than the piece: how much of it is told by
+/// the sink alone. A fault comes only where the sink's count of faults rose in this call.
 #[inline(always)]
 pub fn write_whole<K: Sink>(sink: &mut K, piece: &[u8]) -> Result<(), WriteFault>
     ensures ok { OnOk result (Appends (K.written sink.old) (K.written sink.new) piece.now) }
-    ensures fault { IfErr result (λ e. BreaksOffAt (K.written sink.old) (K.written sink.new) piece.now e.taken) }
-    ensures stops { OnErr result (BreaksOff (K.written sink.old) (K.written sink.new) piece.now) }
+    ensures fault { OnErr result (BreaksOff (K.written sink.old) (K.written sink.new) piece.now) }
 {
-    let mut taken = 0;
     let mut rest = piece;
     while !rest.is_empty() {
         match sink.write(rest) {
-            Ok(0) | Err(Failed) => return Err(WriteFault { taken }),
-            Ok(n) => {
-                taken += n;
-                rest = rest.split_at(n).1;
-            }
+            Ok(0) | Err(Failed) => return Err(WriteFault),
+            Ok(n) => rest = rest.split_at(n).1,
         }
     }
     Ok(())

@@ -23,7 +23,7 @@ fn tell_door(
     count: u32,
     signal: &SignalNames,
 ) -> Result<(), AllocError> {
-    page.put(slot.path.as_bytes())?;
+    page.put_path(&slot.path)?;
     page.put(b".")?;
     page.put(port.name.as_bytes())?;
     tell_places(page, count)?;

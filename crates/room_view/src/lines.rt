@@ -8,7 +8,7 @@ use journal_views::{incoming, is_end, place_count, type_name};
 use room_kinds::{ReferenceKind, SlotId};
 use room_run::Status;
 use room_wiring::{ClassNames, SignalNames, Wiring};
-use std::alloc::AllocError;
+use std::alloc::{AllocError, Global};
 
 /// The most names that are listed.
 const MOST_LISTED: usize = 30;
@@ -76,7 +76,12 @@ fn slot_of(wiring: &Wiring, path: &[u8]) -> Option<SlotId> {
 }
 
 /// Paths like this one: those of the slots whose path begins with its front up to the last `/`.
-fn tell_paths(page: &mut Page, wiring: &Wiring, path: &[u8]) -> Result<(), AllocError> {
+fn tell_paths(
+    alloc: Global,
+    page: &mut Page,
+    wiring: &Wiring,
+    path: &[u8],
+) -> Result<(), AllocError> {
     let front = match path.iter().rposition(|byte| *byte == b'/') {
         Some(slash) => path.get(..slash).unwrap_or(&[]),
         None => &[],
@@ -87,12 +92,14 @@ fn tell_paths(page: &mut Page, wiring: &Wiring, path: &[u8]) -> Result<(), Alloc
         let Some(slot) = wiring.get_slot(SlotId(number as u16)) else {
             continue;
         };
-        let here = slot.path.as_bytes();
-        let is_like = here.starts_with(front) && slot.kind != ReferenceKind::Imported;
-        if is_like && told < MOST_LISTED {
+        if told == MOST_LISTED {
+            break;
+        }
+        let here = slot.path.to_vec(alloc)?;
+        if here.as_slice().starts_with(front) && slot.kind != ReferenceKind::Imported {
             page.put(b"    ")?;
-            page.put_line(here)?;
-            told += 1;
+            page.put_line(here.as_slice())?;
+            told = told.saturating_add(1);
         }
     }
     Ok(())
@@ -146,11 +153,17 @@ fn tell_signals(page: &mut Page, class: &ClassNames, name: &[u8]) -> Result<(), 
 }
 
 /// What would be right in place of the part that a code is about.
-fn tell_right(page: &mut Page, wiring: &Wiring, line: &[u8], code: u8) -> Result<(), AllocError> {
+fn tell_right(
+    alloc: Global,
+    page: &mut Page,
+    wiring: &Wiring,
+    line: &[u8],
+    code: u8,
+) -> Result<(), AllocError> {
     let parts = parts_of(line);
     if code == 2 {
         page.end_line()?;
-        return tell_paths(page, wiring, parts.path);
+        return tell_paths(alloc, page, wiring, parts.path);
     }
     let Some(slot) = slot_of(wiring, parts.path) else {
         return Ok(());
@@ -191,6 +204,7 @@ fn marked(line: &[u8], code: u8) -> (usize, usize) {
 
 /// Tells why injections are refused.
 fn tell_lines(
+    alloc: Global,
     page: &mut Page,
     named: Named<'_>,
     wiring: &Wiring,
@@ -211,7 +225,7 @@ fn tell_lines(
     let bytes = named.text.get(start..end).unwrap_or(&[]);
     let (from, to) = marked(bytes, code);
     page.put_part(named, start.saturating_add(from), start.saturating_add(to))?;
-    tell_right(page, wiring, bytes, code)
+    tell_right(alloc, page, wiring, bytes, code)
 }
 
 /// The text of injections that aren't refused over a wiring, or what is told of it and the status.
@@ -232,7 +246,7 @@ pub(crate) fn injections_of(
     match read_injections(rt.alloc(), named.text, wiring) {
         Ok(_) => Ok(Ok(lines)),
         Err(fault) => {
-            tell_lines(page, named, wiring, fault)?;
+            tell_lines(rt.alloc(), page, named, wiring, fault)?;
             Ok(Err(Status::InjectionsRefused))
         }
     }

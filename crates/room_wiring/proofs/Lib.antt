@@ -1,1 +1,3 @@
+pub mod PathLaws
+pub mod Hashing
 pub mod SingleLemmas

@@ -1,5 +1,6 @@
 pub mod Slots
 pub mod Places
+pub mod Paths
 pub mod Consistent
 pub mod Single
 pub mod WellNamed

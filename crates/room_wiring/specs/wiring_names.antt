@@ -1,3 +1,4 @@
 pub mod Lookup
 pub mod Tables
+pub mod Hashes
 pub mod Index

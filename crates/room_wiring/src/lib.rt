@@ -9,6 +9,7 @@
 mod label;
 mod names;
 mod path;
+mod paths;
 mod single;
 mod slot;
 mod tables;
@@ -18,6 +19,7 @@ pub mod wiring_names;
 pub use label::Label;
 pub use names::{AttrNames, ClassNames, PortNames, RefNames, SignalNames};
 pub use path::Path;
+pub use paths::{Paths, SharedPaths};
 pub use room_kinds::{NumberType, PortKind, ReferenceKind as Kind};
 pub use slot::{Partner, Slot};
 pub use tables::{PlaceSpan, Tables};

@@ -1,7 +1,10 @@
 //! The look-ups of a wiring.
 ghost use Rattle.std.specs.Prelude.{◌≡◌, ◌+◌, ◌<◌, ◌≤◌, Some, length, slice_get, option_map, position, nat_eq, IfSome};
 ghost use Rattle.std.specs.Option.{option_copied};
+ghost use Rattle.std.specs.List.{position_or_len};
 ghost use lib.Pointwise.{pointwise};
+ghost use Rattle.name_tables.specs.name_numbers.Names.{same};
+ghost use Rattle.room_wiring.specs.wiring_names.Lookup.{slot_paths};
 ghost use Rattle.room_wiring.specs.Slots.{slot_at, class_at, class_of, port_at, slot_named};
 ghost use Rattle.room_wiring.specs.Places.{port_count, span_at, place_count, partner_at, is_told};
 ghost use Rattle.room_wiring.specs.Consistent.{IsConsistent};
@@ -119,6 +122,19 @@ impl Wiring {
     {
         match first_with_path(self.tables.slots.as_slice(), path.as_bytes()) {
             Some(place) => Some(SlotId(place as u16)),
+            None => None,
+        }
+    }
+
+    /// The first slot with this path. The search begins at a place before which no slot has the path.
+    pub(crate) fn find_from(&self, first: usize, path: &[u8]) -> Option<usize>
+        requires within { first ≤ length self.now.slots }
+        requires early { first ≤ position_or_len (same path.now) (slot_paths self.now) }
+        ensures { result ≡ position (same path.now) (slot_paths self.now) }
+    {
+        let slots = self.tables.slots.as_slice();
+        match first_with_path(&slots[first..], path) {
+            Some(further) => Some(first + further),
             None => None,
         }
     }

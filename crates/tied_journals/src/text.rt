@@ -110,9 +110,8 @@ pub fn lines_to<K: Sink>(
 /// Appends the text of tied journals in form 2: each line in one piece, and a line of more than
 /// 4,096 bytes in pieces of 4,096 bytes and then its rest. It takes no memory.
 ///
-/// At a fault a front of the text was appended; the fault's `taken` counts bytes of the piece that
-/// broke off. A name that the wiring doesn't have is written as nothing, and such a state as `-`;
-/// of journals that fit the wiring (`Fits`) it has them all.
+/// At a fault a front of the text was appended. A name that the wiring doesn't have is written as
+/// nothing, and such a state as `-`; of journals that fit the wiring (`Fits`) it has them all.
 pub fn text_to<K: Sink>(
     journals: &Journals,
     wiring: &Wiring,

@@ -1,7 +1,7 @@
 pub mod Orders
 pub mod Depths
 pub mod Placed
-pub mod Sharing
+pub mod PlacedSlots
 pub mod WaitingSlots
 pub mod PlacedWaiting
 pub mod Growing

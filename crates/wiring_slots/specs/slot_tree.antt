@@ -6,7 +6,7 @@ pub mod Slots
 pub mod Orders
 pub mod Places
 pub mod Placing
-pub mod Sharing
+pub mod PlacedSlots
 pub mod WaitingSlots
 pub mod Sums
 pub mod Known

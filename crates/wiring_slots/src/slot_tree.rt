@@ -3,10 +3,9 @@
 //! A slot is a place at which an actor may stand (ROOM: Selic, Gullekson and Ward 1994). The order of
 //! the numbers, the owners and the limits are this project's own. The slots are made with a stack of
 //! those that wait, so that neither deep containment nor a structure that stands for more slots than
-//! the limit takes more room than the limit. The paths of slots each inside the one before have one text,
-//! to which each adds its segment, so a chain of containers takes time and room in proportion to its
-//! depth; of a tree the texts are those of its leaves, whose sum still grows with the square of the depth
-//! where each container of a chain holds a leaf beside the next one.
+//! the limit takes more room than the limit. A path shares the text of its container's path and adds
+//! its own segment, so all paths together take time and room in proportion to the names that are
+//! written, however deep the containers nest.
 
 mod children;
 mod counts;

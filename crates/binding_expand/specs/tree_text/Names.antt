@@ -28,6 +28,10 @@ kind_text references.Fixed = codes "fixed"
 kind_text references.Optional = codes "optional"
 kind_text references.Imported = codes "imported"
 
+-- `.<port>[<place>]`
+abbrev pub port_parts : Tables → Place → List (List ℕ)
+port_parts t e = codes "." ∷ port_text t e.slot.0 e.port ∷ codes "[" ∷ decimal e.place ∷ codes "]" ∷ []
+
 -- `<path>.<port>[<place>]`
 abbrev pub place_parts : Tables → Place → List (List ℕ)
-place_parts t e = path_text t e.slot.0 ∷ codes "." ∷ port_text t e.slot.0 e.port ∷ codes "[" ∷ decimal e.place ∷ codes "]" ∷ []
+place_parts t e = path_text t e.slot.0 ∷ port_parts t e

@@ -15,10 +15,17 @@ use Rattle.binding_expand.specs.declared.tree_text.place.Tie.TheVariants as ties
 use Rattle.binding_expand.specs.tree_text.Names.{class_text, kind_text, place_parts}
 use Rattle.binding_expand.specs.tree_text.Walk.{texts_from}
 
+-- `slot <number> <owner> <kind> `
+abbrev pub slot_parts : ℕ → Slot → List (List ℕ)
+slot_parts s x = codes "slot " ∷ decimal s ∷ codes " " ∷ decimal x.owner.0 ∷ codes " " ∷ kind_text x.kind ∷ codes " " ∷ []
+
+-- `<path> <class>`
+abbrev pub path_and_class : Tables → Slot → List (List ℕ)
+path_and_class t x = x.path ∷ codes " " ∷ class_text t x.class ∷ []
+
 -- `slot <number> <owner> <kind> <path> <class>`
 abbrev pub slot_line : Tables → ℕ → Slot → List ℕ
-slot_line t s x =
-    line (codes "slot " ∷ decimal s ∷ codes " " ∷ decimal x.owner.0 ∷ codes " " ∷ kind_text x.kind ∷ codes " " ∷ x.path ∷ codes " " ∷ class_text t x.class ∷ [])
+slot_line t s x = line (slot_parts s x ++ path_and_class t x)
 
 -- the line of the slot of a number
 unfoldable pub slot_text : Tables → ℕ → List ℕ

@@ -1,18 +1,28 @@
 //! What the wiring calls its slots, classes and ports. What it doesn't have is called nothing.
 ghost use Rattle.std.specs.Prelude.{◌≡◌, ◌<◌, length};
 ghost use Rattle.binding_expand.specs.tree_text.Names.{path_text, class_text, port_text, kind_text};
+ghost use Rattle.room_outside.specs.line_text.Output.{Puts};
 
 use room_kinds::{ReferenceKind, SlotId};
+use room_outside::{LineBuffer, Sink, WriteFault};
 use room_wiring::Wiring;
 
-/// The path of a slot.
+/// Adds the path of a slot to a line.
 #[tactic(auto, unfolding(crate::specs::tree_text::Names::path_text))]
-pub fn path(wiring: &Wiring, s: SlotId) -> &[u8]
-    ensures { result.now ≡ path_text wiring.now s.0 }
+pub fn put_path<K: Sink>(
+    out: &mut LineBuffer,
+    sink: &mut K,
+    wiring: &Wiring,
+    s: SlotId,
+) -> Result<(), WriteFault>
+    ensures { Puts result
+        (record { written = K.written sink.old; held = out.old })
+        (record { written = K.written sink.new; held = out.new })
+        (path_text wiring.now s.0) }
 {
     match wiring.get_slot(s) {
-        Some(slot) => slot.path.as_bytes(),
-        None => b"",
+        Some(slot) => slot.path.put(out, sink),
+        None => out.put(sink, b""),
     }
 }
 

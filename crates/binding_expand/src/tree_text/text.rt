@@ -1,15 +1,61 @@
 //! The text, line by line.
-ghost use Rattle.std.specs.Prelude.{◌≡◌, ◌<◌, ◌≤◌, length, OnOk, OnErr};
+ghost use Rattle.std.specs.Prelude.{◌≡◌, ◌∷◌, ◌<◌, ◌≤◌, length, OnOk, OnErr};
 ghost use Rattle.room_outside.specs.Written.{Appends, BreaksOff};
 ghost use Rattle.room_outside.specs.line_text.Output.{Puts, at_rest};
 ghost use Rattle.room_wiring.specs.Places.{port_count, place_count};
-ghost use Rattle.binding_expand.specs.tree_text.Text.{slot_text, is_socket, is_before, tie_line, join_text, socket_text, tie_text, has_ties, place_text, port_ties, ports_told, ports_ties, slot_ties, ties_text, slots_text, tree_text};
+ghost use Rattle.std.specs.List.{concat};
+ghost use Rattle.binding_expand.specs.tree_text.Names.{port_parts, place_parts};
+ghost use Rattle.binding_expand.specs.tree_text.Text.{slot_parts, path_and_class, slot_text, is_socket, is_before, tie_line, join_text, socket_text, tie_text, has_ties, place_text, port_ties, ports_told, ports_ties, slot_ties, ties_text, slots_text, tree_text};
 
-use crate::tree_text::names::{class_name, kind_word, path, port_name};
+use crate::tree_text::names::{class_name, kind_word, port_name, put_path};
 use crate::tree_text::place::{Place, Tie};
 use room_kinds::SlotId;
-use room_outside::{LineBuffer, Part, Sink, WriteFault, write_line};
-use room_wiring::{Partner, Wiring};
+use room_outside::{LineBuffer, Part, Sink, WriteFault};
+use room_wiring::{Partner, Slot, Wiring};
+
+/// Adds the number, the owner and the kind of a slot.
+fn put_slot<K: Sink>(
+    out: &mut LineBuffer,
+    sink: &mut K,
+    s: SlotId,
+    slot: &Slot,
+) -> Result<(), WriteFault>
+    ensures { Puts result
+        (record { written = K.written sink.old; held = out.old })
+        (record { written = K.written sink.new; held = out.new })
+        (concat (slot_parts s.0 slot.now)) }
+{
+    let number = u64::from(s.0);
+    let owner = u64::from(slot.owner.0);
+    let blank = Part::Text(b" ");
+    let kind = Part::Text(kind_word(slot.kind));
+    out.put_four(
+        sink,
+        Part::Text(b"slot "),
+        Part::Number(number),
+        blank,
+        Part::Number(owner),
+    )?;
+    out.put_three(sink, blank, kind, blank)
+}
+
+/// Adds the path and the class of a slot.
+fn put_path_and_class<K: Sink>(
+    out: &mut LineBuffer,
+    sink: &mut K,
+    wiring: &Wiring,
+    slot: &Slot,
+) -> Result<(), WriteFault>
+    requires { slot.now.class < length wiring.now.classes }
+    ensures { Puts result
+        (record { written = K.written sink.old; held = out.old })
+        (record { written = K.written sink.new; held = out.new })
+        (concat (path_and_class wiring.now slot.now)) }
+{
+    slot.path.put(out, sink)?;
+    let class = class_name(wiring, slot.class);
+    out.put_two(sink, Part::Text(b" "), Part::Text(class))
+}
 
 #[tactic(auto, unfolding(crate::specs::tree_text::Text::slot_text))]
 fn write_slot<K: Sink>(
@@ -22,19 +68,10 @@ fn write_slot<K: Sink>(
     ensures { Puts result (at_rest (K.written sink.old)) (at_rest (K.written sink.new)) (slot_text wiring.now s.0) }
 {
     let slot = wiring.slot(s);
-    let parts = [
-        Part::Text(b"slot "),
-        Part::Number(u64::from(s.0)),
-        Part::Text(b" "),
-        Part::Number(u64::from(slot.owner.0)),
-        Part::Text(b" "),
-        Part::Text(kind_word(slot.kind)),
-        Part::Text(b" "),
-        Part::Text(slot.path.as_bytes()),
-        Part::Text(b" "),
-        Part::Text(class_name(wiring, slot.class)),
-    ];
-    write_line(out, sink, &parts)
+    out.clear();
+    put_slot(out, sink, s, slot)?;
+    put_path_and_class(out, sink, wiring, slot)?;
+    out.end_line(sink)
 }
 
 #[tactic(auto, unfolding(crate::specs::tree_text::Text::slots_text))]
@@ -66,33 +103,75 @@ fn is_socket(wiring: &Wiring, s: SlotId) -> bool
     wiring.slot(s).kind.is_imported()
 }
 
-fn write_tie<'a, K: Sink>(
+/// Adds a port of a slot, and the place there.
+fn put_port<K: Sink>(
     out: &mut LineBuffer,
     sink: &mut K,
-    wiring: &'a Wiring,
-    word: &'a [u8],
+    wiring: &Wiring,
+    place: Place,
+) -> Result<(), WriteFault>
+    ensures { Puts result
+        (record { written = K.written sink.old; held = out.old })
+        (record { written = K.written sink.new; held = out.new })
+        (concat (port_parts wiring.now place)) }
+{
+    let name = port_name(wiring, place.slot, place.port);
+    let number = u64::from(place.place);
+    out.put_two(sink, Part::Text(b"."), Part::Text(name))?;
+    out.put_three(
+        sink,
+        Part::Text(b"["),
+        Part::Number(number),
+        Part::Text(b"]"),
+    )
+}
+
+fn put_place<K: Sink>(
+    out: &mut LineBuffer,
+    sink: &mut K,
+    wiring: &Wiring,
+    place: Place,
+) -> Result<(), WriteFault>
+    ensures { Puts result
+        (record { written = K.written sink.old; held = out.old })
+        (record { written = K.written sink.new; held = out.new })
+        (concat (place_parts wiring.now place)) }
+{
+    put_path(out, sink, wiring, place.slot)?;
+    put_port(out, sink, wiring, place)
+}
+
+/// Adds a word and a place.
+fn put_at<K: Sink>(
+    out: &mut LineBuffer,
+    sink: &mut K,
+    wiring: &Wiring,
+    word: &[u8],
+    place: Place,
+) -> Result<(), WriteFault>
+    ensures { Puts result
+        (record { written = K.written sink.old; held = out.old })
+        (record { written = K.written sink.new; held = out.new })
+        (concat (word.now ∷ place_parts wiring.now place)) }
+{
+    out.put_one(sink, Part::Text(word))?;
+    put_place(out, sink, wiring, place)
+}
+
+fn write_tie<K: Sink>(
+    out: &mut LineBuffer,
+    sink: &mut K,
+    wiring: &Wiring,
+    word: &[u8],
     a: Place,
     b: Place,
 ) -> Result<(), WriteFault>
     ensures { Puts result (at_rest (K.written sink.old)) (at_rest (K.written sink.new)) (tie_line wiring.now word.now a b) }
 {
-    let parts = [
-        Part::Text(word),
-        Part::Text(path(wiring, a.slot)),
-        Part::Text(b"."),
-        Part::Text(port_name(wiring, a.slot, a.port)),
-        Part::Text(b"["),
-        Part::Number(u64::from(a.place)),
-        Part::Text(b"]"),
-        Part::Text(b" "),
-        Part::Text(path(wiring, b.slot)),
-        Part::Text(b"."),
-        Part::Text(port_name(wiring, b.slot, b.port)),
-        Part::Text(b"["),
-        Part::Number(u64::from(b.place)),
-        Part::Text(b"]"),
-    ];
-    write_line(out, sink, &parts)
+    out.clear();
+    put_at(out, sink, wiring, word, a)?;
+    put_at(out, sink, wiring, b" ", b)?;
+    out.end_line(sink)
 }
 
 /// Writes an end place beside a later one.

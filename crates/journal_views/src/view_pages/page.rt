@@ -1,5 +1,6 @@
 //! A page of text that is being written.
 use itoa::Buffer;
+use room_wiring::Path;
 use std::alloc::{AllocError, Global};
 
 /// The most bytes of a line that are shown.
@@ -75,6 +76,11 @@ impl Page {
     /// Adds bytes to the page.
     pub fn put(&mut self, bytes: &[u8]) -> Result<(), AllocError> {
         Ok(self.bytes.extend_from_slice(bytes)?)
+    }
+
+    /// Adds a path.
+    pub fn put_path(&mut self, path: &Path) -> Result<(), AllocError> {
+        path.push_to(&mut self.bytes)
     }
 
     /// Adds a number in decimal digits.

@@ -112,7 +112,7 @@ fn add_port(
     for index in 0..row.count {
         if !is_joined(model, row, index, distance, port) {
             let slot = slot_at(row.slot(index, distance));
-            places.add(&[model.path(slot), b".", name])?;
+            places.add_at(model.path(slot), &[b".", name])?;
         }
     }
     Ok(())

@@ -147,7 +147,7 @@ impl Untaken {
     fn listing(&self, alloc: Global) -> Result<Listing, AllocError> {
         let mut list = Listing::new(alloc);
         for message in self.messages.as_slice() {
-            list.add(&[message.as_slice()])?;
+            list.add(message.as_slice())?;
         }
         Ok(list)
     }

@@ -24,7 +24,10 @@ fn add_place(
     places: &mut Listing,
 ) -> Result<(), AllocError> {
     let number = decimal(model.source.alloc, place)?;
-    places.add(&[model.path(slot), b".", port, b"[", number.as_slice(), b"]"])
+    places.add_at(
+        model.path(slot),
+        &[b".", port, b"[", number.as_slice(), b"]"],
+    )
 }
 
 /// Adds the places of a port of a slot that are joined to nothing; the port where it has no place.
@@ -36,7 +39,7 @@ fn add_places(
 ) -> Result<(), AllocError> {
     let count = place_count(model.wiring, slot, at.port);
     if count == 0 {
-        return places.add(&[model.path(slot), b".", at.name]);
+        return places.add_at(model.path(slot), &[b".", at.name]);
     }
     for place in 0..count {
         if !is_joined(model.wiring, slot, at.port, place) {
@@ -78,7 +81,7 @@ fn add_unjoined(
     if has_joined(model.wiring, slot, at.port) {
         return Ok(());
     }
-    places.add(&[model.path(slot), b".", at.name])
+    places.add_at(model.path(slot), &[b".", at.name])
 }
 
 /// Adds the places of a slot at which a send with an index gets to nobody.

@@ -1,11 +1,10 @@
 -- Numbers that are read back from names, at a wiring whose names tell things apart.
-use Rattle.std.proofs.Common.{◌≡◌, ℕ, ◌<◌, ◌≤◌, Bool, true, cond, List, [], ◌∷◌, length, map, refl, sym, ap, ◌∙◌, Option, Some, None, arith}
-use Rattle.std.specs.Prelude.{slice_get, position, option_and_then, nat_lt}
+use Rattle.std.proofs.Common.{◌≡◌, ℕ, ◌<◌, true, cond, List, [], ◌∷◌, length, map, refl, sym, ap, ◌∙◌, Option, Some, None, arith}
+use Rattle.std.specs.Prelude.{slice_get, option_and_then, nat_lt}
 use Rattle.std.specs.Option.{option_map_or}
 use Rattle.std.proofs.lemmas.Bool.Decides.{nat_tests}
 use Rattle.std.proofs.lemmas.Option.{slice_get_within, option_and_then_some}
 use Rattle.std.proofs.Math.ListN.{length-map}
-use Rattle.name_tables.specs.name_numbers.Names.{same}
 use Rattle.room_wiring.specs.declared.tables.Tables.{Tables}
 use Rattle.room_wiring.specs.declared.slot.Slot.{Slot}
 use Rattle.room_wiring.specs.declared.names.ClassNames.{ClassNames}
@@ -24,19 +23,22 @@ narrowed_place i n h small =
     rw (inside, fits) refl
 
 -- the place of an item's name, among names that differ, is the item's
-pub place_back : {A : Type 0} (name : A → List ℕ) (xs : List A) (i : ℕ) (x : A) → NamesDiffer name xs → slice_get xs i ≡ Some x → i < 65536 → place_of (numbered (map name xs)) (name x) ≡ i
+pub place_at : {A : Type 0} (name : A → List ℕ) (xs : List A) (i : ℕ) (x : A) → NamesDiffer name xs → slice_get xs i ≡ Some x → i < 65536 → place_of (map name xs) (name x) ≡ i
 unfolding place_of
-place_back name xs i x h e small =
+place_at name xs i x h e small =
     let inside : i < length (map name xs) = rw length-map (slice_get_within xs i x e) in
-    ap (λ ns. narrowed (position (same (name x)) ns)) (numbered_distinct (map name xs) (distinct_names name xs h))
-    ∙ ap (λ (n : ℕ). narrowed (cond (nat_lt n (length (map name xs))) (Some n) None)) (place_or_len name xs i x h e) ∙ narrowed_place i (length (map name xs)) inside small
+    ap (λ (n : ℕ). narrowed (cond (nat_lt n (length (map name xs))) (Some n) None)) (place_or_len name xs i x h e) ∙ narrowed_place i (length (map name xs)) inside small
+
+-- and so it is when they are numbered
+pub place_back : {A : Type 0} (name : A → List ℕ) (xs : List A) (i : ℕ) (x : A) → NamesDiffer name xs → slice_get xs i ≡ Some x → i < 65536 → place_of (numbered (map name xs)) (name x) ≡ i
+place_back name xs i x h e small = ap (λ ns. place_of ns (name x)) (numbered_distinct (map name xs) (distinct_names name xs h)) ∙ place_at name xs i x h e small
 
 own_names : (ls : List (List ℕ)) → map (λ (l : List ℕ). l) ls ≡ ls
 own_names [] = refl
 own_names (l ∷ ls) = ap (λ (more : List (List ℕ)). l ∷ more) (own_names ls)
 
 pub slot_back : (t : Tables) (s : ℕ) (x : Slot) → IsWellNamed t → slot_at t s ≡ Some x → s < 65536 → slot_called t x.path ≡ s
-slot_back t s x h e small = place_back (λ (y : Slot). y.path) t.slots s x h.paths_differ e small
+slot_back t s x h e small = place_at (λ (y : Slot). y.path) t.slots s x h.paths_differ e small
 
 -- the class of a slot is well named
 pub class_named : (t : Tables) (s : ℕ) (c : ClassNames) → IsWellNamed t → class_of t s ≡ Some c → IsWellNamedClass c

@@ -1,5 +1,5 @@
 -- What is looked up in numbered names.
-use Rattle.std.proofs.Common.{take, get_or, subst, ◌≡◌, ℕ, suc, zero, ◌+◌, ◌<◌, ◌≤◌, List, [], ◌∷◌, length, map, refl, sym, ap, ◌∙◌, Option, Some, None, arith}
+use Rattle.std.proofs.Common.{take, subst, ◌≡◌, ℕ, suc, zero, ◌<◌, List, [], ◌∷◌, length, refl, sym, ap, ◌∙◌, Option, Some, None, arith}
 use Rattle.std.specs.Prelude.{slice_get, All, option_map, option_and_then}
 use Rattle.std.specs.Option.{option_map_or}
 use Rattle.std.proofs.lemmas.Option.{slice_get-map, slice_get_within, get_or_from_slice_get}
@@ -8,6 +8,7 @@ use Rattle.room_wiring.specs.declared.slot.Slot.{Slot}
 use Rattle.room_wiring.specs.declared.names.ClassNames.{ClassNames}
 use Rattle.room_wiring.specs.declared.names.PortNames.{PortNames}
 use Rattle.room_wiring.specs.Slots.{slot_at, class_at, class_of}
+use Rattle.room_wiring.specs.declared.wiring_names.path_index.PathIndex.{PathIndex}
 use Rattle.room_wiring.specs.declared.wiring_names.class_names.ClassNumbers.{ClassNumbers}
 use Rattle.room_wiring.specs.wiring_names.Lookup.{place_of, port_in, port_called, state_in, state_called, signal_in, signal_called, signal_table, port_of}
 use Rattle.room_wiring.specs.wiring_names.Tables.{numbers_of_class}
@@ -28,7 +29,7 @@ pub class_there : (t : Tables) (s : ℕ) (x : Slot) → slot_at t s ≡ Some x �
 unfolding class_of
 class_there t s x e = ap (option_and_then (λ (y : Slot). class_at t y.class)) e
 
-pub found_class : (t : Tables) (slots : List (List ℕ)) (classes : List ClassNumbers) (s : ℕ) (x : Slot) (got : Option ClassNumbers) → IsIndexOf t slots classes → slot_at t s ≡ Some x → got ≡ slice_get classes x.class → got ≡ option_map numbers_of_class (class_of t s)
+pub found_class : (t : Tables) (slots : PathIndex) (classes : List ClassNumbers) (s : ℕ) (x : Slot) (got : Option ClassNumbers) → IsIndexOf t slots classes → slot_at t s ≡ Some x → got ≡ slice_get classes x.class → got ≡ option_map numbers_of_class (class_of t s)
 found_class t slots classes s x got h e is =
     let n = length classes in
     is ∙ ap (λ (cs : List ClassNumbers). slice_get cs x.class) h.names ∙ slice_get-map numbers_of_class (take n t.classes) x.class

@@ -48,9 +48,9 @@ narrowed (Some i) = if nat_lt i 65536 then i else 0
 unfoldable pub place_of : List (List ℕ) → List ℕ → ℕ
 place_of names name = narrowed (position (same name) names)
 
--- the number of the slot with a path
+-- the number of the first slot with a path
 abbrev pub slot_called : Tables → List ℕ → ℕ
-slot_called t path = place_of (numbered (slot_paths t)) path
+slot_called t path = place_of (slot_paths t) path
 
 -- the number of a port of a class
 abbrev pub port_in : List ℕ → ClassNames → ℕ

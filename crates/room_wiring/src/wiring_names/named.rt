@@ -2,7 +2,7 @@
 ghost use Rattle.std.specs.Prelude.{◌≡◌, map, OnOk};
 ghost use Rattle.room_wiring.specs.wiring_names.Lookup.{numbering};
 
-use crate::{Label, PortNames, SignalNames, Slot};
+use crate::{Label, PortNames, SignalNames};
 use name_tables::Numbers;
 use std::alloc::AllocError;
 
@@ -15,14 +15,6 @@ pub trait Named {
 
     fn name(&self) -> &[u8]
         ensures { result.now ≡ name_of self.now };
-}
-
-impl Named for Slot {
-    ghost name_of = { λ s. s.path };
-
-    fn name(&self) -> &[u8] {
-        self.path.as_bytes()
-    }
 }
 
 impl Named for PortNames {

@@ -2,12 +2,13 @@
 ghost use Rattle.std.specs.Prelude.{◌≡◌, ◌<◌, ◌≤◌, map, take, length, IfOk, option_map, option_and_then, slice_get};
 ghost use Rattle.std.specs.Option.{option_copied};
 ghost use Rattle.room_wiring.specs.Slots.{class_of};
-ghost use Rattle.room_wiring.specs.wiring_names.Lookup.{narrowed, slot_paths, place_of, slot_called, port_called, state_called, signal_called, signal_table, port_of, numbered};
+ghost use Rattle.room_wiring.specs.wiring_names.Lookup.{narrowed, place_of, slot_called, port_called, state_called, signal_called, signal_table, port_of};
 ghost use Rattle.room_wiring.specs.wiring_names.Tables.{numbers_of_class};
 ghost use Rattle.room_wiring.specs.wiring_names.Index.{IsAboveClasses};
 
 use crate::Wiring;
 use crate::wiring_names::class_names::ClassNumbers;
+use crate::wiring_names::path_index::PathIndex;
 use name_tables::Numbers;
 use room_kinds::{Sequence, SlotId};
 use std::alloc::{AllocError, Global};
@@ -20,7 +21,7 @@ use std::marker::Model;
 #[derive(Drop)]
 pub struct Names<'a> {
     wiring: &'a Wiring,
-    slots: Numbers<'a>,
+    slots: PathIndex,
     /// The names of the classes, up to the last one that a slot has.
     classes: Sequence<ClassNumbers<'a>>,
 }
@@ -51,17 +52,6 @@ fn number_of(numbers: &Numbers<'_>, name: &[u8]) -> u16
     ensures { result ≡ place_of numbers.now name.now }
 {
     narrow(numbers.number_of(name))
-}
-
-#[tactic(auto, unfolding(crate::specs::wiring_names::Lookup::numbered))]
-fn slot_numbers(alloc: Global, wiring: &Wiring) -> Result<Numbers<'_>, AllocError>
-    ensures { IfOk result (λ n. n ≡ numbered (slot_paths wiring.now)) }
-{
-    let mut numbers = Numbers::new(alloc);
-    for s in 0..wiring.slot_count() {
-        numbers.add(wiring.slot(SlotId(s as u16)).path.as_bytes())?;
-    }
-    Ok(numbers)
 }
 
 /// One more than the greatest number of a class that a slot has.
@@ -107,7 +97,7 @@ impl<'a> Names<'a> {
     pub fn of(alloc: Global, wiring: &'a Wiring) -> Result<Names<'a>, AllocError>
         ensures { IfOk result (λ n. n ≡ wiring.now) }
     {
-        let slots = slot_numbers(alloc, wiring)?;
+        let slots = PathIndex::of(alloc, wiring)?;
         let classes = class_numbers(alloc, wiring, class_count(wiring))?;
         Ok(Names {
             wiring,
@@ -123,11 +113,12 @@ impl<'a> Names<'a> {
         self.wiring.controller_count()
     }
 
-    /// The slot with this path; slot 0 where there is none.
+    /// The slot with this path, the first where there are several; slot 0 where there is none.
+    #[tactic(auto, unfolding(crate::specs::wiring_names::Lookup::place_of))]
     pub fn slot(&self, path: &[u8]) -> SlotId
         ensures { result ≡ record { 0 = slot_called self.now path.now } }
     {
-        SlotId(number_of(&self.slots, path))
+        SlotId(narrow(self.slots.slot(self.wiring, path)))
     }
 
     /// The port of a slot with this name; port 0 where there is none.

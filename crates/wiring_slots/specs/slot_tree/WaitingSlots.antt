@@ -1,7 +1,9 @@
--- Slots that wait without their paths. A text begins with the path of the container of each; where it ends there is kept.
-use Rattle.std.specs.Prelude.{ℕ, zero, suc, ◌≤◌, List, [], ◌∷◌, ◌++◌, length, map, Option, Some, None, take, if◌then◌else◌}
+-- Slots that wait without their paths. Each path is its container's, and what the slot adds to it.
+use Rattle.std.specs.Prelude.{◌≡◌, ℕ, zero, suc, ◌<◌, List, [], ◌∷◌, ◌++◌, All, length, map, Option, Some, None, if◌then◌else◌}
 use Rattle.std.specs.List.{enumerate_from, flat_map, range_with_len}
 use Rattle.room_kinds.specs.Structure.{is_imported}
+use Rattle.room_kinds.specs.declared.numbers.SlotId.{SlotId}
+use Rattle.room_wiring.specs.Paths.{path_at}
 use Rattle.room_wiring.specs.declared.slot.Slot.{Slot}
 use Rattle.wiring_plan.specs.declared.structure_plan.plan.ReferencePlan.{ReferencePlan}
 use Rattle.wiring_plan.specs.declared.structure_plan.plan.StructurePlan.{StructurePlan}
@@ -15,38 +17,37 @@ use Rattle.wiring_slots.specs.declared.slot_tree.placed_slots.Placed.{Placed}
 use Rattle.wiring_slots.specs.slot_tree.Owners.{trails_at}
 use Rattle.wiring_slots.specs.slot_tree.Slots.{Pending, Above, path_text, owner_of, references_of_class, labels_of_class}
 use Rattle.wiring_slots.specs.slot_tree.Placing.{Placing}
-use Rattle.wiring_slots.specs.slot_tree.Sharing.{with_path, all_placed, next_path, Sharing}
+use Rattle.wiring_slots.specs.slot_tree.PlacedSlots.{with_path, all_placed, number_of, container_path}
 
 -- What stands behind the path of a container of this class in the paths of its slots; nothing, where it is the subsystem.
 abbrev pub slash_behind : Option ℕ → List ℕ
 slash_behind None = []
 slash_behind (Some class) = 47 ∷ []
 
--- What stands before the names of the slots in a container whose path is the beginning of a text up to there.
-abbrev pub prefix_in : List ℕ → ℕ → Option ℕ → List ℕ
-prefix_in text path_end class = take path_end text ++ slash_behind class
-
 -- The labels of the references of a container: of this class, or of the subsystem.
 abbrev pub labels_in : SlotNames → Option ℕ → List ReferenceLabel
 labels_in names None = names.subsystem
 labels_in names (Some class) = labels_of_class names class
 
--- The path of a slot that waits, where this text begins with its container's.
-abbrev pub path_in : SlotNames → List ℕ → Waiting → List ℕ
-path_in names text w = path_text (prefix_in text w.container_end w.container_class) (labels_in names w.container_class) w.slot.reference w.slot.index
+-- What the path of a slot that waits has behind its container's path.
+abbrev pub end_in : SlotNames → Waiting → List ℕ
+end_in names w = path_text (slash_behind w.container_class) (labels_in names w.container_class) w.slot.reference w.slot.index
+
+-- The path of a slot that waits, where the slots that have been placed have these.
+abbrev pub path_in : SlotNames → List (List ℕ) → Waiting → List ℕ
+path_in names paths w = container_path paths w.slot ++ end_in names w
 
 -- A slot that waits, with the path that it gets.
-abbrev pub pending_of : SlotNames → List ℕ → Waiting → Pending
-pending_of names text w = record { slot = with_path (path_in names text w) w.slot; trails = w.trails; depth = w.depth }
+abbrev pub pending_of : SlotNames → List (List ℕ) → Waiting → Pending
+pending_of names paths w = record { slot = with_path (path_in names paths w) w.slot; trails = w.trails; depth = w.depth }
 
--- What slots have from a container whose path is the beginning of this text.
-abbrev pub above_of : List ℕ → Container → Above
-above_of text c = record { prefix = prefix_in text c.path_end c.class; parent = c.number; owner = c.owner; trails = c.trails; depth = c.depth }
+-- What slots have from a container, where the slots that have been placed have these paths.
+abbrev pub above_of : List (List ℕ) → Container → Above
+above_of paths c = record { prefix = path_at paths (number_of c.number) ++ slash_behind c.class; parent = c.number; owner = c.owner; trails = c.trails; depth = c.depth }
 
 -- The slot of a reference, with its number in its class, and of an index, to which these trails lead.
 abbrev pub waiting_with : List MappingPlan → Container → ℕ → ReferencePlan → ℕ → List Trail → Waiting
 waiting_with mappings c number r index trails = record {
-  container_end = c.path_end;
   container_class = c.class;
   slot = record {
     class = r.class;
@@ -72,36 +73,35 @@ waiting_of_reference mappings c r = map (waiting_at mappings c r.0 r.1) (range_w
 unfoldable pub waiting_of_references : List MappingPlan → Container → List ReferencePlan → List Waiting
 waiting_of_references mappings c references = flat_map (waiting_of_reference mappings c) (enumerate_from 0 references)
 
--- A slot with this number as a container, whose path ends there in the text.
-abbrev pub container_of : ℕ → ℕ → ℕ → Waiting → Container
-container_of depth number path_end w = record { path_end = path_end; class = Some w.slot.class; number = Some (record { 0 = number }); owner = w.slot.owner; trails = w.trails; depth = depth }
+-- A slot with this number as a container.
+abbrev pub container_of : ℕ → ℕ → Waiting → Container
+container_of depth number w = record { class = Some w.slot.class; number = Some (record { 0 = number }); owner = w.slot.owner; trails = w.trails; depth = depth }
 
 -- The slots directly inside a slot that is looked into so deep.
-abbrev pub waiting_to : StructurePlan → List MappingPlan → ℕ → ℕ → ℕ → Waiting → List Waiting
-waiting_to plan mappings zero number path_end w = []
-waiting_to plan mappings (suc depth) number path_end w =
+abbrev pub waiting_to : StructurePlan → List MappingPlan → ℕ → ℕ → Waiting → List Waiting
+waiting_to plan mappings zero number w = []
+waiting_to plan mappings (suc depth) number w =
     if is_imported w.slot.kind then [] else
-    waiting_of_references mappings (container_of depth number path_end w) (references_of_class plan w.slot.class)
+    waiting_of_references mappings (container_of depth number w) (references_of_class plan w.slot.class)
 
--- The slots directly inside a slot that waits, which gets this number, and whose path ends there in the text.
-abbrev pub waiting_inside : StructurePlan → List MappingPlan → ℕ → ℕ → Waiting → List Waiting
-waiting_inside plan mappings number path_end w = waiting_to plan mappings w.depth number path_end w
+-- The slots directly inside a slot that waits, which gets this number.
+abbrev pub waiting_inside : StructurePlan → List MappingPlan → ℕ → Waiting → List Waiting
+waiting_inside plan mappings number w = waiting_to plan mappings w.depth number w
 
 -- The subsystem as a container.
 abbrev pub subsystem : StructurePlan → List MappingPlan → Container
-subsystem plan mappings = record { path_end = 0; class = None; number = None; owner = record { 0 = 0 }; trails = map (λ i. record { mapping = i; steps = 0 }) (range_with_len 0 (length mappings)); depth = length plan.classes }
+subsystem plan mappings = record { class = None; number = None; owner = record { 0 = 0 }; trails = map (λ i. record { mapping = i; steps = 0 }) (range_with_len 0 (length mappings)); depth = length plan.classes }
 
 -- The slots directly inside the subsystem.
 abbrev pub waiting_tops : StructurePlan → List MappingPlan → List Waiting
 waiting_tops plan mappings = waiting_of_references mappings (subsystem plan mappings) plan.subsystem.references
 
--- Of slots that wait, the next one first, no container's path ends behind that of the one before, and none behind this end.
-abbrev pub EndsFall : ℕ → List Waiting → Type 0
-EndsFall end [] = Unit {0}
-EndsFall end (w ∷ ws) = (w.container_end ≤ end) × EndsFall w.container_end ws
+-- A slot that can be placed behind so many: its container, if that is a slot, is among them.
+abbrev pub IsReady : ℕ → Waiting → Type 0
+IsReady count w = (s : SlotId) → w.slot.parent ≡ Some s → s.0 < count
 
--- What the loop keeps as a whole, of the text and the slots that wait, the next one first.
-pub record IsPlacing (plan : StructurePlan) (names : SlotNames) (mappings : List MappingPlan) (all : List Slot) (placed : Placed) (text : List ℕ) (waiting : List Waiting) : Type 0 where
-  pub placing : Placing plan names mappings all (all_placed (next_path (map (pending_of names text) waiting)) placed) (map (pending_of names text) waiting)
-  pub sharing : Sharing placed (map (pending_of names text) waiting)
-  pub falling : EndsFall (length text) waiting
+-- What the loop keeps as a whole, of the slots that have been placed and those that wait, the next one first.
+pub record IsPlacing (plan : StructurePlan) (names : SlotNames) (mappings : List MappingPlan) (all : List Slot) (placed : Placed) (waiting : List Waiting) : Type 0 where
+  pub placing : Placing plan names mappings all (all_placed placed) (map (pending_of names placed.paths) waiting)
+  pub paths : length placed.slots.items ≡ length placed.paths
+  pub ready : All (IsReady (length placed.paths)) waiting

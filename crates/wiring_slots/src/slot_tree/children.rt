@@ -17,11 +17,9 @@ use std::mem;
 use wiring_plan::ReferencePlan;
 
 /// A slot that has no number yet, the mappings that lead to it, and how many containers deep its inside
-/// is looked into. Its path is written only when it is placed.
+/// is looked into. Its path is made only when it is placed.
 #[derive(Drop)]
 pub(crate) struct Waiting {
-    /// Where its container's path ends in the text that has the path of the slot that is placed.
-    pub(crate) container_end: usize,
     /// The class of its container; none for the subsystem.
     pub(crate) container_class: Option<u16>,
     pub(crate) slot: BareSlot,
@@ -32,8 +30,6 @@ pub(crate) struct Waiting {
 /// What slots have from their container.
 #[derive(Drop)]
 pub(crate) struct Container {
-    /// Where its path ends in the text that has the path of the slot that is placed.
-    pub(crate) path_end: usize,
     /// Its class; none for the subsystem.
     pub(crate) class: Option<u16>,
     /// Its number; none for the subsystem.
@@ -73,7 +69,6 @@ fn waiting_with(
 {
     let owner = owner_of(mappings, container.owner, reference.kind, &trails);
     Waiting {
-        container_end: container.path_end,
         container_class: container.class,
         slot: BareSlot {
             class: reference.class,
@@ -151,19 +146,17 @@ pub(crate) fn waiting_of_references(
     Ok(Some(children))
 }
 
-/// What the slots inside a slot with this number have from it, where its path ends there in the text.
+/// What the slots inside a slot with this number have from it.
 pub(crate) fn container_of(
     alloc: Global,
     depth: usize,
     number: u16,
-    path_end: usize,
     slot: &Waiting,
 ) -> Result<Container, AllocError>
-    ensures { IfOk result (λ c. c ≡ container_of depth number path_end slot.now) }
+    ensures { IfOk result (λ c. c ≡ container_of depth number slot.now) }
 {
     let trails = slot.trails.copy(alloc)?;
     Ok(Container {
-        path_end,
         class: Some(slot.slot.class),
         number: Some(SlotId(number)),
         owner: slot.slot.owner,

@@ -1,12 +1,11 @@
-//! The text that has the path of the slot that is placed.
+//! The ends of paths: what the path of a slot has behind that of its container.
 //!
-//! Slots are placed depth first, so the text begins with the path of the container of each slot that
-//! waits, and each path is written by what it adds to that of the container.
+//! No whole path is written, since each would repeat those of all containers around it.
 
 ghost use Rattle.std.specs.Prelude.{◌≡◌, ◌++◌, [], option_map, OnOk};
 ghost use Rattle.std.specs.Option.{option_map_or};
 ghost use Rattle.wiring_slots.specs.slot_tree.Slots.{index_text, segment_text, labels_of_class};
-ghost use Rattle.wiring_slots.specs.slot_tree.WaitingSlots.{labels_in, prefix_in, path_in};
+ghost use Rattle.wiring_slots.specs.slot_tree.WaitingSlots.{slash_behind, labels_in, end_in};
 
 use crate::slot_tree::children::Waiting;
 use crate::slot_tree::names::{ReferenceLabel, SlotNames};
@@ -58,27 +57,27 @@ fn labels_in<'a>(names: &'a SlotNames, class: Option<u16>) -> &'a [ReferenceLabe
     }
 }
 
-/// Cuts a text behind the path of a container, and adds the `/` that stands behind a slot's path.
-fn cut_to_prefix(text: &mut Vec<u8>, path_end: usize, class: Option<u16>) -> Result<(), AllocError>
-    ensures { OnOk result (text.new.items ≡ prefix_in text.old.items path_end class) }
+/// Adds the `/` that stands behind the path of a container of this class; the subsystem has no path.
+fn push_slash(text: &mut Vec<u8>, class: Option<u16>) -> Result<(), AllocError>
+    ensures { OnOk result (text.new.items ≡ text.old.items ++ slash_behind class) }
 {
-    text.truncate(path_end);
     if let Some(_) = class {
         text.push(b'/')?;
     }
     Ok(())
 }
 
-/// Writes the path of a slot that waits into the text, which begins with its container's path.
-pub(crate) fn write_path(
+/// Writes over the text what the path of a slot that waits has behind that of its container.
+pub(crate) fn write_end(
     text: &mut Vec<u8>,
     names: &SlotNames,
     waiting: &Waiting,
 ) -> Result<(), AllocError>
-    ensures { OnOk result (text.new.items ≡ path_in names.now text.old.items waiting.now) }
+    ensures { OnOk result (text.new.items ≡ end_in names.now waiting.now) }
 {
     let labels = labels_in(names, waiting.container_class);
     let label = labels.get(usize::from(waiting.slot.reference));
-    cut_to_prefix(text, waiting.container_end, waiting.container_class)?;
+    text.clear();
+    push_slash(text, waiting.container_class)?;
     push_segment(text, label, waiting.slot.index)
 }

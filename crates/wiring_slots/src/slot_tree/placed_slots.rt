@@ -1,10 +1,10 @@
-//! The slots that have been placed. Those inside each other share the text of their paths.
+//! The slots that have been placed. Their paths share the texts of their containers' paths.
 
-ghost use Rattle.std.specs.Prelude.{◌≡◌, ◌+◌, ◌≤◌, ◌++◌, [], true, length, map, IfOk, OnOk};
-ghost use Rattle.wiring_slots.specs.slot_tree.Sharing.{with_path, shared, AddsSlot};
+ghost use Rattle.std.specs.Prelude.{◌≡◌, ◌++◌, ◌∷◌, [], length, IfOk, OnOk};
+ghost use Rattle.wiring_slots.specs.slot_tree.PlacedSlots.{with_path, with_paths, all_placed, number_of, container_path};
 
 use room_kinds::{ControllerId, ReferenceKind, SlotId};
-use room_wiring::{Path, Slot};
+use room_wiring::{Path, Paths, SharedPaths, Slot};
 use std::alloc::{AllocError, Global};
 
 /// A slot without its path.
@@ -16,13 +16,6 @@ pub(crate) struct BareSlot {
     pub(crate) owner: ControllerId,
     pub(crate) reference: u16,
     pub(crate) index: u32,
-}
-
-/// A slot whose path is the beginning, up to `path_end`, of the next slot's path.
-#[derive(Clone, Copy, Drop)]
-pub(crate) struct Opened {
-    pub(crate) path_end: usize,
-    pub(crate) slot: BareSlot,
 }
 
 fn with_path(path: Path, slot: BareSlot) -> Slot
@@ -39,79 +32,77 @@ fn with_path(path: Path, slot: BareSlot) -> Slot
     }
 }
 
-/// The slot again, with a path that shares the text of the next slot's path.
-fn shared(next: &Path, opened: Opened) -> Result<Slot, AllocError>
-    ensures { IfOk result (λ s. s ≡ shared next.now opened) }
+fn number_of(slot: Option<SlotId>) -> Option<usize>
+    ensures { result ≡ number_of slot }
 {
-    let path = next.beginning(opened.path_end)?;
-    Ok(with_path(path, opened.slot))
-}
-
-/// Adds slots with paths that share the text of the next slot's path.
-fn push_shared(slots: &mut Vec<Slot>, opened: &[Opened], next: &Path) -> Result<(), AllocError>
-    ensures { OnOk result (slots.new.items ≡ slots.old.items ++ map (shared next.now) opened.now) }
-{
-    for slot in opened {
-        slots.push(shared(next, *slot)?)?;
+    match slot {
+        Some(slot) => Some(usize::from(slot.0)),
+        None => None,
     }
-    Ok(())
 }
 
-/// Slots in the order of their numbers. Of the last ones, `opened`, each holds the next one, so that all
-/// their paths are beginnings of the path of the slot that comes next.
+/// Gives each slot the path with its number.
+fn with_paths(
+    alloc: Global,
+    paths: &SharedPaths,
+    slots: &[BareSlot],
+) -> Result<Vec<Slot>, AllocError>
+    requires { length slots.now ≡ length paths.now }
+    ensures { IfOk result (λ v. v.items ≡ with_paths paths.now slots.now) }
+{
+    let mut named = Vec::new(alloc);
+    for (number, slot) in slots.iter().enumerate() {
+        named.push(with_path(paths.path(number)?, *slot))?;
+    }
+    Ok(named)
+}
+
+/// Slots in the order of their numbers, and the path of each.
 #[derive(Drop)]
 pub(crate) struct Placed {
-    pub(crate) slots: Vec<Slot>,
-    pub(crate) opened: Vec<Opened>,
+    pub(crate) slots: Vec<BareSlot>,
+    pub(crate) paths: Paths,
 }
 
 impl Placed {
     pub(crate) fn new(alloc: Global) -> Placed
         ensures slots { result.slots.items ≡ [] }
-        ensures opened { result.opened.items ≡ [] }
+        ensures paths { result.paths ≡ [] }
     {
         Placed {
             slots: Vec::new(alloc),
-            opened: Vec::new(alloc),
+            paths: Paths::new(alloc),
         }
     }
 
     pub(crate) fn len(&self) -> usize
-        requires few { length self.now.slots.items + length self.now.opened.items ≤ 4096 }
-        ensures { result ≡ length self.now.slots.items + length self.now.opened.items }
+        ensures { result ≡ length self.now.slots.items }
     {
-        self.slots.len() + self.opened.len()
+        self.slots.len()
     }
 
-    /// Adds the next slot, which has this path, and of which is told whether it is a leaf. Unless it is,
-    /// the slot that comes next has to be the first one inside it.
+    /// Adds the next slot, whose path has these bytes behind that of its container.
     pub(crate) fn add(
         &mut self,
         alloc: Global,
-        path: &[u8],
+        end: &[u8],
         slot: BareSlot,
-        is_leaf: bool,
     ) -> Result<(), AllocError>
-        ensures { OnOk result (AddsSlot self.old self.new (with_path path.now slot) is_leaf) }
+        ensures slots { OnOk result (self.new.slots.items ≡ self.old.slots.items ++ slot ∷ []) }
+        ensures paths { OnOk result (
+            self.new.paths ≡ self.old.paths ++ (container_path self.old.paths slot ++ end.now) ∷ []) }
     {
-        if is_leaf {
-            self.close(Path::from_bytes(alloc, path)?, slot)
-        } else {
-            self.opened.push(Opened {
-                path_end: path.len(),
-                slot,
-            })?;
-            Ok(())
-        }
+        self.paths.add(alloc, number_of(slot.parent), end)?;
+        self.slots.push(slot)?;
+        Ok(())
     }
 
-    /// Adds a leaf: its path has the text of those before it that it begins with.
-    fn close(&mut self, path: Path, leaf: BareSlot) -> Result<(), AllocError>
-        ensures { OnOk result (AddsSlot self.old self.new (with_path path leaf) true) }
+    /// The slots with their paths.
+    pub(crate) fn finish(self, alloc: Global) -> Result<Vec<Slot>, AllocError>
+        requires { length self.slots.items ≡ length self.paths }
+        ensures { IfOk result (λ v. v.items ≡ all_placed self) }
     {
-        push_shared(&mut self.slots, self.opened.as_slice(), &path)?;
-        self.opened.clear();
-        self.slots.push(with_path(path, leaf))?;
-        Ok(())
+        let paths = self.paths.share(alloc)?;
+        with_paths(alloc, &paths, self.slots.as_slice())
     }
 }

@@ -1,14 +1,14 @@
 //! All slots of a structure.
 
-ghost use Rattle.std.specs.Prelude.{◌≡◌, ◌≤◌, ◌++◌, [], length, map, reverse, IfOk, OnOk};
+ghost use Rattle.std.specs.Prelude.{◌≡◌, ◌≤◌, ◌++◌, [], length, map, reverse, All, IfOk, OnOk};
 ghost use Rattle.wiring_slots.specs.slot_tree.Placing.{IsNumbered, Fits, all_from, at_most, most_slots};
 ghost use Rattle.wiring_slots.specs.slot_tree.Slots.{references_of_class, slots_of};
-ghost use Rattle.wiring_slots.specs.slot_tree.WaitingSlots.{subsystem, waiting_inside, waiting_tops, pending_of, EndsFall};
+ghost use Rattle.wiring_slots.specs.slot_tree.WaitingSlots.{subsystem, waiting_inside, waiting_tops, pending_of, IsReady};
 
 use crate::slot_tree::children::{Container, Waiting, container_of, waiting_of_references};
 use crate::slot_tree::mapping_order::MappingOrder;
 use crate::slot_tree::names::SlotNames;
-use crate::slot_tree::paths::write_path;
+use crate::slot_tree::paths::write_end;
 use crate::slot_tree::placed_slots::Placed;
 use crate::slot_tree::runs::Trails;
 use room_kinds::{ControllerId, Sequence};
@@ -31,25 +31,23 @@ fn references_of<'a>(plan: &'a StructurePlan, class: u16) -> &'a [ReferencePlan]
     }
 }
 
-/// The slots directly inside a slot that gets this number, if they fit in the room; its path ends there
-/// in the text.
+/// The slots directly inside a slot that gets this number, if they fit in the room.
 fn waiting_inside(
     alloc: Global,
     room: usize,
     plan: &StructurePlan,
     mappings: &MappingOrder,
     number: u16,
-    path_end: usize,
     slot: &Waiting,
 ) -> Result<Option<Vec<Waiting>>, AllocError>
     requires { IsNumbered plan.now }
     ensures { IfOk result (λ v.
-        Fits room (waiting_inside plan.now mappings.now number path_end slot.now) v) }
+        Fits room (waiting_inside plan.now mappings.now number slot.now) v) }
 {
     if slot.depth == 0 || slot.slot.kind.is_imported() {
         return Ok(Some(Vec::new(alloc)));
     }
-    let container = container_of(alloc, slot.depth - 1, number, path_end, slot)?;
+    let container = container_of(alloc, slot.depth - 1, number, slot)?;
     let references = references_of(plan, slot.slot.class);
     waiting_of_references(alloc, room, mappings, &container, references)
 }
@@ -66,8 +64,7 @@ fn push_all(stack: &mut Vec<Waiting>, slots: Vec<Waiting>) -> Result<(), AllocEr
 }
 
 /// Places the slots that wait, the last one first, and what is inside them; none where there are too
-/// many. The paths are written into one text, of whose beginning a slot further down the stack needs no
-/// more than the one on top of it.
+/// many.
 fn place(
     alloc: Global,
     plan: &StructurePlan,
@@ -77,28 +74,26 @@ fn place(
 ) -> Result<Option<Vec<Slot>>, AllocError>
     requires numbered { IsNumbered plan.now }
     requires few { length tops.items ≤ 4096 }
-    requires ends { EndsFall 0 (reverse tops.items) }
+    requires ready { All (IsReady 0) (reverse tops.items) }
     ensures { IfOk result (λ v.
         let first = map (pending_of names.now []) (reverse tops.items) in
         Fits most_slots (all_from plan.now names.now mappings.now 0 first) v) }
 {
     let mut placed = Placed::new(alloc);
-    let mut path = Vec::new(alloc);
+    let mut end = Vec::new(alloc);
     let mut stack = tops;
     while let Some(waiting) = stack.pop() {
-        write_path(&mut path, names, &waiting)?;
         let number = placed.len();
         let room = MOST_SLOTS - 1 - stack.len() - number;
-        let end = path.len();
-        let inside = waiting_inside(alloc, room, plan, mappings, number as u16, end, &waiting)?;
+        let inside = waiting_inside(alloc, room, plan, mappings, number as u16, &waiting)?;
         let Some(children) = inside else {
             return Ok(None);
         };
-        let is_leaf = children.is_empty();
-        placed.add(alloc, path.as_slice(), waiting.slot, is_leaf)?;
+        write_end(&mut end, names, &waiting)?;
+        placed.add(alloc, end.as_slice(), waiting.slot)?;
         push_all(&mut stack, children)?;
     }
-    Ok(Some(placed.slots))
+    Ok(Some(placed.finish(alloc)?))
 }
 
 /// The subsystem as a container.
@@ -111,7 +106,6 @@ fn subsystem(
 {
     let trails = Trails::all(alloc, mappings.len())?;
     Ok(Container {
-        path_end: 0,
         class: None,
         number: None,
         owner: ControllerId(0),
@@ -135,8 +129,7 @@ fn waiting_tops(
 }
 
 /// The slots of a structure, by number; none where it has more than 4,096. It takes time and room in
-/// proportion to the slots, their mappings and the paths of the leaves, and never places more slots
-/// than that.
+/// proportion to the slots, their mappings and their names, and never places more slots than that.
 pub fn slots_of(
     alloc: Global,
     plan: &StructurePlan,

@@ -1,7 +1,7 @@
 use Rattle.std.proofs.Common.{◌∙◌, ap, ◌++◌, reverse, Some, List}
 use Rattle.wiring_slots.specs.declared.slot_tree.children.Waiting.{Waiting}
 use Rattle.room_wiring.specs.declared.slot.Slot.{Slot}
-use Rattle.wiring_slots.proofs.slot_tree.PlacedWaiting.{too_many_at_top, ends_waiting, placed_all, placed_none}
+use Rattle.wiring_slots.proofs.slot_tree.PlacedWaiting.{too_many_at_top, ready_waiting, placed_all, placed_none}
 use Rattle.wiring_slots.proofs.slot_tree.slots.slots_of.Goals as goal
 
 pub returns-in_default : goal.returns-in_default
@@ -16,6 +16,6 @@ pub returns-in-None : goal.returns-in-None
 returns-in-None c =
     placed_none c.args.plan.now c.args.names.now c.args.mappings.now c.in_ok-tops.field-0 c.in-Some.tops c.in-Some.is c.in_ok-tops.ensures c.push_all.new.stack.items (c.in_ok-push_all.ensures ∙ ap (λ (ps : List Waiting). ps ++ reverse c.in-Some.tops.items) c.new-waiting.ensures.items) c.in_ok-slots.field-0 c.in-None.is c.in_ok-slots.ensures
 
-pub place-requires-clause-ends : goal.place-requires-clause-ends
-place-requires-clause-ends c =
-    ends_waiting c.args.plan.now c.args.names.now c.args.mappings.now c.in_ok-tops.field-0 c.in-Some.tops c.in-Some.is c.in_ok-tops.ensures c.push_all.new.stack.items (c.in_ok-push_all.ensures ∙ ap (λ (ps : List Waiting). ps ++ reverse c.in-Some.tops.items) c.new-waiting.ensures.items)
+pub place-requires-clause-ready : goal.place-requires-clause-ready
+place-requires-clause-ready c =
+    ready_waiting c.args.plan.now c.args.names.now c.args.mappings.now c.in_ok-tops.field-0 c.in-Some.tops c.in-Some.is c.in_ok-tops.ensures c.push_all.new.stack.items (c.in_ok-push_all.ensures ∙ ap (λ (ps : List Waiting). ps ++ reverse c.in-Some.tops.items) c.new-waiting.ensures.items)
