@@ -1,10 +1,11 @@
 # The kinds of text that front_end.sh and memory.sh measure, for bash to source behind timing.sh.
 
 # All kinds. `long_` stands for names and paths of 200 letters and more, `chain` for mappings nested as
-# deep as the text goes, each in an actor inside the one before.
+# deep as the text goes, each in an actor inside the one before. Of `leaves` and `teeth` each actor of a
+# chain holds another one beside the next, which is empty or holds one itself.
 all_kinds="references mappings nested_mappings chain bindings layers ports classes derived refinements messages states
 transitions choices branches points subgraphs composites attributes data_classes services long_bindings
-long_mappings long_chain long_classes long_states long_services injections journals read_journals"
+long_mappings long_chain long_leaves long_teeth long_classes long_states long_services injections journals read_journals"
 
 head='RoomModel M {\nLogicalSystem L { SubSystemRef s: S }\nProtocolClass P { incoming { Message go() } outgoing { Message ok() } }\n'
 top_class='SubSystemClass S { ActorRef a: A }\n'
@@ -36,7 +37,7 @@ fill() {
 chain() {
     awk -v most="$1" -v start="$head" -v name="$2" 'BEGIN {
         size = length(start) + 200
-        depth = int((most - size) / (75 + 2 * length(name)))
+        depth = int((most - size) / (80 + 2 * length(name)))
         if (depth > 4000) depth = 4000
         printf start
         print "ActorClass C0 { }"
@@ -46,6 +47,21 @@ chain() {
         printf "ActorInstanceMapping %s -> t", name
         for (i = 1; i < depth; i++) printf " }"
         print "\n} }"
+    }'
+}
+
+# A chain of actors, each inside the one before, of at most so many bytes and so many deep; each holds
+# an actor of this class beside the next one, and the references have this name.
+comb() {
+    awk -v most="$1" -v start="$head" -v name="$2" -v beside="$3" -v limit="$4" 'BEGIN {
+        size = length(start) + 300
+        depth = int((most - size) / (65 + 2 * length(name)))
+        if (depth > limit) depth = limit
+        printf start
+        print "ActorClass B { }\nActorClass T { Structure { ActorRef " name ": B } }\nActorClass C0 { }"
+        for (i = 1; i < depth; i++)
+            printf "ActorClass C%d { Structure { ActorRef b%s: %s ActorRef %s: C%d } }\n", i, name, beside, name, i - 1
+        printf "SubSystemClass S { ActorRef %s: C%d } }", name, depth - 1
     }'
 }
 
@@ -80,6 +96,8 @@ text_of() {
     long_bindings) fill "$most" "${head}${top_class}${end_class}ActorClass A { Structure { ActorRef ${long}0: B\n" "ActorRef ${long}#: B Binding ${long}#.p and ${long}@.q\n" '} }\n}' ;;
     long_mappings) fill "$most" "${head}ActorClass B { }\nActorClass A { Structure { ActorRef ${long}: B } }\nSubSystemClass S { LogicalThread $long\n" "ActorRef ${long}#: A ActorInstanceMapping ${long}#/${long} -> ${long}\n" '}\n}' ;;
     long_chain) chain "$most" "$long" ;;
+    long_leaves) comb "$most" "$long" B 2000 ;;
+    long_teeth) comb "$most" "$long" T 1300 ;;
     long_classes) fill "$most" "${head}${top_class}ActorClass A { }\n" "ActorClass ${long}# { Interface { Port ${long}: P } Structure { external Port ${long} ActorRef a: A } }\n" '}' ;;
     long_states) fill "$most" "$chart" "State ${long}# Transition ${long}#: ${long}# -> ${long}# { triggers { <go: p> } }\n" "$chart_end" ;;
     long_services) fill "$most" "$chart" "Transition t#: S -> S { triggers { <go: p> } action { \"register p as ${long}#;\" } }\n" "$chart_end" ;;
