@@ -37,7 +37,7 @@ fill() {
 chain() {
     awk -v most="$1" -v start="$head" -v name="$2" 'BEGIN {
         size = length(start) + 200
-        depth = int((most - size) / (80 + 2 * length(name)))
+        depth = int((most - size) / (84 + 2 * length(name)))
         if (depth > 4000) depth = 4000
         printf start
         print "ActorClass C0 { }"
