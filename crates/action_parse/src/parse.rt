@@ -44,7 +44,8 @@ fn shallow_program(
     bytes: &[u8],
     tokens: &[ActionToken],
 ) -> Result<Program, ReadFault>
-    ensures { Gives program_view result (to_end (stmts_at (statement 64)) (map (token_value bytes.now) tokens.now)) }
+    ensures { Gives program_view result
+        (to_end (stmts_at (statement 64)) (map (token_value bytes.now) tokens.now)) }
 {
     let (statements, rest) = statements(alloc, DEPTH, Rest { bytes, tokens })?;
     match rest.tokens {
@@ -55,7 +56,8 @@ fn shallow_program(
 
 /// The condition that the tokens are, if it nests no deeper than the limit.
 fn shallow_condition(alloc: Global, bytes: &[u8], tokens: &[ActionToken]) -> Result<Expr, ReadFault>
-    ensures { Gives expr_view result (to_end (expression 64) (map (token_value bytes.now) tokens.now)) }
+    ensures { Gives expr_view result
+        (to_end (expression 64) (map (token_value bytes.now) tokens.now)) }
 {
     let (condition, rest) = expression(alloc, DEPTH, Rest { bytes, tokens })?;
     match rest.tokens {

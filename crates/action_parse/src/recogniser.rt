@@ -127,7 +127,8 @@ fn message<'a>(alloc: Global, rest: Rest<'a>) -> Result<(&'static [Goal], Rest<'
 
 /// An operand in which nothing nests.
 fn flat_operand<'a>(alloc: Global, rest: Rest<'a>) -> Result<(&'static [Goal], Rest<'a>), ReadFault>
-    ensures { Gives (λ x. (reverse x.0.now, left x.1)) result (reads_as (λ x. []) (operand 0) (left rest.entry)) }
+    ensures { Gives (λ x. (reverse x.0.now, left x.1)) result
+        (reads_as (λ x. []) (operand 0) (left rest.entry)) }
 {
     let (_, rest) = operand(alloc, 0, rest)?;
     Ok((&NOTHING, rest))
@@ -177,7 +178,8 @@ fn behind_name<'a>(
     goals: &'static [Goal],
     rest: Rest<'a>,
 ) -> Result<(&'static [Goal], Rest<'a>), ReadFault>
-    ensures { Gives (λ x. (reverse x.0.now, left x.1)) result (reads_as (λ x. reverse goals.now) name_at (left rest.entry)) }
+    ensures { Gives (λ x. (reverse x.0.now, left x.1)) result
+        (reads_as (λ x. reverse goals.now) name_at (left rest.entry)) }
 {
     let (_, rest) = name(alloc, rest)?;
     Ok((goals, rest))
@@ -190,7 +192,8 @@ fn worded<'a>(
     word: ActionWord,
     rest: Rest<'a>,
 ) -> Result<(&'static [Goal], Rest<'a>), ReadFault>
-    ensures { Gives (λ x. (reverse x.0.now, left x.1)) result (statements_goals (AWord word ∷ left rest.entry)) }
+    ensures { Gives (λ x. (reverse x.0.now, left x.1)) result
+        (statements_goals (AWord word ∷ left rest.entry)) }
 {
     match word {
         ActionWord::If => Ok((&CHOICE, rest)),
@@ -286,7 +289,9 @@ fn put(stack: &mut Vec<Goal>, goals: &[Goal]) -> Result<(), AllocError>
 /// Whether the tokens are what the goals stand for, of which the last is expected first. The error
 /// is `Memory`. It takes time linear in the tokens.
 pub fn accepts(alloc: Global, expected: &[Goal], rest: Rest) -> Result<bool, ReadFault>
-    ensures { MatchResult result (λ b. Decided b (Accepted (reverse expected.now) (left rest.entry))) (λ e. e ≡ ReadFault.Memory) }
+    ensures { MatchResult result
+        (λ b. Decided b (Accepted (reverse expected.now) (left rest.entry)))
+        (λ e. e ≡ ReadFault.Memory) }
 {
     let mut stack = Vec::new(alloc);
     put(&mut stack, expected)?;

@@ -22,7 +22,10 @@ fn say<S: Services>(
 ) -> Result<(), AllocError>
     requires serves { S.serves speaker.now.wiring.now speaker.now.me.0 services.now }
     requires there { speaker.now.who.slot.0 < length speaker.now.wiring.now.slots }
-    ensures { OnOk result (Adds (sent_at speaker.now.wiring.now speaker.now.me.0 (S.frame_of services.now) (S.links_of services.now) speaker.now.who port place (content_of content)) output.old output.new) }
+    ensures { OnOk result (Adds
+        (sent_at speaker.now.wiring.now speaker.now.me.0 (S.frame_of services.now)
+        (S.links_of services.now) speaker.now.who port place (content_of content))
+        output.old output.new) }
 {
     match place {
         Some(at) => {
@@ -49,7 +52,11 @@ fn apply<S: Services>(
     requires serves { S.serves speaker.now.wiring.now speaker.now.me.0 services.old }
     requires there { speaker.now.who.slot.0 < length speaker.now.wiring.now.slots }
     ensures serves { OnOk result (S.serves speaker.now.wiring.now speaker.now.me.0 services.new) }
-    ensures applied { OnOk result (AppliesNow speaker.now.wiring.now speaker.now.me.0 (S.frame_of services.old) (S.links_of services.old) (S.frame_of services.new) (S.links_of services.new) speaker.now.who command hand.old doing.old hand.new doing.new) }
+    ensures applied { OnOk result (AppliesNow speaker.now.wiring.now speaker.now.me.0
+        (S.frame_of services.old)
+        (S.links_of services.old)
+        (S.frame_of services.new)
+        (S.links_of services.new) speaker.now.who command hand.old doing.old hand.new doing.new) }
 {
     match command {
         Command::Send {
@@ -118,7 +125,11 @@ pub fn apply_all<S: Services>(
     requires serves { S.serves speaker.now.wiring.now speaker.now.me.0 services.old }
     requires there { speaker.now.who.slot.0 < length speaker.now.wiring.now.slots }
     ensures serves { OnOk result (S.serves speaker.now.wiring.now speaker.now.me.0 services.new) }
-    ensures applied { OnOk result ((m : Option Message) → IsInHand m doing.old.kept message → AppliesAll speaker.now.wiring.now speaker.now.me.0 (S.frame_of services.old) (S.links_of services.old) (S.frame_of services.new) (S.links_of services.new) speaker.now.who m commands doing.old doing.new) }
+    ensures applied { OnOk result ((m : Option Message) → IsInHand m doing.old.kept message
+        → AppliesAll speaker.now.wiring.now speaker.now.me.0 (S.frame_of services.old)
+        (S.links_of services.old)
+        (S.frame_of services.new)
+        (S.links_of services.new) speaker.now.who m commands doing.old doing.new) }
 {
     let mut hand = message;
     let mut queue = VecDeque::from_vec(commands.into_vec());

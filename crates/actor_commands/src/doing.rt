@@ -27,7 +27,8 @@ impl Doing {
     /// `defer`, with the message in hand, which is moved.
     #[tactic(auto, using(crate::proofs::Steps::keeps_here))]
     pub(crate) fn defer(&mut self, hand: &mut Option<Msg>) -> Result<(), AllocError>
-        ensures { OnOk result (Keeps (defer self.old.kept hand.old self.old.deferred) true self.old self.new) }
+        ensures { OnOk result (Keeps (defer self.old.kept hand.old self.old.deferred) true self.old
+            self.new) }
     {
         let message = hand.take();
         self.deferred
@@ -49,7 +50,8 @@ impl Doing {
     /// `recallAll`.
     #[tactic(auto, using(crate::proofs::Steps::keeps_back))]
     pub(crate) fn recall_all(&mut self) -> Result<(), AllocError>
-        ensures { OnOk result (Keeps (recall_all self.old.deferred) self.old.kept self.old self.new) }
+        ensures { OnOk result (Keeps (recall_all self.old.deferred) self.old.kept self.old
+            self.new) }
     {
         self.deferred
             .recall_all(&mut self.back, &mut self.output.notes)?;

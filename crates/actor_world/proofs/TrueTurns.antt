@@ -99,7 +99,7 @@ recall_all_told : (g : ℕ → ℕ) (d : List Msg) → AllTold g d → AllTold g
 unfolding recall_all
 recall_all_told g d h = (tt, h)
 
-request_told : (t : Tables) (me : ℕ) (f : Frame) (x : Incarnation) (c : FrameCommand) → (frame_request t me f x c).now.told ≡ f.told
+pub request_told : (t : Tables) (me : ℕ) (f : Frame) (x : Incarnation) (c : FrameCommand) → (frame_request t me f x c).now.told ≡ f.told
 request_told t me f x (frames.Incarnate reference index) = refl
 request_told t me f x (frames.Destroy reference index) = refl
 request_told t me f x (frames.Import reference index id) = refl
@@ -162,7 +162,7 @@ pub record FrameFine (g : ℕ → ℕ) (r : FrameDone) : Type 0 where
   pub last : IsSilentLast r.last
   pub told : (s : ℕ) → r.frame.told s ≤ g s
 
-own_owner : (t : Tables) (me s : ℕ) → is_own t me s ≡ true → owner_of t s ≡ me
+pub own_owner : (t : Tables) (me s : ℕ) → is_own t me s ≡ true → owner_of t s ≡ me
 unfolding is_own owner_of
 own_owner t me s h = go (slot_at t s) h
   where

@@ -50,7 +50,7 @@ put_told P f at v h k n = go (n == at)
     go true = k
     go false = h n
 
-put_own : {A : Type 0} (P : ℕ → A → Type 0) (f : ℕ → A) (at : ℕ) (v : A) → ((n : ℕ) → P n (f n)) → P at v → (n : ℕ) → P n (put f at v n)
+pub put_own : {A : Type 0} (P : ℕ → A → Type 0) (f : ℕ → A) (at : ℕ) (v : A) → ((n : ℕ) → P n (f n)) → P at v → (n : ℕ) → P n (put f at v n)
 unfolding put
 put_own P f at v h k n = go (n == at) refl
   where

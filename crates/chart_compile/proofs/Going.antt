@@ -22,7 +22,7 @@ use Rattle.chart_compile.specs.chart_parts.Nodes.{GoesOn, has_none, node_after}
 use Rattle.chart_compile.specs.Joined.{AllGoOn}
 use Rattle.chart_compile.proofs.chart_compiled.NodeKinds.{filter_made}
 use Rattle.chart_compile.proofs.chart_numbers.Counting.{all_passed, and_both}
-use Rattle.chart_compile.proofs.chart_numbers.Distinct.{In-first}
+use Rattle.chart_reader.proofs.NestedGraphs.{In-first}
 use Rattle.chart_compile.proofs.chart_numbers.Members.{In-slice_get}
 use Rattle.chart_compile.proofs.chart_numbers.Reaching.{reached, reached_owner, step_first}
 

@@ -36,7 +36,9 @@ fn state_rows<'b, 'p, 's, 'g, 'n>(
     requires keyed { states.now ≡ map key_of (map place_view places.now) }
     requires placed { ArePlaced states.now graphs.now (map place_view places.now) }
     requires lead { LeadTo nodes.now (map step_view steps.now) }
-    ensures { IfOk result (λ rows. Each (IsRow states.now graphs.now nodes.now (map step_view steps.now)) rows.items (map place_view places.now)) }
+    ensures { IfOk result (λ rows.
+        Each (IsRow states.now graphs.now nodes.now (map step_view steps.now)) rows.items
+        (map place_view places.now)) }
 {
     let own = group_by(alloc, states, places.len(), steps)?;
     let rows = rows_of(alloc, states, graphs, nodes, steps, own.as_slice(), places)?;
@@ -53,7 +55,8 @@ fn shared_rows<'b, 'g, 'n>(
 ) -> Result<Vec<Vec<Arrow>>, AllocError>
     requires keyed { graphs.now ≡ keys.now }
     requires lead { LeadTo nodes.now (map step_view steps.now) }
-    ensures { IfOk result (λ shared. Each (IsShared nodes.now (map step_view steps.now)) shared.items keys.now) }
+    ensures { IfOk result (λ shared.
+        Each (IsShared nodes.now (map step_view steps.now)) shared.items keys.now) }
 {
     let groups = group_by(alloc, graphs, keys.len(), steps)?;
     let shared = shared_of(alloc, graphs, nodes, steps, groups.as_slice(), keys)?;
@@ -75,7 +78,9 @@ fn node_rows<'b, 's, 'n>(
     requires go_on { AllGoOn states.now (map step_view steps.now) }
     requires lead { LeadTo nodes.now (map step_view steps.now) }
     requires enough { length nodes.now ≤ sum (map nodes_in (map graph_view all.now)) }
-    ensures { IfOk result (λ made. AreMade states.now nodes.now (map step_view steps.now) targets.now (sum (map nodes_in (map graph_view all.now))) made.items) }
+    ensures { IfOk result (λ made.
+        AreMade states.now nodes.now (map step_view steps.now) targets.now
+        (sum (map nodes_in (map graph_view all.now))) made.items) }
 {
     let groups = group_by(alloc, nodes, targets.len(), steps)?;
     let mut made = nodes_of(alloc, states, nodes, steps, groups.as_slice(), targets)?;
@@ -87,7 +92,8 @@ fn node_rows<'b, 's, 'n>(
 fn numbered<'a, 'b>(alloc: Global, steps: &'a [Step<'b>]) -> Result<NodeOrder<'a>, AllocError>
     requires keyed { AreKeyed (map step_view steps.now) }
     requires no_circle { NoneContainsItself (parts_of (map step_view steps.now)) }
-    ensures numbered { IfOk result (λ nodes. AreNumbered (map step_view steps.now) nodes.keys nodes.targets.items) }
+    ensures numbered { IfOk result (λ nodes.
+        AreNumbered (map step_view steps.now) nodes.keys nodes.targets.items) }
     ensures lead { IfOk result (λ nodes. LeadTo nodes.keys (map step_view steps.now)) }
 {
     let nodes = number_nodes(alloc, steps)?;
@@ -111,9 +117,13 @@ pub fn assemble<'b, 'p, 's, 'g>(
     requires placed { ArePlaced states.now graphs.now (map place_view places.now) }
     requires go_on { AllGoOn states.now (map step_view steps.now) }
     requires no_circle { NoneContainsItself (parts_of (map step_view steps.now)) }
-    requires enough { (keys : List (List ℕ)) (targets : List ℕ) → AreNumbered (map step_view steps.now) keys targets → length keys ≤ sum (map nodes_in (map graph_view all.now)) }
+    requires enough { (keys : List (List ℕ)) (targets : List ℕ)
+        → AreNumbered (map step_view steps.now) keys targets
+        → length keys ≤ sum (map nodes_in (map graph_view all.now)) }
     requires starts { 0 < length (from_key (0 ∷ codes []) (map step_view steps.now)) }
-    ensures tables { IfOk result (λ v. AreOf states.now graphs.now (map step_view steps.now) (map place_view places.now) (sum (map nodes_in (map graph_view all.now))) v) }
+    ensures tables { IfOk result (λ v.
+        AreOf states.now graphs.now (map step_view steps.now) (map place_view places.now)
+        (sum (map nodes_in (map graph_view all.now))) v) }
     ensures values { IfOk result (λ v. v.values.items ≡ values.now) }
 {
     let nodes = numbered(alloc, steps)?;

@@ -26,7 +26,8 @@ fn arrow_at<'b, 'c>(
     number: usize,
 ) -> Result<Option<Arrow>, AllocError>
     requires { LeadTo nodes.now (map step_view steps.now) }
-    ensures { IfOk result (λ arrow. IsFirst nodes.now arrow (cons_option (slice_get (map step_view steps.now) number) [])) }
+    ensures { IfOk result (λ arrow.
+        IsFirst nodes.now arrow (cons_option (slice_get (map step_view steps.now) number) [])) }
 {
     let Some(step) = step_at(steps, number) else {
         return Ok(None);
@@ -43,7 +44,8 @@ fn first_arrow<'b, 'c>(
     group: &[usize],
 ) -> Result<Option<Arrow>, AllocError>
     requires { LeadTo nodes.now (map step_view steps.now) }
-    ensures { IfOk result (λ arrow. IsFirst nodes.now arrow (picked (map step_view steps.now) group.now)) }
+    ensures { IfOk result (λ arrow.
+        IsFirst nodes.now arrow (picked (map step_view steps.now) group.now)) }
 {
     for number in group {
         let arrow = arrow_at(alloc, nodes, steps, *number)?;
@@ -63,7 +65,10 @@ fn border<'b, 'c>(
     state: u16,
 ) -> Result<Node, AllocError>
     requires { LeadTo nodes.now (map step_view steps.now) }
-    ensures { IfOk result (λ n. (states : List (List ℕ)) (path : Path) → IsState states state path → SameKind (IsState states) (IsArrow nodes.now) (kind n) (kind_by (a_state path) (picked (map step_view steps.now) group.now))) }
+    ensures { IfOk result (λ n.
+        (states : List (List ℕ)) (path : Path) → IsState states state path
+        → SameKind (IsState states) (IsArrow nodes.now) (kind n)
+        (kind_by (a_state path) (picked (map step_view steps.now) group.now))) }
 {
     let first = first_arrow(alloc, nodes, steps, group)?;
     match first {
@@ -81,7 +86,10 @@ fn entry<'b, 'c>(
     state: u16,
 ) -> Result<Node, AllocError>
     requires { LeadTo nodes.now (map step_view steps.now) }
-    ensures { IfOk result (λ n. (states : List (List ℕ)) (path : Path) (e : Name) → IsState states state path → SameKind (IsState states) (IsArrow nodes.now) (kind n) (kind_by (an_entry path e) (picked (map step_view steps.now) group.now))) }
+    ensures { IfOk result (λ n.
+        (states : List (List ℕ)) (path : Path) (e : Name) → IsState states state path
+        → SameKind (IsState states) (IsArrow nodes.now) (kind n)
+        (kind_by (an_entry path e) (picked (map step_view steps.now) group.now))) }
 {
     let first = first_arrow(alloc, nodes, steps, group)?;
     match first {
@@ -99,7 +107,10 @@ fn exit<'b, 'c>(
     state: u16,
 ) -> Result<Node, AllocError>
     requires { LeadTo nodes.now (map step_view steps.now) }
-    ensures { IfOk result (λ n. (states : List (List ℕ)) (s x : Name) (owner : Path) → IsState states state (s ∷ owner) → SameKind (IsState states) (IsArrow nodes.now) (kind n) (kind_by (an_exit (s ∷ owner) x) (picked (map step_view steps.now) group.now))) }
+    ensures { IfOk result (λ n.
+        (states : List (List ℕ)) (s x : Name) (owner : Path) → IsState states state (s ∷ owner)
+        → SameKind (IsState states) (IsArrow nodes.now) (kind n)
+        (kind_by (an_exit (s ∷ owner) x) (picked (map step_view steps.now) group.now))) }
 {
     let first = first_arrow(alloc, nodes, steps, group)?;
     match first {
@@ -117,7 +128,8 @@ fn add_branch<'b, 'c>(
     branches: &mut Vec<Arrow>,
 ) -> Result<(), AllocError>
     requires { LeadTo nodes.now (map step_view steps.now) }
-    ensures { OnOk result (AddsBranch nodes.now (slice_get (map step_view steps.now) number) branches.old.items branches.new.items) }
+    ensures { OnOk result (AddsBranch nodes.now (slice_get (map step_view steps.now) number)
+        branches.old.items branches.new.items) }
 {
     let Some(step) = step_at(steps, number) else {
         return Ok(());
@@ -139,7 +151,9 @@ fn branches_of<'b, 'c>(
     group: &[usize],
 ) -> Result<Vec<Arrow>, AllocError>
     requires { LeadTo nodes.now (map step_view steps.now) }
-    ensures { IfOk result (λ arrows. Each (IsArrow nodes.now) (arrow_views arrows.items) (filter has_condition (picked (map step_view steps.now) group.now))) }
+    ensures { IfOk result (λ arrows.
+        Each (IsArrow nodes.now) (arrow_views arrows.items)
+        (filter has_condition (picked (map step_view steps.now) group.now))) }
 {
     let mut branches = Vec::new(alloc);
     for number in group {
@@ -156,7 +170,9 @@ fn default_at<'b, 'c>(
     number: usize,
 ) -> Result<Option<Arrow>, AllocError>
     requires { LeadTo nodes.now (map step_view steps.now) }
-    ensures { IfOk result (λ arrow. IsFirst nodes.now arrow (filter has_none (cons_option (slice_get (map step_view steps.now) number) []))) }
+    ensures { IfOk result (λ arrow.
+        IsFirst nodes.now arrow
+        (filter has_none (cons_option (slice_get (map step_view steps.now) number) []))) }
 {
     let Some(step) = step_at(steps, number) else {
         return Ok(None);
@@ -177,7 +193,8 @@ fn default_of<'b, 'c>(
     group: &[usize],
 ) -> Result<Option<Arrow>, AllocError>
     requires { LeadTo nodes.now (map step_view steps.now) }
-    ensures { IfOk result (λ arrow. IsFirst nodes.now arrow (filter has_none (picked (map step_view steps.now) group.now))) }
+    ensures { IfOk result (λ arrow.
+        IsFirst nodes.now arrow (filter has_none (picked (map step_view steps.now) group.now))) }
 {
     for number in group {
         let arrow = default_at(alloc, nodes, steps, *number)?;
@@ -197,7 +214,10 @@ fn choice<'b, 'c>(
 ) -> Result<Node, AllocError>
     requires default { 0 < length (filter has_none (picked (map step_view steps.now) group.now)) }
     requires lead { LeadTo nodes.now (map step_view steps.now) }
-    ensures { IfOk result (λ n. (states : List (List ℕ)) (graph : Path) (c : Name) → SameKind (IsState states) (IsArrow nodes.now) (kind n) (kind_by (a_choice graph c) (picked (map step_view steps.now) group.now))) }
+    ensures { IfOk result (λ n.
+        (states : List (List ℕ)) (graph : Path) (c : Name)
+        → SameKind (IsState states) (IsArrow nodes.now) (kind n)
+        (kind_by (a_choice graph c) (picked (map step_view steps.now) group.now))) }
 {
     let branches = branches_of(alloc, nodes, steps, group)?;
     let default = default_of(alloc, nodes, steps, group)?;
@@ -216,9 +236,12 @@ pub fn make_node<'b, 's, 'n>(
     group: &[usize],
     step: &Step<'b>,
 ) -> Result<Node, AllocError>
-    requires goes_on { GoesOn states.now (node_after (step_view step.now)) (picked (map step_view steps.now) group.now) }
+    requires goes_on { GoesOn states.now (node_after (step_view step.now))
+        (picked (map step_view steps.now) group.now) }
     requires lead { LeadTo nodes.now (map step_view steps.now) }
-    ensures { IfOk result (λ n. SameKind (IsState states.now) (IsArrow nodes.now) (kind n) (kind_by (node_after (step_view step.now)) (picked (map step_view steps.now) group.now))) }
+    ensures { IfOk result (λ n.
+        SameKind (IsState states.now) (IsArrow nodes.now) (kind n)
+        (kind_by (node_after (step_view step.now)) (picked (map step_view steps.now) group.now))) }
 {
     let owner = step.graph.owner.as_slice();
     match &step.transition.target {

@@ -31,10 +31,12 @@ fn node_after<'b, 's, 'n>(
 ) -> Result<Node, AllocError>
     requires grouped { IsGrouped nodes.now groups.now (map step_view steps.now) }
     requires keyed { (step_view step.now).target ≡ target_of (step_view step.now) }
-    requires goes_on { GoesOn states.now (node_after (step_view step.now)) (from_key (target_of (step_view step.now)) (map step_view steps.now)) }
+    requires goes_on { GoesOn states.now (node_after (step_view step.now))
+        (from_key (target_of (step_view step.now)) (map step_view steps.now)) }
     requires known { is_among nodes.now (step_view step.now).target ≡ true }
     requires lead { LeadTo nodes.now (map step_view steps.now) }
-    ensures { IfOk result (λ n. IsNode states.now nodes.now (map step_view steps.now) n (step_view step.now)) }
+    ensures { IfOk result (λ n.
+        IsNode states.now nodes.now (map step_view steps.now) n (step_view step.now)) }
 {
     let group = steps_at(nodes, groups, step.target.as_slice());
     let node = make_node(alloc, states, nodes, steps, group, step)?;
@@ -55,8 +57,10 @@ fn add_node<'b, 's, 'n>(
     requires keyed { AreKeyed (map step_view steps.now) }
     requires go_on { AllGoOn states.now (map step_view steps.now) }
     requires lead { LeadTo nodes.now (map step_view steps.now) }
-    requires known { (s : StepTree) → slice_get (map step_view steps.now) number ≡ Some s → is_among nodes.now s.target ≡ true }
-    ensures { OnOk result (AddsNode states.now nodes.now (map step_view steps.now) number made.old.items made.new.items) }
+    requires known { (s : StepTree) → slice_get (map step_view steps.now) number ≡ Some s
+        → is_among nodes.now s.target ≡ true }
+    ensures { OnOk result (AddsNode states.now nodes.now (map step_view steps.now) number
+        made.old.items made.new.items) }
 {
     let Some(step) = step_at(steps, number) else {
         return Ok(());
@@ -80,7 +84,9 @@ pub fn nodes_of<'b, 's, 'n>(
     requires go_on { AllGoOn states.now (map step_view steps.now) }
     requires lead { LeadTo nodes.now (map step_view steps.now) }
     requires numbered { nodes.now ≡ targets_of (picked (map step_view steps.now) targets.now) }
-    ensures { IfOk result (λ made. Each (IsNode states.now nodes.now (map step_view steps.now)) made.items (picked (map step_view steps.now) targets.now)) }
+    ensures { IfOk result (λ made.
+        Each (IsNode states.now nodes.now (map step_view steps.now)) made.items
+        (picked (map step_view steps.now) targets.now)) }
 {
     let mut made = Vec::new(alloc);
     for number in targets {
@@ -106,7 +112,8 @@ fn fill_more(nodes: &mut Vec<Node>, there: usize, many: usize) -> Result<usize, 
 /// Goes on through the nodes of a graph.
 fn fill_graph(nodes: &mut Vec<Node>, there: usize, graph: &Graph) -> Result<usize, AllocError>
     ensures same { OnOk result (SameNodes nodes.old.items nodes.new.items) }
-    ensures size { OnOk result (length nodes.new.items ≡ length nodes.old.items + (nodes_in (graph_view graph.now) - there)) }
+    ensures size { OnOk result (length nodes.new.items
+        ≡ length nodes.old.items + (nodes_in (graph_view graph.now) - there)) }
     ensures there { IfOk result (λ left. left ≡ there - nodes_in (graph_view graph.now)) }
 {
     let there = fill_more(nodes, there, graph.states.len())?;
@@ -118,7 +125,8 @@ fn fill_graph(nodes: &mut Vec<Node>, there: usize, graph: &Graph) -> Result<usiz
 pub fn fill_up(nodes: &mut Vec<Node>, graphs: &[Graph]) -> Result<(), AllocError>
     requires { length nodes.old.items ≤ sum (map nodes_in (map graph_view graphs.now)) }
     ensures same { OnOk result (SameNodes nodes.old.items nodes.new.items) }
-    ensures size { OnOk result (length nodes.new.items ≡ sum (map nodes_in (map graph_view graphs.now))) }
+    ensures size { OnOk result (length nodes.new.items
+        ≡ sum (map nodes_in (map graph_view graphs.now))) }
 {
     let mut there = nodes.len();
     for graph in graphs {

@@ -27,7 +27,8 @@ pub fn initial_arrow<'b, 'n>(
 ) -> Result<Arrow, AllocError>
     requires starts { 0 < length (from_key (0 ∷ codes []) (map step_view steps.now)) }
     requires lead { LeadTo nodes.now (map step_view steps.now) }
-    ensures { IfOk result (λ arrow. IsFirst nodes.now (Some arrow) (from_key (0 ∷ codes []) (map step_view steps.now))) }
+    ensures { IfOk result (λ arrow.
+        IsFirst nodes.now (Some arrow) (from_key (0 ∷ codes []) (map step_view steps.now))) }
 {
     let key = plain_key(alloc, 0, &[])?;
     for step in steps {

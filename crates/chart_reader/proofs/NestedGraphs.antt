@@ -61,21 +61,21 @@ mutual
 
 -- ---- lists
 
-In_append : {A : Type 0} (xs ys : List A) (z : A) → In (xs ++ ys) z → In xs z ⊎ In ys z
+pub In_append : {A : Type 0} (xs ys : List A) (z : A) → In (xs ++ ys) z → In xs z ⊎ In ys z
 In_append [] ys z h = inr h
 In_append (x ∷ xs) ys z (inl e) = inl (inl e)
 In_append (x ∷ xs) ys z (inr h) = elim (In_append xs ys z h) [ inl i ↦ inl (inr i) | inr i ↦ inr i ]
 
-In_left : {A : Type 0} (xs ys : List A) (z : A) → In xs z → In (xs ++ ys) z
+pub In_left : {A : Type 0} (xs ys : List A) (z : A) → In xs z → In (xs ++ ys) z
 In_left [] ys z h = absurd h
 In_left (x ∷ xs) ys z (inl e) = inl e
 In_left (x ∷ xs) ys z (inr i) = inr (In_left xs ys z i)
 
-In_right : {A : Type 0} (xs ys : List A) (z : A) → In ys z → In (xs ++ ys) z
+pub In_right : {A : Type 0} (xs ys : List A) (z : A) → In ys z → In (xs ++ ys) z
 In_right [] ys z h = h
 In_right (x ∷ xs) ys z h = inr (In_right xs ys z h)
 
-In-first : {A : Type 0} (p : A → Bool) (xs : List A) (x : A) → first p xs ≡ Some x → In xs x
+pub In-first : {A : Type 0} (p : A → Bool) (xs : List A) (x : A) → first p xs ≡ Some x → In xs x
 In-first p [] x e = absurd cc
 In-first p (y ∷ xs) x e = split p y xs x (p y) (In-first p xs x) e
   where
@@ -123,7 +123,7 @@ has_last : (ss : List State) (s : State) → has (ss ++ s ∷ []) s.name ≡ tru
 has_last ss s =
     list_any-append (λ (d : State). same_name d.name s.name) ss (s ∷ []) ∙ or_second (has ss s.name) (has (s ∷ []) s.name) (or_first (same_name s.name s.name) false ((bytes_decides s.name s.name).1 refl))
 
-of_all : (x : Name) (xs : List Name) (y : Name) → AllByRecursion (λ z. same_name x z ≡ false) xs → In xs y → same_name x y ≡ false
+pub of_all : (x : Name) (xs : List Name) (y : Name) → AllByRecursion (λ z. same_name x z ≡ false) xs → In xs y → same_name x y ≡ false
 of_all x [] y h i = absurd i
 of_all x (z ∷ xs) y h (inl e) = subst (λ w. same_name x w ≡ false) e h.0
 of_all x (z ∷ xs) y h (inr i) = of_all x xs y h.1 i
@@ -150,7 +150,7 @@ stands_at path g = same_path g.owner path
 abbrev Under : Path → Name → Path → Type 0
 Under owner n path = (inside : Path) × (path ≡ inside ++ n ∷ owner)
 
-under_deep : (owner : Path) (n m : Name) (path : Path) → Under (n ∷ owner) m path → Under owner n path
+pub under_deep : (owner : Path) (n m : Name) (path : Path) → Under (n ∷ owner) m path → Under owner n path
 under_deep owner n m path (inside, e) = (inside ++ m ∷ [], e ∙ sym (append_assoc inside (m ∷ []) (n ∷ owner)))
 
 under_same : (owner inside outside : Path) (m n : Name) → inside ++ m ∷ owner ≡ outside ++ n ∷ owner → m ≡ n
@@ -159,7 +159,7 @@ under_same owner [] (x ∷ xs) m n e = absurd (omega (arith, ap length e, length
 under_same owner (x ∷ xs) [] m n e = absurd (omega (arith, ap length e, length-append xs (m ∷ owner)))
 under_same owner (x ∷ xs) (y ∷ ys) m n e = under_same owner xs ys m n (let s : xs ++ m ∷ owner ≡ ys ++ n ∷ owner = cc in s)
 
-not_longer : (owner inside : Path) (m n : Name) → n ∷ owner ≡ inside ++ m ∷ n ∷ owner → ⊥
+pub not_longer : (owner inside : Path) (m n : Name) → n ∷ owner ≡ inside ++ m ∷ n ∷ owner → ⊥
 not_longer owner inside m n e = omega (arith, ap length e, length-append inside (m ∷ n ∷ owner))
 
 ends : (owner : Path) (ss : List State) (gs : List Graph) → Inner owner ss gs → (g : Graph) → In gs g → (n : Name) × (has ss n ≡ true) × Under owner n g.owner

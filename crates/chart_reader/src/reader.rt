@@ -59,7 +59,8 @@ fn names_fault(alloc: Global, chart: &Chart) -> Result<Option<ChartFault>, Alloc
 #[tactic(auto, using(crate::proofs::Lowest::circle_told, crate::proofs::Lowest::trigger_told, crate::proofs::Lowest::action_told, crate::proofs::Lowest::none_told))]
 fn later_fault(alloc: Global, chart: &Chart, marks: Marks) -> Result<Option<ChartFault>, AllocError>
     requires { names_fault (chart_view chart.now) ≡ None }
-    ensures { IfOk result (λ fault. IsLowestFault (chart_view chart.now) marks.events_fit marks.codes_fit fault) }
+    ensures { IfOk result (λ fault.
+        IsLowestFault (chart_view chart.now) marks.events_fit marks.codes_fit fault) }
 {
     if has_circle(alloc, chart)? {
         return Ok(Some(ChartFault::ChoiceCycle));
@@ -80,7 +81,8 @@ fn lowest_fault(
     chart: &Chart,
     marks: Marks,
 ) -> Result<Option<ChartFault>, AllocError>
-    ensures { IfOk result (λ fault. IsLowestFault (chart_view chart.now) marks.events_fit marks.codes_fit fault) }
+    ensures { IfOk result (λ fault.
+        IsLowestFault (chart_view chart.now) marks.events_fit marks.codes_fit fault) }
 {
     match names_fault(alloc, chart)? {
         Some(fault) => Ok(Some(fault)),
@@ -101,7 +103,9 @@ pub fn read_chart(
 ) -> Result<Chart, ChartFault>
     ensures reads { Reads scope.now names.old (graph_view machine.now.items.items) result }
     ensures valid { IfOk result (λ c. IsValid (chart_view c)) }
-    ensures names { OnOk result ((reading scope.now names.old (graph_view machine.now.items.items)).names ≡ Some names.new) }
+    ensures names { OnOk result ((reading scope.now names.old
+        (graph_view machine.now.items.items)).names
+        ≡ Some names.new) }
     ensures grown { Grows names.old names.new }
 {
     if !graph_nests(&machine.items, MOST_DEEP) {

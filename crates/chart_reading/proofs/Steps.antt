@@ -1,6 +1,5 @@
 -- Reading, step by step.
 use Rattle.std.proofs.Common.{◌≡◌, ℕ, suc, zero, ◌+◌, ◌<◌, ◌≤◌, List, [], ◌∷◌, length, drop, get_or, map, Option, Some, refl, sym, ap, ◌∙◌, subst, arith}
-use Rattle.std.proofs.Math.Seq.{drop-cons}
 use Rattle.std.proofs.Common.{add-one}
 use Rattle.room_ast.specs.declared.chart.Code.{Code}
 use Rattle.room_ast.specs.declared.chart.GraphItem.{GraphItem}
@@ -18,6 +17,7 @@ use Rattle.chart_reading.proofs.chart_codes.MarkLaws.{guard_met, triggers_met}
 use Rattle.chart_reading.specs.Around.{Around, around, list_of}
 use Rattle.chart_reading.specs.Reading.{Piece, with_item, with_items, begun, piece_of, graphs_of, at_first, chart_of}
 use Rattle.chart_reading.proofs.Lists.{list_of_items}
+use Rattle.action_lang.proofs.action_check.Built.{drop_all, drop_at}
 
 abbrev pub made : List Graph → List ℤ → Chart
 made gs vs = record { graphs = gs; values = vs }
@@ -26,15 +26,6 @@ made gs vs = record { graphs = gs; values = vs }
 pub before_met : (scope : Scope) (m0 m1 m2 : Marks) (ts : List Trigger) (code : Option Code) (names : List (List ℕ)) → m1.events_fit ≡ (m0.events_fit && events_fit scope ts) → m1.codes_fit ≡ (m0.codes_fit && guards_fit scope ts) → m2 ≡ marks_after_guard scope m1 code
     → progress m2 names ≡ after_guard scope (after_triggers scope (progress m0 names) ts) code
 before_met scope m0 m1 m2 ts code names e f g = ap (λ (m : Marks). progress m names) g ∙ guard_met scope m1 code names ∙ ap (λ (p : Progress). after_guard scope p code) (triggers_met scope m0 m1 ts names e f)
-
-drop_at : {A : Type 0} (xs : List A) (i : ℕ) (x : A) → i < length xs → x ≡ get_or xs i x → drop i xs ≡ x ∷ drop (i + 1) xs
-drop_at xs i x h e = rw add-one (drop-cons xs i x h ∙ ap (λ y. y ∷ drop (suc i) xs) (sym e))
-
-drop_all : {A : Type 0} (xs : List A) (i : ℕ) → length xs ≤ i → drop i xs ≡ []
-drop_all [] zero h = refl
-drop_all [] (suc i) h = refl
-drop_all (x ∷ xs) zero h = absurd (omega arith)
-drop_all (x ∷ xs) (suc i) h = drop_all xs i (omega arith)
 
 -- before the first item
 pub items_begin : (scope : Scope) (items : List GraphItem) (a : Around) (owner : Path) (p : Piece) (come : Progress) → a ≡ around (map item_view items) → p ≡ begun come → with_items scope (graph_view (drop 0 items)) a owner p ≡ piece_of scope (graph_view items) owner come

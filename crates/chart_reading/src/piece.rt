@@ -41,7 +41,9 @@ pub(crate) fn begun(alloc: Global, marks: Marks) -> Piece
 }
 
 pub(crate) fn add_choice(alloc: Global, name: &Name, piece: &mut Piece) -> Result<(), AllocError>
-    ensures { OnOk result ((names : List (List ℕ)) → piece_view piece.new names ≡ record (piece_view piece.old names) { choices = piece.old.choices ++ name.now ∷ [] }) }
+    ensures { OnOk result ((names : List (List ℕ))
+        → piece_view piece.new names
+        ≡ record (piece_view piece.old names) { choices = piece.old.choices ++ name.now ∷ [] }) }
 {
     piece.choices.push(name.copy(alloc)?)?;
     Ok(())
@@ -52,7 +54,9 @@ pub(crate) fn add_point(
     point: &room_ast::Point,
     piece: &mut Piece,
 ) -> Result<(), AllocError>
-    ensures { OnOk result ((names : List (List ℕ)) → piece_view piece.new names ≡ record (piece_view piece.old names) { points = (piece_view piece.old names).points ++ point_of point.now ∷ [] }) }
+    ensures { OnOk result ((names : List (List ℕ))
+        → piece_view piece.new names ≡ record (piece_view piece.old names)
+        { points = (piece_view piece.old names).points ++ point_of point.now ∷ [] }) }
 {
     let name = point.name.copy(alloc)?;
     piece.points.push(Point {
@@ -70,7 +74,8 @@ pub(crate) fn add_transition(
     names: &mut ServiceNames,
     piece: &mut Piece,
 ) -> Result<(), AllocError>
-    ensures transition { OnOk result (piece_view piece.new names.new ≡ with_transition scope.now (around_view around.now) written.now (piece_view piece.old names.old)) }
+    ensures transition { OnOk result (piece_view piece.new names.new ≡ with_transition scope.now
+        (around_view around.now) written.now (piece_view piece.old names.old)) }
     ensures grown { Grows names.old names.new }
 {
     let transition = transition(alloc, written, around, scope, names, &mut piece.marks)?;
@@ -84,7 +89,12 @@ pub(crate) fn add_plain_state(
     name: &Name,
     piece: &mut Piece,
 ) -> Result<(), AllocError>
-    ensures { OnOk result ((names : List (List ℕ)) → piece_view piece.new names ≡ record (piece_view piece.old names) { states = (piece_view piece.old names).states ++ record { name = name.now; entry = no_stmt; exit = no_stmt } ∷ [] }) }
+    ensures { OnOk result ((names : List (List ℕ))
+        → piece_view piece.new names
+        ≡ record (piece_view piece.old names) {
+          states = (piece_view piece.old names).states
+              ++ record { name = name.now; entry = no_stmt; exit = no_stmt } ∷ [];
+        }) }
 {
     let name = name.copy(alloc)?;
     piece.states.push(State {
@@ -105,7 +115,8 @@ pub(crate) fn add_state_actions(
     names: &mut ServiceNames,
     piece: &mut Piece,
 ) -> Result<(), AllocError>
-    ensures actions { OnOk result (piece_view piece.new names.new ≡ with_actions scope.now name.now entry.now exit.now (piece_view piece.old names.old)) }
+    ensures actions { OnOk result (piece_view piece.new names.new
+        ≡ with_actions scope.now name.now entry.now exit.now (piece_view piece.old names.old)) }
     ensures grown { Grows names.old names.new }
 {
     let name = name.copy(alloc)?;
@@ -122,7 +133,9 @@ pub(crate) fn add_inner(
     inner: Piece,
     piece: &mut Piece,
 ) -> Result<(), AllocError>
-    ensures { OnOk result ((names before : List (List ℕ)) → piece_view piece.new names ≡ with_inner owner (piece_view inner names) (piece_view piece.old before)) }
+    ensures { OnOk result ((names before : List (List ℕ))
+        → piece_view piece.new names
+        ≡ with_inner owner (piece_view inner names) (piece_view piece.old before)) }
 {
     let mut inner = inner;
     inner.states.shrink_to_fit();

@@ -39,7 +39,8 @@ fn add_item(
     names: &mut ServiceNames,
     piece: &mut Piece,
 ) -> Result<(), AllocError>
-    ensures item { OnOk result (piece_view piece.new names.new ≡ with_item scope.now (item_view item.now) (around_view around.now) owner.now (piece_view piece.old names.old)) }
+    ensures item { OnOk result (piece_view piece.new names.new ≡ with_item scope.now
+        (item_view item.now) (around_view around.now) owner.now (piece_view piece.old names.old)) }
     ensures grown { Grows names.old names.new }
 {
     match item {
@@ -62,7 +63,8 @@ fn add_state(
     names: &mut ServiceNames,
     piece: &mut Piece,
 ) -> Result<(), AllocError>
-    ensures state { OnOk result (piece_view piece.new names.new ≡ with_state scope.now (state_view state.now) owner.now (piece_view piece.old names.old)) }
+    ensures state { OnOk result (piece_view piece.new names.new
+        ≡ with_state scope.now (state_view state.now) owner.now (piece_view piece.old names.old)) }
     ensures grown { Grows names.old names.new }
 {
     let Some(body) = &state.body else {
@@ -97,7 +99,9 @@ pub(crate) fn read_graph(
     names: &mut ServiceNames,
     marks: Marks,
 ) -> Result<Piece, AllocError>
-    ensures piece { IfOk result (λ p. piece_view p names.new ≡ piece_of scope.now (graph_view items.now.items) owner.now (progress marks names.old)) }
+    ensures piece { IfOk result (λ p.
+        piece_view p names.new
+        ≡ piece_of scope.now (graph_view items.now.items) owner.now (progress marks names.old)) }
     ensures grown { Grows names.old names.new }
 {
     let around = Around::of(alloc, items.as_slice())?;

@@ -23,8 +23,11 @@ pub(crate) fn transition(
     names: &mut ServiceNames,
     marks: &mut Marks,
 ) -> Result<Transition, AllocError>
-    ensures transition { IfOk result (λ t. transition_view t ≡ transition_of scope.now (around_view around.now) (progress marks.old names.old) written.now) }
-    ensures met { OnOk result (progress marks.new names.new ≡ after_transition scope.now (progress marks.old names.old) written.now.body) }
+    ensures transition { IfOk result (λ t.
+        transition_view t ≡ transition_of scope.now (around_view around.now)
+        (progress marks.old names.old) written.now) }
+    ensures met { OnOk result (progress marks.new names.new
+        ≡ after_transition scope.now (progress marks.old names.old) written.now.body) }
     ensures grown { Grows names.old names.new }
 {
     let source = source(alloc, &written.source, around)?;

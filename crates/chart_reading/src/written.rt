@@ -34,7 +34,9 @@ fn values_of(alloc: Global, attributes: &[ScopeAttribute]) -> Result<Vec<i64>, A
 
 /// The graphs of a piece: its own, and those of its states.
 fn graphs_of(alloc: Global, piece: Piece) -> Result<Vec<Graph>, AllocError>
-    ensures { IfOk result (λ v. (names : List (List ℕ)) → map code_graph_view v.items ≡ graphs_of [] (piece_view piece names)) }
+    ensures { IfOk result (λ v.
+        (names : List (List ℕ))
+        → map code_graph_view v.items ≡ graphs_of [] (piece_view piece names)) }
 {
     let mut piece = piece;
     let mut graphs = Vec::new(alloc);
@@ -60,8 +62,11 @@ pub fn write_chart(
     scope: &Scope,
     names: &mut ServiceNames,
 ) -> Result<Written, AllocError>
-    ensures chart { IfOk result (λ w. chart_view w.chart ≡ chart_of scope.now names.old (graph_view machine.now.items.items)) }
-    ensures met { IfOk result (λ w. progress w.marks names.new ≡ reading scope.now names.old (graph_view machine.now.items.items)) }
+    ensures chart { IfOk result (λ w.
+        chart_view w.chart ≡ chart_of scope.now names.old (graph_view machine.now.items.items)) }
+    ensures met { IfOk result (λ w.
+        progress w.marks names.new
+        ≡ reading scope.now names.old (graph_view machine.now.items.items)) }
     ensures grown { Grows names.old names.new }
 {
     let marks = Marks {

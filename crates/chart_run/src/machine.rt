@@ -59,8 +59,11 @@ impl Machine {
     ) -> Result<bool, AllocError>
         requires sound { IsSound tables.now }
         requires size { length self.old.mind.past.items ≡ length tables.now.states.items }
-        ensures handling { IfOk result (λ b. handled_at b self.new.leaf self.new.mind ≡ handling (plan tables.now) (acting at.now) self.old.leaf (event_view event) (memory_of self.old.mind)) }
-        ensures size { IfOk result (λ b. length self.new.mind.past.items ≡ length tables.now.states.items) }
+        ensures handling { IfOk result (λ b.
+            handled_at b self.new.leaf self.new.mind ≡ handling (plan tables.now) (acting at.now)
+            self.old.leaf (event_view event) (memory_of self.old.mind)) }
+        ensures size { IfOk result (λ b.
+            length self.new.mind.past.items ≡ length tables.now.states.items) }
         ensures me { self.new.me ≡ self.old.me }
         ensures failed { self.new.failed ≡ self.old.failed }
     {
@@ -95,8 +98,12 @@ impl Machine {
         requires size { length self.old.mind.past.items ≡ length tables.now.states.items }
         requires notes { self.old.mind.effects.notes ≡ [] }
         requires commands { self.old.mind.effects.commands ≡ [] }
-        ensures acts { IfOk result (λ o. acted_of (result_view o.result) self.new o.effects ≡ handles_by (plan tables.now) (moment_of self.old.me m.now) (event_of m.now) (standing_of self.old)) }
-        ensures size { IfOk result (λ o. length self.new.mind.past.items ≡ length tables.now.states.items) }
+        ensures acts { IfOk result (λ o.
+            acted_of (result_view o.result) self.new o.effects
+            ≡ handles_by (plan tables.now) (moment_of self.old.me m.now) (event_of m.now)
+            (standing_of self.old)) }
+        ensures size { IfOk result (λ o.
+            length self.new.mind.past.items ≡ length tables.now.states.items) }
         ensures notes { IfOk result (λ o. self.new.mind.effects.notes ≡ []) }
         ensures commands { IfOk result (λ o. self.new.mind.effects.commands ≡ []) }
         ensures me { self.new.me ≡ self.old.me }
@@ -154,7 +161,8 @@ impl Machine {
         requires sound { IsSound tables.now }
         requires fits { Fits tables.now self.old }
         ensures acts { IfOk result (λ outcome. Acts tables.now self.old self.new m.now outcome) }
-        ensures as_chart { IfOk result (λ outcome. ActsAsChart tables.now self.old self.new m.now outcome) }
+        ensures as_chart { IfOk result (λ outcome.
+            ActsAsChart tables.now self.old self.new m.now outcome) }
         ensures fits { Fits tables.now self.new }
         ensures failed { self.old.failed ≡ true → IsErr result }
         ensures err { IsErr result → self.new.failed ≡ true }

@@ -72,7 +72,8 @@ fn note_kinds(
     class: usize,
 ) -> Result<(), AllocError>
     requires { length table.old.items ≡ length classes.now }
-    ensures { OnOk result (table.new.items ≡ slice_set table.old.items class (kinds_noted classes.now table.old.items class)) }
+    ensures { OnOk result (table.new.items
+        ≡ slice_set table.old.items class (kinds_noted classes.now table.old.items class)) }
 {
     if let Some(types) = classes.get(class) {
         let kinds = kinds_of_types(alloc, types.as_slice(), table.as_slice())?;
@@ -98,7 +99,9 @@ fn kinds_in_order(
     order: &[usize],
     classes: &[Sequence<TypeEntry>],
 ) -> Result<Vec<Sequence<NumberType>>, AllocError>
-    ensures { IfOk result (λ v. IsContainmentOrder (map classes_of_types classes.now) order.now → AreKinds classes.now v.items) }
+    ensures { IfOk result (λ v.
+        IsContainmentOrder (map classes_of_types classes.now) order.now
+        → AreKinds classes.now v.items) }
 {
     let mut table = no_kinds(alloc, classes.len())?;
     for class in order {

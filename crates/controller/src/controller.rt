@@ -34,7 +34,14 @@ impl Model for Controller {
 
     ghost Value = { Shown };
 
-    ghost view = { λ k. record { me = k.state.me; fuel = k.fuel; failed = k.failed; mail = mail_with k.state k.journal.items; actors = k.state.actors } };
+    ghost view = { λ k.
+        record {
+          me = k.state.me;
+          fuel = k.fuel;
+          failed = k.failed;
+          mail = mail_with k.state k.journal.items;
+          actors = k.state.actors;
+        } };
 }
 
 impl Controller {
@@ -76,7 +83,9 @@ impl Controller {
     /// Posts the front of the outbox, if there is one, and keeps the entry: the message is given as it goes on
     /// its way. After want of memory nothing has changed.
     pub(crate) fn post(&mut self) -> Result<Option<Msg>, AllocError>
-        ensures ok { IfOk result (λ o. MatchOption o ((self.old.mail.outbox ≡ []) × (self.new ≡ self.old)) (λ m. Posts self.old.me.0 self.old.mail self.new.mail m)) }
+        ensures ok { IfOk result (λ o.
+            MatchOption o ((self.old.mail.outbox ≡ []) × (self.new ≡ self.old))
+            (λ m. Posts self.old.me.0 self.old.mail self.new.mail m)) }
         ensures others { OnOk result (self.new ≡ record self.old { mail = self.new.mail }) }
         ensures err { OnErr result (self.new ≡ self.old) }
     {
@@ -121,11 +130,13 @@ impl Controller {
         requires party { (M.log end.old).party ≡ self.old.me.0 }
         requires parties { (M.log end.old).parties ≡ length plant.now.wiring.controllers + 1 }
         requires tied { IsTied M.tied (M.log end.old).party office.old end.old }
-        ensures ok { OnOk result (PostsAll plant.now self.old self.new (M.log end.old) (M.log end.new)) }
+        ensures ok { OnOk result (PostsAll plant.now self.old self.new (M.log end.old)
+            (M.log end.new)) }
         ensures of { IsOf plant.now self.new }
         ensures failed { self.old.failed ≡ true → IsErr result }
         ensures err { OnErr result (self.new.failed ≡ true) }
-        ensures tied { StaysTied M.tied (M.log end.old).party office.old office.new end.old end.new }
+        ensures tied { StaysTied M.tied (M.log end.old).party office.old office.new end.old
+            end.new }
     {
         self.refuse_if_failed()?;
         match post_outbox(self, office, end) {
@@ -149,11 +160,14 @@ impl Controller {
         requires party { (M.log end.old).party ≡ self.old.me.0 }
         requires parties { (M.log end.old).parties ≡ length plant.now.wiring.controllers + 1 }
         requires tied { IsTied M.tied (M.log end.old).party office.old end.old }
-        ensures ok { IfOk result (λ count. Polls plant.now M.in_box (M.box_count (M.log end.old).party (M.log end.old).parties) self.old self.new (M.log end.old) (M.log end.new) count) }
+        ensures ok { IfOk result (λ count.
+            Polls plant.now M.in_box (M.box_count (M.log end.old).party (M.log end.old).parties)
+            self.old self.new (M.log end.old) (M.log end.new) count) }
         ensures of { IsOf plant.now self.new }
         ensures failed { self.old.failed ≡ true → IsErr result }
         ensures err { OnErr result (self.new.failed ≡ true) }
-        ensures tied { StaysTied M.tied (M.log end.old).party office.old office.new end.old end.new }
+        ensures tied { StaysTied M.tied (M.log end.old).party office.old office.new end.old
+            end.new }
     {
         self.refuse_if_failed()?;
         let alloc = self.allocator();

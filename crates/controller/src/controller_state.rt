@@ -38,10 +38,13 @@ impl ControllerState {
     pub fn start(alloc: Global, plant: &Plant, me: ControllerId) -> Result<Started, AllocError>
         requires { me.0 < length plant.now.wiring.controllers }
         ensures me { IfOk result (λ s. s.state.me ≡ me) }
-        ensures state { IfOk result (λ s. shown_in plant.now s.state ≡ first_state (model_of plant.now) plant.now.wiring me.0) }
-        ensures entries { IfOk result (λ s. s.entries ≡ start_entries (model_of plant.now) plant.now.wiring me.0) }
+        ensures state { IfOk result (λ s.
+            shown_in plant.now s.state ≡ first_state (model_of plant.now) plant.now.wiring me.0) }
+        ensures entries { IfOk result (λ s.
+            s.entries ≡ start_entries (model_of plant.now) plant.now.wiring me.0) }
         ensures of { IfOk result (λ s. IsStateOf plant.now s.state) }
-        ensures waits { IfOk result (λ s. WaitsWithin (length plant.now.wiring.controllers) (mail_with s.state [])) }
+        ensures waits { IfOk result (λ s.
+            WaitsWithin (length plant.now.wiring.controllers) (mail_with s.state [])) }
     {
         let begun = Actors::start(alloc, plant, me)?;
         let mail = MailQueues::started(alloc, begun.sent)?;
@@ -74,8 +77,12 @@ impl ControllerState {
     pub fn turn(&mut self, plant: &Plant) -> Result<Option<Entry>, AllocError>
         requires of { IsStateOf plant.now self.old }
         requires outbox { self.old.mail.outbox ≡ [] }
-        ensures ok { IfOk result (λ o. MatchOption o ((next_of (pending_of self.old.mail.pending) ≡ None) × (self.new ≡ self.old)) (λ e. Makes plant.now self.old self.new e)) }
-        ensures turn { IfOk result (λ o. IfSome o (λ e. TakesTurn (length plant.now.wiring.controllers) self.old self.new e)) }
+        ensures ok { IfOk result (λ o.
+            MatchOption o
+            ((next_of (pending_of self.old.mail.pending) ≡ None) × (self.new ≡ self.old))
+            (λ e. Makes plant.now self.old self.new e)) }
+        ensures turn { IfOk result (λ o.
+            IfSome o (λ e. TakesTurn (length plant.now.wiring.controllers) self.old self.new e)) }
         ensures me { self.new.me ≡ self.old.me }
         ensures of { OnOk result (IsStateOf plant.now self.new) }
     {
@@ -90,10 +97,15 @@ impl ControllerState {
 
     /// Posts the front of the outbox, if there is one. After want of memory nothing has changed.
     pub fn post(&mut self) -> Result<Option<Posted>, AllocError>
-        ensures made { IfOk result (λ o. MatchOption o (self.old.mail.outbox ≡ []) (λ p. (plant : AnyPlant) → Makes plant self.old self.new p.entry)) }
-        ensures mail { IfOk result (λ o. post self.old.me.0 (alone self.old.mail) ≡ option_map (λ p. (alone self.new.mail, p.entry)) o) }
+        ensures made { IfOk result (λ o.
+            MatchOption o (self.old.mail.outbox ≡ [])
+            (λ p. (plant : AnyPlant) → Makes plant self.old self.new p.entry)) }
+        ensures mail { IfOk result (λ o.
+            post self.old.me.0 (alone self.old.mail)
+            ≡ option_map (λ p. (alone self.new.mail, p.entry)) o) }
         ensures others { self.new ≡ record self.old { mail = self.new.mail } }
-        ensures entry { IfOk result (λ o. IfSome o (λ p. p.entry ≡ entry.Post p.message.stamp p.message)) }
+        ensures entry { IfOk result (λ o.
+            IfSome o (λ p. p.entry ≡ entry.Post p.message.stamp p.message)) }
         ensures none { IfOk result (λ o. IfNone o (self.new ≡ self.old)) }
         ensures of { (plant : AnyPlant) → IsStateOf plant self.old → IsStateOf plant self.new }
         ensures err { OnErr result (self.new ≡ self.old) }

@@ -42,7 +42,9 @@ impl Environment {
     /// The clock becomes the greatest of all parties, as before the first line of a later part. `all` are the
     /// controllers of a plant, in order of number. It takes no memory.
     pub fn catch_up(&mut self, all: &[Controller])
-        ensures { (plant : Stands) → self.new ≡ record self.old { clock = latest (state_at plant all.now) (length all.now) self.old.clock } }
+        ensures { (plant : Stands)
+            → self.new ≡ record self.old
+            { clock = latest (state_at plant all.now) (length all.now) self.old.clock } }
     {
         for c in 0..all.len() {
             self.mail.catch_up(all[c].clock());
@@ -63,9 +65,11 @@ impl Environment {
         requires to { m.to.0 < length plant.now.wiring.controllers }
         requires prio { m.prio.0 < 6 }
         requires tied { IsTied M.tied (M.log end.old).party office.old end.old }
-        ensures ok { OnOk result (PostsLine (length plant.now.wiring.controllers) self.old self.new (M.log end.old) (M.log end.new) m) }
+        ensures ok { OnOk result (PostsLine (length plant.now.wiring.controllers) self.old self.new
+            (M.log end.old) (M.log end.new) m) }
         ensures err { OnErr result ((self.new ≡ self.old) × (M.log end.new ≡ M.log end.old)) }
-        ensures tied { StaysTied M.tied (M.log end.old).party office.old office.new end.old end.new }
+        ensures tied { StaysTied M.tied (M.log end.old).party office.old office.new end.old
+            end.new }
     {
         let me = ControllerId(plant.wiring.controller_count());
         let posted = self.mail.post(me, m)?;

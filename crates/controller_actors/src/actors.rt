@@ -59,7 +59,8 @@ fn nobody_there(alloc: Global, target: Incarnation) -> TurnResult
 
 /// Whether a message is for whoever stands in its slot, or for this actor, which does.
 fn is_meant(m: &Msg, who: Incarnation) -> bool
-    ensures { result ≡ (m.now.target.generation.0 == 0) || (m.now.target.generation.0 == who.generation.0) }
+    ensures { result
+        ≡ (m.now.target.generation.0 == 0) || (m.now.target.generation.0 == who.generation.0) }
 {
     let generation = m.target.generation;
     generation.0 == 0 || generation == who.generation
@@ -70,8 +71,17 @@ impl Actors {
     /// order, and their commands are applied.
     pub fn start(alloc: Global, plant: &Plant, me: ControllerId) -> Result<Begun, AllocError>
         requires me { me.0 < length plant.now.wiring.controllers }
-        ensures state { IfOk result (λ b. first_state (model_of plant.now) plant.now.wiring me.0 ≡ record { clock = 0; turns = 0; pending = λ p. []; outbox = b.sent; body = body_of plant.now me.0 b.actors }) }
-        ensures entries { IfOk result (λ b. b.entries ≡ start_entries (model_of plant.now) plant.now.wiring me.0) }
+        ensures state { IfOk result (λ b.
+            first_state (model_of plant.now) plant.now.wiring me.0
+            ≡ record {
+              clock = 0;
+              turns = 0;
+              pending = λ p. [];
+              outbox = b.sent;
+              body = body_of plant.now me.0 b.actors;
+            }) }
+        ensures entries { IfOk result (λ b.
+            b.entries ≡ start_entries (model_of plant.now) plant.now.wiring me.0) }
         ensures well { IfOk result (λ b. IsWell plant.now me.0 b.actors) }
     {
         start(alloc, plant, me)
@@ -89,7 +99,8 @@ impl Actors {
     ) -> Result<Entrance, AllocError>
         requires has_slots { HasSlots plant.now me.0 self.old }
         requires last { IsLast plant.now.wiring me.0 (lives_of self.old) who }
-        ensures { IfOk result (λ e. ActorsBegin plant.now me.0 who.slot.0 self.old self.new sent back e) }
+        ensures { IfOk result (λ e.
+            ActorsBegin plant.now me.0 who.slot.0 self.old self.new sent back e) }
     {
         let alloc = self.alloc;
         let speaker = Speaker {
@@ -140,7 +151,12 @@ impl Actors {
         me: ControllerId,
         slot: SlotId,
     ) -> Option<Incarnation>
-        ensures { MatchOption result ((is_own plant.now.wiring me.0 slot.0 && (lives_of self.now).lives slot.0) ≡ false) (λ x. (x.slot ≡ slot) × IsLast plant.now.wiring me.0 (lives_of self.now) x × (is_own plant.now.wiring me.0 slot.0 ≡ true)) }
+        ensures { MatchOption result
+            ((is_own plant.now.wiring me.0 slot.0 && (lives_of self.now).lives slot.0) ≡ false)
+            (λ x.
+            (x.slot ≡ slot)
+            × IsLast plant.now.wiring me.0 (lives_of self.now) x
+            × (is_own plant.now.wiring me.0 slot.0 ≡ true)) }
     {
         if !is_own(&plant.wiring, me, slot) {
             return None;
@@ -160,7 +176,9 @@ impl Actors {
     ) -> Result<TurnResult, AllocError>
         requires well { IsWell plant.now me.0 self.old }
         requires prio { IsForActors m }
-        ensures treated { IfOk result (λ done. dispatch (model_of plant.now) plant.now.wiring me.0 (body_of plant.now me.0 self.old) m ≡ with_body (done_of done) (body_of plant.now me.0 self.new)) }
+        ensures treated { IfOk result (λ done.
+            dispatch (model_of plant.now) plant.now.wiring me.0 (body_of plant.now me.0 self.old) m
+            ≡ with_body (done_of done) (body_of plant.now me.0 self.new)) }
         ensures well { OnOk result (IsWell plant.now me.0 self.new) }
         ensures back { IfOk result (λ done. All IsForActors done.back) }
     {
@@ -185,7 +203,9 @@ impl Actors {
     ) -> Result<TurnResult, AllocError>
         requires well { IsWell plant.now me.0 self.old }
         requires prio { HasPriority m }
-        ensures treated { IfOk result (λ done. treat (model_of plant.now) plant.now.wiring me.0 (body_of plant.now me.0 self.old) m ≡ with_body (done_of done) (body_of plant.now me.0 self.new)) }
+        ensures treated { IfOk result (λ done.
+            treat (model_of plant.now) plant.now.wiring me.0 (body_of plant.now me.0 self.old) m
+            ≡ with_body (done_of done) (body_of plant.now me.0 self.new)) }
         ensures well { OnOk result (IsWell plant.now me.0 self.new) }
         ensures back { IfOk result (λ done. All IsForActors done.back) }
     {

@@ -29,7 +29,8 @@ impl Actors {
     ) -> Result<(), AllocError>
         requires has_slots { HasSlots plant.now me.0 self.old }
         requires last { IsLast plant.now.wiring me.0 (lives_of self.old) who }
-        ensures moves { OnOk result (Moves (begun (model_of plant.now) plant.now.wiring me.0 who) plant.now me.0 self.old so_far.old self.new so_far.new) }
+        ensures moves { OnOk result (Moves (begun (model_of plant.now) plant.now.wiring me.0 who)
+            plant.now me.0 self.old so_far.old self.new so_far.new) }
         ensures empty { OnOk result (StayEmpty plant.now me.0 self.old self.new) }
     {
         let alloc = self.alloc;
@@ -61,7 +62,9 @@ impl Actors {
     ) -> Result<(), AllocError>
         requires has_slots { HasSlots plant.now me.0 self.old }
         requires last { All (IsLast plant.now.wiring me.0 (lives_of self.old)) made.now }
-        ensures moves { OnOk result (Moves (all_begun (model_of plant.now) plant.now.wiring me.0 made.now) plant.now me.0 self.old so_far.old self.new so_far.new) }
+        ensures moves { OnOk result (Moves
+            (all_begun (model_of plant.now) plant.now.wiring me.0 made.now)
+            plant.now me.0 self.old so_far.old self.new so_far.new) }
         ensures empty { OnOk result (StayEmpty plant.now me.0 self.old self.new) }
     {
         for who in made {
@@ -81,7 +84,8 @@ impl Actors {
     ) -> Result<(), AllocError>
         requires has_slots { HasSlots plant.now me.0 self.old }
         requires own { IsOwn plant.now.wiring me.0 who }
-        ensures moves { OnOk result (Moves (gone plant.now.wiring me.0 who) plant.now me.0 self.old so_far.old self.new so_far.new) }
+        ensures moves { OnOk result (Moves (gone plant.now.wiring me.0 who) plant.now me.0 self.old
+            so_far.old self.new so_far.new) }
         ensures empty { OnOk result (IsVacated plant.now me.0 who self.old self.new) }
     {
         let alloc = self.alloc;
@@ -103,8 +107,10 @@ impl Actors {
     ) -> Result<(), AllocError>
         requires has_slots { HasSlots plant.now me.0 self.old }
         requires own { All (IsOwn plant.now.wiring me.0) ended.now }
-        ensures moves { OnOk result (Moves (all_gone plant.now.wiring me.0 ended.now) plant.now me.0 self.old so_far.old self.new so_far.new) }
-        ensures empty { OnOk result (AreEmpty plant.now me.0 ended.now self.old → AreEmpty plant.now me.0 [] self.new) }
+        ensures moves { OnOk result (Moves (all_gone plant.now.wiring me.0 ended.now) plant.now me.0
+            self.old so_far.old self.new so_far.new) }
+        ensures empty { OnOk result (AreEmpty plant.now me.0 ended.now self.old
+            → AreEmpty plant.now me.0 [] self.new) }
     {
         for who in ended {
             self.go_down(plant, me, *who, so_far)?;

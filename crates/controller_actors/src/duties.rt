@@ -74,7 +74,12 @@ fn passed_over(alloc: Global) -> TurnResult
 
 /// What a duty made of its message.
 fn done(so_far: SoFar) -> TurnResult
-    ensures { result ≡ record { sent = so_far.output.messages; back = so_far.back; did = Did.Duty; notes = so_far.output.notes } }
+    ensures { result ≡ record {
+      sent = so_far.output.messages;
+      back = so_far.back;
+      did = Did.Duty;
+      notes = so_far.output.notes;
+    } }
 {
     let SoFar { output, back } = so_far;
     TurnResult {
@@ -87,7 +92,8 @@ fn done(so_far: SoFar) -> TurnResult
 
 /// A duty that has sent these messages so far, with room for so many notes.
 fn only_sent(alloc: Global, sent: Outbox, count: usize) -> Result<SoFar, AllocError>
-    ensures { IfOk result (λ s. s ≡ record { output = record { messages = sent; notes = [] }; back = [] }) }
+    ensures { IfOk result (λ s.
+        s ≡ record { output = record { messages = sent; notes = [] }; back = [] }) }
 {
     let notes = Vec::with_capacity(alloc, count)?;
     Ok(SoFar {
@@ -176,7 +182,8 @@ impl Actors {
 
     /// Whether an actor of this controller lives.
     fn is_live(&self, plant: &Plant, me: ControllerId, who: Incarnation) -> bool
-        ensures { result ≡ (is_own plant.now.wiring me.0 who.slot.0 && is_live (lives_of self.now) who) }
+        ensures { result
+            ≡ (is_own plant.now.wiring me.0 who.slot.0 && is_live (lives_of self.now) who) }
     {
         match self.occupant(plant, me, who.slot) {
             Some(occupant) => occupant.generation == who.generation,
@@ -212,7 +219,9 @@ impl Actors {
     ) -> Result<TurnResult, AllocError>
         requires well { IsWell plant.now me.0 self.old }
         requires prio { m.now.prio.0 ≡ 0 }
-        ensures treated { IfOk result (λ done. treat (model_of plant.now) plant.now.wiring me.0 (body_of plant.now me.0 self.old) m.now ≡ with_body (done_of done) (body_of plant.now me.0 self.new)) }
+        ensures treated { IfOk result (λ done.
+            treat (model_of plant.now) plant.now.wiring me.0 (body_of plant.now me.0 self.old) m.now
+            ≡ with_body (done_of done) (body_of plant.now me.0 self.new)) }
         ensures well { OnOk result (IsWell plant.now me.0 self.new) }
         ensures back { IfOk result (λ done. All IsForActors done.back) }
     {

@@ -67,8 +67,11 @@ impl Starting {
 
     /// The actor of a slot starts, if one lives there from the start.
     fn consider(&mut self, plant: &Plant, me: ControllerId, slot: SlotId) -> Result<(), AllocError>
-        requires started { Starts plant.now me.0 (first_below plant.now.wiring me.0 slot.0) self.old }
-        ensures { OnOk result (Starts plant.now me.0 (first_below plant.now.wiring me.0 slot.0 ++ first_in plant.now.wiring me.0 slot.0) self.new) }
+        requires started { Starts plant.now me.0 (first_below plant.now.wiring me.0 slot.0)
+            self.old }
+        ensures { OnOk result (Starts plant.now me.0
+            (first_below plant.now.wiring me.0 slot.0 ++ first_in plant.now.wiring me.0 slot.0)
+            self.new) }
     {
         let Some(generation) = self.actors.services.frame.live(slot) else {
             return Ok(());
@@ -80,7 +83,8 @@ impl Starting {
     /// All actors that live from the start do.
     fn start_all(&mut self, plant: &Plant, me: ControllerId) -> Result<(), AllocError>
         requires started { Starts plant.now me.0 [] self.old }
-        ensures { OnOk result (Starts plant.now me.0 (first_below plant.now.wiring me.0 (length plant.now.wiring.slots)) self.new) }
+        ensures { OnOk result (Starts plant.now me.0
+            (first_below plant.now.wiring me.0 (length plant.now.wiring.slots)) self.new) }
     {
         for number in 0..plant.wiring.slot_count() {
             self.consider(plant, me, SlotId(number as u16))?;
@@ -92,8 +96,17 @@ impl Starting {
 /// All actors of controller `me` that live from the start begin, in slot order.
 pub(crate) fn start(alloc: Global, plant: &Plant, me: ControllerId) -> Result<Begun, AllocError>
     requires me { me.0 < length plant.now.wiring.controllers }
-    ensures state { IfOk result (λ b. first_state (model_of plant.now) plant.now.wiring me.0 ≡ record { clock = 0; turns = 0; pending = λ p. []; outbox = b.sent; body = body_of plant.now me.0 b.actors }) }
-    ensures entries { IfOk result (λ b. b.entries ≡ start_entries (model_of plant.now) plant.now.wiring me.0) }
+    ensures state { IfOk result (λ b.
+        first_state (model_of plant.now) plant.now.wiring me.0
+        ≡ record {
+          clock = 0;
+          turns = 0;
+          pending = λ p. [];
+          outbox = b.sent;
+          body = body_of plant.now me.0 b.actors;
+        }) }
+    ensures entries { IfOk result (λ b.
+        b.entries ≡ start_entries (model_of plant.now) plant.now.wiring me.0) }
     ensures well { IfOk result (λ b. IsWell plant.now me.0 b.actors) }
 {
     let frame = FrameState::start(alloc, &plant.wiring, plant.share_runs()?, me)?;

@@ -51,7 +51,8 @@ impl Model for MailQueues {
 
     ghost Value = { Queues };
 
-    ghost view = { λ q. record { clock = q.clock; turns = q.turns; pending = q.pending; outbox = q.outbox } };
+    ghost view = { λ q.
+        record { clock = q.clock; turns = q.turns; pending = q.pending; outbox = q.outbox } };
 
     ghost invariant = { λ q. q.turns ≤ q.clock };
 }
@@ -60,7 +61,8 @@ impl MailQueues {
     /// The queues of a controller that has started: its actors sent these messages. Its clock is 0, and
     /// nothing is pending.
     pub fn started(alloc: Global, sent: Outbox) -> Result<MailQueues, AllocError>
-        ensures { IfOk result (λ q. q ≡ record { clock = 0; turns = 0; pending = replicate 6 []; outbox = sent }) }
+        ensures { IfOk result (λ q.
+            q ≡ record { clock = 0; turns = 0; pending = replicate 6 []; outbox = sent }) }
     {
         let pending = Pending::new(alloc)?;
         Ok(MailQueues {
@@ -92,7 +94,9 @@ impl MailQueues {
     /// Takes out the message whose turn it is: of the pending lists from priority 0 to 5 the first that
     /// isn't empty gives its front. It takes no memory.
     pub fn take_next(&mut self) -> Option<Msg>
-        ensures { MatchOption result ((next_of (pending_of self.old.pending) ≡ None) × (self.new ≡ self.old)) (λ m. TakesOut self.old self.new m) }
+        ensures { MatchOption result
+            ((next_of (pending_of self.old.pending) ≡ None) × (self.new ≡ self.old))
+            (λ m. TakesOut self.old self.new m) }
     {
         self.pending.take_next()
     }
@@ -107,7 +111,10 @@ impl MailQueues {
         done: TurnResult,
     ) -> Result<Entry, AllocError>
         requires { All HasPriority done.back }
-        ensures { IfOk result (λ e. end_turn (alone self.old) from sent (record { sent = done.sent; back = done.back; did = done.did; notes = done.notes }) ≡ (alone self.new, e)) }
+        ensures { IfOk result (λ e.
+            end_turn (alone self.old) from sent
+            (record { sent = done.sent; back = done.back; did = done.did; notes = done.notes })
+            ≡ (alone self.new, e)) }
     {
         let stamp = later(self.clock)?;
         self.pending.put_back(done.back.into_vec())?;
@@ -126,8 +133,10 @@ impl MailQueues {
     /// Posts the front of the outbox, if there is one, as controller `me`. After want of memory nothing has
     /// changed.
     pub fn post(&mut self, me: ControllerId) -> Result<Option<Posted>, AllocError>
-        ensures ok { IfOk result (λ o. post me.0 (alone self.old) ≡ option_map (λ p. (alone self.new, p.entry)) o) }
-        ensures entry { IfOk result (λ o. IfSome o (λ p. p.entry ≡ entry.Post p.message.stamp p.message)) }
+        ensures ok { IfOk result (λ o.
+            post me.0 (alone self.old) ≡ option_map (λ p. (alone self.new, p.entry)) o) }
+        ensures entry { IfOk result (λ o.
+            IfSome o (λ p. p.entry ≡ entry.Post p.message.stamp p.message)) }
         ensures none { IfOk result (λ o. IfNone o (self.new ≡ self.old)) }
         ensures err { OnErr result (self.new ≡ self.old) }
     {

@@ -52,7 +52,8 @@ impl Pending {
     /// Adds a message behind those of its priority.
     pub(crate) fn add(&mut self, m: Msg) -> Result<(), AllocError>
         requires { m.prio.0 < 6 }
-        ensures ok { OnOk result (pending_of self.new ≡ put (pending_of self.old) m.prio.0 (pending_of self.old m.prio.0 ++ m ∷ [])) }
+        ensures ok { OnOk result (pending_of self.new
+            ≡ put (pending_of self.old) m.prio.0 (pending_of self.old m.prio.0 ++ m ∷ [])) }
         ensures err { OnErr result (self.new ≡ self.old) }
     {
         let list = &mut self.lists[usize::from(m.prio.0)];
@@ -62,7 +63,8 @@ impl Pending {
     /// Puts a message before those of its priority.
     fn put_in_front(&mut self, m: Msg) -> Result<(), AllocError>
         requires { m.prio.0 < 6 }
-        ensures ok { OnOk result (pending_of self.new ≡ put (pending_of self.old) m.prio.0 (m ∷ pending_of self.old m.prio.0)) }
+        ensures ok { OnOk result (pending_of self.new
+            ≡ put (pending_of self.old) m.prio.0 (m ∷ pending_of self.old m.prio.0)) }
         ensures err { OnErr result (self.new ≡ self.old) }
     {
         let list = &mut self.lists[usize::from(m.prio.0)];
@@ -97,7 +99,9 @@ impl Pending {
 
     /// Takes out the message whose turn it is: the front of the lowest list that has messages.
     pub(crate) fn take_next(&mut self) -> Option<Msg>
-        ensures { MatchOption result ((next_of (pending_of self.old) ≡ None) × (self.new ≡ self.old)) (λ m. TakesFront self.old self.new m) }
+        ensures { MatchOption result
+            ((next_of (pending_of self.old) ≡ None) × (self.new ≡ self.old))
+            (λ m. TakesFront self.old self.new m) }
     {
         let Some(at) = self.first_list() else {
             return None;

@@ -73,7 +73,8 @@ impl Queue {
     }
 
     pub(crate) fn pop_front(&mut self) -> Option<Msg>
-        ensures { MatchOption result ((self.old ≡ []) × (self.new ≡ [])) (λ m. self.old ≡ m ∷ self.new) }
+        ensures { MatchOption result ((self.old ≡ []) × (self.new ≡ []))
+            (λ m. self.old ≡ m ∷ self.new) }
     {
         self.messages.pop_front()
     }

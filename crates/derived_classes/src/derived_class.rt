@@ -103,7 +103,9 @@ fn joined_structure(
 /// Adds a copy of an item of a graph.
 #[tactic(auto, using(crate::proofs::Graphs::followed_push))]
 fn push_copy(alloc: Global, items: &mut Vec<GraphItem>, one: &GraphItem) -> Result<(), AllocError>
-    ensures { OnOk result ((rest : GraphItems) → followed_by (graph_view items.new.items) rest ≡ followed_by (graph_view items.old.items) (item (item_view one.now) rest)) }
+    ensures { OnOk result ((rest : GraphItems)
+        → followed_by (graph_view items.new.items) rest
+        ≡ followed_by (graph_view items.old.items) (item (item_view one.now) rest)) }
 {
     let copy = copy_item(alloc, one)?;
     items.push(copy)?;
@@ -112,7 +114,9 @@ fn push_copy(alloc: Global, items: &mut Vec<GraphItem>, one: &GraphItem) -> Resu
 
 /// Adds a copy of an item of a graph, if it is no refinement.
 fn add_other(alloc: Global, items: &mut Vec<GraphItem>, one: &GraphItem) -> Result<(), AllocError>
-    ensures { OnOk result ((rest : GraphItems) → followed_by (graph_view items.new.items) (other_items rest) ≡ followed_by (graph_view items.old.items) (other_items (item (item_view one.now) rest))) }
+    ensures { OnOk result ((rest : GraphItems)
+        → followed_by (graph_view items.new.items) (other_items rest)
+        ≡ followed_by (graph_view items.old.items) (other_items (item (item_view one.now) rest))) }
 {
     match one {
         GraphItem::Refinement(_) => Ok(()),
@@ -130,7 +134,8 @@ fn add_others(
     items: &mut Vec<GraphItem>,
     more: &Vec<GraphItem>,
 ) -> Result<(), AllocError>
-    ensures { OnOk result (graph_view items.new.items ≡ followed_by (graph_view items.old.items) (other_items (graph_view more.now.items))) }
+    ensures { OnOk result (graph_view items.new.items
+        ≡ followed_by (graph_view items.old.items) (other_items (graph_view more.now.items))) }
 {
     for item in more {
         add_other(alloc, items, item)?;
@@ -144,7 +149,9 @@ fn both_machines(
     base: &StateMachine,
     own: &StateMachine,
 ) -> Result<StateMachine, AllocError>
-    ensures { IfOk result (λ m. Some (machine_view m) ≡ derived_machine (Some (machine_view base.now)) (Some (machine_view own.now))) }
+    ensures { IfOk result (λ m.
+        Some (machine_view m)
+        ≡ derived_machine (Some (machine_view base.now)) (Some (machine_view own.now))) }
 {
     let changes = refinements(alloc, &own.items)?;
     let mut chart = copy_items(alloc, &base.items)?;
@@ -158,7 +165,9 @@ fn derived_machine(
     base: &Option<StateMachine>,
     own: &Option<StateMachine>,
 ) -> Result<Option<StateMachine>, AllocError>
-    ensures { IfOk result (λ m. option_map machine_view m ≡ derived_machine (option_map machine_view base.now) (option_map machine_view own.now)) }
+    ensures { IfOk result (λ m.
+        option_map machine_view m
+        ≡ derived_machine (option_map machine_view base.now) (option_map machine_view own.now)) }
 {
     match (base, own) {
         (Some(base), Some(own)) => Ok(Some(both_machines(alloc, base, own)?)),
@@ -181,7 +190,9 @@ fn derived_behavior(
     base: &Option<Behavior>,
     own: &Option<Behavior>,
 ) -> Result<Option<Behavior>, AllocError>
-    ensures { IfOk result (λ b. option_map behavior_view b ≡ derived_behavior (option_map behavior_view base.now) (option_map behavior_view own.now)) }
+    ensures { IfOk result (λ b.
+        option_map behavior_view b
+        ≡ derived_behavior (option_map behavior_view base.now) (option_map behavior_view own.now)) }
 {
     match (base, own) {
         (Some(base), Some(own)) => {
@@ -253,7 +264,8 @@ fn own_chart(alloc: Global, own: &ActorClass) -> Result<Vec<GraphItem>, AllocErr
 /// Adds copies of the items of a class's graph that are no refinements.
 #[tactic(auto, using(crate::proofs::Graphs::followed_none))]
 fn add_own(alloc: Global, chart: &mut Vec<GraphItem>, own: &ActorClass) -> Result<(), AllocError>
-    ensures { OnOk result (graph_view chart.new.items ≡ followed_by (graph_view chart.old.items) (other_items (graph_of (actor_view own.now)))) }
+    ensures { OnOk result (graph_view chart.new.items
+        ≡ followed_by (graph_view chart.old.items) (other_items (graph_of (actor_view own.now)))) }
 {
     match machine_of(own) {
         Some(machine) => add_others(alloc, chart, &machine.items),
@@ -267,7 +279,9 @@ pub fn chart_over(
     own: &ActorClass,
     base: Option<Vec<GraphItem>>,
 ) -> Result<Vec<GraphItem>, AllocError>
-    ensures { IfOk result (λ v. graph_view v.items ≡ chart_over (actor_view own.now) (option_map (λ b. graph_view b.items) base)) }
+    ensures { IfOk result (λ v.
+        graph_view v.items
+        ≡ chart_over (actor_view own.now) (option_map (λ b. graph_view b.items) base)) }
 {
     let Some(mut chart) = base else {
         return own_chart(alloc, own);

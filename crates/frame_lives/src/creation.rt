@@ -38,9 +38,20 @@ impl SlotLives {
     ) -> Result<(), AllocError>
         requires slot { slot.0 < length wiring.now.slots }
         requires there { slot.0 < (shown self.old).slots }
-        ensures known { OnOk result (shown self.new ≡ with_lives (shown self.old) (if is_vacant wiring.now me.0 (shown self.old).lives slot.0 then raised slot.0 (shown self.old).lives else (shown self.old).lives)) }
-        ensures made { OnOk result (made.new ≡ (if is_vacant wiring.now me.0 (shown self.old).lives slot.0 then made.old ++ incarnation slot.0 ((shown self.old).lives.generation slot.0 + 1) ∷ [] else made.old)) }
-        ensures sent { OnOk result (out.new ≡ (if is_vacant wiring.now me.0 (shown self.old).lives slot.0 then out.old ++ announces wiring.now me.0 (incarnation slot.0 ((shown self.old).lives.generation slot.0 + 1)) (pos 1) else out.old)) }
+        ensures known { OnOk result (shown self.new ≡ with_lives (shown self.old) (if is_vacant
+            wiring.now me.0 (shown self.old).lives slot.0
+            then raised slot.0 (shown self.old).lives
+            else (shown self.old).lives)) }
+        ensures made { OnOk result (made.new
+            ≡ (if is_vacant wiring.now me.0 (shown self.old).lives slot.0
+            then made.old ++ incarnation slot.0 ((shown self.old).lives.generation slot.0 + 1) ∷ []
+            else made.old)) }
+        ensures sent { OnOk result (out.new
+            ≡ (if is_vacant wiring.now me.0 (shown self.old).lives slot.0
+            then out.old
+            ++ announces wiring.now me.0
+            (incarnation slot.0 ((shown self.old).lives.generation slot.0 + 1)) (pos 1)
+            else out.old)) }
     {
         if !(is_own(wiring, me, slot) && !self.lives(slot)) {
             return Ok(());
@@ -68,9 +79,13 @@ impl SlotLives {
         requires runs { AreRunEnds wiring.now runs.now }
         requires there { slot.0 < length wiring.now.slots }
         requires whole { (shown self.old).slots ≡ length wiring.now.slots }
-        ensures known { OnOk result (shown self.new ≡ with_lives (shown self.old) (lives_made wiring.now me.0 slot.0 (shown self.old).lives)) }
-        ensures made { IfOk result (λ made. made ≡ map (last_of (lives_made wiring.now me.0 slot.0 (shown self.old).lives)) (made_slots wiring.now me.0 (shown self.old).lives slot.0)) }
-        ensures sent { IfOk result (λ made. out.new ≡ out.old ++ flat_map (λ i. announces wiring.now me.0 i (pos 1)) made) }
+        ensures known { OnOk result (shown self.new ≡ with_lives (shown self.old) (lives_made
+            wiring.now me.0 slot.0 (shown self.old).lives)) }
+        ensures made { IfOk result (λ made.
+            made ≡ map (last_of (lives_made wiring.now me.0 slot.0 (shown self.old).lives))
+            (made_slots wiring.now me.0 (shown self.old).lives slot.0)) }
+        ensures sent { IfOk result (λ made.
+            out.new ≡ out.old ++ flat_map (λ i. announces wiring.now me.0 i (pos 1)) made) }
     {
         let end = runs.end(wiring, slot);
         let mut made = Sequence::new(alloc);
@@ -98,9 +113,12 @@ impl SlotLives {
         requires runs { AreRunEnds wiring.now runs.now }
         requires there { slot.0 < length wiring.now.slots }
         requires whole { (shown self.old).slots ≡ length wiring.now.slots }
-        ensures known { OnOk result (shown self.new ≡ with_lives (shown self.old) ((part_make wiring.now me.0 (shown self.old).lives slot.0).lives)) }
-        ensures sent { OnOk result (out.new ≡ out.old ++ (part_make wiring.now me.0 (shown self.old).lives slot.0).sent) }
-        ensures done { IfOk result (λ d. d ≡ done_of (part_make wiring.now me.0 (shown self.old).lives slot.0)) }
+        ensures known { OnOk result (shown self.new ≡ with_lives (shown self.old) ((part_make
+            wiring.now me.0 (shown self.old).lives slot.0).lives)) }
+        ensures sent { OnOk result (out.new
+            ≡ out.old ++ (part_make wiring.now me.0 (shown self.old).lives slot.0).sent) }
+        ensures done { IfOk result (λ d.
+            d ≡ done_of (part_make wiring.now me.0 (shown self.old).lives slot.0)) }
     {
         let made = self.make(alloc, wiring, runs, me, slot, out)?;
         Ok(DutyDone {
@@ -130,9 +148,12 @@ impl SlotLives {
         requires runs { AreRunEnds wiring.now runs.now }
         requires there { slot.0 < length wiring.now.slots }
         requires whole { (shown self.old).slots ≡ length wiring.now.slots }
-        ensures known { OnOk result (shown self.new ≡ with_lives (shown self.old) ((create wiring.now me.0 (shown self.old).lives m.now slot.0 from).lives)) }
-        ensures sent { OnOk result (out.new ≡ out.old ++ (create wiring.now me.0 (shown self.old).lives m.now slot.0 from).sent) }
-        ensures done { IfOk result (λ d. d ≡ done_of (create wiring.now me.0 (shown self.old).lives m.now slot.0 from)) }
+        ensures known { OnOk result (shown self.new ≡ with_lives (shown self.old) ((create
+            wiring.now me.0 (shown self.old).lives m.now slot.0 from).lives)) }
+        ensures sent { OnOk result (out.new
+            ≡ out.old ++ (create wiring.now me.0 (shown self.old).lives m.now slot.0 from).sent) }
+        ensures done { IfOk result (λ d.
+            d ≡ done_of (create wiring.now me.0 (shown self.old).lives m.now slot.0 from)) }
     {
         if !self.counts_as_live(wiring, me, whose(from)) {
             return refused(alloc, me, m, slot, from, Code::NotHere);
@@ -167,7 +188,9 @@ fn refused(
     from: Endpoint,
     code: Code,
 ) -> Result<DutyDone, AllocError>
-    ensures { IfOk result (λ d. d ≡ only_answers (reply me.0 m.now SysKind.CreateRefused (frame_at slot.0 0) from (coded (code_of code)))) }
+    ensures { IfOk result (λ d.
+        d ≡ only_answers (reply me.0 m.now SysKind.CreateRefused (frame_at slot.0 0) from
+        (coded (code_of code)))) }
 {
     let payload = Payload::from_slice(alloc, &[i64::from(code.number())])?;
     let here = frame_at(slot, Generation(0));

@@ -31,7 +31,8 @@ impl SlotLives {
 
     /// Whether the end of slot `top` reaches a slot, where it reaches the slot's container.
     fn is_reached(&self, wiring: &Wiring, me: ControllerId, top: SlotId, slot: SlotId) -> bool
-        ensures { result ≡ ((slot.0 == top.0) || ends_with wiring.now me.0 (shown self.now).lives slot.0) }
+        ensures { result
+            ≡ ((slot.0 == top.0) || ends_with wiring.now me.0 (shown self.now).lives slot.0) }
     {
         slot == top || self.ends_with_container(wiring, me, slot)
     }
@@ -44,7 +45,10 @@ impl SlotLives {
         slot: SlotId,
         ending: &mut Sequence<Incarnation>,
     ) -> Result<(), AllocError>
-        ensures { OnOk result (ending.new ≡ (if is_own wiring.now me.0 slot.0 && (shown self.now).lives.lives slot.0 then ending.old ++ last_of (shown self.now).lives slot.0 ∷ [] else ending.old)) }
+        ensures { OnOk result (ending.new
+            ≡ (if is_own wiring.now me.0 slot.0 && (shown self.now).lives.lives slot.0
+            then ending.old ++ last_of (shown self.now).lives slot.0 ∷ []
+            else ending.old)) }
     {
         if is_own(wiring, me, slot) && self.lives(slot) {
             ending.push(self.last_of(slot))?;
@@ -66,7 +70,9 @@ impl SlotLives {
         requires order { IsDepthFirst wiring.now }
         requires runs { AreRunEnds wiring.now runs.now }
         requires there { slot.0 < length wiring.now.slots }
-        ensures { IfOk result (λ xs. xs ≡ map (last_of (shown self.now).lives) (ended_slots wiring.now me.0 (shown self.now).lives slot.0)) }
+        ensures { IfOk result (λ xs.
+            xs ≡ map (last_of (shown self.now).lives) (ended_slots wiring.now me.0
+            (shown self.now).lives slot.0)) }
     {
         let end = runs.end(wiring, slot);
         let mut ending = Sequence::new(alloc);
@@ -88,7 +94,8 @@ impl SlotLives {
     /// These actors have ended. The time is in proportion to their number.
     pub fn end_all(&mut self, ended: &[Incarnation])
         requires { All (λ x. x.slot.0 < (shown self.old).slots) ended.now }
-        ensures { shown self.new ≡ with_lives (shown self.old) (lives_without ended.now (shown self.old).lives) }
+        ensures { shown self.new
+            ≡ with_lives (shown self.old) (lives_without ended.now (shown self.old).lives) }
     {
         for actor in ended {
             self.end(actor.slot);

@@ -148,8 +148,10 @@ impl SlotLives {
     /// up, after 4,294,967,295 actors in the slot, want of memory is answered.
     pub fn raise(&mut self, slot: SlotId) -> Result<Incarnation, AllocError>
         requires { slot.0 < (shown self.old).slots }
-        ensures actor { IfOk result (λ x. x ≡ incarnation slot.0 ((shown self.old).lives.generation slot.0 + 1)) }
-        ensures now { OnOk result (shown self.new ≡ with_lives (shown self.old) (raised slot.0 (shown self.old).lives)) }
+        ensures actor { IfOk result (λ x.
+            x ≡ incarnation slot.0 ((shown self.old).lives.generation slot.0 + 1)) }
+        ensures now { OnOk result (shown self.new
+            ≡ with_lives (shown self.old) (raised slot.0 (shown self.old).lives)) }
     {
         let row = self.rows.reach(usize::from(slot.0))?;
         let Some(generation) = row.generation.checked_add(1) else {
@@ -166,7 +168,8 @@ impl SlotLives {
     /// The actor of a slot has ended. It takes no memory: where an actor lives, its row stands in a page.
     pub fn end(&mut self, slot: SlotId)
         requires { slot.0 < (shown self.old).slots }
-        ensures { shown self.new ≡ with_lives (shown self.old) (ended slot.0 (shown self.old).lives) }
+        ensures { shown self.new
+            ≡ with_lives (shown self.old) (ended slot.0 (shown self.old).lives) }
     {
         if let Some(row) = self.rows.get_mut(usize::from(slot.0)) {
             row.lives = false;
@@ -176,7 +179,8 @@ impl SlotLives {
     /// This generation is known in a slot.
     fn tell(&mut self, slot: SlotId, generation: u32) -> Result<(), AllocError>
         requires { slot.0 < (shown self.old).slots }
-        ensures { OnOk result (shown self.new ≡ with_told (shown self.old) (updated (shown self.old).told slot.0 generation)) }
+        ensures { OnOk result (shown self.new
+            ≡ with_told (shown self.old) (updated (shown self.old).told slot.0 generation)) }
     {
         let row = self.rows.reach(usize::from(slot.0))?;
         row.told = generation;
@@ -186,7 +190,8 @@ impl SlotLives {
     /// Nobody is known in a slot any more. It takes no memory.
     fn tell_none(&mut self, slot: SlotId)
         requires { slot.0 < (shown self.old).slots }
-        ensures { shown self.new ≡ with_told (shown self.old) (updated (shown self.old).told slot.0 0) }
+        ensures { shown self.new
+            ≡ with_told (shown self.old) (updated (shown self.old).told slot.0 0) }
     {
         if let Some(row) = self.rows.get_mut(usize::from(slot.0)) {
             row.told = 0;
@@ -197,7 +202,8 @@ impl SlotLives {
     #[tactic(auto, unfolding(actor_duties::specs::Lives::announce))]
     pub fn hear(&mut self, actor: Incarnation, up: u64) -> Result<(), AllocError>
         requires { actor.slot.0 < (shown self.old).slots }
-        ensures { OnOk result (shown self.new ≡ with_told (shown self.old) (announce (shown self.old).told actor up)) }
+        ensures { OnOk result (shown self.new
+            ≡ with_told (shown self.old) (announce (shown self.old).told actor up)) }
     {
         if up == 1 {
             self.tell(actor.slot, actor.generation.0)?;

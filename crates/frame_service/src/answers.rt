@@ -25,8 +25,13 @@ impl FrameState {
         out: &mut Outbox,
     ) -> Result<DutyDone, AllocError>
         requires fits { IsFrameOf wiring.now self.old }
-        requires form { has_form wiring.now self.old.me.0 SysKind.CreateDone m.now.payload new container ≡ true }
-        ensures { IfOk result (λ d. IsDone wiring.now self.old self.new (frame_duty_of wiring.now self.old.me.0 (frame_in self.old) m.now SysKind.CreateDone new container) out.old out.new d) }
+        requires form { has_form wiring.now self.old.me.0 SysKind.CreateDone m.now.payload new
+            container ≡ true }
+        ensures { IfOk result (λ d.
+            IsDone wiring.now self.old self.new
+            (frame_duty_of wiring.now self.old.me.0 (frame_in self.old) m.now SysKind.CreateDone new
+            container)
+            out.old out.new d) }
     {
         create_done(self.alloc, wiring, self.me, new, container, out)?;
         Ok(nothing(self.alloc))
@@ -42,8 +47,13 @@ impl FrameState {
         out: &mut Outbox,
     ) -> Result<DutyDone, AllocError>
         requires fits { IsFrameOf wiring.now self.old }
-        requires form { has_form wiring.now self.old.me.0 SysKind.CreateRefused m.now.payload slot container ≡ true }
-        ensures { IfOk result (λ d. IsDone wiring.now self.old self.new (frame_duty_of wiring.now self.old.me.0 (frame_in self.old) m.now SysKind.CreateRefused slot container) out.old out.new d) }
+        requires form { has_form wiring.now self.old.me.0 SysKind.CreateRefused m.now.payload slot
+            container ≡ true }
+        ensures { IfOk result (λ d.
+            IsDone wiring.now self.old self.new
+            (frame_duty_of wiring.now self.old.me.0 (frame_in self.old) m.now SysKind.CreateRefused
+            slot container)
+            out.old out.new d) }
     {
         let code = first_number(m);
         create_refused(self.alloc, wiring, self.me, slot, container, code, out)?;
@@ -60,8 +70,13 @@ impl FrameState {
         out: &mut Outbox,
     ) -> Result<DutyDone, AllocError>
         requires fits { IsFrameOf wiring.now self.old }
-        requires form { has_form wiring.now self.old.me.0 SysKind.DestroyDone m.now.payload gone container ≡ true }
-        ensures { IfOk result (λ d. IsDone wiring.now self.old self.new (frame_duty_of wiring.now self.old.me.0 (frame_in self.old) m.now SysKind.DestroyDone gone container) out.old out.new d) }
+        requires form { has_form wiring.now self.old.me.0 SysKind.DestroyDone m.now.payload gone
+            container ≡ true }
+        ensures { IfOk result (λ d.
+            IsDone wiring.now self.old self.new
+            (frame_duty_of wiring.now self.old.me.0 (frame_in self.old) m.now SysKind.DestroyDone
+            gone container)
+            out.old out.new d) }
     {
         // 0: an actor has ended, 3: nothing was there.
         let Some(code) = one_of(first_number(m), 0, 3) else {

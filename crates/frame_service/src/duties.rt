@@ -40,7 +40,10 @@ impl FrameState {
         requires fits { IsFrameOf wiring.now self.old }
         requires ports { ArePortsNumbered wiring.now }
         requires form { has_form wiring.now self.old.me.0 kind m.now.payload source target ≡ true }
-        ensures { IfOk result (λ d. IsDone wiring.now self.old self.new (frame_duty_of wiring.now self.old.me.0 (frame_in self.old) m.now kind source target) out.old out.new d) }
+        ensures { IfOk result (λ d.
+            IsDone wiring.now self.old self.new
+            (frame_duty_of wiring.now self.old.me.0 (frame_in self.old) m.now kind source target)
+            out.old out.new d) }
     {
         match kind {
             SysKind::Create => self.hear_create(wiring, m, source, target, out),
@@ -75,7 +78,11 @@ impl FrameState {
     ) -> Result<DutyDone, AllocError>
         requires fits { IsFrameOf wiring.now self.old }
         requires ports { ArePortsNumbered wiring.now }
-        ensures { IfOk result (λ d. IsDone wiring.now self.old self.new (frame_duty_of wiring.now self.old.me.0 (frame_in self.old) m.now kind source m.now.target) out.old out.new d) }
+        ensures { IfOk result (λ d.
+            IsDone wiring.now self.old self.new
+            (frame_duty_of wiring.now self.old.me.0 (frame_in self.old) m.now kind source
+            m.now.target)
+            out.old out.new d) }
     {
         let target = m.target;
         let numbers = m.payload.numbers();
@@ -95,7 +102,10 @@ impl FrameState {
     ) -> Result<DutyDone, AllocError>
         requires fits { IsFrameOf wiring.now self.old }
         requires ports { ArePortsNumbered wiring.now }
-        ensures { IfOk result (λ d. IsDone wiring.now self.old self.new (frame_duty wiring.now self.old.me.0 (frame_in self.old) kind m.now) out.old out.new d) }
+        ensures { IfOk result (λ d.
+            IsDone wiring.now self.old self.new
+            (frame_duty wiring.now self.old.me.0 (frame_in self.old) kind m.now)
+            out.old out.new d) }
     {
         match m.source {
             Some(source) => self.duty_of(wiring, kind, m, source, out),
@@ -118,9 +128,14 @@ impl FrameState {
         requires ports { ArePortsNumbered wiring.now }
         ensures fits { OnOk result (IsFrameOf wiring.now self.new) }
         ensures me { OnOk result (self.new.me ≡ self.old.me) }
-        ensures done { IfOk result (λ d. (kind : SysKind) → number_of kind ≡ m.now.signal
-            → IsDone wiring.now self.old self.new (frame_duty wiring.now self.old.me.0 (frame_in self.old) kind m.now) out.old out.new d) }
-        ensures unknown { IfOk result (λ d. 19 ≤ m.now.signal → IsDone wiring.now self.old self.new (nothing (frame_in self.old)) out.old out.new d) }
+        ensures done { IfOk result (λ d.
+            (kind : SysKind) → number_of kind ≡ m.now.signal
+            → IsDone wiring.now self.old self.new
+            (frame_duty wiring.now self.old.me.0 (frame_in self.old) kind m.now)
+            out.old out.new d) }
+        ensures unknown { IfOk result (λ d.
+            19 ≤ m.now.signal
+            → IsDone wiring.now self.old self.new (nothing (frame_in self.old)) out.old out.new d) }
     {
         match SysKind::from_number(m.signal) {
             Some(kind) => self.duty_from(wiring, kind, m, out),

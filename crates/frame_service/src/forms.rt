@@ -99,7 +99,8 @@ pub fn first_number(m: &Msg) -> i64
 
 /// A number, if it is one of these two.
 pub fn one_of(number: i64, first: u32, second: u32) -> Option<u32>
-    ensures { MatchOption result ((number ≢ pos first) × (number ≢ pos second)) (λ n. number ≡ pos n) }
+    ensures { MatchOption result ((number ≢ pos first) × (number ≢ pos second))
+        (λ n. number ≡ pos n) }
 {
     if number == i64::from(first) {
         Some(first)

@@ -28,8 +28,13 @@ impl FrameState {
     ) -> Result<DutyDone, AllocError>
         requires fits { IsFrameOf wiring.now self.old }
         requires ports { ArePortsNumbered wiring.now }
-        requires form { has_form wiring.now self.old.me.0 SysKind.Import m.now.payload place home ≡ true }
-        ensures { IfOk result (λ d. IsDone wiring.now self.old self.new (frame_duty_of wiring.now self.old.me.0 (frame_in self.old) m.now SysKind.Import place home) out.old out.new d) }
+        requires form { has_form wiring.now self.old.me.0 SysKind.Import m.now.payload place home
+            ≡ true }
+        ensures { IfOk result (λ d.
+            IsDone wiring.now self.old self.new
+            (frame_duty_of wiring.now self.old.me.0 (frame_in self.old) m.now SysKind.Import place
+            home)
+            out.old out.new d) }
     {
         import(
             &mut self.imports,
@@ -55,8 +60,13 @@ impl FrameState {
         out: &mut Outbox,
     ) -> Result<DutyDone, AllocError>
         requires fits { IsFrameOf wiring.now self.old }
-        requires form { has_form wiring.now self.old.me.0 SysKind.ImportDone m.now.payload home place ≡ true }
-        ensures { IfOk result (λ d. IsDone wiring.now self.old self.new (frame_duty_of wiring.now self.old.me.0 (frame_in self.old) m.now SysKind.ImportDone home place) out.old out.new d) }
+        requires form { has_form wiring.now self.old.me.0 SysKind.ImportDone m.now.payload home
+            place ≡ true }
+        ensures { IfOk result (λ d.
+            IsDone wiring.now self.old self.new
+            (frame_duty_of wiring.now self.old.me.0 (frame_in self.old) m.now SysKind.ImportDone
+            home place)
+            out.old out.new d) }
     {
         let what = What::Lent;
         let answer = Answer { home, place, what };
@@ -82,8 +92,13 @@ impl FrameState {
         out: &mut Outbox,
     ) -> Result<DutyDone, AllocError>
         requires fits { IsFrameOf wiring.now self.old }
-        requires form { has_form wiring.now self.old.me.0 SysKind.ImportRefused m.now.payload home place ≡ true }
-        ensures { IfOk result (λ d. IsDone wiring.now self.old self.new (frame_duty_of wiring.now self.old.me.0 (frame_in self.old) m.now SysKind.ImportRefused home place) out.old out.new d) }
+        requires form { has_form wiring.now self.old.me.0 SysKind.ImportRefused m.now.payload home
+            place ≡ true }
+        ensures { IfOk result (λ d.
+            IsDone wiring.now self.old self.new
+            (frame_duty_of wiring.now self.old.me.0 (frame_in self.old) m.now SysKind.ImportRefused
+            home place)
+            out.old out.new d) }
     {
         let code = first_number(m);
         let what = What::Refused(code);
@@ -110,8 +125,13 @@ impl FrameState {
         out: &mut Outbox,
     ) -> Result<DutyDone, AllocError>
         requires fits { IsFrameOf wiring.now self.old }
-        requires form { has_form wiring.now self.old.me.0 SysKind.ImportEnded m.now.payload home place ≡ true }
-        ensures { IfOk result (λ d. IsDone wiring.now self.old self.new (frame_duty_of wiring.now self.old.me.0 (frame_in self.old) m.now SysKind.ImportEnded home place) out.old out.new d) }
+        requires form { has_form wiring.now self.old.me.0 SysKind.ImportEnded m.now.payload home
+            place ≡ true }
+        ensures { IfOk result (λ d.
+            IsDone wiring.now self.old self.new
+            (frame_duty_of wiring.now self.old.me.0 (frame_in self.old) m.now SysKind.ImportEnded
+            home place)
+            out.old out.new d) }
     {
         let what = What::Ended;
         let answer = Answer { home, place, what };
@@ -137,8 +157,13 @@ impl FrameState {
         out: &mut Outbox,
     ) -> Result<DutyDone, AllocError>
         requires fits { IsFrameOf wiring.now self.old }
-        requires form { has_form wiring.now self.old.me.0 SysKind.Deport m.now.payload place home ≡ true }
-        ensures { IfOk result (λ d. IsDone wiring.now self.old self.new (frame_duty_of wiring.now self.old.me.0 (frame_in self.old) m.now SysKind.Deport place home) out.old out.new d) }
+        requires form { has_form wiring.now self.old.me.0 SysKind.Deport m.now.payload place home
+            ≡ true }
+        ensures { IfOk result (λ d.
+            IsDone wiring.now self.old self.new
+            (frame_duty_of wiring.now self.old.me.0 (frame_in self.old) m.now SysKind.Deport place
+            home)
+            out.old out.new d) }
     {
         deport(
             &mut self.imports,
@@ -163,8 +188,13 @@ impl FrameState {
         out: &mut Outbox,
     ) -> Result<DutyDone, AllocError>
         requires fits { IsFrameOf wiring.now self.old }
-        requires form { has_form wiring.now self.old.me.0 SysKind.DeportDone m.now.payload home place ≡ true }
-        ensures { IfOk result (λ d. IsDone wiring.now self.old self.new (frame_duty_of wiring.now self.old.me.0 (frame_in self.old) m.now SysKind.DeportDone home place) out.old out.new d) }
+        requires form { has_form wiring.now self.old.me.0 SysKind.DeportDone m.now.payload home
+            place ≡ true }
+        ensures { IfOk result (λ d.
+            IsDone wiring.now self.old self.new
+            (frame_duty_of wiring.now self.old.me.0 (frame_in self.old) m.now SysKind.DeportDone
+            home place)
+            out.old out.new d) }
     {
         let what = What::Back;
         let answer = Answer { home, place, what };

@@ -26,8 +26,13 @@ impl FrameState {
         out: &mut Outbox,
     ) -> Result<DutyDone, AllocError>
         requires fits { IsFrameOf wiring.now self.old }
-        requires form { has_form wiring.now self.old.me.0 SysKind.Create m.now.payload from slot ≡ true }
-        ensures { IfOk result (λ d. IsDone wiring.now self.old self.new (frame_duty_of wiring.now self.old.me.0 (frame_in self.old) m.now SysKind.Create from slot) out.old out.new d) }
+        requires form { has_form wiring.now self.old.me.0 SysKind.Create m.now.payload from slot
+            ≡ true }
+        ensures { IfOk result (λ d.
+            IsDone wiring.now self.old self.new
+            (frame_duty_of wiring.now self.old.me.0 (frame_in self.old) m.now SysKind.Create from
+            slot)
+            out.old out.new d) }
     {
         let done = self.lives.create(
             self.alloc, wiring, &self.runs, self.me, m, slot.slot, from, out,
@@ -45,8 +50,13 @@ impl FrameState {
         out: &mut Outbox,
     ) -> Result<DutyDone, AllocError>
         requires fits { IsFrameOf wiring.now self.old }
-        requires form { has_form wiring.now self.old.me.0 SysKind.PartMake m.now.payload actor again ≡ true }
-        ensures { IfOk result (λ d. IsDone wiring.now self.old self.new (frame_duty_of wiring.now self.old.me.0 (frame_in self.old) m.now SysKind.PartMake actor again) out.old out.new d) }
+        requires form { has_form wiring.now self.old.me.0 SysKind.PartMake m.now.payload actor again
+            ≡ true }
+        ensures { IfOk result (λ d.
+            IsDone wiring.now self.old self.new
+            (frame_duty_of wiring.now self.old.me.0 (frame_in self.old) m.now SysKind.PartMake actor
+            again)
+            out.old out.new d) }
     {
         let done = self
             .lives
@@ -64,8 +74,13 @@ impl FrameState {
         out: &mut Outbox,
     ) -> Result<DutyDone, AllocError>
         requires fits { IsFrameOf wiring.now self.old }
-        requires form { has_form wiring.now self.old.me.0 SysKind.Announce m.now.payload actor again ≡ true }
-        ensures { IfOk result (λ d. IsDone wiring.now self.old self.new (frame_duty_of wiring.now self.old.me.0 (frame_in self.old) m.now SysKind.Announce actor again) out.old out.new d) }
+        requires form { has_form wiring.now self.old.me.0 SysKind.Announce m.now.payload actor again
+            ≡ true }
+        ensures { IfOk result (λ d.
+            IsDone wiring.now self.old self.new
+            (frame_duty_of wiring.now self.old.me.0 (frame_in self.old) m.now SysKind.Announce actor
+            again)
+            out.old out.new d) }
     {
         // A look at the wiring: its tables have a row for each slot.
         let _slots = wiring.slot_count();

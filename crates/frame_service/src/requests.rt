@@ -21,7 +21,10 @@ impl FrameState {
     ) -> Result<(), AllocError>
         requires fits { IsFrameOf wiring.now self.old }
         requires there { asked.actor.slot.0 < length wiring.now.slots }
-        ensures { OnOk result (IsRequested wiring.now self.old self.new (frame_request wiring.now self.old.me.0 (frame_in self.old) asked.actor (commands.Incarnate asked.reference asked.index)) out.old out.new) }
+        ensures { OnOk result (IsRequested wiring.now self.old self.new
+            (frame_request wiring.now self.old.me.0 (frame_in self.old) asked.actor
+            (commands.Incarnate asked.reference asked.index))
+            out.old out.new) }
     {
         let (actor, reference, index) = (asked.actor, asked.reference, asked.index);
         incarnate(
@@ -33,7 +36,10 @@ impl FrameState {
     fn destroy(&mut self, wiring: &Wiring, asked: Asked, out: &mut Outbox) -> Result<(), AllocError>
         requires fits { IsFrameOf wiring.now self.old }
         requires there { asked.actor.slot.0 < length wiring.now.slots }
-        ensures { OnOk result (IsRequested wiring.now self.old self.new (frame_request wiring.now self.old.me.0 (frame_in self.old) asked.actor (commands.Destroy asked.reference asked.index)) out.old out.new) }
+        ensures { OnOk result (IsRequested wiring.now self.old self.new
+            (frame_request wiring.now self.old.me.0 (frame_in self.old) asked.actor
+            (commands.Destroy asked.reference asked.index))
+            out.old out.new) }
     {
         let (actor, reference, index) = (asked.actor, asked.reference, asked.index);
         destroy(
@@ -51,7 +57,10 @@ impl FrameState {
     ) -> Result<(), AllocError>
         requires fits { IsFrameOf wiring.now self.old }
         requires there { asked.actor.slot.0 < length wiring.now.slots }
-        ensures { OnOk result (IsRequested wiring.now self.old self.new (frame_request wiring.now self.old.me.0 (frame_in self.old) asked.actor (commands.Import asked.reference asked.index id)) out.old out.new) }
+        ensures { OnOk result (IsRequested wiring.now self.old self.new
+            (frame_request wiring.now self.old.me.0 (frame_in self.old) asked.actor
+            (commands.Import asked.reference asked.index id))
+            out.old out.new) }
     {
         request_import(
             &mut self.imports,
@@ -69,7 +78,10 @@ impl FrameState {
     fn deport(&mut self, wiring: &Wiring, asked: Asked, out: &mut Outbox) -> Result<(), AllocError>
         requires fits { IsFrameOf wiring.now self.old }
         requires there { asked.actor.slot.0 < length wiring.now.slots }
-        ensures { OnOk result (IsRequested wiring.now self.old self.new (frame_request wiring.now self.old.me.0 (frame_in self.old) asked.actor (commands.Deport asked.reference asked.index)) out.old out.new) }
+        ensures { OnOk result (IsRequested wiring.now self.old self.new
+            (frame_request wiring.now self.old.me.0 (frame_in self.old) asked.actor
+            (commands.Deport asked.reference asked.index))
+            out.old out.new) }
     {
         request_deport(
             &mut self.imports,
@@ -93,7 +105,9 @@ impl FrameState {
     ) -> Result<(), AllocError>
         requires fits { IsFrameOf wiring.now self.old }
         requires there { actor.slot.0 < length wiring.now.slots }
-        ensures { OnOk result (IsRequested wiring.now self.old self.new (frame_request wiring.now self.old.me.0 (frame_in self.old) actor command.now) out.old out.new) }
+        ensures { OnOk result (IsRequested wiring.now self.old self.new
+            (frame_request wiring.now self.old.me.0 (frame_in self.old) actor command.now)
+            out.old out.new) }
     {
         match *command {
             FrameCommand::Incarnate { reference, index } => {

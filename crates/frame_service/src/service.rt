@@ -47,7 +47,8 @@ impl FrameState {
     /// more than 32 bits has one. It takes no memory.
     #[tactic(auto, unfolding(crate::specs::State::frame_in))]
     pub fn peer(&self, wiring: &Wiring, who: Incarnation, port: u16, place: u64) -> Option<Endpoint>
-        ensures peer { result ≡ frame_peer wiring.now self.now.me.0 (frame_in self.now) (endpoint who.slot.0 who.generation.0 port place) }
+        ensures peer { result ≡ frame_peer wiring.now self.now.me.0 (frame_in self.now)
+            (endpoint who.slot.0 who.generation.0 port place) }
         ensures near { IfSome result (λ e. place < 2 ^ 32) }
     {
         crate::frame_imports::peer(
@@ -73,7 +74,8 @@ impl FrameState {
     /// what its owner told last. It takes no memory.
     #[tactic(auto, unfolding(crate::specs::State::frame_in, actor_duties::specs::Peers::known, frame_lives::specs::Known::known_in))]
     pub fn known(&self, wiring: &Wiring, slot: SlotId) -> Option<Generation>
-        ensures { result ≡ some_generation (known wiring.now self.now.me.0 (frame_in self.now) slot.0) }
+        ensures { result
+            ≡ some_generation (known wiring.now self.now.me.0 (frame_in self.now) slot.0) }
     {
         self.lives.known(wiring, self.me, slot)
     }

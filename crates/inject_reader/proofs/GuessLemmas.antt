@@ -9,6 +9,7 @@ use lib.Pointwise.{bytes_decides}
 use Rattle.name_tables.specs.name_numbers.Names.{same, is_among}
 use Rattle.room_wiring.specs.wiring_names.Lookup.{added, numbering, numbered, narrowed, place_of}
 use Rattle.inject_reader.specs.Guesses.{IsNoLater}
+use Rattle.room_wiring.proofs.wiring_names.Hashes.{named_place}
 
 -- ---- names that stand twice are numbered once, no later than at their first place
 
@@ -80,19 +81,6 @@ number_le w ns =
     omega arith
 
 -- ---- the same of items with names
-
-same_turn : (a b : List ℕ) → same a b ≡ same b a
-same_turn a b = by_tests (same a b) (same b a) refl refl
-  where
-    by_tests : (t u : Bool) → same a b ≡ t → same b a ≡ u → t ≡ u
-    by_tests true true e f = refl
-    by_tests false false e f = refl
-    by_tests true false e f = let own : same b a ≡ true = subst (λ (x : List ℕ). same x a ≡ true) (same_is a b e) (same_own a) in absurd cc
-    by_tests false true e f = let own : same a b ≡ true = subst (λ (x : List ℕ). same x b ≡ true) (same_is b a f) (same_own b) in absurd cc
-
-pub named_place : {A : Type 0} (name : A → List ℕ) (w : List ℕ) (xs : List A) → position_or_len (same w) (map name xs) ≡ position_or_len (λ (x : A). same (name x) w) xs
-named_place name w [] = refl
-named_place name w (x ∷ xs) = ap (λ (t : Bool). cond (not t) (1 + position_or_len (same w) (map name xs)) 0) (same_turn w (name x)) ∙ ap (λ (n : ℕ). cond (not (same (name x) w)) (1 + n) 0) (named_place name w xs)
 
 -- the number of a name among those of some items is no later than the first item with this name
 pub named_le : {A : Type 0} (name : A → List ℕ) (w : List ℕ) (xs : List A) → place_of (numbered (map name xs)) w ≤ position_or_len (λ (x : A). same (name x) w) xs

@@ -134,7 +134,8 @@ impl<'a> Directory<'a> {
     ) -> Option<EndPlace<'a>>
         requires { class_of self.now s.0 ≡ Some class.now }
         ensures end { option_map (λ e. (e.port, e.names.now)) result
-            ≡ option_and_then (end_place self.now s.0 (value_of digits.now) port) (slice_get class.now.ports port) }
+            ≡ option_and_then (end_place self.now s.0 (value_of digits.now) port) (slice_get
+            class.now.ports port) }
         ensures place { IfSome result (λ e. e.place ≡ value_of digits.now) }
         ensures known { IfSome result (λ e. slice_get class.now.ports e.port ≡ Some e.names.now) }
     {
@@ -159,7 +160,8 @@ impl<'a> Directory<'a> {
         digits: &[u8],
     ) -> Option<EndPlace<'a>>
         requires { class_of self.now s.0 ≡ Some class.now }
-        ensures end { option_map (λ e. (e.port, e.names.now)) result ≡ port_in_class self.now s.0 name.now (value_of digits.now) class.now }
+        ensures end { option_map (λ e. (e.port, e.names.now)) result
+            ≡ port_in_class self.now s.0 name.now (value_of digits.now) class.now }
         ensures place { IfSome result (λ e. e.place ≡ value_of digits.now) }
         ensures known { IfSome result (λ e. slice_get class.now.ports e.port ≡ Some e.names.now) }
     {
@@ -170,9 +172,11 @@ impl<'a> Directory<'a> {
     /// The place of these digits at the end port or internal end port of this name.
     #[tactic(auto, unfolding(crate::specs::Meaning::port_meant))]
     pub fn end(&self, s: SlotId, name: &[u8], digits: &[u8]) -> Option<EndPlace<'a>>
-        ensures end { option_map (λ e. (e.port, e.names.now)) result ≡ port_meant self.now s.0 name.now (value_of digits.now) }
+        ensures end { option_map (λ e. (e.port, e.names.now)) result
+            ≡ port_meant self.now s.0 name.now (value_of digits.now) }
         ensures place { IfSome result (λ e. e.place ≡ value_of digits.now) }
-        ensures known { IfSome result (λ e. option_and_then (port_of e.port) (class_of self.now s.0) ≡ Some e.names.now) }
+        ensures known { IfSome result (λ e.
+            option_and_then (port_of e.port) (class_of self.now s.0) ≡ Some e.names.now) }
     {
         let class = self.wiring.class_of(s)?;
         self.end_in_class(s, class, name, digits)

@@ -17,7 +17,8 @@ fn without_return(line: &[u8]) -> &[u8]
 /// The first line, and what stands behind its end. A carriage return right before a line feed is
 /// dropped; the last line may lack its line feed.
 pub fn first_line(bytes: &[u8]) -> Option<(&[u8], &[u8])>
-    ensures cut { MatchOption result (lines bytes.now ≡ []) (λ p. lines bytes.now ≡ p.0.now ∷ lines p.1.now) }
+    ensures cut { MatchOption result (lines bytes.now ≡ [])
+        (λ p. lines bytes.now ≡ p.0.now ∷ lines p.1.now) }
     ensures shorter { IfSome result (λ p. length p.1.now < length bytes.now) }
 {
     if bytes.is_empty() {

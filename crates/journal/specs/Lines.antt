@@ -13,7 +13,8 @@ use Rattle.journal.specs.declared.entry.Entry.TheVariants as entries
 use Rattle.journal.specs.declared.entry.Did.{Did}
 use Rattle.journal.specs.declared.entry.Did.TheVariants as outcomes
 use Rattle.journal.specs.declared.entry.Left.{Left}
-use Rattle.journal.specs.Names.{party_text, port_text, state_text, signal_text, incarnation_parts, source_parts, endpoint_parts}
+use Rattle.room_wiring.specs.Slots.{port_text}
+use Rattle.journal.specs.Names.{party_text, state_text, signal_text, incarnation_parts, source_parts, endpoint_parts}
 
 -- `<prio> `
 abbrev pub priority_parts : ℕ → List (List ℕ)

@@ -5,24 +5,15 @@ use Rattle.room_kinds.specs.declared.numbers.Endpoint.{Endpoint}
 use Rattle.room_kinds.specs.declared.message.Msg.{Msg}
 use Rattle.room_kinds.specs.Names.{name_of, kind_at}
 use Rattle.room_wiring.specs.declared.tables.Tables.{Tables}
-use Rattle.room_wiring.specs.declared.slot.Slot.{Slot}
 use Rattle.room_wiring.specs.declared.names.ClassNames.{ClassNames}
 use Rattle.room_wiring.specs.declared.names.PortNames.{PortNames}
 use Rattle.room_wiring.specs.declared.names.SignalNames.{SignalNames}
-use Rattle.room_wiring.specs.Slots.{slot_at, class_of, port_at}
+use Rattle.room_wiring.specs.Slots.{class_of, port_at, path_text, port_text}
 use Rattle.room_wiring.specs.WellNamed.{signals_of}
 
 -- a controller's number, or the word for the environment, which has the number after the last
 abbrev pub party_text : Tables → ℕ → List ℕ
 party_text t c = if nat_lt c (length t.controllers) then decimal c else codes "env"
-
--- a slot's path
-unfoldable pub path_text : Tables → ℕ → List ℕ
-path_text t s = unwrap_or (option_map (λ (x : Slot). x.path) (slot_at t s)) []
-
--- a port's name
-unfoldable pub port_text : Tables → ℕ → ℕ → List ℕ
-port_text t s p = unwrap_or (option_map (λ (x : PortNames). x.name) (port_at t s p)) []
 
 -- the label of a state of the slot's class, and `-` where the class has no such state
 unfoldable pub state_text : Tables → ℕ → ℕ → List ℕ

@@ -394,7 +394,8 @@ fn write_unposted_line<K: Sink>(
     sink: &mut K,
     number: u32,
 ) -> Result<(), WriteFault>
-    ensures { Puts result (at_rest (K.written sink.old)) (at_rest (K.written sink.new)) (unposted_line number) }
+    ensures { Puts result (at_rest (K.written sink.old)) (at_rest (K.written sink.new))
+        (unposted_line number) }
 {
     write_line(
         out,
@@ -410,7 +411,8 @@ pub fn write_unposted<K: Sink>(
     sink: &mut K,
     numbers: &[u32],
 ) -> Result<(), WriteFault>
-    ensures { Puts result (at_rest (K.written sink.old)) (at_rest (K.written sink.new)) (unposted_text numbers.now) }
+    ensures { Puts result (at_rest (K.written sink.old)) (at_rest (K.written sink.new))
+        (unposted_text numbers.now) }
 {
     for number in numbers {
         write_unposted_line(out, sink, *number)?;
@@ -420,7 +422,8 @@ pub fn write_unposted<K: Sink>(
 
 /// Writes the last line: `done` or `spent`.
 pub fn write_end<K: Sink>(out: &mut LineBuffer, sink: &mut K, done: bool) -> Result<(), WriteFault>
-    ensures { Puts result (at_rest (K.written sink.old)) (at_rest (K.written sink.new)) (end_line done) }
+    ensures { Puts result (at_rest (K.written sink.old)) (at_rest (K.written sink.new))
+        (end_line done) }
 {
     if done {
         write_line(out, sink, &[Part::Text(b"done")])

@@ -1,7 +1,8 @@
 //! The lines of a journal, each written as one piece where a piece holds it.
 ghost use Rattle.std.specs.Prelude.{◌≡◌, [], ◌∷◌, ◌++◌, codes, decimal};
 ghost use Rattle.std.specs.List.{concat};
-ghost use Rattle.journal.specs.Names.{path_text, port_text, incarnation_parts, endpoint_parts, source_parts};
+ghost use Rattle.room_wiring.specs.Slots.{path_text, port_text};
+ghost use Rattle.journal.specs.Names.{incarnation_parts, endpoint_parts, source_parts};
 ghost use Rattle.room_outside.specs.line_text.Lines.{line};
 ghost use Rattle.journal.specs.Lines.{priority_parts, signal_parts, message_parts, standing_parts};
 ghost use Rattle.room_outside.specs.line_text.Parts.{part_texts};
@@ -23,7 +24,7 @@ fn put_incarnation<K: Sink>(
         (record { written = K.written sink.new; held = out.new })
         (concat (incarnation_parts wiring.now who)) }
 {
-    naming::put_path(out, sink, wiring, who.slot)?;
+    wiring.put_path(out, sink, who.slot)?;
     out.put_two(
         sink,
         Part::Text(b"#"),
@@ -62,7 +63,7 @@ fn put_actor<K: Sink>(
         (concat (path_text wiring.now endpoint.slot.0 ∷ codes "#"
         ∷ decimal endpoint.generation.0 ∷ codes "." ∷ [])) }
 {
-    naming::put_path(out, sink, wiring, endpoint.slot)?;
+    wiring.put_path(out, sink, endpoint.slot)?;
     out.put_three(
         sink,
         Part::Text(b"#"),
@@ -86,7 +87,7 @@ fn put_place<K: Sink>(
 {
     out.put_four(
         sink,
-        Part::Text(naming::port_name(wiring, endpoint.slot, endpoint.port)),
+        Part::Text(wiring.port_name(endpoint.slot, endpoint.port)),
         Part::Text(b"["),
         Part::Number(u64::from(endpoint.place)),
         Part::Text(b"]"),

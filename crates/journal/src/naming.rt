@@ -2,13 +2,12 @@
 //! state as `-`.
 ghost use Rattle.std.specs.Prelude.{◌≡◌, []};
 ghost use Rattle.std.specs.List.{slice_index_or};
-ghost use Rattle.journal.specs.Names.{party_text, path_text, port_text, state_text, kind_text, signal_of_port_text, port_signal_text, signal_text};
+ghost use Rattle.journal.specs.Names.{party_text, state_text, kind_text, signal_of_port_text, port_signal_text, signal_text};
 ghost use Rattle.journal.specs.Lines.{speaking_port_text};
 ghost use Rattle.room_outside.specs.line_text.Parts.{part_text};
-ghost use Rattle.room_outside.specs.line_text.Output.{Puts};
 
 use room_kinds::{ControllerId, Msg, SlotId, SysKind};
-use room_outside::{LineBuffer, Part, Sink, WriteFault};
+use room_outside::Part;
 use room_wiring::{PortNames, Wiring};
 
 /// A controller's number, or the word for the environment.
@@ -33,43 +32,12 @@ pub fn controller_name(wiring: &Wiring, c: usize) -> &[u8]
     }
 }
 
-/// Adds the path of a slot to a line.
-#[inline(always)]
-#[tactic(auto, unfolding(crate::specs::Names::path_text))]
-pub fn put_path<K: Sink>(
-    out: &mut LineBuffer,
-    sink: &mut K,
-    wiring: &Wiring,
-    s: SlotId,
-) -> Result<(), WriteFault>
-    ensures { Puts result
-        (record { written = K.written sink.old; held = out.old })
-        (record { written = K.written sink.new; held = out.new })
-        (path_text wiring.now s.0) }
-{
-    match wiring.get_slot(s) {
-        Some(slot) => slot.path.put(out, sink),
-        None => out.put(sink, b""),
-    }
-}
-
-/// The name of a port at a slot.
-#[tactic(auto, unfolding(crate::specs::Names::port_text))]
-pub fn port_name(wiring: &Wiring, s: SlotId, number: u16) -> &[u8]
-    ensures { result.now ≡ port_text wiring.now s.0 number }
-{
-    match wiring.port_of(s, number) {
-        Some(port) => port.name.as_bytes(),
-        None => b"",
-    }
-}
-
 /// The name of a port of the slot that speaks.
 pub fn speaking_port_name(wiring: &Wiring, speaker: Option<SlotId>, number: u16) -> &[u8]
     ensures { result.now ≡ speaking_port_text wiring.now speaker number }
 {
     match speaker {
-        Some(s) => port_name(wiring, s, number),
+        Some(s) => wiring.port_name(s, number),
         None => b"",
     }
 }

@@ -18,8 +18,10 @@ pub fn text_to<K: Sink>(
     wiring: &Wiring,
     sink: &mut K,
 ) -> Result<(), WriteFault>
-    ensures ok { OnOk result (Appends (K.written sink.old) (K.written sink.new) (text_of wiring.now journals.now)) }
-    ensures fault { OnErr result (BreaksOff (K.written sink.old) (K.written sink.new) (text_of wiring.now journals.now)) }
+    ensures ok { OnOk result (Appends (K.written sink.old) (K.written sink.new)
+        (text_of wiring.now journals.now)) }
+    ensures fault { OnErr result (BreaksOff (K.written sink.old) (K.written sink.new)
+        (text_of wiring.now journals.now)) }
 {
     let mut out = LineBuffer::new();
     write_text(&mut out, sink, wiring, journals)

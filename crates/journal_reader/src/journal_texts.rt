@@ -19,8 +19,15 @@ pub fn reads_back()
 
 /// Journals that fit a wiring whose names tell things apart, and that have one text, are the same.
 pub fn texts_differ()
-    ensures { (t : Tables) (i j : Journals) → IsConsistent t → IsWellNamed t → Fits t i → IsInRange i
-        → Fits t j → IsInRange j → text_of t i ≡ text_of t j → i ≡ j }
+    ensures { (t : Tables) (i j : Journals)
+        → IsConsistent t
+        → IsWellNamed t
+        → Fits t i
+        → IsInRange i
+        → Fits t j
+        → IsInRange j
+        → text_of t i ≡ text_of t j
+        → i ≡ j }
 {}
 
 /// Tied journals that fit a wiring whose names tell things apart, and that have one text in form 2,

@@ -57,7 +57,7 @@ pub fn put_port(
     port: u16,
     place: i64,
 ) -> Result<(), AllocError> {
-    page.put(naming::port_name(wiring, slot, port))?;
+    page.put(wiring.port_name(slot, port))?;
     if place != 0 || place_count(wiring, slot, usize::from(port)) > 1 {
         page.put(b"[")?;
         page.put_signed(place)?;

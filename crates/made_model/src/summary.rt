@@ -60,7 +60,8 @@ fn write_lines<'a, K: Sink>(
 /// Writes what is told in decimal digits.
 #[tactic(auto, unfolding(crate::specs::Summaries::summary_text))]
 fn write_digits<K: Sink>(sink: &mut K, summary: &Summary) -> Result<(), WriteFault>
-    ensures { Puts result (at_rest (K.written sink.old)) (at_rest (K.written sink.new)) (summary_text summary.now) }
+    ensures { Puts result (at_rest (K.written sink.old)) (at_rest (K.written sink.new))
+        (summary_text summary.now) }
 {
     let counts = summary.counts;
     let mut posts = Buffer::new();
@@ -80,8 +81,10 @@ fn write_digits<K: Sink>(sink: &mut K, summary: &Summary) -> Result<(), WriteFau
 
 /// Writes the summary of a run of the made model. It takes no memory.
 pub fn write_summary<K: Sink>(summary: &Summary, sink: &mut K) -> Result<(), WriteFault>
-    ensures ok { OnOk result (Appends (K.written sink.old) (K.written sink.new) (summary_text summary.now)) }
-    ensures fault { OnErr result (BreaksOff (K.written sink.old) (K.written sink.new) (summary_text summary.now)) }
+    ensures ok { OnOk result (Appends (K.written sink.old) (K.written sink.new)
+        (summary_text summary.now)) }
+    ensures fault { OnErr result (BreaksOff (K.written sink.old) (K.written sink.new)
+        (summary_text summary.now)) }
 {
     write_digits(sink, summary)
 }

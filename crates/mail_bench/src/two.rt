@@ -91,7 +91,9 @@ pub(crate) fn two<M: Mail<Office = ()> + Send + Drop, R: Threads>(
     let (sent, found) = thread::join(
         rt,
         move || -> Result<(), AllocError>
-            requires { ((M.log first).party ≡ 0) × ((M.log first).parties ≡ 3) × IsTied M.tied 0 tt first }
+            requires { ((M.log first).party ≡ 0)
+                × ((M.log first).parties ≡ 3)
+                × IsTied M.tied 0 tt first }
         { send_all(alloc, first, count, over) },
         move || -> u64
             requires { let log = M.log second in

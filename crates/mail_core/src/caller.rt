@@ -20,7 +20,8 @@ pub fn post_at<M: Mail>(
     requires to { m.to.0 + 1 < length ends.old.items }
     requires prio { m.prio.0 < 6 }
     requires tied { M.tied office.old ends.old.items }
-    ensures ok { OnOk result (map M.log ends.new.items ≡ slice_set (map M.log ends.old.items) m.from.0 (posting (log_at (map M.log ends.old.items) m.from.0) m)) }
+    ensures ok { OnOk result (map M.log ends.new.items ≡ slice_set (map M.log ends.old.items)
+        m.from.0 (posting (log_at (map M.log ends.old.items) m.from.0) m)) }
     ensures tied { M.tied office.new ends.new.items }
 {
     let end = &mut ends[usize::from(m.from.0)];
@@ -33,7 +34,8 @@ pub fn take_at<M: Mail>(office: &mut M::Office, ends: &mut Vec<M>, party: u8, b:
     requires party { party < length ends.old.items }
     requires in_range { b < M.box_count party (length ends.old.items) }
     requires tied { M.tied office.old ends.old.items }
-    ensures log { map M.log ends.new.items ≡ slice_set (map M.log ends.old.items) party (taking (log_at (map M.log ends.old.items) party) b result) }
+    ensures log { map M.log ends.new.items ≡ slice_set (map M.log ends.old.items) party
+        (taking (log_at (map M.log ends.old.items) party) b result) }
     ensures some { IfSome result (IsOfBox M.in_box (log_at (map M.log ends.old.items) party) b) }
     ensures none { IfNone result (OwnIsTaken M.in_box (log_at (map M.log ends.old.items) party) b) }
     ensures tied { M.tied office.new ends.new.items }

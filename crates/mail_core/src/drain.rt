@@ -34,8 +34,10 @@ impl LocalOffice {
         requires sender { sender < self.old.parties }
         requires receiver { receiver < self.old.parties }
         requires prio { prio < 6 }
-        ensures list { OnOk result (list.new.items ≡ list.old.items ++ lane_of self.old.lanes.items self.old.parties sender receiver prio) }
-        ensures lanes { OnOk result (self.new.lanes.items ≡ slice_set self.old.lanes.items (lane_number self.old.parties sender receiver prio) []) }
+        ensures list { OnOk result (list.new.items ≡ list.old.items
+            ++ lane_of self.old.lanes.items self.old.parties sender receiver prio) }
+        ensures lanes { OnOk result (self.new.lanes.items ≡ slice_set self.old.lanes.items
+            (lane_number self.old.parties sender receiver prio) []) }
         ensures parties { self.new.parties ≡ self.old.parties }
     {
         let i = lane_index(self.parties, sender, receiver, prio);
@@ -51,8 +53,13 @@ impl LocalOffice {
     ) -> Result<(), AllocError>
         requires receiver { receiver < self.old.parties }
         requires prio { prio < 6 }
-        ensures list { OnOk result (list.new.items ≡ list.old.items ++ at_priority self.old.parties (λ s. lane_of self.old.lanes.items self.old.parties s receiver prio)) }
-        ensures others { OnOk result ((s r p : ℕ) → s < self.old.parties → p < 6 → ((r ≡ receiver) × (p ≡ prio) → ⊥) → lane_of self.new.lanes.items self.old.parties s r p ≡ lane_of self.old.lanes.items self.old.parties s r p) }
+        ensures list { OnOk result (list.new.items ≡ list.old.items
+            ++ at_priority self.old.parties (λ s.
+            lane_of self.old.lanes.items self.old.parties s receiver prio)) }
+        ensures others { OnOk result
+            ((s r p : ℕ) → s < self.old.parties → p < 6 → ((r ≡ receiver) × (p ≡ prio) → ⊥)
+            → lane_of self.new.lanes.items self.old.parties s r p
+            ≡ lane_of self.old.lanes.items self.old.parties s r p) }
         ensures parties { self.new.parties ≡ self.old.parties }
     {
         let environment = self.parties - 1;
@@ -65,8 +72,13 @@ impl LocalOffice {
 
     fn drain_receiver(&mut self, receiver: u8, list: &mut Vec<Msg>) -> Result<(), AllocError>
         requires receiver { receiver < self.old.parties }
-        ensures list { OnOk result (list.new.items ≡ list.old.items ++ in_poll_order self.old.parties (λ s p. lane_of self.old.lanes.items self.old.parties s receiver p)) }
-        ensures others { OnOk result ((s r p : ℕ) → s < self.old.parties → p < 6 → (r ≡ receiver → ⊥) → lane_of self.new.lanes.items self.old.parties s r p ≡ lane_of self.old.lanes.items self.old.parties s r p) }
+        ensures list { OnOk result (list.new.items ≡ list.old.items
+            ++ in_poll_order self.old.parties (λ s p.
+            lane_of self.old.lanes.items self.old.parties s receiver p)) }
+        ensures others { OnOk result
+            ((s r p : ℕ) → s < self.old.parties → p < 6 → (r ≡ receiver → ⊥)
+            → lane_of self.new.lanes.items self.old.parties s r p
+            ≡ lane_of self.old.lanes.items self.old.parties s r p) }
         ensures parties { self.new.parties ≡ self.old.parties }
     {
         for step in 0..6u8 {
@@ -79,7 +91,10 @@ impl LocalOffice {
     pub(crate) fn drain_all(&mut self, alloc: Global) -> Result<Vec<Vec<Msg>>, AllocError>
         requires { 0 < self.old.parties }
         ensures count { IfOk result (λ v. length v.items + 1 ≡ self.old.parties) }
-        ensures order { IfOk result (λ v. (r : ℕ) → r + 1 < self.old.parties → slice_get (map (λ x. x.items) v.items) r ≡ Some (in_poll_order self.old.parties (λ s p. lane_of self.old.lanes.items self.old.parties s r p))) }
+        ensures order { IfOk result (λ v.
+            (r : ℕ) → r + 1 < self.old.parties
+            → slice_get (map (λ x. x.items) v.items) r ≡ Some (in_poll_order self.old.parties
+            (λ s p. lane_of self.old.lanes.items self.old.parties s r p))) }
     {
         let mut all = Vec::new(alloc);
         for receiver in 0..self.parties - 1 {

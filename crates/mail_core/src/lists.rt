@@ -28,7 +28,9 @@ impl MailLocal {
         requires prio { prio < 6 }
         requires one { length copy ≡ 1 }
         requires short { length ((log_of self.old).posted receiver prio) + 1 < 2 ^ 63 }
-        ensures { (m : Msg) → copy ≡ m ∷ [] → log_of self.new ≡ record (log_of self.old) { posted = gained (log_of self.old).posted receiver prio m } }
+        ensures { (m : Msg) → copy ≡ m ∷ []
+            → log_of self.new ≡ record (log_of self.old)
+            { posted = gained (log_of self.old).posted receiver prio m } }
     {
         let at = usize::from(receiver) * 6 + usize::from(prio);
         append_at(&mut self.posted, at, copy);
@@ -40,7 +42,9 @@ impl MailLocal {
         requires prio { prio < 6 }
         requires one { length copy ≡ 1 }
         requires short { length ((log_of self.old).taken sender prio) + 1 < 2 ^ 63 }
-        ensures { (m : Msg) → copy ≡ m ∷ [] → log_of self.new ≡ record (log_of self.old) { taken = gained (log_of self.old).taken sender prio m } }
+        ensures { (m : Msg) → copy ≡ m ∷ []
+            → log_of self.new
+            ≡ record (log_of self.old) { taken = gained (log_of self.old).taken sender prio m } }
     {
         let at = usize::from(sender) * 6 + usize::from(prio);
         append_at(&mut self.taken, at, copy);
@@ -49,7 +53,8 @@ impl MailLocal {
     #[tactic(auto, using(crate::proofs::ListLemmas::list_steps))]
     pub(crate) fn add_look(&mut self, b: u32)
         requires { b < self.old.parties * 6 }
-        ensures { log_of self.new ≡ record (log_of self.old) { looks = looked (log_of self.old).looks b } }
+        ensures { log_of self.new
+            ≡ record (log_of self.old) { looks = looked (log_of self.old).looks b } }
     {
         let look = &mut self.looks[b as usize];
         *look = look.saturating_add(1);

@@ -88,7 +88,8 @@ impl Lane {
     }
 
     pub(crate) fn pop(&mut self) -> Option<MessageWithCopy>
-        ensures { MatchOption result ((self.old ≡ []) × (self.new ≡ [])) (λ m. self.old ≡ m ∷ self.new) }
+        ensures { MatchOption result ((self.old ≡ []) × (self.new ≡ []))
+            (λ m. self.old ≡ m ∷ self.new) }
     {
         self.entries.pop_front()
     }

@@ -93,7 +93,11 @@ impl Mail for MailLocal {
         ensures none { IfNone result (OwnIsTaken IsLaneBox (log_of self.old) b) }
         ensures tied { StaysTied AreTied self.old.party office.old office.new self.old self.new }
 
-        ensures exact { (s p : ℕ) → IsLaneBox self.old.parties b s p → MayPostAt self.old.parties s p → MatchOption result (lane_at office.old s self.old.party p ≡ []) (λ m. lane_at office.old s self.old.party p ≡ m ∷ lane_at office.new s self.old.party p) }
+        ensures exact { (s p : ℕ)
+            → IsLaneBox self.old.parties b s p
+            → MayPostAt self.old.parties s p
+            → MatchOption result (lane_at office.old s self.old.party p ≡ []) (λ m.
+            lane_at office.old s self.old.party p ≡ m ∷ lane_at office.new s self.old.party p) }
     {
         if lane_in(self.parties, b).is_in_use(self.parties) {
             return self.look(office, b);
@@ -109,7 +113,8 @@ impl Mail for MailLocal {
     ) -> Result<Vec<Vec<Msg>>, AllocError>
         requires some { 0 < length ends.items }
         requires tied { AreTied office ends.items }
-        ensures { IfOk result (λ left. IsLeft (map log_of ends.items) (map (λ v. v.items) left.items)) }
+        ensures { IfOk result (λ left.
+            IsLeft (map log_of ends.items) (map (λ v. v.items) left.items)) }
     {
         drop(ends);
         let mut office = office;
@@ -135,7 +140,9 @@ impl MailLocal {
         ensures some { IfSome result (IsOfBox IsLaneBox (log_of self.old) b) }
         ensures none { IfNone result (OwnIsTaken IsLaneBox (log_of self.old) b) }
         ensures tied { StaysTied AreTied self.old.party office.old office.new self.old self.new }
-        ensures exact { (s p : ℕ) → IsLaneBox self.old.parties b s p → MatchOption result (lane_at office.old s self.old.party p ≡ []) (λ m. lane_at office.old s self.old.party p ≡ m ∷ lane_at office.new s self.old.party p) }
+        ensures exact { (s p : ℕ) → IsLaneBox self.old.parties b s p
+            → MatchOption result (lane_at office.old s self.old.party p ≡ []) (λ m.
+            lane_at office.old s self.old.party p ≡ m ∷ lane_at office.new s self.old.party p) }
     {
         let lane = lane_in(self.parties, b);
         let found = office.pop(lane.sender, self.party, lane.prio);

@@ -66,7 +66,8 @@ pub trait Mail: Sized {
         ensures err { OnErr result (log self.new ≡ log self.old) }
         ensures office { OnErr result (held office.new ≡ held office.old) }
         ensures refused { IfErr result (λ r. r.message ≡ m) }
-        ensures tied { StaysTied tied (log self.old).party office.old office.new self.old self.new };
+        ensures tied { StaysTied tied (log self.old).party office.old office.new self.old
+            self.new };
 
     /// Looks at a box once, and takes the oldest message of one of its lanes if it finds one. It may
     /// miss a message that another party posts; it finds nothing only where the end has taken all
@@ -80,7 +81,8 @@ pub trait Mail: Sized {
         ensures some { IfSome result (IsOfBox in_box (log self.old) b) }
         ensures level { IfSome result (KeepsToLevel (log self.old).parties) }
         ensures none { IfNone result (OwnIsTaken in_box (log self.old) b) }
-        ensures tied { StaysTied tied (log self.old).party office.old office.new self.old self.new };
+        ensures tied { StaysTied tied (log self.old).party office.old office.new self.old
+            self.new };
 
     /// Ends the mail. What was posted and not taken comes back, a list for each controller in order,
     /// each in the order of a poll. After a refusal the messages are given up.
@@ -91,17 +93,22 @@ pub trait Mail: Sized {
     ) -> Result<Vec<Vec<Msg>>, AllocError>
         requires some { 0 < length ends.items }
         requires tied { tied office ends.items }
-        ensures { IfOk result (λ left. IsLeft (map log ends.items) (map (λ v. v.items) left.items)) };
+        ensures { IfOk result (λ left.
+            IsLeft (map log ends.items) (map (λ v. v.items) left.items)) };
 
     /// Ends that are tied stand in order of party, and each knows how many there are.
-    ghost in_order: { (office : Self.Office) (ends : List Self) (k : ℕ) (e : Self) → tied office ends → slice_get ends k ≡ Some e → ((log e).party ≡ k) × ((log e).parties ≡ length ends) };
+    ghost in_order: { (office : Self.Office) (ends : List Self) (k : ℕ) (e : Self)
+        → tied office ends → slice_get ends k ≡ Some e
+        → ((log e).party ≡ k) × ((log e).parties ≡ length ends) };
 
     /// Each lane to a controller has a box.
-    ghost has_box: { (n s r p : ℕ) → s < n → r + 1 < n → p < 6 → (b : ℕ) × (b < box_count r n) × in_box n b s p };
+    ghost has_box: { (n s r p : ℕ) → s < n → r + 1 < n → p < 6
+        → (b : ℕ) × (b < box_count r n) × in_box n b s p };
 
     /// A box has one priority.
     ghost one_priority: { (n b s p s' p' : ℕ) → in_box n b s p → in_box n b s' p' → p ≡ p' };
 
     /// The boxes stand in the order of a poll.
-    ghost poll_order: { (n b s p b' s' p' : ℕ) → in_box n b s p → in_box n b' s' p' → b < b' → poll_place n s p < poll_place n s' p' };
+    ghost poll_order: { (n b s p b' s' p' : ℕ) → in_box n b s p → in_box n b' s' p' → b < b'
+        → poll_place n s p < poll_place n s' p' };
 }

@@ -23,8 +23,11 @@ pub fn poll_box<M: Mail>(
 ) -> Result<(), AllocError>
     requires in_range { b < M.box_count (M.log end.old).party (M.log end.old).parties }
     requires tied { IsTied M.tied (M.log end.old).party office.old end.old }
-    ensures ok { OnOk result ((gave : List Msg) × (out.new.items ≡ out.old.items ++ gave) × PollsBox M.in_box b (M.log end.old) (M.log end.new) gave) }
-    ensures party { ((M.log end.new).party ≡ (M.log end.old).party) × ((M.log end.new).parties ≡ (M.log end.old).parties) }
+    ensures ok { OnOk result ((gave : List Msg)
+        × (out.new.items ≡ out.old.items ++ gave)
+        × PollsBox M.in_box b (M.log end.old) (M.log end.new) gave) }
+    ensures party { ((M.log end.new).party ≡ (M.log end.old).party)
+        × ((M.log end.new).parties ≡ (M.log end.old).parties) }
     ensures tied { StaysTied M.tied (M.log end.old).party office.old office.new end.old end.new }
 {
     for _look in 0..QUOTA {
@@ -45,8 +48,12 @@ pub fn poll<M: Mail>(
     out: &mut Vec<Msg>,
 ) -> Result<(), AllocError>
     requires { IsTied M.tied (M.log end.old).party office.old end.old }
-    ensures ok { OnOk result ((gave : List Msg) × (out.new.items ≡ out.old.items ++ gave) × PollsBoxes M.in_box (M.box_count (M.log end.old).party (M.log end.old).parties) (M.log end.old) (M.log end.new) gave) }
-    ensures party { ((M.log end.new).party ≡ (M.log end.old).party) × ((M.log end.new).parties ≡ (M.log end.old).parties) }
+    ensures ok { OnOk result ((gave : List Msg)
+        × (out.new.items ≡ out.old.items ++ gave)
+        × PollsBoxes M.in_box (M.box_count (M.log end.old).party (M.log end.old).parties)
+        (M.log end.old) (M.log end.new) gave) }
+    ensures party { ((M.log end.new).party ≡ (M.log end.old).party)
+        × ((M.log end.new).parties ≡ (M.log end.old).parties) }
     ensures tied { StaysTied M.tied (M.log end.old).party office.old office.new end.old end.new }
 {
     for b in 0..end.boxes() {

@@ -31,7 +31,9 @@ impl LocalOffice {
         requires sender { sender < self.old.parties }
         requires receiver { receiver < self.old.parties }
         requires prio { prio < 6 }
-        ensures ok { OnOk result (self.new.lanes.items ≡ slice_set self.old.lanes.items (lane_number self.old.parties sender receiver prio) (lane_of self.old.lanes.items self.old.parties sender receiver prio ++ entry ∷ [])) }
+        ensures ok { OnOk result (self.new.lanes.items
+            ≡ slice_set self.old.lanes.items (lane_number self.old.parties sender receiver prio)
+            (lane_of self.old.lanes.items self.old.parties sender receiver prio ++ entry ∷ [])) }
         ensures err { OnErr result (self.new.lanes.items ≡ self.old.lanes.items) }
         ensures back { IfErr result (λ s. s ≡ entry) }
         ensures parties { self.new.parties ≡ self.old.parties }
@@ -46,10 +48,17 @@ impl LocalOffice {
         requires sender { sender < self.old.parties }
         requires receiver { receiver < self.old.parties }
         requires prio { prio < 6 }
-        ensures none { IfNone result (lane_of self.old.lanes.items self.old.parties sender receiver prio ≡ []) }
+        ensures none { IfNone result (lane_of self.old.lanes.items self.old.parties sender receiver
+            prio ≡ []) }
         ensures same { IfNone result (self.new.lanes.items ≡ self.old.lanes.items) }
-        ensures some { IfSome result (λ m. (rest : List Msg) × (lane_of self.old.lanes.items self.old.parties sender receiver prio ≡ m ∷ rest) × (self.new.lanes.items ≡ slice_set self.old.lanes.items (lane_number self.old.parties sender receiver prio) rest)) }
-        ensures front { IfSome result (λ m. lane_of self.old.lanes.items self.old.parties sender receiver prio ≡ m ∷ lane_of self.new.lanes.items self.old.parties sender receiver prio) }
+        ensures some { IfSome result (λ m.
+            (rest : List Msg)
+            × (lane_of self.old.lanes.items self.old.parties sender receiver prio ≡ m ∷ rest)
+            × (self.new.lanes.items ≡ slice_set self.old.lanes.items
+            (lane_number self.old.parties sender receiver prio) rest)) }
+        ensures front { IfSome result (λ m.
+            lane_of self.old.lanes.items self.old.parties sender receiver prio
+            ≡ m ∷ lane_of self.new.lanes.items self.old.parties sender receiver prio) }
         ensures parties { self.new.parties ≡ self.old.parties }
     {
         let i = lane_index(self.parties, sender, receiver, prio);
@@ -70,7 +79,8 @@ pub(crate) fn list_len(lists: &[LinkedList<Msg>], at: usize) -> usize
 pub(crate) fn append_at(lists: &mut Vec<LinkedList<Msg>>, at: usize, mut more: LinkedList<Msg>)
     requires within { at < vec_len lists.old }
     requires short { length (slice_index_or lists.old.items at []) + length more < 2 ^ 63 }
-    ensures items { lists.new.items ≡ slice_set lists.old.items at (slice_index_or lists.old.items at [] ++ more) }
+    ensures items { lists.new.items
+        ≡ slice_set lists.old.items at (slice_index_or lists.old.items at [] ++ more) }
     ensures len { vec_len lists.new ≡ vec_len lists.old }
 {
     let list = &mut lists[at];

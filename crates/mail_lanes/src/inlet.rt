@@ -21,8 +21,11 @@ impl Inlet {
     fn pass_one(&mut self, prio: u8, found: &mut Option<Msg>) -> bool
         requires empty { found.old ≡ None }
         requires none { waits self.old.waiting prio ≡ [] }
-        ensures lanes { MatchOption found.new (AllStay (in_lane self.old) (in_lane self.new)) (λ m. OneIs prio (stealing (in_lane self.old prio) m) (in_lane self.old) (in_lane self.new)) }
-        ensures is_for { MatchOption found.new (Unit {0}) (λ m. IsFor self.old.from self.old.to prio m) }
+        ensures lanes { MatchOption found.new (AllStay (in_lane self.old) (in_lane self.new))
+            (λ m.
+            OneIs prio (stealing (in_lane self.old prio) m) (in_lane self.old) (in_lane self.new)) }
+        ensures is_for { MatchOption found.new (Unit {0})
+            (λ m. IsFor self.old.from self.old.to prio m) }
         ensures ends { (self.new.from ≡ self.old.from) × (self.new.to ≡ self.old.to) }
         ensures passed { result ≡ true → (found.new ≡ None) × (waits self.new.waiting prio ≡ []) }
     {
@@ -45,8 +48,11 @@ impl Inlet {
     fn steal_to(&mut self, prio: u8, found: &mut Option<Msg>)
         requires empty { found.old ≡ None }
         requires none { waits self.old.waiting prio ≡ [] }
-        ensures lanes { MatchOption found.new (AllStay (in_lane self.old) (in_lane self.new)) (λ m. OneIs prio (stealing (in_lane self.old prio) m) (in_lane self.old) (in_lane self.new)) }
-        ensures is_for { MatchOption found.new (Unit {0}) (λ m. IsFor self.old.from self.old.to prio m) }
+        ensures lanes { MatchOption found.new (AllStay (in_lane self.old) (in_lane self.new))
+            (λ m.
+            OneIs prio (stealing (in_lane self.old prio) m) (in_lane self.old) (in_lane self.new)) }
+        ensures is_for { MatchOption found.new (Unit {0})
+            (λ m. IsFor self.old.from self.old.to prio m) }
     {
         for _passed in 0..PASSED {
             if !self.pass_one(prio, found) {
@@ -57,8 +63,11 @@ impl Inlet {
 
     /// The oldest message that waits.
     fn take(&mut self, prio: u8) -> Option<Msg>
-        ensures lanes { MatchOption result (AllStay (in_lane self.old) (in_lane self.new)) (λ m. OneIs prio (stealing (in_lane self.old prio) m) (in_lane self.old) (in_lane self.new)) }
-        ensures is_for { MatchOption result (Unit {0}) (λ m. IsFor self.old.from self.old.to prio m) }
+        ensures lanes { MatchOption result (AllStay (in_lane self.old) (in_lane self.new))
+            (λ m.
+            OneIs prio (stealing (in_lane self.old prio) m) (in_lane self.old) (in_lane self.new)) }
+        ensures is_for { MatchOption result (Unit {0})
+            (λ m. IsFor self.old.from self.old.to prio m) }
     {
         let Some(m) = self.waiting.pop(prio) else {
             return None;
@@ -70,8 +79,11 @@ impl Inlet {
     #[inline(never)]
     fn give(&mut self, prio: u8, found: &mut Option<Msg>)
         requires { found.old ≡ None }
-        ensures lanes { MatchOption found.new (AllStay (in_lane self.old) (in_lane self.new)) (λ m. OneIs prio (stealing (in_lane self.old prio) m) (in_lane self.old) (in_lane self.new)) }
-        ensures is_for { MatchOption found.new (Unit {0}) (λ m. IsFor self.old.from self.old.to prio m) }
+        ensures lanes { MatchOption found.new (AllStay (in_lane self.old) (in_lane self.new))
+            (λ m.
+            OneIs prio (stealing (in_lane self.old prio) m) (in_lane self.old) (in_lane self.new)) }
+        ensures is_for { MatchOption found.new (Unit {0})
+            (λ m. IsFor self.old.from self.old.to prio m) }
     {
         *found = self.take(prio);
     }
@@ -80,8 +92,11 @@ impl Inlet {
     /// nothing, and no room for a message is made for them.
     pub(crate) fn take_to(&mut self, prio: u8, found: &mut Option<Msg>)
         requires { found.old ≡ None }
-        ensures lanes { MatchOption found.new (AllStay (in_lane self.old) (in_lane self.new)) (λ m. OneIs prio (stealing (in_lane self.old prio) m) (in_lane self.old) (in_lane self.new)) }
-        ensures is_for { MatchOption found.new (Unit {0}) (λ m. IsFor self.old.from self.old.to prio m) }
+        ensures lanes { MatchOption found.new (AllStay (in_lane self.old) (in_lane self.new))
+            (λ m.
+            OneIs prio (stealing (in_lane self.old prio) m) (in_lane self.old) (in_lane self.new)) }
+        ensures is_for { MatchOption found.new (Unit {0})
+            (λ m. IsFor self.old.from self.old.to prio m) }
     {
         if self.waiting.holds(prio) {
             self.give(prio, found);

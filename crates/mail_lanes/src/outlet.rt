@@ -17,7 +17,8 @@ impl Outlet {
         requires own { self.old.from ≡ self.old.to }
         requires is_for { IsFor self.old.from self.old.to m.prio.0 m }
         requires prio { m.prio.0 < 6 }
-        ensures ok { OnOk result (OneIs m.prio.0 (sending (out_lane self.old m.prio.0) m) (out_lane self.old) (out_lane self.new)) }
+        ensures ok { OnOk result (OneIs m.prio.0 (sending (out_lane self.old m.prio.0) m)
+            (out_lane self.old) (out_lane self.new)) }
         ensures err { OnErr result (AllStay (out_lane self.old) (out_lane self.new)) }
         ensures back { IfErr result (λ x. x ≡ m) }
     {
@@ -37,7 +38,8 @@ impl Outlet {
     pub(crate) fn post(&mut self, m: Msg) -> Result<(), Msg>
         requires is_for { IsFor self.old.from self.old.to m.prio.0 m }
         requires prio { m.prio.0 < 6 }
-        ensures ok { OnOk result (OneIs m.prio.0 (sending (out_lane self.old m.prio.0) m) (out_lane self.old) (out_lane self.new)) }
+        ensures ok { OnOk result (OneIs m.prio.0 (sending (out_lane self.old m.prio.0) m)
+            (out_lane self.old) (out_lane self.new)) }
         ensures err { OnErr result (AllStay (out_lane self.old) (out_lane self.new)) }
         ensures back { IfErr result (λ x. x ≡ m) }
     {
@@ -53,9 +55,15 @@ impl Outlet {
     /// The oldest message that waits.
     #[tactic(auto, using(crate::proofs::LaneLemmas::lane_steps))]
     pub(crate) fn take(&mut self, prio: u8) -> Option<Msg>
-        ensures lanes { MatchOption result (AllStay (out_lane self.old) (out_lane self.new) × (waits self.old.waiting prio ≡ [])) (λ m. OneIs prio (popping (out_lane self.old prio) m) (out_lane self.old) (out_lane self.new)) }
-        ensures waiting { MatchOption result (Unit {0}) (λ _. length (waits self.old.waiting prio) ≡ length (waits self.new.waiting prio) + 1) }
-        ensures is_for { MatchOption result (Unit {0}) (λ m. IsFor self.old.from self.old.to prio m) }
+        ensures lanes { MatchOption result
+            (AllStay (out_lane self.old) (out_lane self.new) × (waits self.old.waiting prio ≡ []))
+            (λ m.
+            OneIs prio (popping (out_lane self.old prio) m) (out_lane self.old)
+            (out_lane self.new)) }
+        ensures waiting { MatchOption result (Unit {0})
+            (λ _. length (waits self.old.waiting prio) ≡ length (waits self.new.waiting prio) + 1) }
+        ensures is_for { MatchOption result (Unit {0})
+            (λ m. IsFor self.old.from self.old.to prio m) }
         ensures owner { self.new.owner ≡ self.old.owner }
         ensures ends { (self.new.from ≡ self.old.from) × (self.new.to ≡ self.old.to) }
     {
@@ -69,8 +77,13 @@ impl Outlet {
     #[inline(never)]
     fn give(&mut self, prio: u8, found: &mut Option<Msg>)
         requires { found.old ≡ None }
-        ensures lanes { MatchOption found.new (AllStay (out_lane self.old) (out_lane self.new) × (waits self.old.waiting prio ≡ [])) (λ m. OneIs prio (popping (out_lane self.old prio) m) (out_lane self.old) (out_lane self.new)) }
-        ensures is_for { MatchOption found.new (Unit {0}) (λ m. IsFor self.old.from self.old.to prio m) }
+        ensures lanes { MatchOption found.new
+            (AllStay (out_lane self.old) (out_lane self.new) × (waits self.old.waiting prio ≡ []))
+            (λ m.
+            OneIs prio (popping (out_lane self.old prio) m) (out_lane self.old)
+            (out_lane self.new)) }
+        ensures is_for { MatchOption found.new (Unit {0})
+            (λ m. IsFor self.old.from self.old.to prio m) }
     {
         *found = self.take(prio);
     }
@@ -81,8 +94,14 @@ impl Outlet {
     pub(crate) fn take_to(&mut self, prio: u8, found: &mut Option<Msg>)
         requires own { self.old.from ≡ self.old.to }
         requires empty { found.old ≡ None }
-        ensures lanes { MatchOption found.new (AllStay (out_lane self.old) (out_lane self.new) × ((out_lane self.old prio).posted ≡ (out_lane self.old prio).taken)) (λ m. OneIs prio (popping (out_lane self.old prio) m) (out_lane self.old) (out_lane self.new)) }
-        ensures is_for { MatchOption found.new (Unit {0}) (λ m. IsFor self.old.from self.old.to prio m) }
+        ensures lanes { MatchOption found.new
+            (AllStay (out_lane self.old) (out_lane self.new)
+            × ((out_lane self.old prio).posted ≡ (out_lane self.old prio).taken))
+            (λ m.
+            OneIs prio (popping (out_lane self.old prio) m) (out_lane self.old)
+            (out_lane self.new)) }
+        ensures is_for { MatchOption found.new (Unit {0})
+            (λ m. IsFor self.old.from self.old.to prio m) }
     {
         if self.waiting.holds(prio) {
             self.give(prio, found);

@@ -9,8 +9,12 @@ use room_kinds::Msg;
 pub(crate) fn post_at(outlets: &mut Vec<Outlet>, receiver: usize, m: Msg) -> Result<(), Msg>
     requires within { receiver < length outlets.old.items }
     requires prio { m.prio.0 < 6 }
-    requires is_for { let o = (out_at (out_lanes outlets.old.items) (receiver * 6 + m.prio.0)).wire in IsFor o.from o.to o.prio m }
-    ensures ok { OnOk result (out_lanes outlets.new.items ≡ slice_set (out_lanes outlets.old.items) (receiver * 6 + m.prio.0) (sending (out_at (out_lanes outlets.old.items) (receiver * 6 + m.prio.0)) m)) }
+    requires is_for { let o =
+        (out_at (out_lanes outlets.old.items) (receiver * 6 + m.prio.0)).wire in
+        IsFor o.from o.to o.prio m }
+    ensures ok { OnOk result (out_lanes outlets.new.items
+        ≡ slice_set (out_lanes outlets.old.items) (receiver * 6 + m.prio.0)
+        (sending (out_at (out_lanes outlets.old.items) (receiver * 6 + m.prio.0)) m)) }
     ensures err { OnErr result (out_lanes outlets.new.items ≡ out_lanes outlets.old.items) }
     ensures back { IfErr result (λ x. x ≡ m) }
 {
@@ -21,10 +25,17 @@ pub(crate) fn post_at(outlets: &mut Vec<Outlet>, receiver: usize, m: Msg) -> Res
 pub(crate) fn pop_at(outlets: &mut Vec<Outlet>, at: usize, prio: u8, found: &mut Option<Msg>)
     requires within { at < length outlets.old.items }
     requires prio { prio < 6 }
-    requires own { let o = (out_at (out_lanes outlets.old.items) (at * 6 + prio)).wire in o.from ≡ o.to }
+    requires own { let o = (out_at (out_lanes outlets.old.items) (at * 6 + prio)).wire in
+        o.from ≡ o.to }
     requires empty { found.old ≡ None }
-    ensures lane { let o = out_at (out_lanes outlets.old.items) (at * 6 + prio) in MatchOption found.new ((out_lanes outlets.new.items ≡ out_lanes outlets.old.items) × (o.posted ≡ o.taken)) (λ m. out_lanes outlets.new.items ≡ slice_set (out_lanes outlets.old.items) (at * 6 + prio) (popping o m)) }
-    ensures is_for { let o = (out_at (out_lanes outlets.old.items) (at * 6 + prio)).wire in MatchOption found.new (Unit {0}) (λ m. IsFor o.from o.to o.prio m) }
+    ensures lane { let o = out_at (out_lanes outlets.old.items) (at * 6 + prio) in
+        MatchOption found.new
+        ((out_lanes outlets.new.items ≡ out_lanes outlets.old.items) × (o.posted ≡ o.taken))
+        (λ m.
+        out_lanes outlets.new.items
+        ≡ slice_set (out_lanes outlets.old.items) (at * 6 + prio) (popping o m)) }
+    ensures is_for { let o = (out_at (out_lanes outlets.old.items) (at * 6 + prio)).wire in
+        MatchOption found.new (Unit {0}) (λ m. IsFor o.from o.to o.prio m) }
 {
     let outlet = &mut outlets[at];
     outlet.take_to(prio, found)
@@ -39,7 +50,13 @@ pub(crate) fn steal_at(
     requires within { sender < length inlets.old.items }
     requires prio { prio < 6 }
     requires empty { found.old ≡ None }
-    ensures lane { MatchOption found.new (in_lanes inlets.new.items ≡ in_lanes inlets.old.items) (λ m. (i : InLane) × (in_at (in_lanes inlets.old.items) (sender * 6 + prio) ≡ Some i) × (in_lanes inlets.new.items ≡ slice_set (in_lanes inlets.old.items) (sender * 6 + prio) (Some (stealing i m))) × IsFor i.wire.from i.wire.to i.wire.prio m) }
+    ensures lane { MatchOption found.new (in_lanes inlets.new.items ≡ in_lanes inlets.old.items)
+        (λ m.
+        (i : InLane)
+        × (in_at (in_lanes inlets.old.items) (sender * 6 + prio) ≡ Some i)
+        × (in_lanes inlets.new.items
+        ≡ slice_set (in_lanes inlets.old.items) (sender * 6 + prio) (Some (stealing i m)))
+        × IsFor i.wire.from i.wire.to i.wire.prio m) }
 {
     if let Some(inlet) = &mut inlets[sender] {
         inlet.take_to(prio, found);

@@ -75,7 +75,10 @@ impl Outcome<Msg, LaneView> for Own {
     ghost use Rattle.std.specs.Prelude.{List};
     ghost use Rattle.room_kinds.specs.declared.message.Msg.{Msg};
 
-    ghost then = { λ v xs w. (w ≡ lane_view v.pushes v.takes v.sent (v.got ++ xs)) × (rest : List Msg) × (v.sent ≡ (v.got ++ xs) ++ rest) };
+    ghost then = { λ v xs w.
+        (w ≡ lane_view v.pushes v.takes v.sent (v.got ++ xs))
+        × (rest : List Msg)
+        × (v.sent ≡ (v.got ++ xs) ++ rest) };
 
     ghost empty = { λ v. v.sent ≡ v.got };
 }

@@ -65,7 +65,8 @@ impl Outlet {
     #[tactic(auto, using(crate::proofs::JoinLemmas::join_steps))]
     fn gather(&mut self, inlet: Option<Inlet>) -> Result<(), AllocError>
         requires { CanSettle (out_lane self.old 0).wire (in_wire_of (in_side inlet 0)) }
-        ensures lanes { OnOk result (Gathers (out_lane self.old) (in_side inlet) (out_lane self.new)) }
+        ensures lanes { OnOk result (Gathers (out_lane self.old) (in_side inlet)
+            (out_lane self.new)) }
         ensures all { OnOk result (OwnLaw (worker_view self.new.owner)) }
     {
         if let Some(inlet) = inlet {
@@ -80,8 +81,11 @@ impl Outlet {
     /// What waits at one priority goes to the end of a list.
     fn empty(&mut self, prio: u8, list: &mut Vec<Msg>) -> Result<(), AllocError>
         requires { OwnLaw (worker_view self.old.owner) }
-        ensures left { OnOk result ((left : List Msg) × (list.new.items ≡ list.old.items ++ left) × ((out_lane self.old prio).taken ++ left ≡ (out_lane self.old prio).posted)) }
-        ensures others { OnOk result ((q : ℕ) → (q ≡ prio → ⊥) → out_lane self.new q ≡ out_lane self.old q) }
+        ensures left { OnOk result ((left : List Msg)
+            × (list.new.items ≡ list.old.items ++ left)
+            × ((out_lane self.old prio).taken ++ left ≡ (out_lane self.old prio).posted)) }
+        ensures others { OnOk result ((q : ℕ) → (q ≡ prio → ⊥)
+            → out_lane self.new q ≡ out_lane self.old q) }
         ensures owner { self.new.owner ≡ self.old.owner }
     {
         while let Some(m) = self.take(prio) {
@@ -99,9 +103,11 @@ impl Outlet {
         list: &mut Vec<Msg>,
     ) -> Result<(), AllocError>
         requires { CanSettle (out_lane self.old 0).wire (in_wire_of (in_side inlet 0)) }
-        ensures list { OnOk result (list.new.items ≡ list.old.items ++ left_in (out_lane self.old prio) (in_side inlet prio)) }
+        ensures list { OnOk result (list.new.items
+            ≡ list.old.items ++ left_in (out_lane self.old prio) (in_side inlet prio)) }
         ensures settled { OnOk result (IsSettled (out_lane self.old prio) (in_side inlet prio)) }
-        ensures others { OnOk result (Settles prio (out_lane self.old) (in_side inlet) (out_lane self.new)) }
+        ensures others { OnOk result (Settles prio (out_lane self.old) (in_side inlet)
+            (out_lane self.new)) }
     {
         self.gather(inlet)?;
         self.empty(prio, list)

@@ -12,7 +12,8 @@ impl MailLanes {
     #[tactic(auto, using(crate::proofs::EndLemmas::end_steps))]
     pub(crate) fn add_look(&mut self, b: u32)
         requires { b < self.old.parties * 6 }
-        ensures log { log_of self.new ≡ record (log_of self.old) { looks = looked (log_of self.old).looks b } }
+        ensures log { log_of self.new
+            ≡ record (log_of self.old) { looks = looked (log_of self.old).looks b } }
         ensures wiring { wiring_of self.new ≡ wiring_of self.old }
     {
         let look = &mut self.looks[b as usize];
@@ -24,7 +25,8 @@ impl MailLanes {
         requires receiver { receiver < self.old.parties }
         requires prio { m.prio.0 < 6 }
         requires is_for { IsFor self.old.party receiver m.prio.0 m }
-        ensures ok { OnOk result (log_of self.new ≡ record (log_of self.old) { posted = gained (log_of self.old).posted receiver m.prio.0 m }) }
+        ensures ok { OnOk result (log_of self.new ≡ record (log_of self.old)
+            { posted = gained (log_of self.old).posted receiver m.prio.0 m }) }
         ensures err { OnErr result (log_of self.new ≡ log_of self.old) }
         ensures back { IfErr result (λ x. x ≡ m) }
         ensures wiring { wiring_of self.new ≡ wiring_of self.old }
@@ -36,7 +38,14 @@ impl MailLanes {
     pub(crate) fn take_own(&mut self, prio: u8, found: &mut Option<Msg>)
         requires prio { prio < 6 }
         requires empty { found.old ≡ None }
-        ensures log { MatchOption found.new ((log_of self.new ≡ log_of self.old) × ((log_of self.old).posted self.old.party prio ≡ (log_of self.old).taken self.old.party prio)) (λ m. IsFor self.old.party self.old.party prio m × (log_of self.new ≡ record (log_of self.old) { taken = gained (log_of self.old).taken self.old.party prio m })) }
+        ensures log { MatchOption found.new
+            ((log_of self.new ≡ log_of self.old)
+            × ((log_of self.old).posted self.old.party prio
+            ≡ (log_of self.old).taken self.old.party prio))
+            (λ m.
+            IsFor self.old.party self.old.party prio m
+            × (log_of self.new ≡ record (log_of self.old)
+            { taken = gained (log_of self.old).taken self.old.party prio m })) }
         ensures wiring { wiring_of self.new ≡ wiring_of self.old }
     {
         pop_at(&mut self.outlets, usize::from(self.party), prio, found)
@@ -48,7 +57,10 @@ impl MailLanes {
         requires other { sender ≡ self.old.party → ⊥ }
         requires prio { prio < 6 }
         requires empty { found.old ≡ None }
-        ensures log { MatchOption found.new (log_of self.new ≡ log_of self.old) (λ m. IsFor sender self.old.party prio m × (log_of self.new ≡ record (log_of self.old) { taken = gained (log_of self.old).taken sender prio m })) }
+        ensures log { MatchOption found.new (log_of self.new ≡ log_of self.old) (λ m.
+            IsFor sender self.old.party prio m
+            × (log_of self.new
+            ≡ record (log_of self.old) { taken = gained (log_of self.old).taken sender prio m })) }
         ensures wiring { wiring_of self.new ≡ wiring_of self.old }
     {
         steal_at(&mut self.inlets, usize::from(sender), prio, found)

@@ -54,7 +54,10 @@ fn has_room(queues: &mut Vec<VecDeque<Msg>>, at: usize) -> bool
 /// The oldest message of a queue.
 #[tactic(auto, using(crate::proofs::WaitLemmas::queue_steps))]
 fn pop(queues: &mut Vec<VecDeque<Msg>>, prio: u8) -> Option<Msg>
-    ensures { MatchOption result (Stays (queued queues.old.items) (queued queues.new.items) × (queued queues.old.items prio ≡ [])) (λ m. Loses prio (queued queues.old.items) (queued queues.new.items) m) }
+    ensures { MatchOption result
+        (Stays (queued queues.old.items) (queued queues.new.items)
+        × (queued queues.old.items prio ≡ []))
+        (λ m. Loses prio (queued queues.old.items) (queued queues.new.items) m) }
 {
     let at = usize::from(prio);
     if at < queues.len() {
@@ -96,7 +99,9 @@ impl Waiting {
     #[tactic(auto, using(crate::proofs::WaitLemmas::queue_steps))]
     fn pop_spare(&mut self, prio: u8) -> Option<Msg>
         requires { queued self.old.queues.items prio ≡ [] }
-        ensures { MatchOption result (Stays (waits self.old) (waits self.new) × (waits self.old prio ≡ [])) (λ m. Loses prio (waits self.old) (waits self.new) m) }
+        ensures { MatchOption result
+            (Stays (waits self.old) (waits self.new) × (waits self.old prio ≡ []))
+            (λ m. Loses prio (waits self.old) (waits self.new) m) }
     {
         let spare = self.spare.take();
         if let Some(m) = &spare
@@ -111,7 +116,9 @@ impl Waiting {
     /// The oldest message of a priority.
     #[tactic(auto, using(crate::proofs::WaitLemmas::queue_steps))]
     pub(crate) fn pop(&mut self, prio: u8) -> Option<Msg>
-        ensures { MatchOption result (Stays (waits self.old) (waits self.new) × (waits self.old prio ≡ [])) (λ m. Loses prio (waits self.old) (waits self.new) m) }
+        ensures { MatchOption result
+            (Stays (waits self.old) (waits self.new) × (waits self.old prio ≡ []))
+            (λ m. Loses prio (waits self.old) (waits self.new) m) }
     {
         if let Some(m) = pop(&mut self.queues, prio) {
             return Some(m);
@@ -170,7 +177,8 @@ impl Waiting {
     #[inline(never)]
     pub(crate) fn put_from(&mut self, place: &mut Option<Msg>)
         requires { self.old.spare ≡ None }
-        ensures waits { MatchOption place.old (Unit {0}) (λ m. Gains (waits self.old) (waits self.new) m) }
+        ensures waits { MatchOption place.old (Unit {0})
+            (λ m. Gains (waits self.old) (waits self.new) m) }
         ensures empty { place.new ≡ None }
     {
         if let Some(m) = place.take() {

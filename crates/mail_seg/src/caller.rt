@@ -20,7 +20,8 @@ pub fn post_at<R: Wait>(rt: &R, ends: &mut Vec<MailSeg>, m: Msg) -> Result<(), P
     requires to { m.to.0 + 1 < length ends.old.items }
     requires prio { m.prio.0 < 6 }
     requires tied { AreTied tt ends.old.items }
-    ensures ok { OnOk result (map log_of ends.new.items ≡ slice_set (map log_of ends.old.items) m.from.0 (posting (log_at (map log_of ends.old.items) m.from.0) m)) }
+    ensures ok { OnOk result (map log_of ends.new.items ≡ slice_set (map log_of ends.old.items)
+        m.from.0 (posting (log_at (map log_of ends.old.items) m.from.0) m)) }
     ensures tied { AreTied tt ends.new.items }
     ensures count { length ends.new.items ≡ length ends.old.items }
 {
@@ -34,9 +35,12 @@ pub fn take_at<R: Wait>(rt: &R, ends: &mut Vec<MailSeg>, party: u8, b: u32) -> O
     requires party { party < length ends.old.items }
     requires in_range { b < shared_boxes party (length ends.old.items) }
     requires tied { AreTied tt ends.old.items }
-    ensures log { map log_of ends.new.items ≡ slice_set (map log_of ends.old.items) party (taking (log_at (map log_of ends.old.items) party) b result) }
-    ensures some { IfSome result (IsOfBox IsSharedBox (log_at (map log_of ends.old.items) party) b) }
-    ensures none { IfNone result (OwnIsTaken IsSharedBox (log_at (map log_of ends.old.items) party) b) }
+    ensures log { map log_of ends.new.items ≡ slice_set (map log_of ends.old.items) party
+        (taking (log_at (map log_of ends.old.items) party) b result) }
+    ensures some { IfSome result (IsOfBox IsSharedBox (log_at (map log_of ends.old.items) party)
+        b) }
+    ensures none { IfNone result (OwnIsTaken IsSharedBox (log_at (map log_of ends.old.items) party)
+        b) }
     ensures tied { AreTied tt ends.new.items }
     ensures count { length ends.new.items ≡ length ends.old.items }
 {

@@ -24,10 +24,15 @@ fn drain_receiver<R: Wait>(
     requires receiver { receiver < parties }
     requires rows { length rows.old.items ≡ parties }
     requires long { (s : ℕ) → s < parties → 6 ≤ length (row_at (queues_of rows.old.items) s) }
-    requires boxes { (b : ℕ) → b < 6 → IsBox parties receiver (pass_at (queues_of rows.old.items) b) }
-    ensures list { OnOk result (list.new.items ≡ list.old.items ++ in_poll_order parties (λ s p. left_in (pass_at (queues_of rows.old.items) (5 - p)) receiver s)) }
-    ensures settled { OnOk result ((s b : ℕ) → s < parties → b < 6 → IsSettled (pass_at (queues_of rows.old.items) b) receiver s) }
-    ensures shifted { OnOk result (Shifted 6 parties (queues_of rows.old.items) (queues_of rows.new.items)) }
+    requires boxes { (b : ℕ) → b < 6
+        → IsBox parties receiver (pass_at (queues_of rows.old.items) b) }
+    ensures list { OnOk result (list.new.items ≡ list.old.items
+        ++ in_poll_order parties (λ s p.
+        left_in (pass_at (queues_of rows.old.items) (5 - p)) receiver s)) }
+    ensures settled { OnOk result ((s b : ℕ) → s < parties → b < 6
+        → IsSettled (pass_at (queues_of rows.old.items) b) receiver s) }
+    ensures shifted { OnOk result (Shifted 6 parties (queues_of rows.old.items)
+        (queues_of rows.new.items)) }
 {
     for _b in 0..6u8 {
         drain_box(rt, alloc, rows, parties, receiver, list)?;
@@ -44,11 +49,18 @@ fn drain_all<R: Wait>(
 ) -> Result<Vec<Vec<Msg>>, AllocError>
     requires some { 0 < parties }
     requires rows { length rows.old.items ≡ parties }
-    requires long { (s : ℕ) → s < parties → length (row_at (queues_of rows.old.items) s) + 6 ≡ parties * 6 }
-    requires boxes { (r b : ℕ) → r + 1 < parties → b < 6 → IsBox parties r (pass_at (queues_of rows.old.items) (r * 6 + b)) }
+    requires long { (s : ℕ) → s < parties
+        → length (row_at (queues_of rows.old.items) s) + 6 ≡ parties * 6 }
+    requires boxes { (r b : ℕ) → r + 1 < parties → b < 6
+        → IsBox parties r (pass_at (queues_of rows.old.items) (r * 6 + b)) }
     ensures count { IfOk result (λ v. length v.items + 1 ≡ parties) }
-    ensures order { IfOk result (λ v. (r : ℕ) → r + 1 < parties → slice_get (map (λ x. x.items) v.items) r ≡ Some (in_poll_order parties (λ s p. left_in (pass_at (queues_of rows.old.items) (r * 6 + (5 - p))) r s))) }
-    ensures settled { IfOk result (λ _. (s r b : ℕ) → s < parties → r + 1 < parties → b < 6 → IsSettled (pass_at (queues_of rows.old.items) (r * 6 + b)) r s) }
+    ensures order { IfOk result (λ v.
+        (r : ℕ) → r + 1 < parties
+        → slice_get (map (λ x. x.items) v.items) r ≡ Some (in_poll_order parties (λ s p.
+        left_in (pass_at (queues_of rows.old.items) (r * 6 + (5 - p))) r s))) }
+    ensures settled { IfOk result (λ _.
+        (s r b : ℕ) → s < parties → r + 1 < parties → b < 6
+        → IsSettled (pass_at (queues_of rows.old.items) (r * 6 + b)) r s) }
 {
     let mut all = Vec::new(alloc);
     for receiver in 0..parties - 1 {

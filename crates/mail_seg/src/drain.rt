@@ -16,7 +16,8 @@ fn front(rows: &mut Vec<Row>, party: u8) -> BoxPass
     requires party { party < length rows.old.items }
     requires some { 0 < length (row_at (queues_of rows.old.items) party) }
     ensures pass { side result ≡ pass_at (queues_of rows.old.items) 0 party }
-    ensures rows { queues_of rows.new.items ≡ slice_set (queues_of rows.old.items) party (drop 1 (row_at (queues_of rows.old.items) party)) }
+    ensures rows { queues_of rows.new.items ≡ slice_set (queues_of rows.old.items) party
+        (drop 1 (row_at (queues_of rows.old.items) party)) }
 {
     let row = &mut rows[usize::from(party)];
     match row.passes.pop_front() {
@@ -31,8 +32,14 @@ fn take_in(own: &mut BoxPass, rows: &mut Vec<Row>, from: u8, to: u8)
     requires order { from ≤ to }
     requires rows { to ≤ length rows.old.items }
     requires some { (s : ℕ) → from ≤ s → s < to → 0 < length (row_at (queues_of rows.old.items) s) }
-    requires same { (s : ℕ) → from ≤ s → s < to → ((pass_at (queues_of rows.old.items) 0 s).to ≡ (side own.old).to) × ((pass_at (queues_of rows.old.items) 0 s).prio ≡ (side own.old).prio) × ((pass_at (queues_of rows.old.items) 0 s).queue ≡ (side own.old).queue) }
-    ensures own { side own.new ≡ record (side own.old) { posts = (side own.old).posts ++ gathered (pass_at (queues_of rows.old.items) 0) from (to - from) } }
+    requires same { (s : ℕ) → from ≤ s → s < to
+        → ((pass_at (queues_of rows.old.items) 0 s).to ≡ (side own.old).to)
+        × ((pass_at (queues_of rows.old.items) 0 s).prio ≡ (side own.old).prio)
+        × ((pass_at (queues_of rows.old.items) 0 s).queue ≡ (side own.old).queue) }
+    ensures own { side own.new ≡ record (side own.old) {
+      posts = (side own.old).posts
+          ++ gathered (pass_at (queues_of rows.old.items) 0) from (to - from);
+    } }
     ensures fronts { Fronts from to (queues_of rows.old.items) (queues_of rows.new.items) }
 {
     for party in from..to {
@@ -46,7 +53,11 @@ fn whole(rows: &mut Vec<Row>, parties: u8, receiver: u8) -> BoxPass
     requires rows { length rows.old.items ≡ parties }
     requires some { (s : ℕ) → s < parties → 0 < length (row_at (queues_of rows.old.items) s) }
     requires is_box { IsBox parties receiver (pass_at (queues_of rows.old.items) 0) }
-    ensures pass { let f = pass_at (queues_of rows.old.items) 0 in side result ≡ record (f receiver) { posts = ((f receiver).posts ++ gathered f 0 receiver) ++ gathered f (receiver + 1) (parties - (receiver + 1)) } }
+    ensures pass { let f = pass_at (queues_of rows.old.items) 0 in
+        side result ≡ record (f receiver) {
+          posts = ((f receiver).posts ++ gathered f 0 receiver)
+              ++ gathered f (receiver + 1) (parties - (receiver + 1));
+        } }
     ensures fronts { Fronts 0 parties (queues_of rows.old.items) (queues_of rows.new.items) }
 {
     let mut own = front(rows, receiver);
@@ -58,7 +69,8 @@ fn whole(rows: &mut Vec<Row>, parties: u8, receiver: u8) -> BoxPass
 #[tactic(auto, using(crate::proofs::LeftLemmas::list_steps))]
 fn put(lists: &mut Vec<Vec<Msg>>, m: Msg) -> Result<(), AllocError>
     requires { m.from.0 < length lists.old.items }
-    ensures { OnOk result (lists_of lists.new.items ≡ slice_set (lists_of lists.old.items) m.from.0 (list_at (lists_of lists.old.items) m.from.0 ++ m ∷ [])) }
+    ensures { OnOk result (lists_of lists.new.items ≡ slice_set (lists_of lists.old.items) m.from.0
+        (list_at (lists_of lists.old.items) m.from.0 ++ m ∷ [])) }
 {
     let list = &mut lists[usize::from(m.from.0)];
     list.push(m)?;
@@ -70,7 +82,8 @@ fn put(lists: &mut Vec<Vec<Msg>>, m: Msg) -> Result<(), AllocError>
 fn drain<R: Wait>(rt: &R, own: &mut BoxPass, lists: &mut Vec<Vec<Msg>>) -> Result<(), AllocError>
     requires takes { (side own.old).takes ≡ true }
     requires lists { (side own.old).next ≤ length lists.old.items }
-    ensures { OnOk result (Drained (side own.old) (side own.new) (lists_of lists.old.items) (lists_of lists.new.items)) }
+    ensures { OnOk result (Drained (side own.old) (side own.new) (lists_of lists.old.items)
+        (lists_of lists.new.items)) }
 {
     for _look in rt.forever() {
         match own.take(rt) {
@@ -84,8 +97,10 @@ fn drain<R: Wait>(rt: &R, own: &mut BoxPass, lists: &mut Vec<Vec<Msg>>) -> Resul
 #[tactic(auto, using(crate::proofs::LeftLemmas::list_steps))]
 fn append(list: &mut Vec<Msg>, lists: &mut Vec<Vec<Msg>>, party: u8) -> Result<(), AllocError>
     requires { party < length lists.old.items }
-    ensures list { OnOk result (list.new.items ≡ list.old.items ++ list_at (lists_of lists.old.items) party) }
-    ensures lists { OnOk result (lists_of lists.new.items ≡ slice_set (lists_of lists.old.items) party []) }
+    ensures list { OnOk result (list.new.items
+        ≡ list.old.items ++ list_at (lists_of lists.old.items) party) }
+    ensures lists { OnOk result (lists_of lists.new.items
+        ≡ slice_set (lists_of lists.old.items) party []) }
 {
     let more = &mut lists[usize::from(party)];
     list.append(more)
@@ -96,7 +111,8 @@ fn append(list: &mut Vec<Msg>, lists: &mut Vec<Vec<Msg>>, party: u8) -> Result<(
 fn append_all(list: &mut Vec<Msg>, lists: &mut Vec<Vec<Msg>>, parties: u8) -> Result<(), AllocError>
     requires some { 0 < parties }
     requires lists { length lists.old.items ≡ parties }
-    ensures { OnOk result (list.new.items ≡ list.old.items ++ at_priority parties (list_at (lists_of lists.old.items))) }
+    ensures { OnOk result (list.new.items
+        ≡ list.old.items ++ at_priority parties (list_at (lists_of lists.old.items))) }
 {
     let environment = parties - 1;
     append(list, lists, environment)?;
@@ -129,9 +145,12 @@ pub(crate) fn drain_box<R: Wait>(
     requires rows { length rows.old.items ≡ parties }
     requires some { (s : ℕ) → s < parties → 0 < length (row_at (queues_of rows.old.items) s) }
     requires is_box { IsBox parties receiver (pass_at (queues_of rows.old.items) 0) }
-    ensures list { OnOk result (list.new.items ≡ list.old.items ++ at_priority parties (left_in (pass_at (queues_of rows.old.items) 0) receiver)) }
-    ensures settled { OnOk result ((s : ℕ) → s < parties → IsSettled (pass_at (queues_of rows.old.items) 0) receiver s) }
-    ensures fronts { OnOk result (Fronts 0 parties (queues_of rows.old.items) (queues_of rows.new.items)) }
+    ensures list { OnOk result (list.new.items ≡ list.old.items
+        ++ at_priority parties (left_in (pass_at (queues_of rows.old.items) 0) receiver)) }
+    ensures settled { OnOk result ((s : ℕ) → s < parties
+        → IsSettled (pass_at (queues_of rows.old.items) 0) receiver s) }
+    ensures fronts { OnOk result (Fronts 0 parties (queues_of rows.old.items)
+        (queues_of rows.new.items)) }
 {
     let mut own = whole(rows, parties, receiver);
     let mut lists = empty_lists(alloc, parties)?;

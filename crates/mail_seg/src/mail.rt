@@ -82,7 +82,8 @@ impl MailSeg {
     ) -> Result<Vec<Vec<Msg>>, AllocError>
         requires some { 0 < length ends.items }
         requires tied { AreTied tt ends.items }
-        ensures { IfOk result (λ left. IsLeft (map log_of ends.items) (map (λ v. v.items) left.items)) }
+        ensures { IfOk result (λ left.
+            IsLeft (map log_of ends.items) (map (λ v. v.items) left.items)) }
     {
         all_left(rt, alloc, ends)
     }

@@ -23,7 +23,8 @@ pub(crate) fn post_at<R: Wait>(
 ) -> Result<(), Msg>
     requires within { at < length outlets.old.items }
     requires into { IsInto (side_at (map side outlets.old.items) at) m }
-    ensures ok { OnOk result (map side outlets.new.items ≡ slice_set (map side outlets.old.items) at (sending (side_at (map side outlets.old.items) at) m)) }
+    ensures ok { OnOk result (map side outlets.new.items ≡ slice_set (map side outlets.old.items) at
+        (sending (side_at (map side outlets.old.items) at) m)) }
     ensures err { OnErr result (map side outlets.new.items ≡ map side outlets.old.items) }
     ensures back { IfErr result (λ x. x ≡ m) }
 {
@@ -35,7 +36,12 @@ pub(crate) fn post_at<R: Wait>(
 pub(crate) fn take_at<R: Wait>(rt: &R, outlets: &mut Vec<BoxPass>, at: usize) -> Option<Msg>
     requires within { at < length outlets.old.items }
     requires takes { (side_at (map side outlets.old.items) at).takes ≡ true }
-    ensures took { let a = side_at (map side outlets.old.items) at in MatchOption result ((map side outlets.new.items ≡ map side outlets.old.items) × AllTaken a.got a.posts) (λ m. (map side outlets.new.items ≡ slice_set (map side outlets.old.items) at (getting a m)) × IsOutOf a m) }
+    ensures took { let a = side_at (map side outlets.old.items) at in
+        MatchOption result
+        ((map side outlets.new.items ≡ map side outlets.old.items) × AllTaken a.got a.posts)
+        (λ m.
+        (map side outlets.new.items ≡ slice_set (map side outlets.old.items) at (getting a m))
+        × IsOutOf a m) }
 {
     let outlet = &mut outlets[at];
     outlet.take(rt)

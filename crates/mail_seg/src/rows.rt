@@ -9,7 +9,8 @@ use std::alloc::{AllocError, Global};
 #[tactic(auto, using(crate::proofs::RowLemmas::table_steps))]
 fn give(rows: &mut Vec<Vec<BoxPass>>, party: u8, pass: BoxPass) -> Result<(), AllocError>
     requires { party < length rows.old.items }
-    ensures { OnOk result (rows_of rows.new.items ≡ slice_set (rows_of rows.old.items) party (row_at (rows_of rows.old.items) party ++ side pass ∷ [])) }
+    ensures { OnOk result (rows_of rows.new.items ≡ slice_set (rows_of rows.old.items) party
+        (row_at (rows_of rows.old.items) party ++ side pass ∷ [])) }
 {
     let row = &mut rows[usize::from(party)];
     row.push(pass)?;
@@ -23,7 +24,9 @@ fn deal(own: &mut BoxPass, rows: &mut Vec<Vec<BoxPass>>, from: u8, to: u8) -> Re
     requires order { from ≤ to }
     requires rows { to ≤ length rows.old.items }
     ensures own { OnOk result (side own.new ≡ record (side own.old) { next = to }) }
-    ensures dealt { OnOk result (Dealt from to (poster_side (side own.old).to (side own.old).prio (side own.old).queue) (rows_of rows.old.items) (rows_of rows.new.items)) }
+    ensures dealt { OnOk result (Dealt from to
+        (poster_side (side own.old).to (side own.old).prio (side own.old).queue)
+        (rows_of rows.old.items) (rows_of rows.new.items)) }
 {
     for party in from..to {
         give(rows, party, own.split_next()?)?;
@@ -41,7 +44,8 @@ fn add_box(
 ) -> Result<(), AllocError>
     requires receiver { receiver + 1 < parties }
     requires rows { length rows.old.items ≡ parties }
-    ensures { OnOk result ((queue : ℕ × ℕ) × AddedBox parties receiver prio queue (rows_of rows.old.items) (rows_of rows.new.items)) }
+    ensures { OnOk result ((queue : ℕ × ℕ)
+        × AddedBox parties receiver prio queue (rows_of rows.old.items) (rows_of rows.new.items)) }
 {
     let mut own = BoxPass::new(alloc, receiver, prio)?;
     deal(&mut own, rows, 0, receiver)?;

@@ -55,7 +55,9 @@ impl BoxPass {
     pub(crate) fn split_next(&mut self) -> Result<BoxPass, AllocError>
         requires { (side self.old).takes ≡ true }
         ensures kept { OnOk result (side self.new ≡ past_side (side self.old)) }
-        ensures split { IfOk result (λ b. side b ≡ poster_side (side self.old).to (side self.old).prio (side self.old).queue (side self.old).next) }
+        ensures split { IfOk result (λ b.
+            side b ≡ poster_side (side self.old).to (side self.old).prio (side self.old).queue
+            (side self.old).next) }
     {
         let queue = Arc::try_clone(&self.queue)?;
         let pass = self.queue.ruled.another::<NextParty>(&mut self.pass);
@@ -72,7 +74,9 @@ impl BoxPass {
     pub(crate) fn split_after_own(&mut self) -> Result<BoxPass, AllocError>
         requires { (side self.old).takes ≡ true }
         ensures kept { OnOk result (side self.new ≡ keeping_side (side self.old)) }
-        ensures split { IfOk result (λ b. side b ≡ poster_side (side self.old).to (side self.old).prio (side self.old).queue ((side self.old).next + 1)) }
+        ensures split { IfOk result (λ b.
+            side b ≡ poster_side (side self.old).to (side self.old).prio (side self.old).queue
+            ((side self.old).next + 1)) }
     {
         let queue = Arc::try_clone(&self.queue)?;
         let pass = self.queue.ruled.another::<KeepNext>(&mut self.pass);
@@ -108,7 +112,9 @@ impl BoxPass {
     #[tactic(auto, using(crate::proofs::RuleLemmas::rule_steps))]
     pub(crate) fn take<R: Wait>(&mut self, rt: &R) -> Option<Msg>
         requires { (side self.old).takes ≡ true }
-        ensures took { MatchOption result ((side self.new ≡ side self.old) × AllTaken (side self.old).got (side self.old).posts) (λ m. (side self.new ≡ getting (side self.old) m) × IsOutOf (side self.old) m) }
+        ensures took { MatchOption result
+            ((side self.new ≡ side self.old) × AllTaken (side self.old).got (side self.old).posts)
+            (λ m. (side self.new ≡ getting (side self.old) m) × IsOutOf (side self.old) m) }
     {
         match self.queue.ruled.pop_as::<Pop, R>(rt, &mut self.pass) {
             Some(contents) => Some(contents.address(self.to, self.prio)),
@@ -120,7 +126,9 @@ impl BoxPass {
     #[tactic(auto, using(crate::proofs::RuleLemmas::rule_steps))]
     pub(crate) fn join(&mut self, other: BoxPass)
         requires takes { (side self.old).takes ≡ true }
-        requires same { ((side other).to ≡ (side self.old).to) × ((side other).prio ≡ (side self.old).prio) × ((side other).queue ≡ (side self.old).queue) }
+        requires same { ((side other).to ≡ (side self.old).to)
+            × ((side other).prio ≡ (side self.old).prio)
+            × ((side other).queue ≡ (side self.old).queue) }
         ensures { side self.new ≡ joined (side self.old) (side other) }
     {
         self.queue

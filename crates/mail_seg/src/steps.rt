@@ -12,7 +12,8 @@ impl MailSeg {
     #[tactic(auto, using(mail_core::proofs::ListLemmas::list_steps))]
     pub(crate) fn add_look(&mut self, b: u32)
         requires { b < 6 }
-        ensures log { log_of self.new ≡ record (log_of self.old) { looks = looked (log_of self.old).looks b } }
+        ensures log { log_of self.new
+            ≡ record (log_of self.old) { looks = looked (log_of self.old).looks b } }
         ensures wiring { wiring_of self.new ≡ wiring_of self.old }
     {
         let look = &mut self.looks[b as usize];
@@ -23,7 +24,8 @@ impl MailSeg {
         requires from { m.from.0 ≡ self.old.party }
         requires to { m.to.0 + 1 < self.old.parties }
         requires prio { m.prio.0 < 6 }
-        ensures ok { OnOk result (log_of self.new ≡ record (log_of self.old) { posted = gained (log_of self.old).posted m.to.0 m.prio.0 m }) }
+        ensures ok { OnOk result (log_of self.new ≡ record (log_of self.old)
+            { posted = gained (log_of self.old).posted m.to.0 m.prio.0 m }) }
         ensures err { OnErr result (log_of self.new ≡ log_of self.old) }
         ensures back { IfErr result (λ x. x ≡ m) }
         ensures wiring { wiring_of self.new ≡ wiring_of self.old }
@@ -35,7 +37,16 @@ impl MailSeg {
     pub(crate) fn take_own<R: Wait>(&mut self, rt: &R, b: u32) -> Option<Msg>
         requires controller { self.old.party + 1 < self.old.parties }
         requires in_range { b < 6 }
-        ensures log { MatchOption result ((log_of self.new ≡ log_of self.old) × ((log_of self.old).posted self.old.party (5 - b) ≡ (log_of self.old).taken self.old.party (5 - b))) (λ m. (m.to.0 ≡ self.old.party) × (m.from.0 < self.old.parties) × (m.prio.0 ≡ 5 - b) × (log_of self.new ≡ record (log_of self.old) { taken = gained (log_of self.old).taken m.from.0 m.prio.0 m })) }
+        ensures log { MatchOption result
+            ((log_of self.new ≡ log_of self.old)
+            × ((log_of self.old).posted self.old.party (5 - b)
+            ≡ (log_of self.old).taken self.old.party (5 - b)))
+            (λ m.
+            (m.to.0 ≡ self.old.party)
+            × (m.from.0 < self.old.parties)
+            × (m.prio.0 ≡ 5 - b)
+            × (log_of self.new ≡ record (log_of self.old)
+            { taken = gained (log_of self.old).taken m.from.0 m.prio.0 m })) }
         ensures wiring { wiring_of self.new ≡ wiring_of self.old }
     {
         let at = place(self.party, b);

@@ -155,7 +155,7 @@ impl<'a> Explained<'a> {
         };
         let incoming = Incoming {
             signal: naming::signal_name(self.wiring, msg),
-            port: naming::port_name(self.wiring, slot, msg.target.port),
+            port: self.wiring.port_name(slot, msg.target.port),
         };
         let at = Moment {
             label: naming::state_label(self.wiring, slot, state),

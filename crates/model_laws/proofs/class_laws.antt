@@ -1,8 +1,8 @@
 mod Scopes
 mod Named
-mod Codes
-mod Charts
-mod Plans
+pub mod Codes
+pub mod Charts
+pub mod Plans
 mod Classes
 mod Asking
 pub mod Models

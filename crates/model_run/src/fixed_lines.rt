@@ -54,7 +54,8 @@ impl<'l> FixedLines<'l> {
         ensures lines { result.lines.now ≡ lines.now }
         ensures part { result.part.now ≡ take result.to lines.now }
         ensures of { IsPart result.part.now }
-        ensures fits { (wiring : Tables) → FitLines wiring lines.now → FitLines wiring result.part.now }
+        ensures fits { (wiring : Tables) → FitLines wiring lines.now
+            → FitLines wiring result.part.now }
     {
         let to = leading_messages(lines);
         let (part, _) = lines.split_at(to);

@@ -57,7 +57,8 @@ where
     requires first { S.given source.old ≡ S.stands_at source.old }
     requires part { IsPart (S.stands_at source.old) }
     requires fits { S.fits plant.now.wiring source.old }
-    ensures ran { IfOk result (λ j. RanThrough plant.now (S.given source.new) (S.left source.new) fuel j) }
+    ensures ran { IfOk result (λ j.
+        RanThrough plant.now (S.given source.new) (S.left source.new) fuel j) }
     ensures asked { IfOk result (λ j. Asked S.goes_on source.old source.new (seen_in j)) }
 {
     let mut run = Run::start(alloc, plant, fuel)?;

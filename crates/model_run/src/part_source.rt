@@ -43,15 +43,19 @@ pub trait PartSource: Sized {
         controllers: &[Controller],
         environment: &Environment,
     ) -> Result<bool, AllocError>
-        ensures next { IfOk result (λ more. NextPart (given self.old) (given self.new) (stands_at self.new) more) }
+        ensures next { IfOk result (λ more.
+            NextPart (given self.old) (given self.new) (stands_at self.new) more) }
         ensures over { IfOk result (λ more. more ≡ false → left self.new ≡ []) }
-        ensures goes_on { IfOk result (λ more. goes_on self.old (seen controllers.now environment.now) self.new) }
-        ensures fits { OnOk result ((wiring : Tables) → fits wiring self.old → fits wiring self.new) };
+        ensures goes_on { IfOk result (λ more.
+            goes_on self.old (seen controllers.now environment.now) self.new) }
+        ensures fits { OnOk result ((wiring : Tables) → fits wiring self.old
+            → fits wiring self.new) };
 
     /// The numbers of the lines behind the part at which it stands.
     fn numbers_left(&self, alloc: Global) -> Result<Vec<u32>, AllocError>
         ensures { IfOk result (λ numbers. numbers.items ≡ left self.now) };
 
     /// So do those of the part at which it stands.
-    ghost part_fits: { (wiring : Tables) (source : Self) → fits wiring source → FitLines wiring (stands_at source) };
+    ghost part_fits: { (wiring : Tables) (source : Self) → fits wiring source
+        → FitLines wiring (stands_at source) };
 }

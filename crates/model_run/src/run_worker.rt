@@ -33,7 +33,8 @@ fn poll_and_turn<M: Mail, G: Gate>(
     requires tied { IsTied M.tied (M.log end.old).party office.old end.old }
     requires posted { controller.old.mail.outbox ≡ [] }
     requires fuel { controller.old.mail.turns < controller.old.fuel }
-    ensures ok { OnOk result (Did plant.now controller.old controller.new (M.log end.old) (M.log end.new)) }
+    ensures ok { OnOk result (Did plant.now controller.old controller.new (M.log end.old)
+        (M.log end.new)) }
     ensures counted { IfOk result (λ turned. Counted turned controller.old controller.new) }
     ensures of { IsOf plant.now controller.new }
     ensures tied { StaysTied M.tied (M.log end.old).party office.old office.new end.old end.new }
@@ -62,7 +63,8 @@ fn step<M: Mail, G: Gate>(
     requires tied { IsTied M.tied (M.log end.old).party office.old end.old }
     requires posted { controller.old.mail.outbox ≡ [] }
     requires fuel { controller.old.mail.turns < controller.old.fuel }
-    ensures ok { OnOk result (Works plant.now controller.old controller.new (M.log end.old) (M.log end.new)) }
+    ensures ok { OnOk result (Works plant.now controller.old controller.new (M.log end.old)
+        (M.log end.new)) }
     ensures counted { IfOk result (λ turned. Counted turned controller.old controller.new) }
     ensures of { IsOf plant.now controller.new }
     ensures tied { StaysTied M.tied (M.log end.old).party office.old office.new end.old end.new }
@@ -88,7 +90,8 @@ pub fn work<M: Mail, G: Gate>(
     requires party { (M.log end.old).party ≡ controller.old.me.0 }
     requires parties { (M.log end.old).parties ≡ length plant.now.wiring.controllers + 1 }
     requires tied { IsTied M.tied (M.log end.old).party office.old end.old }
-    ensures ok { OnOk result (Works plant.now controller.old controller.new (M.log end.old) (M.log end.new)) }
+    ensures ok { OnOk result (Works plant.now controller.old controller.new (M.log end.old)
+        (M.log end.new)) }
     ensures of { IsOf plant.now controller.new }
     ensures tied { StaysTied M.tied (M.log end.old).party office.old office.new end.old end.new }
 {

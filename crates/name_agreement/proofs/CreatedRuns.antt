@@ -27,7 +27,7 @@ use Rattle.actor_world.specs.Directories.{IsOpen, AreOpen}
 use Rattle.world_agreement.specs.Trails.{contents, from_a, system_to, is_system_to, trail, leaves, comes}
 use Rattle.world_agreement.proofs.Lists.{all_append, all_later, all_before}
 use Rattle.world_agreement.proofs.Hearing.{from_append}
-use Rattle.world_agreement.proofs.Telling.{own_owner}
+use Rattle.actor_world.proofs.TrueTurns.{own_owner}
 use Rattle.world_agreement.proofs.Moving.{Ranked, next_front, from_one, kept_by, post_from, turn_from, world_after, controller_moves}
 use Rattle.world_agreement.proofs.Agreeing.{IsForetold, start_foretold, controller_foretold, environment_foretold, environment_moves, world_then, fresh_trail}
 use Rattle.name_agreement.specs.Asking.{AllAsk}

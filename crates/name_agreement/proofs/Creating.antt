@@ -24,7 +24,7 @@ use Rattle.actor_world.specs.Body.{Body}
 use Rattle.actor_world.specs.Turns.{all_kinds}
 use Rattle.actor_world.proofs.LifeSteps.{down_parts}
 use Rattle.world_agreement.proofs.Lists.{all_append, all_map, all_filter, all_passed, all_reverse}
-use Rattle.world_agreement.proofs.Telling.{own_owner}
+use Rattle.actor_world.proofs.TrueTurns.{own_owner}
 use Rattle.name_agreement.specs.Created.{asker_by, asker, hearer_by, hearer, told_of_by, told_of}
 use Rattle.name_agreement.specs.Registrations.{is_asking_kind, is_asking, is_reply, RepliesOne}
 use Rattle.name_agreement.proofs.Standing.{own_reply}

@@ -10,7 +10,6 @@ use Rattle.room_kinds.specs.declared.system.SysKind.{SysKind}
 use Rattle.room_kinds.specs.declared.system.SysKind.TheVariants as kinds
 use Rattle.room_kinds.specs.declared.command.Command.{Command}
 use Rattle.room_kinds.specs.declared.command.Command.TheVariants as commands
-use Rattle.room_kinds.specs.declared.command.FrameCommand.{FrameCommand}
 use Rattle.room_kinds.specs.declared.command.FrameCommand.TheVariants as frames
 use Rattle.room_kinds.specs.declared.command.NameCommand.{NameCommand}
 use Rattle.journal.specs.declared.entry.Did.TheVariants as did
@@ -34,6 +33,7 @@ use Rattle.world_agreement.proofs.Duties.{by_plainly, by_number, by_natural}
 use Rattle.world_agreement.proofs.Walking.{IsHere, frame_duty_makes}
 use Rattle.name_agreement.specs.Asking.{AllAsk}
 use Rattle.name_agreement.proofs.OffNames.{IsOffNames, AllOffNames, frame_duty_off, frame_request_off, send_off, broadcast_off}
+use Rattle.world_agreement.proofs.Carrying.{request_lives}
 
 -- what a duty of the frame service does to lives: nothing; an optional slot is made; or it ends
 pub data LivesBy (t : Tables) (me : ℕ) (l : Lives) (r : FrameDone) : Type 0 where
@@ -120,12 +120,6 @@ module _ (t : Tables) (me : ℕ) (f : Frame) where
   pub frame_duty_deals : (m : Msg) (kind : SysKind) → Deals t me f.lives (frame_duty t me f kind m)
   unfolding frame_duty
   frame_duty_deals m kind = duty_from_deals m kind m.source
-
-request_lives : (t : Tables) (me : ℕ) (f : Frame) (x : Incarnation) (c : FrameCommand) → (frame_request t me f x c).now.lives ≡ f.lives
-request_lives t me f x (frames.Incarnate reference index) = refl
-request_lives t me f x (frames.Destroy reference index) = refl
-request_lives t me f x (frames.Import reference index id) = refl
-request_lives t me f x (frames.Deport reference index) = refl
 
 -- actors end one after another: their names are withdrawn, their registrations and links go
 abbrev pub all_ended : Tables → ℕ → List Incarnation → Links → Done Links

@@ -27,7 +27,8 @@ pub(crate) enum Filling {
 /// The flat class of a number, if it was taken.
 #[tactic(auto, using(crate::proofs::Bases::flat_got))]
 fn flat_there<'a>(flats: &'a [Option<ActorClass>], number: Option<usize>) -> Option<&'a ActorClass>
-    ensures { option_map (λ a. actor_view a.now) result ≡ option_and_then (there_at (flat_views flats.entry.now)) number }
+    ensures { option_map (λ a. actor_view a.now) result
+        ≡ option_and_then (there_at (flat_views flats.entry.now)) number }
 {
     let Some(number) = number else {
         return None;
@@ -44,7 +45,9 @@ fn taken_over(
     own: &ActorClass,
     base: Option<&ActorClass>,
 ) -> Result<Option<ActorClass>, AllocError>
-    ensures { IfOk result (λ f. option_map actor_view f ≡ taken_over (actor_view own.now) (option_map (λ b. actor_view b.now) base.entry)) }
+    ensures { IfOk result (λ f.
+        option_map actor_view f
+        ≡ taken_over (actor_view own.now) (option_map (λ b. actor_view b.now) base.entry)) }
 {
     let Some(base) = base else {
         return Ok(Some(copy_actor(alloc, own)?));
@@ -57,7 +60,8 @@ fn taken_over(
 
 #[tactic(auto, using(crate::proofs::Bases::flat_set, crate::proofs::Bases::flat_past))]
 fn set_flat(flats: &mut Vec<Option<ActorClass>>, number: usize, flat: ActorClass)
-    ensures { flat_views flats.new.items ≡ slice_set (flat_views flats.old.items) number (Some (actor_view flat)) }
+    ensures { flat_views flats.new.items
+        ≡ slice_set (flat_views flats.old.items) number (Some (actor_view flat)) }
 {
     if number < flats.len() {
         flats[number] = Some(flat);
@@ -84,8 +88,10 @@ fn put_new(
     number: usize,
     flat: ActorClass,
 ) -> usize
-    ensures flats { flat_views flats.new.items ≡ put_new (flat_views flats.old.items) number (actor_view flat) }
-    ensures left { left ≡ left_beside (flat_views flats.old.items) → result ≡ left_beside (flat_views flats.new.items) }
+    ensures flats { flat_views flats.new.items
+        ≡ put_new (flat_views flats.old.items) number (actor_view flat) }
+    ensures left { left ≡ left_beside (flat_views flats.old.items)
+        → result ≡ left_beside (flat_views flats.new.items) }
 {
     if !is_vacant(flats.as_slice(), number) {
         return left;
@@ -105,8 +111,11 @@ fn with_class(
     left: usize,
     number: usize,
 ) -> Result<Option<usize>, AllocError>
-    ensures flats { IfOk result (λ after. with_class names.now (map class_view classes.now) (flat_views flats.old.items) number ≡ option_map (λ n. flat_views flats.new.items) after) }
-    ensures left { left ≡ left_beside (flat_views flats.old.items) → IfOk result (λ after. IfSome after (λ n. n ≡ left_beside (flat_views flats.new.items))) }
+    ensures flats { IfOk result (λ after.
+        with_class names.now (map class_view classes.now) (flat_views flats.old.items) number
+        ≡ option_map (λ n. flat_views flats.new.items) after) }
+    ensures left { left ≡ left_beside (flat_views flats.old.items)
+        → IfOk result (λ after. IfSome after (λ n. n ≡ left_beside (flat_views flats.new.items))) }
 {
     let Some(own) = actor_at(classes, number) else {
         return Ok(Some(left));
@@ -141,7 +150,9 @@ pub(crate) fn filled(
     classes: &[Class],
     order: &[usize],
 ) -> Result<Filling, AllocError>
-    ensures { IfOk result (λ found. filling_view found ≡ filled names.now (map class_view classes.now) order.now (none_taken (map class_view classes.now))) }
+    ensures { IfOk result (λ found.
+        filling_view found ≡ filled names.now (map class_view classes.now) order.now
+        (none_taken (map class_view classes.now))) }
 {
     let mut flats = none_taken(alloc, classes)?;
     let mut left = TOO_MANY;
@@ -160,7 +171,8 @@ pub(crate) fn filled(
 /// Puts a flat class in the place of the class of a number.
 #[tactic(auto, using(crate::proofs::Bases::class_set, crate::proofs::Bases::class_past))]
 fn put_flat(classes: &mut Vec<Class>, number: usize, flat: ActorClass)
-    ensures { map class_view classes.new.items ≡ slice_set (map class_view classes.old.items) number (AnActor (actor_view flat)) }
+    ensures { map class_view classes.new.items
+        ≡ slice_set (map class_view classes.old.items) number (AnActor (actor_view flat)) }
 {
     if number < classes.len() {
         classes[number] = Class::Actor(flat);
@@ -168,7 +180,8 @@ fn put_flat(classes: &mut Vec<Class>, number: usize, flat: ActorClass)
 }
 
 fn put_if(classes: &mut Vec<Class>, number: usize, flat: Option<ActorClass>)
-    ensures { map class_view classes.new.items ≡ put_at (map class_view classes.old.items) number (option_map actor_view flat) }
+    ensures { map class_view classes.new.items
+        ≡ put_at (map class_view classes.old.items) number (option_map actor_view flat) }
 {
     if let Some(flat) = flat {
         put_flat(classes, number, flat);
@@ -178,7 +191,8 @@ fn put_if(classes: &mut Vec<Class>, number: usize, flat: Option<ActorClass>)
 /// Puts the flat classes in the places of the classes of their numbers.
 #[tactic(auto, using(crate::proofs::Bases::replaced_last, crate::proofs::Bases::replaced_done))]
 pub(crate) fn put_flats(classes: &mut Vec<Class>, flats: Vec<Option<ActorClass>>)
-    ensures { map class_view classes.new.items ≡ replaced (map class_view classes.old.items) (flat_views flats.items) }
+    ensures { map class_view classes.new.items
+        ≡ replaced (map class_view classes.old.items) (flat_views flats.items) }
 {
     let mut flats = flats;
     while let Some(flat) = flats.pop() {

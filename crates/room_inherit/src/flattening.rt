@@ -55,7 +55,8 @@ fn fill(
     order: &[usize],
 ) -> Result<Filling, AllocError>
     requires names { names.now ≡ map class_name (model_view model.now).classes }
-    requires order { IsContainmentOrder (map (extended (model_view model.now).classes) (model_view model.now).classes) order.now }
+    requires order { IsContainmentOrder
+        (map (extended (model_view model.now).classes) (model_view model.now).classes) order.now }
     ensures { IfOk result (λ found. FillsModel (model_view model.now) found) }
 {
     let found = filled(alloc, names, model.classes.as_slice(), order)?;
@@ -70,7 +71,8 @@ fn refinements_are_known(
     order: &[usize],
 ) -> Result<bool, AllocError>
     requires names { names.now ≡ map class_name (model_view model.now).classes }
-    requires order { IsContainmentOrder (map (extended (model_view model.now).classes) (model_view model.now).classes) order.now }
+    requires order { IsContainmentOrder
+        (map (extended (model_view model.now).classes) (model_view model.now).classes) order.now }
     ensures { IfOk result (λ known. known ≡ refinements_are_known (model_view model.now)) }
 {
     let classes = model.classes.as_slice();
@@ -87,7 +89,8 @@ fn rule_of_large(
     order: &[usize],
 ) -> Result<u8, AllocError>
     requires names { names.now ≡ map class_name (model_view model.now).classes }
-    requires order { IsContainmentOrder (map (extended (model_view model.now).classes) (model_view model.now).classes) order.now }
+    requires order { IsContainmentOrder
+        (map (extended (model_view model.now).classes) (model_view model.now).classes) order.now }
     ensures { IfOk result (λ rule. rule ≡ rule_of_large (model_view model.now)) }
 {
     if !refinements_are_known(alloc, model, names, order)? {
@@ -155,7 +158,8 @@ fn flat_model(alloc: Global, model: Model) -> Result<Model, InheritFault>
 #[tactic(auto, using(crate::proofs::Plain::plain_is_flat), unfolding(crate::specs::Rules::flat_is_small))]
 pub fn flatten(alloc: Global, model: Model) -> Result<Model, InheritFault>
     ensures flat { IsFlattened (model_view model) result }
-    ensures itself { extends_nothing (model_view model) ≡ true → IfOk result (λ r. model_view r ≡ model_view model) }
+    ensures itself { extends_nothing (model_view model) ≡ true
+        → IfOk result (λ r. model_view r ≡ model_view model) }
 {
     let flat = flat_model(alloc, model)?;
     if is_small(&flat) {

@@ -48,7 +48,9 @@ pub(crate) fn last_uses(
     classes: &[Class],
     order: &[usize],
 ) -> Result<Vec<usize>, AllocError>
-    ensures { IfOk result (λ last. HasLastUses names.now (map class_view classes.now) order.now (length order.now) last.items) }
+    ensures { IfOk result (λ last.
+        HasLastUses names.now (map class_view classes.now) order.now (length order.now)
+        last.items) }
 {
     let mut last = vec![in alloc; 0usize; classes.len()]?;
     for (place, number) in order.iter().enumerate() {
@@ -75,7 +77,8 @@ fn chart_there<'a>(
     charts: &'a [Option<Vec<GraphItem>>],
     number: Option<usize>,
 ) -> Option<&'a Vec<GraphItem>>
-    ensures { option_map (λ v. graph_view v.now.items) result ≡ option_and_then (there_at (charts_view charts.entry.now)) number }
+    ensures { option_map (λ v. graph_view v.now.items) result
+        ≡ option_and_then (there_at (charts_view charts.entry.now)) number }
 {
     let Some(number) = number else {
         return None;
@@ -89,8 +92,10 @@ fn chart_there<'a>(
 /// Takes the chart of a number out.
 #[tactic(auto, using(crate::proofs::Judged::chart_got, crate::proofs::Judged::chart_set, crate::proofs::Judged::chart_past))]
 fn take_chart(charts: &mut Vec<Option<Vec<GraphItem>>>, number: usize) -> Option<Vec<GraphItem>>
-    ensures chart { option_map (λ v. graph_view v.items) result ≡ there_at (charts_view charts.old.items) number }
-    ensures charts { charts_view charts.new.items ≡ slice_set (charts_view charts.old.items) number None }
+    ensures chart { option_map (λ v. graph_view v.items) result
+        ≡ there_at (charts_view charts.old.items) number }
+    ensures charts { charts_view charts.new.items
+        ≡ slice_set (charts_view charts.old.items) number None }
 {
     if number < charts.len() {
         charts[number].take()
@@ -101,7 +106,8 @@ fn take_chart(charts: &mut Vec<Option<Vec<GraphItem>>>, number: usize) -> Option
 
 #[tactic(auto, using(crate::proofs::Judged::chart_set, crate::proofs::Judged::chart_past))]
 fn set_chart(charts: &mut Vec<Option<Vec<GraphItem>>>, number: usize, chart: Vec<GraphItem>)
-    ensures { charts_view charts.new.items ≡ slice_set (charts_view charts.old.items) number (Some (graph_view chart.items)) }
+    ensures { charts_view charts.new.items
+        ≡ slice_set (charts_view charts.old.items) number (Some (graph_view chart.items)) }
 {
     if number < charts.len() {
         charts[number] = Some(chart);
@@ -115,7 +121,8 @@ fn let_go(
     place: usize,
     base: Option<usize>,
 )
-    ensures { charts_view charts.new.items ≡ let_go last.now place base (charts_view charts.old.items) }
+    ensures { charts_view charts.new.items
+        ≡ let_go last.now place base (charts_view charts.old.items) }
 {
     let Some(base) = base else {
         return;
@@ -134,8 +141,11 @@ fn base_chart(
     place: usize,
     base: Option<usize>,
 ) -> Result<Option<Vec<GraphItem>>, AllocError>
-    ensures chart { IfOk result (λ chart. option_map (λ v. graph_view v.items) chart ≡ option_and_then (there_at (charts_view charts.old.items)) base) }
-    ensures charts { OnOk result (charts_view charts.new.items ≡ let_go last.now place base (charts_view charts.old.items)) }
+    ensures chart { IfOk result (λ chart.
+        option_map (λ v. graph_view v.items) chart
+        ≡ option_and_then (there_at (charts_view charts.old.items)) base) }
+    ensures charts { OnOk result (charts_view charts.new.items
+        ≡ let_go last.now place base (charts_view charts.old.items)) }
 {
     let Some(number) = base else {
         return Ok(None);
@@ -157,7 +167,9 @@ fn known_there<'a>(
     own: &ActorClass,
     chart: Option<&'a Vec<GraphItem>>,
 ) -> Result<bool, AllocError>
-    ensures { IfOk result (λ b. b ≡ known_there (actor_view own.now) (option_map (λ v. graph_view v.now.items) chart.entry)) }
+    ensures { IfOk result (λ b.
+        b
+        ≡ known_there (actor_view own.now) (option_map (λ v. graph_view v.now.items) chart.entry)) }
 {
     match chart {
         Some(chart) => chart_is_known(alloc, chart.as_slice(), own),
@@ -175,7 +187,10 @@ fn pass_on(
     place: usize,
     number: usize,
 ) -> Result<(), AllocError>
-    ensures { OnOk result (charts_view charts.new.items ≡ keep last.now place number (chart_over (actor_view own.now) (option_and_then (there_at (charts_view charts.old.items)) base)) (let_go last.now place base (charts_view charts.old.items))) }
+    ensures { OnOk result (charts_view charts.new.items ≡ keep last.now place number
+        (chart_over (actor_view own.now) (option_and_then (there_at (charts_view charts.old.items))
+        base))
+        (let_go last.now place base (charts_view charts.old.items))) }
 {
     if !is_needed_later(last, place, number) {
         let_go(charts, last, place, base);
@@ -197,7 +212,10 @@ fn with_chart(
     charts: &mut Vec<Option<Vec<GraphItem>>>,
     number: usize,
 ) -> Result<bool, AllocError>
-    ensures { IfOk result (λ known. with_chart names.now (map class_view classes.now) last.now place (charts_view charts.old.items) number ≡ (if known then Some (charts_view charts.new.items) else None)) }
+    ensures { IfOk result (λ known.
+        with_chart names.now (map class_view classes.now) last.now place
+        (charts_view charts.old.items) number
+        ≡ (if known then Some (charts_view charts.new.items) else None)) }
 {
     let Some(own) = actor_at(classes, number) else {
         return Ok(true);
@@ -229,7 +247,9 @@ pub(crate) fn judged(
     order: &[usize],
     last: &[usize],
 ) -> Result<bool, AllocError>
-    ensures { IfOk result (λ known. known ≡ judged names.now (map class_view classes.now) last.now 0 order.now (none_taken (map class_view classes.now))) }
+    ensures { IfOk result (λ known.
+        known ≡ judged names.now (map class_view classes.now) last.now 0 order.now
+        (none_taken (map class_view classes.now))) }
 {
     let mut charts = none_kept(alloc, classes)?;
     for (place, number) in order.iter().enumerate() {

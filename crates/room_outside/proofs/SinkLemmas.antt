@@ -51,11 +51,9 @@ WritesFront-breaks {a} {b} {c} {piece} {left} p some q r =
     let front : take (length p.front) piece ≡ p.front = rw p.split (take-append_seam p.front left) in
     record {
       taken = length p.front;
-      place = record {
-        within = rw p.split (omega (arith, length-append p.front left, some));
-        front = subst (Appends a c) (append-nil p.front ∙ sym front) (Appends-then p.appends q);
-        fault = Rose-later p.appends.faults r;
-      };
+      within = rw p.split (omega (arith, length-append p.front left, some));
+      front = subst (Appends a c) (append-nil p.front ∙ sym front) (Appends-then p.appends q);
+      fault = Rose-later p.appends.faults r;
     }
 
 -- nothing is left to be written

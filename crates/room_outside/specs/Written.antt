@@ -21,13 +21,9 @@ pub record Appends (before after : Written) (bytes : List ℕ) : Type 0 where
   pub told : after.told ≡ appended before.told bytes
   pub faults : before.faults ≤ after.faults
 
--- a write failed after so many of these bytes: exactly those were appended, and the count of faults rose
-pub record BreaksOffAt (before after : Written) (bytes : List ℕ) (taken : ℕ) : Type 0 where
+-- a write failed after some of these bytes, not all: exactly those were appended, and the count of faults rose
+pub record BreaksOff (before after : Written) (bytes : List ℕ) : Type 0 where
+  pub taken : ℕ
   pub within : taken < length bytes
   pub front : Appends before after (take taken bytes)
   pub fault : Rose before.faults after.faults
-
--- a write failed somewhere in these bytes
-pub record BreaksOff (before after : Written) (bytes : List ℕ) : Type 0 where
-  pub taken : ℕ
-  pub place : BreaksOffAt before after bytes taken

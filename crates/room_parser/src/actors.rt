@@ -64,7 +64,8 @@ fn interface_if<'a>(
     alloc: Global,
     rest: Rest<'a>,
 ) -> Result<(Option<Sequence<InterfaceItem>>, Rest<'a>), ReadFault>
-    ensures { Gives (λ x. (x.0, left x.1)) result (optional (comes_word_at words.Interface) interface_at (left rest.entry)) }
+    ensures { Gives (λ x. (x.0, left x.1)) result
+        (optional (comes_word_at words.Interface) interface_at (left rest.entry)) }
 {
     if !comes_word(rest, Word::Interface) {
         return Ok((None, rest));
@@ -144,7 +145,8 @@ fn structure_if<'a>(
     alloc: Global,
     rest: Rest<'a>,
 ) -> Result<(Option<Sequence<StructureItem>>, Rest<'a>), ReadFault>
-    ensures { Gives (λ x. (x.0, left x.1)) result (optional (comes_word_at words.Structure) structure_at (left rest.entry)) }
+    ensures { Gives (λ x. (x.0, left x.1)) result
+        (optional (comes_word_at words.Structure) structure_at (left rest.entry)) }
 {
     if !comes_word(rest, Word::Structure) {
         return Ok((None, rest));
@@ -160,7 +162,8 @@ fn machine_if<'a>(
     alloc: Global,
     rest: Rest<'a>,
 ) -> Result<(Option<StateMachine>, Rest<'a>), ReadFault>
-    ensures { Gives (λ x. (option_map (λ m. graph_view m.items.items) x.0, left x.1)) result (optional (comes_word_at words.StateMachine) machine_at (left rest.entry)) }
+    ensures { Gives (λ x. (option_map (λ m. graph_view m.items.items) x.0, left x.1)) result
+        (optional (comes_word_at words.StateMachine) machine_at (left rest.entry)) }
 {
     if !comes_word(rest, Word::StateMachine) {
         return Ok((None, rest));
@@ -184,7 +187,8 @@ fn behavior<'a>(alloc: Global, rest: Rest<'a>) -> Result<(Behavior, Rest<'a>), R
 /// The behavior of a class, if it comes.
 #[tactic(auto, unfolding(token_reading::specs::Reader::optional))]
 fn behavior_if<'a>(alloc: Global, rest: Rest<'a>) -> Result<(Option<Behavior>, Rest<'a>), ReadFault>
-    ensures { Gives (λ x. (option_map behavior_view x.0, left x.1)) result (optional (comes_word_at words.Behavior) behavior_at (left rest.entry)) }
+    ensures { Gives (λ x. (option_map behavior_view x.0, left x.1)) result
+        (optional (comes_word_at words.Behavior) behavior_at (left rest.entry)) }
 {
     if !comes_word(rest, Word::Behavior) {
         return Ok((None, rest));
@@ -196,7 +200,8 @@ fn behavior_if<'a>(alloc: Global, rest: Rest<'a>) -> Result<(Option<Behavior>, R
 /// `extends` and the name of the base, if they come
 #[tactic(auto, unfolding(crate::specs::Classes::extends_at, token_reading::specs::Reader::optional))]
 fn base_if<'a>(alloc: Global, rest: Rest<'a>) -> Result<(Option<Name>, Rest<'a>), ReadFault>
-    ensures { Gives (λ x. (x.0, left x.1)) result (optional (comes_word_at words.Extends) extends_at (left rest.entry)) }
+    ensures { Gives (λ x. (x.0, left x.1)) result
+        (optional (comes_word_at words.Extends) extends_at (left rest.entry)) }
 {
     if !comes_word(rest, Word::Extends) {
         return Ok((None, rest));

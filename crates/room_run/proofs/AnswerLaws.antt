@@ -645,8 +645,8 @@ answer_ends shelf words text status (says_made actors plant lines j e h is ends)
 pub accepted_calls_end : AcceptedCallsEnd
 accepted_calls_end before after words streams status taken read none (whole text h out notes) = answer_ends before words text status h
 accepted_calls_end before after words streams status taken read none (cut_short text wanted h is breaks notes) =
-    absurd (none.out breaks.place.fault)
+    absurd (none.out breaks.fault)
 accepted_calls_end before after words streams status taken read none (refused why h is out notes) =
     inr (inr (is ∙ memory_of before after (asked_by words) why taken read (causes_of before after words why h)))
 accepted_calls_end before after words streams status taken read none (refused_unheard why h is out breaks) =
-    absurd (none.notes breaks.place.fault)
+    absurd (none.notes breaks.fault)

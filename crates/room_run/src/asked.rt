@@ -74,7 +74,8 @@ fn number_of(most: u32, word: &[u8]) -> Option<u64>
 
 /// The files of these names.
 fn files_of<'a>(model: &'a String, injections: &'a String) -> Files<'a>
-    ensures { files_view result ≡ record { model = string_bytes model.now; injections = string_bytes injections.now } }
+    ensures { files_view result
+        ≡ record { model = string_bytes model.now; injections = string_bytes injections.now } }
 {
     Files {
         model: model.as_str(),
@@ -84,7 +85,8 @@ fn files_of<'a>(model: &'a String, injections: &'a String) -> Files<'a>
 
 /// A model and journals under these names.
 fn record_of<'a>(model: &'a String, journals: &'a String) -> Record<'a>
-    ensures { record_view result ≡ record { model = string_bytes model.now; journals = string_bytes journals.now } }
+    ensures { record_view result
+        ≡ record { model = string_bytes model.now; journals = string_bytes journals.now } }
 {
     Record {
         model: model.as_str(),
@@ -94,7 +96,8 @@ fn record_of<'a>(model: &'a String, journals: &'a String) -> Record<'a>
 
 /// A run with the fuel that a word names.
 fn run_with<'a>(files: Files<'a>, word: &[u8]) -> Option<Asked<'a>>
-    ensures { option_map asked_view result ≡ option_map (Run (files_view files.entry)) (fuel_of word.now) }
+    ensures { option_map asked_view result
+        ≡ option_map (Run (files_view files.entry)) (fuel_of word.now) }
 {
     match number_of(MOST_FUEL, word) {
         Some(fuel) => Some(Asked::Run(files, fuel)),
@@ -129,7 +132,8 @@ fn asked_of<'a>(command: &str, word: &'a str) -> Option<Asked<'a>>
 
 /// What three words ask for.
 fn asked_of_files<'a>(command: &str, model: &'a String, second: &'a String) -> Option<Asked<'a>>
-    ensures { option_map asked_view result ≡ asked_of_files command.now (string_bytes model.now) (string_bytes second.now) }
+    ensures { option_map asked_view result
+        ≡ asked_of_files command.now (string_bytes model.now) (string_bytes second.now) }
 {
     if command == "run" {
         Some(Asked::Run(files_of(model, second), USUAL_FUEL))
@@ -142,7 +146,8 @@ fn asked_of_files<'a>(command: &str, model: &'a String, second: &'a String) -> O
 
 /// What five words ask for.
 fn asked_with<'a>(command: &str, files: Files<'a>, flag: &str, fuel: &str) -> Option<Asked<'a>>
-    ensures { option_map asked_view result ≡ asked_with command.now files.entry.model.now files.entry.injections.now flag.now fuel.now }
+    ensures { option_map asked_view result ≡ asked_with command.now files.entry.model.now
+        files.entry.injections.now flag.now fuel.now }
 {
     if command == "run" && flag == "--fuel" {
         run_with(files, fuel.as_bytes())

@@ -116,7 +116,8 @@ fn keep_wiring(alloc: Global, checked: &Checked) -> Result<Wiring, ModelFault>
 fn keep_charts(alloc: Global, checked: &Checked) -> Result<Vec<Option<Chart>>, ModelFault>
     requires rules { first_broken all_rules (model_view checked.now.model.now) ≡ None }
     requires classes { HasClasses checked.now }
-    ensures ok { IfOk result (λ v. HasCharts (model_view checked.now.model.now) (map (option_map chart_view) v.items)) }
+    ensures ok { IfOk result (λ v.
+        HasCharts (model_view checked.now.model.now) (map (option_map chart_view) v.items)) }
     ensures valid { IfOk result (λ v. AreValid (map (option_map chart_view) v.items)) }
     ensures err { IfErr result (λ why. ChartCauses (model_view checked.now.model.now) why) }
 {
@@ -136,7 +137,8 @@ pub(crate) struct SoundModel {
 
 /// The wiring and the charts of a tree, where it keeps all rules and they have no fault.
 fn judge_tree(alloc: Global, tree: &Model) -> Result<SoundModel, ModelFault>
-    ensures ok { IfOk result (λ s. IsSoundTree (model_view tree.now) s.wiring (map (option_map chart_view) s.charts.items)) }
+    ensures ok { IfOk result (λ s.
+        IsSoundTree (model_view tree.now) s.wiring (map (option_map chart_view) s.charts.items)) }
     ensures valid { IfOk result (λ s. AreValid (map (option_map chart_view) s.charts.items)) }
     ensures err { IfErr result (λ why. TreeCauses (model_view tree.now) why) }
 {
@@ -157,7 +159,8 @@ fn judge_tree(alloc: Global, tree: &Model) -> Result<SoundModel, ModelFault>
 /// The model of a text, where it keeps all rules and its wiring and charts have no fault.
 pub(crate) fn sound_model(alloc: Global, text: &[u8]) -> Result<SoundModel, ModelFault>
     requires { length text.now ≤ 1048576 }
-    ensures ok { IfOk result (λ s. IsSoundText text.now s.wiring (map (option_map chart_view) s.charts.items)) }
+    ensures ok { IfOk result (λ s.
+        IsSoundText text.now s.wiring (map (option_map chart_view) s.charts.items)) }
     ensures valid { IfOk result (λ s. AreValid (map (option_map chart_view) s.charts.items)) }
     ensures err { IfErr result (λ why. SoundCauses text.now why) }
 {

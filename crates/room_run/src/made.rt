@@ -55,7 +55,8 @@ pub(crate) fn run_made<G: Gate + Sync, R: Threads + Sync>(
     gate: &G,
 ) -> Result<Summary, Refusal>
     ensures ok { IfOk result (λ summary. Summarizes actors summary) }
-    ensures err { IfErr result (λ why. RunCauses (made_shelf actors) (made_shelf actors) made_files why) }
+    ensures err { IfErr result (λ why.
+        RunCauses (made_shelf actors) (made_shelf actors) made_files why) }
 {
     let Ok(texts) = made_model(alloc, actors) else {
         return Err(Refusal::Memory);

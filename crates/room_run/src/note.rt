@@ -13,14 +13,16 @@ use room_outside::{LineBuffer, Part, Sink, WriteFault, write_line};
 
 /// Writes a line of a text.
 fn write_text<K: Sink>(notes: &mut K, text: &[u8]) -> Result<(), WriteFault>
-    ensures { Puts result (at_rest (K.written notes.old)) (at_rest (K.written notes.new)) (line (text.now ∷ [])) }
+    ensures { Puts result (at_rest (K.written notes.old)) (at_rest (K.written notes.new))
+        (line (text.now ∷ [])) }
 {
     write_line(&mut LineBuffer::new(), notes, &[Part::Text(text)])
 }
 
 /// Writes a line of a text and a number.
 fn write_number<K: Sink>(notes: &mut K, text: &[u8], number: u64) -> Result<(), WriteFault>
-    ensures { Puts result (at_rest (K.written notes.old)) (at_rest (K.written notes.new)) (line (text.now ∷ decimal number ∷ [])) }
+    ensures { Puts result (at_rest (K.written notes.old)) (at_rest (K.written notes.new))
+        (line (text.now ∷ decimal number ∷ [])) }
 {
     let parts = [Part::Text(text), Part::Number(number)];
     write_line(&mut LineBuffer::new(), notes, &parts)
@@ -63,7 +65,8 @@ fn write_place<K: Sink>(
 }
 
 fn write_model_fault<K: Sink>(why: &ModelFault, notes: &mut K) -> Result<(), WriteFault>
-    ensures { Puts result (at_rest (K.written notes.old)) (at_rest (K.written notes.new)) (note_of_fault why.now) }
+    ensures { Puts result (at_rest (K.written notes.old)) (at_rest (K.written notes.new))
+        (note_of_fault why.now) }
 {
     match why {
         ModelFault::Byte(offset) => {
@@ -89,7 +92,8 @@ fn write_model_fault<K: Sink>(why: &ModelFault, notes: &mut K) -> Result<(), Wri
 }
 
 fn write_refusal<K: Sink>(why: &Refusal, notes: &mut K) -> Result<(), WriteFault>
-    ensures { Puts result (at_rest (K.written notes.old)) (at_rest (K.written notes.new)) (note_of why.now) }
+    ensures { Puts result (at_rest (K.written notes.old)) (at_rest (K.written notes.new))
+        (note_of why.now) }
 {
     match why {
         Refusal::Words => write_text(notes, b"room: words refused"),
@@ -120,8 +124,10 @@ fn write_refusal<K: Sink>(why: &Refusal, notes: &mut K) -> Result<(), WriteFault
 /// Writes the line that tells of a refusal, in one piece where a piece of 4,096 bytes holds it. It
 /// takes no memory.
 pub(crate) fn write_note<K: Sink>(why: &Refusal, notes: &mut K) -> Result<(), WriteFault>
-    ensures ok { OnOk result (Appends (K.written notes.old) (K.written notes.new) (note_of why.now)) }
-    ensures fault { OnErr result (BreaksOff (K.written notes.old) (K.written notes.new) (note_of why.now)) }
+    ensures ok { OnOk result (Appends (K.written notes.old) (K.written notes.new)
+        (note_of why.now)) }
+    ensures fault { OnErr result (BreaksOff (K.written notes.old) (K.written notes.new)
+        (note_of why.now)) }
 {
     write_refusal(why, notes)
 }

@@ -55,8 +55,10 @@ pub(crate) enum Answer {
 /// The text of a model under a name.
 fn read_text<S: Shelf>(alloc: Global, shelf: &mut S, name: &str) -> Result<Vec<u8>, Refusal>
     ensures short { IfOk result (λ v. length v.items ≤ 1048576) }
-    ensures ok { IfOk result (λ v. IfSome ((S.shown shelf.old).text name.now) (λ text. v.items ≡ text)) }
-    ensures err { IfErr result (λ why. UnreadCauses (S.shown shelf.old) (S.shown shelf.new) name.now why) }
+    ensures ok { IfOk result (λ v.
+        IfSome ((S.shown shelf.old).text name.now) (λ text. v.items ≡ text)) }
+    ensures err { IfErr result (λ why.
+        UnreadCauses (S.shown shelf.old) (S.shown shelf.new) name.now why) }
     ensures keeps { Keeps (S.shown shelf.old) (S.shown shelf.new) }
 {
     match read_whole(alloc, shelf, name) {
@@ -76,7 +78,8 @@ pub(crate) fn read_wiring<S: Shelf>(
 ) -> Result<Wiring, Refusal>
     ensures ok { IfOk result (λ w. TextIs (S.shown shelf.old) name.now (λ text. IsSound text w)) }
     ensures named { IfOk result (λ w. IsWellNamed w) }
-    ensures err { IfErr result (λ why. ModelCauses (S.shown shelf.old) (S.shown shelf.new) name.now why) }
+    ensures err { IfErr result (λ why.
+        ModelCauses (S.shown shelf.old) (S.shown shelf.new) name.now why) }
     ensures keeps { Keeps (S.shown shelf.old) (S.shown shelf.new) }
 {
     let text = match read_text(alloc, shelf, name) {
@@ -91,8 +94,10 @@ pub(crate) fn read_wiring<S: Shelf>(
 
 /// The plant of the model whose text stands under a name.
 fn read_model<S: Shelf>(alloc: Global, shelf: &mut S, name: &str) -> Result<Plant, Refusal>
-    ensures ok { IfOk result (λ plant. TextIs (S.shown shelf.old) name.now (λ text. IsModel text plant)) }
-    ensures err { IfErr result (λ why. ModelCauses (S.shown shelf.old) (S.shown shelf.new) name.now why) }
+    ensures ok { IfOk result (λ plant.
+        TextIs (S.shown shelf.old) name.now (λ text. IsModel text plant)) }
+    ensures err { IfErr result (λ why.
+        ModelCauses (S.shown shelf.old) (S.shown shelf.new) name.now why) }
     ensures keeps { Keeps (S.shown shelf.old) (S.shown shelf.new) }
 {
     let text = match read_text(alloc, shelf, name) {
@@ -135,9 +140,11 @@ fn read_injections<S: Shelf>(
     name: &str,
     wiring: &Wiring,
 ) -> Result<Vec<Line>, Refusal>
-    ensures ok { IfOk result (λ lines. TextIs (S.shown shelf.old) name.now (λ text. IsInjections wiring.now text lines.items)) }
+    ensures ok { IfOk result (λ lines.
+        TextIs (S.shown shelf.old) name.now (λ text. IsInjections wiring.now text lines.items)) }
     ensures fit { IfOk result (λ lines. FitLines wiring.now lines.items) }
-    ensures err { IfErr result (λ why. InjectionsCauses (S.shown shelf.old) (S.shown shelf.new) name.now wiring.now why) }
+    ensures err { IfErr result (λ why.
+        InjectionsCauses (S.shown shelf.old) (S.shown shelf.new) name.now wiring.now why) }
     ensures keeps { Keeps (S.shown shelf.old) (S.shown shelf.new) }
 {
     let text = match read_whole(alloc, shelf, name) {
@@ -177,8 +184,13 @@ fn run_files<S: Shelf, G: Gate + Sync, R: Threads + Sync>(
     fuel: u64,
     gate: &G,
 ) -> Result<Recorded, Refusal>
-    ensures ok { IfOk result (λ f. (plant : RunPlant) × (lines : List InjectedLine) × AreOf (S.shown shelf.old) (files_view files.entry) plant lines × Finishes plant lines fuel f) }
-    ensures err { IfErr result (λ why. RunCauses (S.shown shelf.old) (S.shown shelf.new) (files_view files.entry) why) }
+    ensures ok { IfOk result (λ f.
+        (plant : RunPlant)
+        × (lines : List InjectedLine)
+        × AreOf (S.shown shelf.old) (files_view files.entry) plant lines
+        × Finishes plant lines fuel f) }
+    ensures err { IfErr result (λ why.
+        RunCauses (S.shown shelf.old) (S.shown shelf.new) (files_view files.entry) why) }
     ensures keeps { Keeps (S.shown shelf.old) (S.shown shelf.new) }
 {
     let plant = match read_model(alloc, shelf, files.model) {
@@ -203,9 +215,12 @@ pub(crate) fn prepare<S: Shelf, G: Gate + Sync, R: Threads + Sync>(
     shelf: &mut S,
     gate: &G,
 ) -> Result<Answer, Refusal>
-    ensures ok { IfOk result (λ a. Answers (S.shown shelf.old) (map string_bytes words.now) (answer_text a) (answer_status a)) }
+    ensures ok { IfOk result (λ a.
+        Answers (S.shown shelf.old) (map string_bytes words.now) (answer_text a)
+        (answer_status a)) }
     ensures tied { IfOk result (λ a. HasTied a) }
-    ensures err { IfErr result (λ why. Causes (S.shown shelf.old) (S.shown shelf.new) (map string_bytes words.now) why) }
+    ensures err { IfErr result (λ why.
+        Causes (S.shown shelf.old) (S.shown shelf.new) (map string_bytes words.now) why) }
     ensures keeps { Keeps (S.shown shelf.old) (S.shown shelf.new) }
 {
     // A law, and no code: what is so of the journals of each run.

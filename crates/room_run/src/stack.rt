@@ -18,7 +18,8 @@ const MOST_BRACES: usize = 131_072;
 /// How large a stack the work on a text takes at most. It is so many addresses: a page of it takes memory
 /// once it is used.
 fn stack_for(text: &[u8]) -> usize
-    ensures { result ≡ LEAST_STACK + min (count_by (λ b. b == 123) text.now) MOST_BRACES * FOR_A_BRACE }
+    ensures { result
+        ≡ LEAST_STACK + min (count_by (λ b. b == 123) text.now) MOST_BRACES * FOR_A_BRACE }
 {
     let braces = text.iter().filter(|b| **b == b'{').count();
     LEAST_STACK + braces.min(MOST_BRACES) * FOR_A_BRACE

@@ -47,7 +47,8 @@ fn status_of(answer: &Answer) -> Status
 /// Writes what the words asked for, and gives the status.
 fn print<K: Sink>(answer: &Answer, out: &mut K) -> Status
     requires { HasTied answer.now }
-    ensures { Prints (K.written out.old) (K.written out.new) (answer_text answer.now) (answer_status answer.now) result }
+    ensures { Prints (K.written out.old) (K.written out.new) (answer_text answer.now)
+        (answer_status answer.now) result }
 {
     let written = match answer {
         Answer::Accepted => write_ok(out),
@@ -88,7 +89,14 @@ pub fn room_top<S: Shelf, K: Sink, G: Gate + Sync, R: Threads + Sync>(
     notes: &mut K,
     gate: &G,
 ) -> Status
-    ensures { Outcome (S.shown shelf.old) (S.shown shelf.new) (map string_bytes words.now) (record { out_before = K.written out.old; out_after = K.written out.new; notes_before = K.written notes.old; notes_after = K.written notes.new }) result }
+    ensures { Outcome (S.shown shelf.old) (S.shown shelf.new) (map string_bytes words.now)
+        (record {
+          out_before = K.written out.old;
+          out_after = K.written out.new;
+          notes_before = K.written notes.old;
+          notes_after = K.written notes.new;
+        })
+        result }
 {
     match prepare(rt, alloc, words, shelf, gate) {
         Ok(answer) => print(&answer, out),

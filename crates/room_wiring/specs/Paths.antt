@@ -40,7 +40,7 @@ unfoldable pub ArePieces : List (List ℕ) → List Piece → Type 0
 ArePieces paths [] = Unit {0}
 ArePieces paths (p ∷ ps) = IsPiece paths p × ArePieces (paths ++ path_of paths p ∷ []) ps
 
--- this piece ends the path with this number; where there is none, there is no such path
+-- this piece ends the path with this number; where there is none, that path is empty
 abbrev pub IsLast : List (List ℕ) → Option ℕ → Option Piece → Type 0
 IsLast paths number None = path_at paths number ≡ []
 IsLast paths number (Some p) = IfSome number (λ n. n < length paths) × (path_at paths number ≡ path_of paths p) × IsPiece paths p

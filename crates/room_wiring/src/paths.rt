@@ -101,7 +101,8 @@ impl Paths {
     }
 
     /// Adds the path that has these bytes behind the path with a number; these alone, where no path has
-    /// the number, or where none is given. It takes time and memory in proportion to these bytes.
+    /// the number, or where none is given. It takes time and memory in proportion to these bytes, and to
+    /// at most 255 bytes of the path before.
     pub fn add(
         &mut self,
         alloc: Global,

@@ -5,14 +5,16 @@ ghost use Rattle.std.specs.List.{position_or_len};
 ghost use lib.Pointwise.{pointwise};
 ghost use Rattle.name_tables.specs.name_numbers.Names.{same};
 ghost use Rattle.room_wiring.specs.wiring_names.Lookup.{slot_paths};
-ghost use Rattle.room_wiring.specs.Slots.{slot_at, class_at, class_of, port_at, slot_named};
+ghost use Rattle.room_wiring.specs.Slots.{slot_at, class_at, class_of, port_at, path_text, port_text, slot_named};
 ghost use Rattle.room_wiring.specs.Places.{port_count, span_at, place_count, partner_at, is_told};
 ghost use Rattle.room_wiring.specs.Consistent.{IsConsistent};
+ghost use Rattle.room_outside.specs.line_text.Output.{Puts};
 
 use crate::names::{ClassNames, PortNames};
 use crate::slot::{Partner, Slot};
 use crate::tables::{PlaceSpan, Tables};
 use room_kinds::{ControllerId, SlotId};
+use room_outside::{LineBuffer, Sink, WriteFault};
 use std::marker::Model;
 
 /// The slots, controllers and classes of a model by number, and what each place is joined to. A
@@ -66,6 +68,26 @@ impl Wiring {
         ensures known { IfSome result (λ x. x.now.class < length self.now.classes) }
     {
         self.tables.slots.as_slice().get(usize::from(s.0))
+    }
+
+    /// Adds the path of a slot to a line; nothing, where there is no such slot.
+    #[inline(always)]
+    #[tactic(auto, unfolding(crate::specs::Slots::path_text))]
+    pub fn put_path<K: Sink>(
+        &self,
+        out: &mut LineBuffer,
+        sink: &mut K,
+        s: SlotId,
+    ) -> Result<(), WriteFault>
+        ensures { Puts result
+            (record { written = K.written sink.old; held = out.old })
+            (record { written = K.written sink.new; held = out.new })
+            (path_text self.now s.0) }
+    {
+        match self.get_slot(s) {
+            Some(slot) => slot.path.put(out, sink),
+            None => out.put(sink, b""),
+        }
     }
 
     /// How many controllers there are. The environment has this number.
@@ -185,6 +207,17 @@ impl Wiring {
         match self.class_of(s) {
             Some(class) => class.ports.as_slice().get(usize::from(port)),
             None => None,
+        }
+    }
+
+    /// The name of a port of a slot; empty, where there is no such port.
+    #[tactic(auto, unfolding(crate::specs::Slots::port_text))]
+    pub fn port_name(&self, s: SlotId, port: u16) -> &[u8]
+        ensures { result.now ≡ port_text self.now s.0 port }
+    {
+        match self.port_of(s, port) {
+            Some(port) => port.name.as_bytes(),
+            None => b"",
         }
     }
 

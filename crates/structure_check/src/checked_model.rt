@@ -18,7 +18,8 @@ pub struct Checked<'a> {
     pub classes: Vec<&'a ActorClass>,
     /// What their actions can name.
     pub scopes: Vec<Scope>,
-    pub ghost scoped: { map scope_view scopes.items ≡ map (scope_of (model_view model.now)) (actors (model_view model.now)) },
+    pub ghost scoped: { map scope_view scopes.items
+        ≡ map (scope_of (model_view model.now)) (actors (model_view model.now)) },
 }
 
 impl<'a> Checked<'a> {
@@ -35,7 +36,11 @@ impl<'a> Checked<'a> {
     #[tactic(auto, using(crate::proofs::Parts::scope_there))]
     pub fn scope(&self, class: u16) -> &Scope
         requires { class < length (actors (model_view self.now.model.now)) }
-        ensures { slice_get (map (scope_of (model_view self.entry.now.model.now)) (actors (model_view self.entry.now.model.now))) class ≡ Some (scope_view result.now) }
+        ensures { slice_get
+            (map (scope_of (model_view self.entry.now.model.now)) (actors (model_view
+            self.entry.now.model.now)))
+            class
+            ≡ Some (scope_view result.now) }
     {
         &self.scopes[class as usize]
     }
@@ -45,7 +50,8 @@ impl<'a> Checked<'a> {
     fn class_at(&self, class: u16) -> &ActorClass
         requires range { class < length (actors (model_view self.now.model.now)) }
         requires classes { HasClasses self.now }
-        ensures { slice_get (actors (model_view self.entry.now.model.now)) class ≡ Some (actor_view result.now) }
+        ensures { slice_get (actors (model_view self.entry.now.model.now)) class
+            ≡ Some (actor_view result.now) }
     {
         self.classes[class as usize]
     }
@@ -54,7 +60,9 @@ impl<'a> Checked<'a> {
     pub fn chart(&self, class: u16) -> Option<&StateMachine>
         requires range { class < length (actors (model_view self.now.model.now)) }
         requires classes { HasClasses self.now }
-        ensures { option_map (λ s. graph_view s.now.items.items) result ≡ option_and_then chart_of (slice_get (actors (model_view self.entry.now.model.now)) class) }
+        ensures { option_map (λ s. graph_view s.now.items.items) result
+            ≡ option_and_then chart_of (slice_get (actors (model_view self.entry.now.model.now))
+            class) }
     {
         machine_of(self.class_at(class))
     }
@@ -62,7 +70,8 @@ impl<'a> Checked<'a> {
 
 /// The state machine of an actor class, if it has one.
 fn machine_of<'a>(class: &'a ActorClass) -> Option<&'a StateMachine>
-    ensures { option_map (λ s. graph_view s.now.items.items) result ≡ chart_of (actor_view class.entry.now) }
+    ensures { option_map (λ s. graph_view s.now.items.items) result
+        ≡ chart_of (actor_view class.entry.now) }
 {
     let Some(behavior) = &class.behavior else {
         return None;

@@ -341,5 +341,6 @@ pub fn check<'a>(alloc: Global, model: &'a Model) -> Result<Checked<'a>, CheckFa
 /// The first rule that is broken, of rules whose numbers rise, is the lowest one broken.
 #[tactic(auto, using(crate::proofs::Laws::lowest))]
 pub fn lowest_is_found()
-    ensures { (rules : List Rule) (m : ModelTree) → RiseAbove 0 rules → IsLowest rules m (first_broken rules m) }
+    ensures { (rules : List Rule) (m : ModelTree) → RiseAbove 0 rules
+        → IsLowest rules m (first_broken rules m) }
 {}

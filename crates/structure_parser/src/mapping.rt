@@ -17,7 +17,8 @@ use token_reading::{
 /// `:` number, if it comes
 #[tactic(auto, unfolding(token_reading::specs::Reader::optional))]
 fn index_if<'a>(rest: Rest<'a>) -> Result<(Option<u64>, Rest<'a>), ReadFault>
-    ensures { Gives (λ x. (x.0, left x.1)) result (optional (comes_at marks.Colon) (mark marks.Colon ▹ number_at) (left rest.entry)) }
+    ensures { Gives (λ x. (x.0, left x.1)) result
+        (optional (comes_at marks.Colon) (mark marks.Colon ▹ number_at) (left rest.entry)) }
 {
     if !comes(rest, Mark::Colon) {
         return Ok((None, rest));
@@ -60,7 +61,8 @@ impl Part for SlashSegment {
 /// Whether a slash comes, which is read then.
 #[tactic(auto, unfolding(token_reading::specs::Reader::flag))]
 fn slash_if<'a>(rest: Rest<'a>) -> Result<(bool, Rest<'a>), ReadFault>
-    ensures { Gives (λ x. (x.0, left x.1)) result (flag (comes_at marks.Slash) (mark marks.Slash) (left rest.entry)) }
+    ensures { Gives (λ x. (x.0, left x.1)) result
+        (flag (comes_at marks.Slash) (mark marks.Slash) (left rest.entry)) }
 {
     if !comes(rest, Mark::Slash) {
         return Ok((false, rest));
@@ -110,7 +112,8 @@ pub struct OpenMapping {
 /// Mappings up to a closing brace, which is read too. Those whose braces stand open are kept in a
 /// vector, so nesting takes no stack. Each turn takes a token at least.
 fn closed<'a>(alloc: Global, rest: Rest<'a>) -> Result<(Vec<Mapping>, Rest<'a>), ReadFault>
-    ensures { Gives (λ x. (mapping_views x.0.items, left x.1)) result (closed_at (left rest.entry)) }
+    ensures { Gives (λ x. (mapping_views x.0.items, left x.1)) result
+        (closed_at (left rest.entry)) }
 {
     let mut turns = rest.tokens.len();
     let mut frames = Vec::new(alloc);
@@ -155,7 +158,9 @@ fn with_mapping(
     thread: Name,
     nested: Option<Vec<Mapping>>,
 ) -> Result<Vec<Mapping>, AllocError>
-    ensures { IfOk result (λ v. mapping_views v.items ≡ mapping_views found.items ++ MappingOf path thread (nested_view nested) ∷ []) }
+    ensures { IfOk result (λ v.
+        mapping_views v.items
+        ≡ mapping_views found.items ++ MappingOf path thread (nested_view nested) ∷ []) }
 {
     let mut all = found;
     if all.is_empty() {

@@ -30,7 +30,8 @@ fn place_count<'a>(rest: Rest<'a>) -> Result<(Places, Rest<'a>), ReadFault>
 /// How many places a port has, in brackets, if they come.
 #[tactic(auto, unfolding(crate::specs::Ports::places_at, token_reading::specs::Reader::optional))]
 fn places_if<'a>(rest: Rest<'a>) -> Result<(Option<Places>, Rest<'a>), ReadFault>
-    ensures { Gives (λ x. (x.0, left x.1)) result (optional (comes_at marks.OpenBracket) places_at (left rest.entry)) }
+    ensures { Gives (λ x. (x.0, left x.1)) result
+        (optional (comes_at marks.OpenBracket) places_at (left rest.entry)) }
 {
     if !comes(rest, Mark::OpenBracket) {
         return Ok((None, rest));

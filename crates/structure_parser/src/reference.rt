@@ -37,7 +37,8 @@ fn kind_if<'a>(rest: Rest<'a>) -> Result<(Option<ReferenceKind>, Rest<'a>), Read
 /// `[` number `]`, if it comes
 #[tactic(auto, unfolding(crate::specs::References::count_at, token_reading::specs::Reader::optional))]
 fn count_if<'a>(rest: Rest<'a>) -> Result<(Option<u64>, Rest<'a>), ReadFault>
-    ensures { Gives (λ x. (x.0, left x.1)) result (optional (comes_at marks.OpenBracket) count_at (left rest.entry)) }
+    ensures { Gives (λ x. (x.0, left x.1)) result
+        (optional (comes_at marks.OpenBracket) count_at (left rest.entry)) }
 {
     if !comes(rest, Mark::OpenBracket) {
         return Ok((None, rest));
@@ -73,7 +74,8 @@ pub fn actor_ref<'a>(alloc: Global, rest: Rest<'a>) -> Result<(ActorRef, Rest<'a
 /// `.` name, if it comes
 #[tactic(auto, unfolding(token_reading::specs::Reader::optional))]
 fn inner_if<'a>(alloc: Global, rest: Rest<'a>) -> Result<(Option<Name>, Rest<'a>), ReadFault>
-    ensures { Gives (λ x. (x.0, left x.1)) result (optional (comes_at marks.Dot) (mark marks.Dot ▹ name_at) (left rest.entry)) }
+    ensures { Gives (λ x. (x.0, left x.1)) result
+        (optional (comes_at marks.Dot) (mark marks.Dot ▹ name_at) (left rest.entry)) }
 {
     if !comes(rest, Mark::Dot) {
         return Ok((None, rest));

@@ -16,7 +16,8 @@ use token_reading::{
 
 #[tactic(auto, unfolding(crate::specs::Mappings::subsystem_item_at))]
 fn subsystem_item<'a>(alloc: Global, rest: Rest<'a>) -> Result<(SubsystemItem, Rest<'a>), ReadFault>
-    ensures { Gives (λ x. (subsystem_item_view x.0, left x.1)) result (subsystem_item_at (left rest.entry)) }
+    ensures { Gives (λ x. (subsystem_item_view x.0, left x.1)) result
+        (subsystem_item_at (left rest.entry)) }
 {
     match word_here(rest) {
         Some(Word::ActorRef | Word::Fixed | Word::Optional | Word::Imported) => {

@@ -57,7 +57,8 @@ impl Children {
     #[tactic(auto, unfolding(crate::specs::slot_children::Table::row_at))]
     fn take_row(&mut self, alloc: Global, key: u64) -> Vec<u16>
         ensures row { result.items ≡ row_at self.old key }
-        ensures others { (k : ℕ) → row_at self.new k ≡ (if key == k then [] else row_at self.old k) }
+        ensures others { (k : ℕ)
+            → row_at self.new k ≡ (if key == k then [] else row_at self.old k) }
     {
         match self.rows.remove(&key) {
             Some(row) => row,
@@ -68,7 +69,8 @@ impl Children {
     /// Puts a row in.
     #[tactic(auto, unfolding(crate::specs::slot_children::Table::row_at))]
     fn put_row(&mut self, key: u64, row: Vec<u16>) -> Result<(), AllocError>
-        ensures { OnOk result ((k : ℕ) → row_at self.new k ≡ (if key == k then row.items else row_at self.old k)) }
+        ensures { OnOk result ((k : ℕ)
+            → row_at self.new k ≡ (if key == k then row.items else row_at self.old k)) }
     {
         self.rows.insert(key, row)?;
         Ok(())
@@ -76,7 +78,9 @@ impl Children {
 
     /// Adds a slot at the end of a row.
     fn add(&mut self, alloc: Global, key: u64, slot: u16) -> Result<(), AllocError>
-        ensures { OnOk result ((k : ℕ) → row_at self.new k ≡ (if key == k then row_at self.old k ++ slot ∷ [] else row_at self.old k)) }
+        ensures { OnOk result ((k : ℕ)
+            → row_at self.new k
+            ≡ (if key == k then row_at self.old k ++ slot ∷ [] else row_at self.old k)) }
     {
         let mut row = self.take_row(alloc, key);
         row.push(slot)?;

@@ -38,6 +38,7 @@ use Rattle.world_agreement.proofs.Telling.{IsOwned, AllOwned, plain_owned}
 use Rattle.world_agreement.proofs.Turning.{TurnSays, treat_says}
 use Rattle.world_agreement.proofs.Moving.{Ranked, IsSorted, next_front, post_from, turn_from, world_after, controller_moves}
 use Rattle.world_agreement.proofs.Reading.{IsHearing, unread, TurnReads, step_reads}
+use Rattle.actor_world.proofs.TrueWorld.{put_own}
 
 -- a slot that is there is its owner's own
 pub own_there : (t : Tables) (s : ℕ) → s < length t.slots → is_own t (owner_of t s) s ≡ true
@@ -56,14 +57,6 @@ put_each P f at v h k n = go (n == at)
     go : (b : Bool) → P (if b then v else f n)
     go true = k
     go false = h n
-
-pub put_own : {A : Type 0} (P : ℕ → A → Type 0) (f : ℕ → A) (at : ℕ) (v : A) → ((n : ℕ) → P n (f n)) → P at v → (n : ℕ) → P n (put f at v n)
-unfolding put
-put_own P f at v h k n = go (n == at) refl
-  where
-    go : (b : Bool) → (n == at) ≡ b → P n (if b then v else f n)
-    go true e = subst (λ z. P z v) (sym (eqb-true n at e)) k
-    go false e = h n
 
 owned_contents : (t : Tables) (a b : ℕ) (ms : List Msg) → AllOwned t a ms → AllOwned t a (contents b ms)
 unfolding contents

@@ -20,6 +20,7 @@ use Rattle.actor_world.specs.Turns.{doing, begun, all_begun, gone, all_gone, clo
 use Rattle.actor_world.specs.Directories.{SendsOpenly, IsOpen}
 use Rattle.world_agreement.proofs.Plain.{IsPlain, AllPlain, plain_append, plain_request, plain_name_request, plain_end_of, plain_send, plain_broadcast}
 use Rattle.world_agreement.proofs.Lists.{all_append}
+use Rattle.actor_world.proofs.TrueTurns.{request_told}
 
 -- messages of which none is the system's
 abbrev pub NotSystem : List Msg → Type 0
@@ -87,17 +88,11 @@ keeping_open : {M : Type 0} (d : Doing M) (slot : ℕ) (k : Kept) → KeepsOpen 
     → NotSystem (k.back ++ d.back) × ((n : ℕ) → NotSystem (updated d.body.deferred slot k.deferred n))
 keeping_open d slot k h q = (all_append _ k.back d.back q.1 h.0, updated_open d.body.deferred slot k.deferred h.1 q.0)
 
-request_lives : (t : Tables) (me : ℕ) (f : Frame) (x : Incarnation) (c : FrameCommand) → (frame_request t me f x c).now.lives ≡ f.lives
+pub request_lives : (t : Tables) (me : ℕ) (f : Frame) (x : Incarnation) (c : FrameCommand) → (frame_request t me f x c).now.lives ≡ f.lives
 request_lives t me f x (frames.Incarnate reference index) = refl
 request_lives t me f x (frames.Destroy reference index) = refl
 request_lives t me f x (frames.Import reference index id) = refl
 request_lives t me f x (frames.Deport reference index) = refl
-
-request_told : (t : Tables) (me : ℕ) (f : Frame) (x : Incarnation) (c : FrameCommand) → (frame_request t me f x c).now.told ≡ f.told
-request_told t me f x (frames.Incarnate reference index) = refl
-request_told t me f x (frames.Destroy reference index) = refl
-request_told t me f x (frames.Import reference index id) = refl
-request_told t me f x (frames.Deport reference index) = refl
 
 module _ {M : Type 0} (t : Tables) (me : ℕ) where
   sent_at_plain : (d : Doing M) (x : Incarnation) (p : ℕ) (k : Option ℤ) (c : Content) → (c.prio.0 == 0) ≡ false → AllPlain (sent_at t me d x p k c).messages

@@ -34,7 +34,8 @@ use Rattle.world_agreement.proofs.Duties.{IsFar}
 use Rattle.world_agreement.proofs.Turning.{TurnSays, treat_says}
 use Rattle.world_agreement.proofs.Moving.{controller_moves, IsSorted, post_from, turn_from, world_after}
 use Rattle.world_agreement.proofs.Reading.{step_hears, IsHearing, unread, TurnReads, step_reads}
-use Rattle.world_agreement.proofs.Agreeing.{own_there, put_own, fresh_trail, IsForetold, controller_foretold, world_then, environment_moves, environment_foretold, first_carries, first_plain, start_foretold, quiet_unread}
+use Rattle.actor_world.proofs.TrueWorld.{put_own}
+use Rattle.world_agreement.proofs.Agreeing.{own_there, fresh_trail, IsForetold, controller_foretold, world_then, environment_moves, environment_foretold, first_carries, first_plain, start_foretold, quiet_unread}
 
 -- an optional slot is there
 pub optional_there : (t : Tables) (o : ℕ) → is_optional t o ≡ true → o < length t.slots

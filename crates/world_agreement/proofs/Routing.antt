@@ -25,7 +25,7 @@ use Rattle.actor_duties.specs.Frame.{frame_duty_of, frame_duty_from, frame_duty,
 use Rattle.world_agreement.specs.Imports.{Loan, forth_by, forth_on, back_on, IsBetween, IsRouted, PlacesAreLocal}
 use Rattle.world_agreement.proofs.Lists.{all_append, all_map, all_flat, all_passed, all_reverse}
 use Rattle.world_agreement.proofs.OffLoan.{IsOffLoan, AllOffLoan, off_asked, off_announces, off_part_ends, off_part_make, off_create, off_create_done, off_create_refused, off_destroy_done, off_import_done, off_import_refused, off_import_ended, off_deport_done}
-use Rattle.world_agreement.proofs.Telling.{own_owner}
+use Rattle.actor_world.proofs.TrueTurns.{own_owner}
 use Rattle.world_agreement.proofs.Walking.{IsWalk, treat_walks, start_walks}
 use Rattle.world_agreement.proofs.Duties.{by_plainly, by_number, by_natural}
 use Rattle.actor_world.specs.Behaviour.{Behaviour}

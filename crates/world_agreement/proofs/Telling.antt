@@ -8,8 +8,6 @@ use Rattle.room_kinds.specs.declared.message.Msg.{Msg}
 use Rattle.room_kinds.specs.declared.numbers.Incarnation.{Incarnation}
 use Rattle.room_kinds.specs.declared.system.SysKind.TheVariants as kinds
 use Rattle.room_wiring.specs.declared.tables.Tables.{Tables}
-use Rattle.room_wiring.specs.declared.slot.Slot.{Slot}
-use Rattle.room_wiring.specs.Slots.{slot_at}
 use Rattle.room_wiring.specs.Places.{is_told}
 use Rattle.actor_duties.specs.Words.{slots_of, incarnation, frame_of, whose, is_own, owner_of, is_optional}
 use Rattle.actor_duties.specs.State.{Lives, Frame}
@@ -29,6 +27,7 @@ use Rattle.world_agreement.proofs.Hearing.{and_true, IsMute, AllMute, after, aft
 use Rattle.world_agreement.proofs.Alternating.{often_reverse, often_filter, often_range, IsOff, AllOff, all_plain_off, announces_off, parts_off, AlternateTo, to_off, off_append, blocks_alternate, makes_alternate, ends_alternate}
 use Rattle.world_agreement.proofs.Below.{made_itself, made_once}
 use Rattle.world_agreement.proofs.Living.{Stepped, made_lives, made_stays}
+use Rattle.actor_world.proofs.TrueTurns.{own_owner}
 
 -- what a message tells of is a slot of this controller
 abbrev pub IsOwned : Tables → ℕ → Msg → Type 0
@@ -40,14 +39,6 @@ AllOwned t a ms = AllByRecursion (IsOwned t a) ms
 pub plain_owned : (t : Tables) (a : ℕ) (ms : List Msg) → AllPlain ms → AllOwned t a ms
 plain_owned t a [] h = tt
 plain_owned t a (m ∷ ms) h = let e = h.0 in ((λ x k. absurd cc), plain_owned t a ms h.1)
-
-pub own_owner : (t : Tables) (me s : ℕ) → is_own t me s ≡ true → owner_of t s ≡ me
-unfolding is_own owner_of
-own_owner t me s h = go (slot_at t s) h
-  where
-    go : (o : Option Slot) → option_map_or (λ (x : Slot). x.owner.0 == me) o false ≡ true → option_map_or (λ (x : Slot). x.owner.0) o 0 ≡ me
-    go None k = absurd cc
-    go (Some x) k = eqb-true x.owner.0 me k
 
 -- a slot has one owner
 pub other_owner : (t : Tables) (me d s : ℕ) → is_own t me s ≡ true → (d == me) ≡ false → is_own t d s ≡ false

@@ -30,6 +30,7 @@ use Rattle.actor_world.specs.Directories.{SendsOpenly, IsOpen}
 use Rattle.world_agreement.proofs.Lists.{all_passed}
 use Rattle.world_agreement.proofs.Duties.{by_plainly, by_number, by_natural}
 use Rattle.world_agreement.proofs.OffLoan.{IsOffLoan, AllOffLoan, off_name_request, off_end_of, off_links, off_table, off_send, off_broadcast}
+use Rattle.world_agreement.proofs.Carrying.{request_lives}
 
 -- an actor that lives here
 abbrev pub IsHere : Tables → ℕ → Lives → Incarnation → Type 0
@@ -136,12 +137,6 @@ module _ (t : Tables) (me : ℕ) (f : Frame) where
   pub frame_duty_makes : (m : Msg) (kind : SysKind) → Makes t me (frame_duty t me f kind m)
   unfolding frame_duty
   frame_duty_makes m kind = duty_from_makes m kind m.source
-
-request_lives : (t : Tables) (me : ℕ) (f : Frame) (x : Incarnation) (c : FrameCommand) → (frame_request t me f x c).now.lives ≡ f.lives
-request_lives t me f x (frames.Incarnate reference index) = refl
-request_lives t me f x (frames.Destroy reference index) = refl
-request_lives t me f x (frames.Import reference index id) = refl
-request_lives t me f x (frames.Deport reference index) = refl
 
 module _ {M : Type 0} (t : Tables) (me : ℕ) (R : Frame → List Msg → Frame → Type 0) (walk : IsWalk t me R) where
   -- from d to e the frame service goes on so, and its lives stay

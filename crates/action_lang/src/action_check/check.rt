@@ -22,8 +22,11 @@ pub fn check_action(
     scope: &Scope,
     names: &mut ServiceNames,
 ) -> Result<Bound, ActionFault>
-    ensures answer { Answers numbered.program_view result (stmts_fault scope.now (named.program_view program.now)) (numbered_stmts scope.now names.old (named.program_view program.now)) }
-    ensures names { OnOk result (names.new ≡ stmts_names (named.program_view program.now) names.old) }
+    ensures answer { Answers numbered.program_view result
+        (stmts_fault scope.now (named.program_view program.now))
+        (numbered_stmts scope.now names.old (named.program_view program.now)) }
+    ensures names { OnOk result (names.new
+        ≡ stmts_names (named.program_view program.now) names.old) }
     ensures grown { Grows names.old names.new }
 {
     let statements = statements(alloc, &program.statements, scope, names)?;
@@ -32,7 +35,8 @@ pub fn check_action(
 
 /// The condition with numbers in place of names; else the first fault of its text.
 pub fn check_cond(alloc: Global, cond: &Expr, scope: &Scope) -> Result<BoundExpr, ActionFault>
-    ensures { Answers numbered.expr_view result (expr_fault scope.now (named.expr_view cond.now)) (numbered_expr scope.now (named.expr_view cond.now)) }
+    ensures { Answers numbered.expr_view result (expr_fault scope.now (named.expr_view cond.now))
+        (numbered_expr scope.now (named.expr_view cond.now)) }
 {
     expression(alloc, cond, scope)
 }

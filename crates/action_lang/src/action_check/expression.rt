@@ -11,7 +11,8 @@ use room_ast::{Name, Scope};
 use std::alloc::Global;
 
 fn attribute(path: &[Name], scope: &Scope) -> Result<BoundExpr, ActionFault>
-    ensures { Answers numbered.expr_view result (expr_fault scope.now (named.an_attribute path.now)) (numbered_expr scope.now (named.an_attribute path.now)) }
+    ensures { Answers numbered.expr_view result (expr_fault scope.now (named.an_attribute path.now))
+        (numbered_expr scope.now (named.an_attribute path.now)) }
 {
     match scope.attribute(path) {
         Some((number, _)) => Ok(BoundExpr::Attribute(number)),
@@ -22,7 +23,8 @@ fn attribute(path: &[Name], scope: &Scope) -> Result<BoundExpr, ActionFault>
 /// An expression with numbers in place of names.
 #[cycle(expression)]
 pub fn expression(alloc: Global, e: &Expr, scope: &Scope) -> Result<BoundExpr, ActionFault>
-    ensures { Answers numbered.expr_view result (expr_fault scope.now (named.expr_view e.now)) (numbered_expr scope.now (named.expr_view e.now)) }
+    ensures { Answers numbered.expr_view result (expr_fault scope.now (named.expr_view e.now))
+        (numbered_expr scope.now (named.expr_view e.now)) }
 {
     match e {
         Expr::Number(n) => Ok(BoundExpr::Number(n.cast_signed())),
@@ -48,7 +50,9 @@ pub fn expression(alloc: Global, e: &Expr, scope: &Scope) -> Result<BoundExpr, A
 
 #[cycle(expression)]
 fn steps(alloc: Global, steps: &Vec<Step>, scope: &Scope) -> Result<Vec<BoundStep>, ActionFault>
-    ensures { Answers (λ v. numbered.steps_of (map numbered.step_view v.items)) result (steps_fault scope.now (named.steps_of (map named.step_view steps.now.items))) (numbered_steps scope.now (named.steps_of (map named.step_view steps.now.items))) }
+    ensures { Answers (λ v. numbered.steps_of (map numbered.step_view v.items)) result
+        (steps_fault scope.now (named.steps_of (map named.step_view steps.now.items)))
+        (numbered_steps scope.now (named.steps_of (map named.step_view steps.now.items))) }
 {
     let mut found = Vec::new(alloc);
     for step in steps {
@@ -63,7 +67,9 @@ fn steps(alloc: Global, steps: &Vec<Step>, scope: &Scope) -> Result<Vec<BoundSte
 
 /// An expression that may be missing; then it is 0.
 pub fn index(alloc: Global, e: &Option<Expr>, scope: &Scope) -> Result<BoundExpr, ActionFault>
-    ensures { Answers numbered.expr_view result (index_fault scope.now (option_map named.expr_view e.now)) (numbered_index scope.now (option_map named.expr_view e.now)) }
+    ensures { Answers numbered.expr_view result
+        (index_fault scope.now (option_map named.expr_view e.now))
+        (numbered_index scope.now (option_map named.expr_view e.now)) }
 {
     match e {
         None => Ok(BoundExpr::Number(0)),

@@ -13,7 +13,11 @@ const MAX_NUMBER: usize = 0xffff_ffff;
 
 /// The number of a name, if it has one.
 fn number_in(known: &IndexSet<Vec<u8>>, name: &[u8]) -> Option<usize>
-    ensures { MatchOption result (number_of (texts known.now.keys) name.now ≡ length (texts known.now.keys)) (λ k. (k ≡ number_of (texts known.now.keys) name.now) × (number_of (texts known.now.keys) name.now < length (texts known.now.keys))) }
+    ensures { MatchOption result
+        (number_of (texts known.now.keys) name.now ≡ length (texts known.now.keys))
+        (λ k.
+        (k ≡ number_of (texts known.now.keys) name.now)
+        × (number_of (texts known.now.keys) name.now < length (texts known.now.keys))) }
 {
     known.get_index_of(name)
 }

@@ -26,7 +26,9 @@ fn can_send(kind: PortKind) -> bool
 
 /// The place of a send, if there is one.
 fn place(alloc: Global, e: &Option<Expr>, scope: &Scope) -> Result<Option<BoundExpr>, ActionFault>
-    ensures { Answers (option_map numbered.expr_view) result (index_fault scope.now (option_map named.expr_view e.now)) (option_map (numbered_expr scope.now) (option_map named.expr_view e.now)) }
+    ensures { Answers (option_map numbered.expr_view) result
+        (index_fault scope.now (option_map named.expr_view e.now))
+        (option_map (numbered_expr scope.now) (option_map named.expr_view e.now)) }
 {
     match e {
         None => Ok(None),
@@ -42,7 +44,9 @@ fn arguments(
     scope: &Scope,
 ) -> Result<Vec<Argument>, ActionFault>
     requires { length arguments.now ≡ length kinds.now }
-    ensures { Answers (λ v. map numbered.argument_view v.items) result (exprs_fault scope.now (map named.expr_view arguments.now)) (numbered_arguments scope.now kinds.now (map named.expr_view arguments.now)) }
+    ensures { Answers (λ v. map numbered.argument_view v.items) result
+        (exprs_fault scope.now (map named.expr_view arguments.now))
+        (numbered_arguments scope.now kinds.now (map named.expr_view arguments.now)) }
 {
     let mut found = Vec::new(alloc);
     for (i, argument) in arguments.iter().enumerate() {
@@ -57,7 +61,8 @@ fn arguments(
 
 /// A send with numbers in place of names.
 pub fn send(alloc: Global, s: &SendStmt, scope: &Scope) -> Result<BoundSend, ActionFault>
-    ensures { Answers numbered.send_view result (send_fault scope.now (named.send_view s.now)) (numbered_send scope.now (named.send_view s.now)) }
+    ensures { Answers numbered.send_view result (send_fault scope.now (named.send_view s.now))
+        (numbered_send scope.now (named.send_view s.now)) }
 {
     let Some((port, known)) = scope.port(s.port.as_bytes()) else {
         return Err(ActionFault::UnknownName);

@@ -48,7 +48,8 @@ fn takes_import(kind: ReferenceKind) -> bool
 
 /// The number of an access point or a provision point.
 fn named_port(port: &Name, scope: &Scope) -> Result<u16, ActionFault>
-    ensures { Answers (λ k. k) result (naming_fault (found_port scope.now port.now)) (number (found_port scope.now port.now)) }
+    ensures { Answers (λ k. k) result (naming_fault (found_port scope.now port.now))
+        (number (found_port scope.now port.now)) }
 {
     let Some((number, port)) = scope.port(port.as_bytes()) else {
         return Err(ActionFault::UnknownName);
@@ -62,7 +63,9 @@ fn named_port(port: &Name, scope: &Scope) -> Result<u16, ActionFault>
 
 /// The number of a reference of the kind that the verb needs.
 fn framed(verb: FrameVerb, reference: &Name, scope: &Scope) -> Result<u16, ActionFault>
-    ensures { Answers (λ k. k) result (reference_fault (takes_verb verb) (found_reference scope.now reference.now)) (number (found_reference scope.now reference.now)) }
+    ensures { Answers (λ k. k) result
+        (reference_fault (takes_verb verb) (found_reference scope.now reference.now))
+        (number (found_reference scope.now reference.now)) }
 {
     let Some((number, reference)) = scope.reference(reference.as_bytes()) else {
         return Err(ActionFault::UnknownName);
@@ -76,7 +79,9 @@ fn framed(verb: FrameVerb, reference: &Name, scope: &Scope) -> Result<u16, Actio
 
 /// The number of an imported reference.
 fn imported(reference: &Name, scope: &Scope) -> Result<u16, ActionFault>
-    ensures { Answers (λ k. k) result (reference_fault takes_import (found_reference scope.now reference.now)) (number (found_reference scope.now reference.now)) }
+    ensures { Answers (λ k. k) result
+        (reference_fault takes_import (found_reference scope.now reference.now))
+        (number (found_reference scope.now reference.now)) }
 {
     let Some((number, reference)) = scope.reference(reference.as_bytes()) else {
         return Err(ActionFault::UnknownName);
@@ -94,7 +99,9 @@ fn assign(
     value: &Expr,
     scope: &Scope,
 ) -> Result<BoundStmt, ActionFault>
-    ensures { Answers numbered.stmt_view result (stmt_fault scope.now (named.assign attribute.now (named.expr_view value.now))) (numbered_stmt scope.now [] (named.assign attribute.now (named.expr_view value.now))) }
+    ensures { Answers numbered.stmt_view result
+        (stmt_fault scope.now (named.assign attribute.now (named.expr_view value.now)))
+        (numbered_stmt scope.now [] (named.assign attribute.now (named.expr_view value.now))) }
 {
     let Some((attribute, known)) = scope.attribute(attribute) else {
         return Err(ActionFault::UnknownName);
@@ -114,7 +121,11 @@ fn frame(
     index: &Option<Expr>,
     scope: &Scope,
 ) -> Result<BoundStmt, ActionFault>
-    ensures { Answers numbered.stmt_view result (stmt_fault scope.now (named.frame verb reference.now (option_map named.expr_view index.now))) (numbered_stmt scope.now [] (named.frame verb reference.now (option_map named.expr_view index.now))) }
+    ensures { Answers numbered.stmt_view result
+        (stmt_fault scope.now (named.frame verb reference.now
+        (option_map named.expr_view index.now)))
+        (numbered_stmt scope.now []
+        (named.frame verb reference.now (option_map named.expr_view index.now))) }
 {
     let reference = framed(verb, reference, scope)?;
     let index = self::index(alloc, index, scope)?;
@@ -132,7 +143,11 @@ fn import(
     id: &Expr,
     scope: &Scope,
 ) -> Result<BoundStmt, ActionFault>
-    ensures { Answers numbered.stmt_view result (stmt_fault scope.now (named.import_at reference.now (option_map named.expr_view index.now) (named.expr_view id.now))) (numbered_stmt scope.now [] (named.import_at reference.now (option_map named.expr_view index.now) (named.expr_view id.now))) }
+    ensures { Answers numbered.stmt_view result
+        (stmt_fault scope.now (named.import_at reference.now (option_map named.expr_view index.now)
+        (named.expr_view id.now)))
+        (numbered_stmt scope.now [] (named.import_at reference.now
+        (option_map named.expr_view index.now) (named.expr_view id.now))) }
 {
     let reference = imported(reference, scope)?;
     let index = self::index(alloc, index, scope)?;
@@ -151,7 +166,9 @@ fn register(
     scope: &Scope,
     names: &mut ServiceNames,
 ) -> Result<BoundStmt, ActionFault>
-    ensures answer { Answers numbered.stmt_view result (stmt_fault scope.now (named.register port.now name.now)) (numbered_stmt scope.now names.old (named.register port.now name.now)) }
+    ensures answer { Answers numbered.stmt_view result
+        (stmt_fault scope.now (named.register port.now name.now))
+        (numbered_stmt scope.now names.old (named.register port.now name.now)) }
     ensures names { OnOk result (names.new ≡ with_name names.old name.now) }
     ensures grown { Grows names.old names.new }
 {
@@ -168,7 +185,9 @@ fn statement(
     scope: &Scope,
     names: &mut ServiceNames,
 ) -> Result<BoundStmt, ActionFault>
-    ensures answer { Answers numbered.stmt_view result (stmt_fault scope.now (named.stmt_view s.now)) (numbered_stmt scope.now names.old (named.stmt_view s.now)) }
+    ensures answer { Answers numbered.stmt_view result
+        (stmt_fault scope.now (named.stmt_view s.now))
+        (numbered_stmt scope.now names.old (named.stmt_view s.now)) }
     ensures names { OnOk result (names.new ≡ stmt_names (named.stmt_view s.now) names.old) }
     ensures grown { Grows names.old names.new }
 {
@@ -213,8 +232,12 @@ pub fn statements(
     scope: &Scope,
     names: &mut ServiceNames,
 ) -> Result<Vec<BoundStmt>, ActionFault>
-    ensures answer { Answers (λ v. numbered.stmts_of (map numbered.stmt_view v.items)) result (stmts_fault scope.now (named.stmts_of (map named.stmt_view statements.now.items))) (numbered_stmts scope.now names.old (named.stmts_of (map named.stmt_view statements.now.items))) }
-    ensures names { OnOk result (names.new ≡ stmts_names (named.stmts_of (map named.stmt_view statements.now.items)) names.old) }
+    ensures answer { Answers (λ v. numbered.stmts_of (map numbered.stmt_view v.items)) result
+        (stmts_fault scope.now (named.stmts_of (map named.stmt_view statements.now.items)))
+        (numbered_stmts scope.now names.old
+        (named.stmts_of (map named.stmt_view statements.now.items))) }
+    ensures names { OnOk result (names.new
+        ≡ stmts_names (named.stmts_of (map named.stmt_view statements.now.items)) names.old) }
     ensures grown { Grows names.old names.new }
 {
     let mut found = Vec::new(alloc);
@@ -232,8 +255,13 @@ fn choose(
     scope: &Scope,
     names: &mut ServiceNames,
 ) -> Result<BoundStmt, ActionFault>
-    ensures answer { Answers numbered.stmt_view result (stmt_fault scope.now (named.choose (named.if_view choice.now).0 (named.if_view choice.now).1)) (numbered_stmt scope.now names.old (named.choose (named.if_view choice.now).0 (named.if_view choice.now).1)) }
-    ensures names { OnOk result (names.new ≡ stmt_names (named.choose (named.if_view choice.now).0 (named.if_view choice.now).1) names.old) }
+    ensures answer { Answers numbered.stmt_view result
+        (stmt_fault scope.now (named.choose (named.if_view choice.now).0
+        (named.if_view choice.now).1))
+        (numbered_stmt scope.now names.old
+        (named.choose (named.if_view choice.now).0 (named.if_view choice.now).1)) }
+    ensures names { OnOk result (names.new ≡ stmt_names
+        (named.choose (named.if_view choice.now).0 (named.if_view choice.now).1) names.old) }
     ensures grown { Grows names.old names.new }
 {
     let branches = branches(alloc, &choice.branches, scope, names)?;
@@ -259,8 +287,12 @@ fn branches(
     scope: &Scope,
     names: &mut ServiceNames,
 ) -> Result<Vec<BoundBranch>, ActionFault>
-    ensures answer { Answers (λ v. numbered.branches_of (map numbered.branch_view v.items)) result (branches_fault scope.now (named.branches_of (map named.branch_view branches.now.items))) (numbered_branches scope.now names.old (named.branches_of (map named.branch_view branches.now.items))) }
-    ensures names { OnOk result (names.new ≡ branches_names (named.branches_of (map named.branch_view branches.now.items)) names.old) }
+    ensures answer { Answers (λ v. numbered.branches_of (map numbered.branch_view v.items)) result
+        (branches_fault scope.now (named.branches_of (map named.branch_view branches.now.items)))
+        (numbered_branches scope.now names.old
+        (named.branches_of (map named.branch_view branches.now.items))) }
+    ensures names { OnOk result (names.new
+        ≡ branches_names (named.branches_of (map named.branch_view branches.now.items)) names.old) }
     ensures grown { Grows names.old names.new }
 {
     let mut found = Vec::new(alloc);

@@ -252,7 +252,7 @@ some_token (a_paren e) k h = omega arith
 some_token (a_unary op e) k h = omega arith
 some_token (a_chain e steps) k h = omega (arith, some_token e h.0 h.3, length-append (expr_tokens e) (steps_tokens steps))
 
-behind_shorter : (front ts us : List Value) → ts ≡ front ++ us → 0 < length front → length us < length ts
+pub behind_shorter : (front ts us : List Value) → ts ≡ front ++ us → 0 < length front → length us < length ts
 behind_shorter front ts us e some = omega (arith, ap length e, length-append front us)
 
 pub step_shorter : (k depth : ℕ) (ts : List Value) (s : BinaryOp × ExprTree) (us : List Value) → step_at k (level k (operand depth)) ts ≡ Some (s, us) → length us < length ts

@@ -7,12 +7,9 @@ use Rattle.action_parse.specs.action_reading.Tokens.{path_tokens, expr_tokens, s
 use Rattle.action_parse.specs.action_reading.ExprReading.{expression}
 use Rattle.action_parse.specs.action_reading.StmtReading.{argument_at, else_if_at, block_at, block_below, statement}
 use Rattle.action_parse.specs.action_reading.Written.{IsStmt}
-use Rattle.action_parse.proofs.action_reading.ExprSound.{some_path}
+use Rattle.action_parse.proofs.action_reading.ExprSound.{some_path, behind_shorter}
 use Rattle.action_parse.proofs.action_reading.StmtAlways.{statement_always}
 use Rattle.action_parse.proofs.action_reading.StmtSound.{argument_sound, else_if_tokens, else_if_sound, expression_sound, below_sound, statement_sound}
-
-behind_shorter : (front ts us : List Value) → ts ≡ front ++ us → 0 < length front → length us < length ts
-behind_shorter front ts us e some = omega (arith, ap length e, length-append front us)
 
 pub argument_shorter : (depth : ℕ) (ts : List Value) (e : ExprTree) (us : List Value) → argument_at (expression depth) ts ≡ Some (e, us) → length us < length ts
 argument_shorter depth ts e us h = behind_shorter (AMark marks.Comma ∷ expr_tokens e) ts us ((argument_sound (expression_sound depth)).takes ts (e, us) h) (omega arith)

@@ -99,7 +99,8 @@ fn op_comes(rest: Rest, k: usize) -> bool
 
 /// A dot and a name.
 fn part<'a>(alloc: Global, rest: Rest<'a>) -> Result<(Name, Rest<'a>), ReadFault>
-    ensures { Gives (λ x. (x.0, left x.1)) result (reads_as (λ x. x.1) (mark marks.Dot ⊕ name_at) (left rest.entry)) }
+    ensures { Gives (λ x. (x.0, left x.1)) result
+        (reads_as (λ x. x.1) (mark marks.Dot ⊕ name_at) (left rest.entry)) }
 {
     let rest = take_mark(rest, Mark::Dot)?;
     name(alloc, rest)
@@ -149,7 +150,8 @@ fn datum<'a>(rest: Rest<'a>) -> Result<(Option<u8>, Rest<'a>), ReadFault>
 
 /// An expression of which these steps are the rest.
 fn chain(alloc: Global, first: Expr, steps: Vec<Step>) -> Result<Expr, AllocError>
-    ensures { IfOk result (λ e. expr_view e ≡ chain_of (expr_view first, map step_view steps.items)) }
+    ensures { IfOk result (λ e.
+        expr_view e ≡ chain_of (expr_view first, map step_view steps.items)) }
 {
     if steps.is_empty() {
         return Ok(first);
@@ -166,7 +168,8 @@ fn step<'a>(
     depth: usize,
     rest: Rest<'a>,
 ) -> Result<(Step, Rest<'a>), ReadFault>
-    ensures { Gives (λ x. (step_view x.0, left x.1)) result (step_at k (level k (operand depth)) (left rest.entry)) }
+    ensures { Gives (λ x. (step_view x.0, left x.1)) result
+        (step_at k (level k (operand depth)) (left rest.entry)) }
 {
     let Some(op) = op_at(rest, k) else {
         return Err(ReadFault::Syntax(place(rest)));
@@ -183,7 +186,8 @@ fn steps<'a>(
     depth: usize,
     rest: Rest<'a>,
 ) -> Result<(Vec<Step>, Rest<'a>), ReadFault>
-    ensures { Gives (λ x. (map step_view x.0.items, left x.1)) result (all_while (op_comes k) (step_at k (level k (operand depth))) (left rest.entry)) }
+    ensures { Gives (λ x. (map step_view x.0.items, left x.1)) result
+        (all_while (op_comes k) (step_at k (level k (operand depth))) (left rest.entry)) }
 {
     let mut found = Vec::new(alloc);
     let mut rest = rest;
@@ -203,7 +207,8 @@ pub fn level<'a>(
     depth: usize,
     rest: Rest<'a>,
 ) -> Result<(Expr, Rest<'a>), ReadFault>
-    ensures { Gives (λ x. (expr_view x.0, left x.1)) result (level k (operand depth) (left rest.entry)) }
+    ensures { Gives (λ x. (expr_view x.0, left x.1)) result
+        (level k (operand depth) (left rest.entry)) }
 {
     if k == 0 {
         return operand(alloc, depth, rest);
@@ -216,7 +221,8 @@ pub fn level<'a>(
 /// An expression that nests in an operand.
 #[cycle(expression)]
 fn inside<'a>(alloc: Global, depth: usize, rest: Rest<'a>) -> Result<(Expr, Rest<'a>), ReadFault>
-    ensures { Gives (λ x. (expr_view x.0, left x.1)) result (level 5 (under depth) (left rest.entry)) }
+    ensures { Gives (λ x. (expr_view x.0, left x.1)) result
+        (level 5 (under depth) (left rest.entry)) }
 {
     if depth == 0 {
         return Err(ReadFault::Syntax(place(rest)));
@@ -238,7 +244,8 @@ fn nested<'a>(alloc: Global, depth: usize, rest: Rest<'a>) -> Result<(Expr, Rest
 /// Behind an opening parenthesis.
 #[cycle(expression)]
 fn paren<'a>(alloc: Global, depth: usize, rest: Rest<'a>) -> Result<(Expr, Rest<'a>), ReadFault>
-    ensures { Gives (λ x. (expr_view x.0, left x.1)) result (reads_as (λ x. a_paren x.0) (level 5 (under depth) ⊕ mark marks.CloseParen) (left rest.entry)) }
+    ensures { Gives (λ x. (expr_view x.0, left x.1)) result (reads_as (λ x. a_paren x.0)
+        (level 5 (under depth) ⊕ mark marks.CloseParen) (left rest.entry)) }
 {
     let (inner, rest) = inside(alloc, depth, rest)?;
     let rest = take_mark(rest, Mark::CloseParen)?;
@@ -253,7 +260,8 @@ fn unary<'a>(
     depth: usize,
     rest: Rest<'a>,
 ) -> Result<(Expr, Rest<'a>), ReadFault>
-    ensures { Gives (λ x. (expr_view x.0, left x.1)) result (reads_as (a_unary op) (under depth) (left rest.entry)) }
+    ensures { Gives (λ x. (expr_view x.0, left x.1)) result
+        (reads_as (a_unary op) (under depth) (left rest.entry)) }
 {
     let (inner, rest) = nested(alloc, depth, rest)?;
     Ok((Expr::Unary(op, Box::new(alloc, inner)?), rest))

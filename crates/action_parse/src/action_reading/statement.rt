@@ -35,7 +35,8 @@ fn index<'a>(
     depth: usize,
     rest: Rest<'a>,
 ) -> Result<(Option<Expr>, Rest<'a>), ReadFault>
-    ensures { Gives (λ x. (option_map expr_view x.0, left x.1)) result (index_at (expression depth) (left rest.entry)) }
+    ensures { Gives (λ x. (option_map expr_view x.0, left x.1)) result
+        (index_at (expression depth) (left rest.entry)) }
 {
     if !comes(rest, Mark::OpenBracket) {
         return Ok((None, rest));
@@ -49,7 +50,8 @@ fn index<'a>(
 /// A comma and an expression.
 #[tactic(auto, unfolding(crate::specs::action_reading::StmtReading::argument_at))]
 fn argument<'a>(alloc: Global, depth: usize, rest: Rest<'a>) -> Result<(Expr, Rest<'a>), ReadFault>
-    ensures { Gives (λ x. (expr_view x.0, left x.1)) result (argument_at (expression depth) (left rest.entry)) }
+    ensures { Gives (λ x. (expr_view x.0, left x.1)) result
+        (argument_at (expression depth) (left rest.entry)) }
 {
     let rest = take_mark(rest, Mark::Comma)?;
     expression(alloc, depth, rest)
@@ -61,7 +63,8 @@ fn some_arguments<'a>(
     depth: usize,
     rest: Rest<'a>,
 ) -> Result<(Vec<Expr>, Rest<'a>), ReadFault>
-    ensures { Gives (λ x. (map expr_view x.0.items, left x.1)) result (some_arguments_at (expression depth) (left rest.entry)) }
+    ensures { Gives (λ x. (map expr_view x.0.items, left x.1)) result
+        (some_arguments_at (expression depth) (left rest.entry)) }
 {
     let (first, mut rest) = expression(alloc, depth, rest)?;
     let mut found = Vec::new(alloc);
@@ -81,7 +84,8 @@ fn arguments<'a>(
     depth: usize,
     rest: Rest<'a>,
 ) -> Result<(Vec<Expr>, Rest<'a>), ReadFault>
-    ensures { Gives (λ x. (map expr_view x.0.items, left x.1)) result (arguments_at (expression depth) (left rest.entry)) }
+    ensures { Gives (λ x. (map expr_view x.0.items, left x.1)) result
+        (arguments_at (expression depth) (left rest.entry)) }
 {
     if comes(rest, Mark::CloseParen) {
         return Ok((Vec::new(alloc), rest));
@@ -145,7 +149,8 @@ pub fn is_send(rest: Rest) -> bool
 
 #[tactic(auto, unfolding(crate::specs::action_reading::StmtReading::send_at))]
 fn send<'a>(alloc: Global, depth: usize, rest: Rest<'a>) -> Result<(Stmt, Rest<'a>), ReadFault>
-    ensures { Gives (λ x. (stmt_view x.0, left x.1)) result (send_at (expression depth) (left rest.entry)) }
+    ensures { Gives (λ x. (stmt_view x.0, left x.1)) result
+        (send_at (expression depth) (left rest.entry)) }
 {
     let (port, rest) = name(alloc, rest)?;
     let (place, rest) = index(alloc, depth, rest)?;
@@ -170,7 +175,8 @@ fn send<'a>(alloc: Global, depth: usize, rest: Rest<'a>) -> Result<(Stmt, Rest<'
 
 #[tactic(auto, unfolding(crate::specs::action_reading::StmtReading::assign_at))]
 fn assign<'a>(alloc: Global, depth: usize, rest: Rest<'a>) -> Result<(Stmt, Rest<'a>), ReadFault>
-    ensures { Gives (λ x. (stmt_view x.0, left x.1)) result (assign_at (expression depth) (left rest.entry)) }
+    ensures { Gives (λ x. (stmt_view x.0, left x.1)) result
+        (assign_at (expression depth) (left rest.entry)) }
 {
     let (attribute, rest) = path(alloc, rest)?;
     let rest = take_mark(rest, Mark::Equals)?;
@@ -187,7 +193,8 @@ fn frame<'a>(
     depth: usize,
     rest: Rest<'a>,
 ) -> Result<(Stmt, Rest<'a>), ReadFault>
-    ensures { Gives (λ x. (stmt_view x.0, left x.1)) result (frame_at (expression depth) verb (left rest.entry)) }
+    ensures { Gives (λ x. (stmt_view x.0, left x.1)) result
+        (frame_at (expression depth) verb (left rest.entry)) }
 {
     let (reference, rest) = name(alloc, rest)?;
     let (index, rest) = index(alloc, depth, rest)?;
@@ -205,7 +212,8 @@ fn frame<'a>(
 /// Behind `import`.
 #[tactic(auto, unfolding(crate::specs::action_reading::StmtReading::import_behind))]
 fn import<'a>(alloc: Global, depth: usize, rest: Rest<'a>) -> Result<(Stmt, Rest<'a>), ReadFault>
-    ensures { Gives (λ x. (stmt_view x.0, left x.1)) result (import_behind (expression depth) (left rest.entry)) }
+    ensures { Gives (λ x. (stmt_view x.0, left x.1)) result
+        (import_behind (expression depth) (left rest.entry)) }
 {
     let (reference, rest) = name(alloc, rest)?;
     let (index, rest) = index(alloc, depth, rest)?;
@@ -272,7 +280,8 @@ fn goes_on(rest: Rest) -> bool
 #[cycle(statement)]
 #[tactic(auto, unfolding(crate::specs::action_reading::StmtReading::branch_at))]
 fn branch<'a>(alloc: Global, depth: usize, rest: Rest<'a>) -> Result<(Branch, Rest<'a>), ReadFault>
-    ensures { Gives (λ x. (branch_view x.0, left x.1)) result (branch_at (expression depth) (block_below depth) (left rest.entry)) }
+    ensures { Gives (λ x. (branch_view x.0, left x.1)) result
+        (branch_at (expression depth) (block_below depth) (left rest.entry)) }
 {
     let rest = take_mark(rest, Mark::OpenParen)?;
     let (condition, rest) = expression(alloc, depth, rest)?;
@@ -284,7 +293,8 @@ fn branch<'a>(alloc: Global, depth: usize, rest: Rest<'a>) -> Result<(Branch, Re
 #[cycle(statement)]
 #[tactic(auto, unfolding(crate::specs::action_reading::StmtReading::else_if_at))]
 fn else_if<'a>(alloc: Global, depth: usize, rest: Rest<'a>) -> Result<(Branch, Rest<'a>), ReadFault>
-    ensures { Gives (λ x. (branch_view x.0, left x.1)) result (else_if_at (expression depth) (block_below depth) (left rest.entry)) }
+    ensures { Gives (λ x. (branch_view x.0, left x.1)) result
+        (else_if_at (expression depth) (block_below depth) (left rest.entry)) }
 {
     let rest = take_word(rest, ActionWord::Else)?;
     let rest = take_word(rest, ActionWord::If)?;
@@ -299,7 +309,8 @@ fn branches<'a>(
     depth: usize,
     rest: Rest<'a>,
 ) -> Result<(Vec<Branch>, Rest<'a>), ReadFault>
-    ensures { Gives (λ x. (map branch_view x.0.items, left x.1)) result (branches_at (expression depth) (block_below depth) (left rest.entry)) }
+    ensures { Gives (λ x. (map branch_view x.0.items, left x.1)) result
+        (branches_at (expression depth) (block_below depth) (left rest.entry)) }
 {
     let (first, mut rest) = branch(alloc, depth, rest)?;
     let mut found = Vec::new(alloc);
@@ -320,7 +331,8 @@ fn otherwise<'a>(
     depth: usize,
     rest: Rest<'a>,
 ) -> Result<(Option<Vec<Stmt>>, Rest<'a>), ReadFault>
-    ensures { Gives (λ x. (else_view x.0, left x.1)) result (else_at (block_below depth) (left rest.entry)) }
+    ensures { Gives (λ x. (else_view x.0, left x.1)) result
+        (else_at (block_below depth) (left rest.entry)) }
 {
     if !comes_word(rest, ActionWord::Else) {
         return Ok((None, rest));
@@ -334,7 +346,8 @@ fn otherwise<'a>(
 #[cycle(statement)]
 #[tactic(auto, unfolding(crate::specs::action_reading::StmtReading::choose_at))]
 fn choose<'a>(alloc: Global, depth: usize, rest: Rest<'a>) -> Result<(Stmt, Rest<'a>), ReadFault>
-    ensures { Gives (λ x. (stmt_view x.0, left x.1)) result (choose_at (expression depth) (block_below depth) (left rest.entry)) }
+    ensures { Gives (λ x. (stmt_view x.0, left x.1)) result
+        (choose_at (expression depth) (block_below depth) (left rest.entry)) }
 {
     let (branches, rest) = branches(alloc, depth, rest)?;
     let (otherwise, rest) = otherwise(alloc, depth, rest)?;
@@ -351,7 +364,8 @@ fn choose<'a>(alloc: Global, depth: usize, rest: Rest<'a>) -> Result<(Stmt, Rest
 #[cycle(statement)]
 #[tactic(auto, unfolding(crate::specs::action_reading::StmtReading::repeat_at))]
 fn repeat<'a>(alloc: Global, depth: usize, rest: Rest<'a>) -> Result<(Stmt, Rest<'a>), ReadFault>
-    ensures { Gives (λ x. (stmt_view x.0, left x.1)) result (repeat_at (block_below depth) (left rest.entry)) }
+    ensures { Gives (λ x. (stmt_view x.0, left x.1)) result
+        (repeat_at (block_below depth) (left rest.entry)) }
 {
     let (times, rest) = number(rest)?;
     let (body, rest) = block(alloc, depth, rest)?;
@@ -361,7 +375,8 @@ fn repeat<'a>(alloc: Global, depth: usize, rest: Rest<'a>) -> Result<(Stmt, Rest
 /// A statement that begins with a name.
 #[tactic(auto, unfolding(crate::specs::action_reading::StmtReading::named_at))]
 fn named<'a>(alloc: Global, depth: usize, rest: Rest<'a>) -> Result<(Stmt, Rest<'a>), ReadFault>
-    ensures { Gives (λ x. (stmt_view x.0, left x.1)) result (named_at (expression depth) (left rest.entry)) }
+    ensures { Gives (λ x. (stmt_view x.0, left x.1)) result
+        (named_at (expression depth) (left rest.entry)) }
 {
     if is_send(skip(rest)) {
         send(alloc, depth, rest)
@@ -372,7 +387,8 @@ fn named<'a>(alloc: Global, depth: usize, rest: Rest<'a>) -> Result<(Stmt, Rest<
 
 /// A statement that is a word alone.
 fn alone<'a>(stmt: Stmt, rest: Rest<'a>) -> Result<(Stmt, Rest<'a>), ReadFault>
-    ensures { Gives (λ x. (stmt_view x.0, left x.1)) result (reads_as (λ x. stmt_view stmt) (mark marks.Semicolon) (left rest.entry)) }
+    ensures { Gives (λ x. (stmt_view x.0, left x.1)) result
+        (reads_as (λ x. stmt_view stmt) (mark marks.Semicolon) (left rest.entry)) }
 {
     let rest = take_mark(rest, Mark::Semicolon)?;
     Ok((stmt, rest))
@@ -412,7 +428,8 @@ pub fn statements<'a>(
     depth: usize,
     rest: Rest<'a>,
 ) -> Result<(Vec<Stmt>, Rest<'a>), ReadFault>
-    ensures { Gives (λ x. (map stmt_view x.0.items, left x.1)) result (all_while goes_on (statement depth) (left rest.entry)) }
+    ensures { Gives (λ x. (map stmt_view x.0.items, left x.1)) result
+        (all_while goes_on (statement depth) (left rest.entry)) }
 {
     let mut found = Vec::new(alloc);
     let mut rest = rest;
@@ -432,7 +449,8 @@ fn braces<'a>(
     depth: usize,
     rest: Rest<'a>,
 ) -> Result<(Vec<Stmt>, Rest<'a>), ReadFault>
-    ensures { Gives (λ x. (stmts_of (map stmt_view x.0.items), left x.1)) result (block_at (statement depth) (left rest.entry)) }
+    ensures { Gives (λ x. (stmts_of (map stmt_view x.0.items), left x.1)) result
+        (block_at (statement depth) (left rest.entry)) }
 {
     let rest = take_mark(rest, Mark::OpenBrace)?;
     let (found, rest) = statements(alloc, depth, rest)?;
@@ -447,7 +465,8 @@ fn block<'a>(
     depth: usize,
     rest: Rest<'a>,
 ) -> Result<(Vec<Stmt>, Rest<'a>), ReadFault>
-    ensures { Gives (λ x. (stmts_of (map stmt_view x.0.items), left x.1)) result (block_below depth (left rest.entry)) }
+    ensures { Gives (λ x. (stmts_of (map stmt_view x.0.items), left x.1)) result
+        (block_below depth (left rest.entry)) }
 {
     if depth == 0 {
         return Err(ReadFault::Syntax(place(rest)));

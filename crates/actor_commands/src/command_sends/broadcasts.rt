@@ -24,7 +24,10 @@ fn send_copy<S: Services>(
     output: &mut Output,
 ) -> Result<(), AllocError>
     requires serves { S.serves speaker.now.wiring.now speaker.now.me.0 services.now }
-    ensures { OnOk result (Adds (send speaker.now.wiring.now speaker.now.me.0 (S.frame_of services.now) (S.links_of services.now) speaker.now.who port (pos place) (content_of content.now)) output.old output.new) }
+    ensures { OnOk result (Adds
+        (send speaker.now.wiring.now speaker.now.me.0 (S.frame_of services.now)
+        (S.links_of services.now) speaker.now.who port (pos place) (content_of content.now))
+        output.old output.new) }
 {
     let copy = content.copy(alloc)?;
     let at = u64::from(place);
@@ -43,7 +46,12 @@ fn send_to_places<S: Services>(
     requires serves { S.serves speaker.now.wiring.now speaker.now.me.0 services.now }
     requires slot { speaker.now.who.slot.0 < length speaker.now.wiring.now.slots }
     requires port { port < port_count speaker.now.wiring.now speaker.now.who.slot.0 }
-    ensures { OnOk result (Adds (send_each speaker.now.wiring.now speaker.now.me.0 (S.frame_of services.now) (S.links_of services.now) speaker.now.who port (content_of content.now) (places_of speaker.now.wiring.now speaker.now.who.slot.0 port)) output.old output.new) }
+    ensures { OnOk result (Adds
+        (send_each speaker.now.wiring.now speaker.now.me.0 (S.frame_of services.now)
+        (S.links_of services.now)
+        speaker.now.who port (content_of content.now)
+        (places_of speaker.now.wiring.now speaker.now.who.slot.0 port))
+        output.old output.new) }
 {
     for place in 0..speaker.wiring.places(speaker.who.slot, port) {
         send_copy(alloc, speaker, services, port, place, content, output)?;
@@ -63,7 +71,11 @@ fn send_to_link<S: Services>(
     output: &mut Output,
 ) -> Result<(), AllocError>
     requires serves { S.serves speaker.now.wiring.now speaker.now.me.0 services.now }
-    ensures { OnOk result (Adds (send_each speaker.now.wiring.now speaker.now.me.0 (S.frame_of services.now) (S.links_of services.now) speaker.now.who port (content_of content.now) (filter (nat_le first) (place ∷ []))) output.old output.new) }
+    ensures { OnOk result (Adds
+        (send_each speaker.now.wiring.now speaker.now.me.0 (S.frame_of services.now)
+        (S.links_of services.now)
+        speaker.now.who port (content_of content.now) (filter (nat_le first) (place ∷ [])))
+        output.old output.new) }
 {
     if place < first {
         return Ok(());
@@ -82,7 +94,13 @@ fn send_to_links<S: Services>(
     output: &mut Output,
 ) -> Result<(), AllocError>
     requires serves { S.serves speaker.now.wiring.now speaker.now.me.0 services.now }
-    ensures { OnOk result (Adds (send_each speaker.now.wiring.now speaker.now.me.0 (S.frame_of services.now) (S.links_of services.now) speaker.now.who port (content_of content.now) (filter (nat_le first) (map (λ (x : Link). x.place) ((S.links_of services.now).linked speaker.now.who.slot.0 port)))) output.old output.new) }
+    ensures { OnOk result (Adds
+        (send_each speaker.now.wiring.now speaker.now.me.0 (S.frame_of services.now)
+        (S.links_of services.now)
+        speaker.now.who port (content_of content.now)
+        (filter (nat_le first) (map (λ (x : Link). x.place) ((S.links_of services.now).linked
+        speaker.now.who.slot.0 port))))
+        output.old output.new) }
 {
     for index in 0..services.link_count(speaker.who.slot, port) {
         let place = services.linked_place(speaker.who.slot, port, index);
@@ -106,7 +124,10 @@ pub fn broadcast<S: Services>(
 ) -> Result<(), AllocError>
     requires serves { S.serves speaker.now.wiring.now speaker.now.me.0 services.now }
     requires slot { speaker.now.who.slot.0 < length speaker.now.wiring.now.slots }
-    ensures { OnOk result (Adds (broadcast speaker.now.wiring.now speaker.now.me.0 (S.frame_of services.now) (S.links_of services.now) speaker.now.who port (content_of content.now)) output.old output.new) }
+    ensures { OnOk result (Adds
+        (broadcast speaker.now.wiring.now speaker.now.me.0 (S.frame_of services.now)
+        (S.links_of services.now) speaker.now.who port (content_of content.now))
+        output.old output.new) }
 {
     if usize::from(port) >= speaker.wiring.port_count(speaker.who.slot) {
         return Ok(());

@@ -19,7 +19,9 @@ fn natural(place: i64) -> Option<u64>
 
 /// A message from a place of a port of the speaker.
 fn message(speaker: &Speaker<'_>, port: u16, place: u32, target: Endpoint, content: Content) -> Msg
-    ensures { result ≡ message speaker.now.wiring.now speaker.now.me.0 (endpoint speaker.now.who.slot.0 speaker.now.who.generation.0 port place) target (content_of content) }
+    ensures { result ≡ message speaker.now.wiring.now speaker.now.me.0
+        (endpoint speaker.now.who.slot.0 speaker.now.who.generation.0 port place)
+        target (content_of content) }
 {
     Msg {
         from: speaker.me,
@@ -50,7 +52,10 @@ pub(crate) fn send_at<S: Services>(
 ) -> Result<(), AllocError>
     requires serves { S.serves speaker.now.wiring.now speaker.now.me.0 services.now }
     requires place { place ≡ pos at }
-    ensures { OnOk result (Adds (send speaker.now.wiring.now speaker.now.me.0 (S.frame_of services.now) (S.links_of services.now) speaker.now.who port (pos at) (content_of content)) output.old output.new) }
+    ensures { OnOk result (Adds
+        (send speaker.now.wiring.now speaker.now.me.0 (S.frame_of services.now)
+        (S.links_of services.now) speaker.now.who port (pos at) (content_of content))
+        output.old output.new) }
 {
     match services.peer(speaker.wiring, speaker.me, speaker.who, port, at) {
         Some(target) => {
@@ -77,7 +82,10 @@ pub fn send<S: Services>(
     output: &mut Output,
 ) -> Result<(), AllocError>
     requires serves { S.serves speaker.now.wiring.now speaker.now.me.0 services.now }
-    ensures { OnOk result (Adds (send speaker.now.wiring.now speaker.now.me.0 (S.frame_of services.now) (S.links_of services.now) speaker.now.who port place (content_of content)) output.old output.new) }
+    ensures { OnOk result (Adds
+        (send speaker.now.wiring.now speaker.now.me.0 (S.frame_of services.now)
+        (S.links_of services.now) speaker.now.who port place (content_of content))
+        output.old output.new) }
 {
     match natural(place) {
         Some(at) => send_at(speaker, services, port, place, at, content, output),

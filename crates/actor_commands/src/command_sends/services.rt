@@ -33,7 +33,8 @@ pub trait Services {
         place: u64,
     ) -> Option<Endpoint>
         requires serves { serves wiring.now me.0 self.now }
-        ensures peer { result ≡ peer wiring.now me.0 (frame_of self.now) (links_of self.now) (endpoint who.slot.0 who.generation.0 port place) }
+        ensures peer { result ≡ peer wiring.now me.0 (frame_of self.now) (links_of self.now)
+            (endpoint who.slot.0 who.generation.0 port place) }
         ensures near { IfSome result (λ e. place < 2 ^ 32) };
 
     /// How many places of a port are linked by name.
@@ -42,7 +43,9 @@ pub trait Services {
 
     /// The place of one of the links of a port. Nothing is said of an index behind the last link.
     fn linked_place(&self, slot: SlotId, port: u16, index: usize) -> u32
-        ensures { index < length ((links_of self.now).linked slot.0 port) → result ≡ slice_index (map (λ (x : Link). x.place) ((links_of self.now).linked slot.0 port)) index };
+        ensures { index < length ((links_of self.now).linked slot.0 port)
+            → result ≡ slice_index
+            (map (λ (x : Link). x.place) ((links_of self.now).linked slot.0 port)) index };
 
     /// A command of an actor of controller `me` on the life or the import of actors.
     fn ask_frame(
@@ -56,7 +59,8 @@ pub trait Services {
         requires serves { serves wiring.now me.0 self.old }
         requires there { who.slot.0 < length wiring.now.slots }
         ensures serves { OnOk result (serves wiring.now me.0 self.new) }
-        ensures asked { OnOk result (FrameAsked wiring.now me.0 who command.now (frame_of self.old) (links_of self.old) (frame_of self.new) (links_of self.new) out.old out.new) };
+        ensures asked { OnOk result (FrameAsked wiring.now me.0 who command.now (frame_of self.old)
+            (links_of self.old) (frame_of self.new) (links_of self.new) out.old out.new) };
 
     /// A command of an actor of controller `me` on the names of its service points.
     fn ask_name(
@@ -69,5 +73,6 @@ pub trait Services {
     ) -> Result<(), AllocError>
         requires serves { serves wiring.now me.0 self.old }
         ensures serves { OnOk result (serves wiring.now me.0 self.new) }
-        ensures asked { OnOk result (NameAsked wiring.now me.0 who command.now (frame_of self.old) (links_of self.old) (frame_of self.new) (links_of self.new) out.old out.new) };
+        ensures asked { OnOk result (NameAsked wiring.now me.0 who command.now (frame_of self.old)
+            (links_of self.old) (frame_of self.new) (links_of self.new) out.old out.new) };
 }

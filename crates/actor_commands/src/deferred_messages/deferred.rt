@@ -52,13 +52,15 @@ impl DeferredMessages {
     }
 
     fn take_oldest(&mut self) -> Option<Msg>
-        ensures { MatchOption result ((self.old ≡ []) × (self.new ≡ [])) (λ m. self.old ≡ m ∷ self.new) }
+        ensures { MatchOption result ((self.old ≡ []) × (self.new ≡ []))
+            (λ m. self.old ≡ m ∷ self.new) }
     {
         self.messages.pop_front()
     }
 
     fn take_newest(&mut self) -> Option<Msg>
-        ensures { MatchOption result ((self.old ≡ []) × (self.new ≡ [])) (λ m. self.old ≡ self.new ++ m ∷ []) }
+        ensures { MatchOption result ((self.old ≡ []) × (self.new ≡ []))
+            (λ m. self.old ≡ self.new ++ m ∷ []) }
     {
         self.messages.pop_back()
     }
@@ -72,7 +74,8 @@ impl DeferredMessages {
         message: Option<Msg>,
         notes: &mut Notes,
     ) -> Result<(), AllocError>
-        ensures { OnOk result (Applies (defer kept message self.old) self.new [] [] notes.old notes.new) }
+        ensures { OnOk result (Applies (defer kept message self.old) self.new [] [] notes.old
+            notes.new) }
     {
         if kept {
             return Ok(());
@@ -88,7 +91,8 @@ impl DeferredMessages {
 
     /// `recall`: the oldest message that is kept comes back, with a note that says how many did, 1 or 0.
     pub fn recall(&mut self, back: &mut Recalled, notes: &mut Notes) -> Result<(), AllocError>
-        ensures { OnOk result (Applies (recall self.old) self.new back.old back.new notes.old notes.new) }
+        ensures { OnOk result (Applies (recall self.old) self.new back.old back.new notes.old
+            notes.new) }
     {
         match self.take_oldest() {
             Some(m) => {
@@ -116,7 +120,8 @@ impl DeferredMessages {
 
     /// `recallAll`: all messages that are kept come back, in order, with a note that says how many did.
     pub fn recall_all(&mut self, back: &mut Recalled, notes: &mut Notes) -> Result<(), AllocError>
-        ensures { OnOk result (Applies (recall_all self.old) self.new back.old back.new notes.old notes.new) }
+        ensures { OnOk result (Applies (recall_all self.old) self.new back.old back.new notes.old
+            notes.new) }
     {
         let count = self.len() as u64;
         self.move_to(back)?;

@@ -43,7 +43,7 @@ some_port : (o : Option PortEntry) → option_map_or (λ (p : PortEntry). is_spp
 some_port None h = absurd cc
 some_port (Some q) h = (q, refl, is_service q.kind h)
 
-mapped_some : {X Y : Type 0} (f : X → Y) (o : Option X) (y : Y) → option_map f o ≡ Some y → (x : X) × (o ≡ Some x) × (f x ≡ y)
+pub mapped_some : {X Y : Type 0} (f : X → Y) (o : Option X) (y : Y) → option_map f o ≡ Some y → (x : X) × (o ≡ Some x) × (f x ≡ y)
 mapped_some f None y e = absurd cc
 mapped_some f (Some x) y e = (x, refl, same_Some (f x) y e)
 

@@ -3,7 +3,6 @@ use Rattle.std.proofs.Common.{◌≡◌, ◌∙◌, ℕ, zero, suc, ◌+◌, ◌
 use Rattle.std.specs.Prelude.{All, slice_get, slice_index, slice_index_or, option_and_then}
 use Rattle.std.specs.List.{sum}
 use Rattle.std.specs.Option.{option_map_or}
-use Rattle.std.proofs.lemmas.List.Elements.{All-head, All-tail}
 use Rattle.std.proofs.lemmas.List.Sums.{sum_by-cons}
 use Rattle.room_ast.specs.Trees.{ModelTree}
 use Rattle.room_wiring.specs.Consistent.{IsConsistent}
@@ -28,11 +27,7 @@ use Rattle.wiring_places.specs.place_rules.Parts.{class_plan, no_class}
 use Rattle.wiring_places.specs.place_rules.Counts.{counts_of_ports, counts_of_slots, spans_from, first_ports_from}
 use Rattle.wiring_places.specs.declared.place_rules.place.LayerJoin.{LayerJoin}
 use Rattle.binding_expand.specs.wiring_tables.Assembled.{counts_in, assembled, AreComplete}
-
-at_place : {X : Type 0} (P : X → Type 0) (xs : List X) (i : ℕ) (x : X) → All P xs → slice_get xs i ≡ Some x → P x
-at_place P [] i x h e = absurd cc
-at_place P (y ∷ ys) zero x h e = let is : y ≡ x = cc in subst P is (All-head P y ys h)
-at_place P (y ∷ ys) (suc i) x h e = at_place P ys i x (All-tail P y ys h) e
+use Rattle.wiring_slots.proofs.slot_tree.KnownSlots.{at_place}
 
 some_at : {X : Type 0} (xs : List X) (i : ℕ) → i < length xs → (x : X) × (slice_get xs i ≡ Some x)
 some_at [] i lt = absurd (omega arith)

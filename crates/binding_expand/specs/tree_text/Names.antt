@@ -1,26 +1,16 @@
--- What the wiring calls its slots, classes and ports. What it doesn't have is called nothing.
-use Rattle.std.specs.Prelude.{ℕ, List, [], ◌∷◌, option_and_then, slice_get, codes, decimal}
+-- What the text calls classes, the kinds of slots, ports and places.
+use Rattle.std.specs.Prelude.{ℕ, List, [], ◌∷◌, codes, decimal}
 use Rattle.std.specs.Option.{option_map_or}
 use Rattle.room_kinds.specs.declared.structure.ReferenceKind.{ReferenceKind}
 use Rattle.room_kinds.specs.declared.structure.ReferenceKind.TheVariants as references
 use Rattle.room_wiring.specs.declared.tables.Tables.{Tables}
-use Rattle.room_wiring.specs.declared.slot.Slot.{Slot}
 use Rattle.room_wiring.specs.declared.names.ClassNames.{ClassNames}
-use Rattle.room_wiring.specs.declared.names.PortNames.{PortNames}
-use Rattle.room_wiring.specs.Slots.{slot_at, class_at, class_of}
+use Rattle.room_wiring.specs.Slots.{class_at, path_text, port_text}
 use Rattle.binding_expand.specs.declared.tree_text.place.Place.{Place}
-
--- the path of a slot
-unfoldable pub path_text : Tables → ℕ → List ℕ
-path_text t s = option_map_or (λ (x : Slot). x.path) (slot_at t s) []
 
 -- the name of a class
 unfoldable pub class_text : Tables → ℕ → List ℕ
 class_text t c = option_map_or (λ (k : ClassNames). k.name) (class_at t c) []
-
--- the name of a port of a slot
-unfoldable pub port_text : Tables → ℕ → ℕ → List ℕ
-port_text t s p = option_map_or (λ (x : PortNames). x.name) (option_and_then (λ (k : ClassNames). slice_get k.ports p) (class_of t s)) []
 
 -- the word for the kind of a slot
 abbrev pub kind_text : ReferenceKind → List ℕ

@@ -7,7 +7,7 @@ ghost use Rattle.std.specs.List.{concat};
 ghost use Rattle.binding_expand.specs.tree_text.Names.{port_parts, place_parts};
 ghost use Rattle.binding_expand.specs.tree_text.Text.{slot_parts, path_and_class, slot_text, is_socket, is_before, tie_line, join_text, socket_text, tie_text, has_ties, place_text, port_ties, ports_told, ports_ties, slot_ties, ties_text, slots_text, tree_text};
 
-use crate::tree_text::names::{class_name, kind_word, port_name, put_path};
+use crate::tree_text::names::{class_name, kind_word};
 use crate::tree_text::place::{Place, Tie};
 use room_kinds::SlotId;
 use room_outside::{LineBuffer, Part, Sink, WriteFault};
@@ -65,7 +65,8 @@ fn write_slot<K: Sink>(
     s: SlotId,
 ) -> Result<(), WriteFault>
     requires { s.0 < length wiring.now.slots }
-    ensures { Puts result (at_rest (K.written sink.old)) (at_rest (K.written sink.new)) (slot_text wiring.now s.0) }
+    ensures { Puts result (at_rest (K.written sink.old)) (at_rest (K.written sink.new))
+        (slot_text wiring.now s.0) }
 {
     let slot = wiring.slot(s);
     out.clear();
@@ -80,7 +81,8 @@ fn write_slots<K: Sink>(
     sink: &mut K,
     wiring: &Wiring,
 ) -> Result<(), WriteFault>
-    ensures { Puts result (at_rest (K.written sink.old)) (at_rest (K.written sink.new)) (slots_text wiring.now) }
+    ensures { Puts result (at_rest (K.written sink.old)) (at_rest (K.written sink.new))
+        (slots_text wiring.now) }
 {
     for s in 0..wiring.slot_count() {
         write_slot(out, sink, wiring, SlotId(s as u16))?;
@@ -115,7 +117,7 @@ fn put_port<K: Sink>(
         (record { written = K.written sink.new; held = out.new })
         (concat (port_parts wiring.now place)) }
 {
-    let name = port_name(wiring, place.slot, place.port);
+    let name = wiring.port_name(place.slot, place.port);
     let number = u64::from(place.place);
     out.put_two(sink, Part::Text(b"."), Part::Text(name))?;
     out.put_three(
@@ -137,7 +139,7 @@ fn put_place<K: Sink>(
         (record { written = K.written sink.new; held = out.new })
         (concat (place_parts wiring.now place)) }
 {
-    put_path(out, sink, wiring, place.slot)?;
+    wiring.put_path(out, sink, place.slot)?;
     put_port(out, sink, wiring, place)
 }
 
@@ -166,7 +168,8 @@ fn write_tie<K: Sink>(
     a: Place,
     b: Place,
 ) -> Result<(), WriteFault>
-    ensures { Puts result (at_rest (K.written sink.old)) (at_rest (K.written sink.new)) (tie_line wiring.now word.now a b) }
+    ensures { Puts result (at_rest (K.written sink.old)) (at_rest (K.written sink.new))
+        (tie_line wiring.now word.now a b) }
 {
     out.clear();
     put_at(out, sink, wiring, word, a)?;
@@ -182,7 +185,8 @@ fn write_join<K: Sink>(
     a: Place,
     partner: Partner,
 ) -> Result<(), WriteFault>
-    ensures { Puts result (at_rest (K.written sink.old)) (at_rest (K.written sink.new)) (join_text wiring.now a partner) }
+    ensures { Puts result (at_rest (K.written sink.old)) (at_rest (K.written sink.new))
+        (join_text wiring.now a partner) }
 {
     match partner {
         Partner::Nobody => Ok(()),
@@ -206,7 +210,8 @@ fn write_socket<K: Sink>(
     a: Place,
     partner: Partner,
 ) -> Result<(), WriteFault>
-    ensures { Puts result (at_rest (K.written sink.old)) (at_rest (K.written sink.new)) (socket_text wiring.now a partner) }
+    ensures { Puts result (at_rest (K.written sink.old)) (at_rest (K.written sink.new))
+        (socket_text wiring.now a partner) }
 {
     match partner {
         Partner::Nobody => Ok(()),
@@ -241,7 +246,8 @@ fn write_partner<K: Sink>(
     a: Place,
     partner: Partner,
 ) -> Result<(), WriteFault>
-    ensures { Puts result (at_rest (K.written sink.old)) (at_rest (K.written sink.new)) (tie_text wiring.now tie a partner) }
+    ensures { Puts result (at_rest (K.written sink.old)) (at_rest (K.written sink.new))
+        (tie_text wiring.now tie a partner) }
 {
     match tie {
         Tie::Join => write_join(out, sink, wiring, a, partner),
@@ -269,7 +275,8 @@ fn write_place<K: Sink>(
     requires slot { a.slot.0 < length wiring.now.slots }
     requires port { a.port < port_count wiring.now a.slot.0 }
     requires place { a.place < place_count wiring.now a.slot.0 a.port }
-    ensures { Puts result (at_rest (K.written sink.old)) (at_rest (K.written sink.new)) (place_text wiring.now tie a.slot.0 a.port a.place) }
+    ensures { Puts result (at_rest (K.written sink.old)) (at_rest (K.written sink.new))
+        (place_text wiring.now tie a.slot.0 a.port a.place) }
 {
     let partner = wiring.partner(a.slot, a.port, a.place);
     write_partner(out, sink, wiring, tie, a, partner)
@@ -286,7 +293,8 @@ fn write_port<K: Sink>(
 ) -> Result<(), WriteFault>
     requires slot { slot.0 < length wiring.now.slots }
     requires port { port < port_count wiring.now slot.0 }
-    ensures { Puts result (at_rest (K.written sink.old)) (at_rest (K.written sink.new)) (port_ties wiring.now tie slot.0 port) }
+    ensures { Puts result (at_rest (K.written sink.old)) (at_rest (K.written sink.new))
+        (port_ties wiring.now tie slot.0 port) }
 {
     for place in 0..wiring.places(slot, port) {
         write_place(out, sink, wiring, tie, Place { slot, port, place })?;
@@ -313,7 +321,8 @@ fn write_ports<K: Sink>(
     s: SlotId,
 ) -> Result<(), WriteFault>
     requires { s.0 < length wiring.now.slots }
-    ensures { Puts result (at_rest (K.written sink.old)) (at_rest (K.written sink.new)) (ports_ties wiring.now tie s.0) }
+    ensures { Puts result (at_rest (K.written sink.old)) (at_rest (K.written sink.new))
+        (ports_ties wiring.now tie s.0) }
 {
     for port in 0..ports_told(wiring, s) {
         write_port(out, sink, wiring, tie, s, port as u16)?;
@@ -330,7 +339,8 @@ fn write_slot_ties<K: Sink>(
     s: SlotId,
 ) -> Result<(), WriteFault>
     requires { s.0 < length wiring.now.slots }
-    ensures { Puts result (at_rest (K.written sink.old)) (at_rest (K.written sink.new)) (slot_ties wiring.now tie s.0) }
+    ensures { Puts result (at_rest (K.written sink.old)) (at_rest (K.written sink.new))
+        (slot_ties wiring.now tie s.0) }
 {
     if has_ties(tie, is_socket(wiring, s)) {
         write_ports(out, sink, wiring, tie, s)
@@ -346,7 +356,8 @@ fn write_ties<K: Sink>(
     wiring: &Wiring,
     tie: Tie,
 ) -> Result<(), WriteFault>
-    ensures { Puts result (at_rest (K.written sink.old)) (at_rest (K.written sink.new)) (ties_text wiring.now tie) }
+    ensures { Puts result (at_rest (K.written sink.old)) (at_rest (K.written sink.new))
+        (ties_text wiring.now tie) }
 {
     for s in 0..wiring.slot_count() {
         write_slot_ties(out, sink, wiring, tie, SlotId(s as u16))?;
@@ -360,7 +371,8 @@ fn write_tree<K: Sink>(
     sink: &mut K,
     wiring: &Wiring,
 ) -> Result<(), WriteFault>
-    ensures { Puts result (at_rest (K.written sink.old)) (at_rest (K.written sink.new)) (tree_text wiring.now) }
+    ensures { Puts result (at_rest (K.written sink.old)) (at_rest (K.written sink.new))
+        (tree_text wiring.now) }
 {
     write_slots(out, sink, wiring)?;
     write_ties(out, sink, wiring, Tie::Join)?;
@@ -374,8 +386,10 @@ fn write_tree<K: Sink>(
 /// At a fault a front of the text was appended. Time is in proportion to the slots, ports and
 /// places.
 pub fn expand_text<K: Sink>(wiring: &Wiring, sink: &mut K) -> Result<(), WriteFault>
-    ensures ok { OnOk result (Appends (K.written sink.old) (K.written sink.new) (tree_text wiring.now)) }
-    ensures fault { OnErr result (BreaksOff (K.written sink.old) (K.written sink.new) (tree_text wiring.now)) }
+    ensures ok { OnOk result (Appends (K.written sink.old) (K.written sink.new)
+        (tree_text wiring.now)) }
+    ensures fault { OnErr result (BreaksOff (K.written sink.old) (K.written sink.new)
+        (tree_text wiring.now)) }
 {
     let mut out = LineBuffer::new();
     write_tree(&mut out, sink, wiring)

@@ -12,6 +12,11 @@ ghost use Rattle.binding_expand.specs.wiring_tables.Assembled.{assembled, AreCom
 /// The tables of a model that keeps the rules, with at most 4,096 slots, are consistent where each place
 /// has a partner and each slot an answer for each controller.
 pub fn assembled_tables_are_consistent()
-    ensures { (m : ModelTree) (joins : List LayerJoin) (partners : List Partner) (told : List (List Bool)) → has_known_actors m ≡ true → threads_are_few m ≡ true → length (slots_in m) ≤ 4096
-        → AreComplete (wired m) joins partners told → IsConsistent (assembled (wired m) joins partners told) }
+    ensures { (m : ModelTree) (joins : List LayerJoin) (partners : List Partner)
+        (told : List (List Bool))
+        → has_known_actors m ≡ true
+        → threads_are_few m ≡ true
+        → length (slots_in m) ≤ 4096
+        → AreComplete (wired m) joins partners told
+        → IsConsistent (assembled (wired m) joins partners told) }
 {}

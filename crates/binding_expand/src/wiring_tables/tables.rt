@@ -17,7 +17,8 @@ pub fn assemble(
     told: Sequence<Sequence<bool>>,
 ) -> Tables
     requires { first_ports ≡ first_ports_from slots.plan 0 slots.slots }
-    ensures { (joins : List LayerJoin) → ports ≡ spans_from 0 (counts_in slots joins) → result ≡ assembled slots joins partners told }
+    ensures { (joins : List LayerJoin) → ports ≡ spans_from 0 (counts_in slots joins)
+        → result ≡ assembled slots joins partners told }
 {
     Tables {
         slots: slots.slots,

@@ -38,11 +38,7 @@ use Rattle.chart_compile.specs.chart_parts.Compiled.{Compiles, IsAssembled, node
 use Rattle.chart_compile.proofs.chart_compiled.Naming.{absent, arrow_named, arrows_named, each_at, each_join, each_length, each_map, each_past, get_of, item_at, names_of, none_fresh, path_at, same_named, state_named}
 use Rattle.chart_compile.proofs.chart_compiled.States.{place_is, state_found}
 use Rattle.chart_compile.proofs.chart_compiled.NodeKinds.{kind_from, kind_is, kind_named}
-
-In-slice_get : {A : Type 0} (xs : List A) (i : ℕ) (x : A) → slice_get xs i ≡ Some x → In xs x
-In-slice_get [] i x e = absurd cc
-In-slice_get (y ∷ xs) zero x e = inl (let s : y ≡ x = cc in s)
-In-slice_get (y ∷ xs) (suc i) x e = inr (In-slice_get xs i x e)
+use Rattle.chart_compile.proofs.chart_numbers.Members.{In-slice_get}
 
 -- ---- nodes lead lower
 

@@ -11,14 +11,14 @@ use lib.Dec.{eqb}
 use Rattle.name_tables.specs.name_numbers.Names.{same, AreDistinct}
 use Rattle.chart_model.specs.chart_plan.Same.{Each, none, more}
 use Rattle.chart_model.specs.Chart.{Name, Path, Source, initial, from_state, from_point, from_choice, from_entry, from_exit, Transition, Graph, Chart}
-use Rattle.chart_model.specs.Named.{same_name, same_path, Placed, Node, a_state, a_choice, an_entry, an_exit, from, graph_at, is_from_choice}
+use Rattle.chart_model.specs.Named.{same_name, same_path, Placed, Node, a_choice, from, graph_at, is_from_choice}
 use Rattle.chart_run.specs.chart_tables.Tables.{ArrowTree}
 use Rattle.chart_run.specs.ByName.{Names, IsPath, IsNode, IsTransition}
 use Rattle.chart_reader.specs.chart_nodes.Keys.{codes, node_key}
 use Rattle.chart_reader.specs.chart_nodes.Steps.{StepTree}
 use Rattle.chart_reader.proofs.chart_nodes.KeyLaws.{same_codes}
 use Rattle.chart_reader.proofs.chart_nodes.Onward.{path_is}
-use Rattle.chart_reader.proofs.chart_nodes.CircleLaws.{target_is}
+use Rattle.chart_reader.proofs.chart_nodes.CircleLaws.{target_is, nodes_are}
 use Rattle.chart_compile.specs.chart_places.Places.{PlaceTree, state_key}
 use Rattle.chart_compile.specs.chart_parts.Parts.{IsArrow, IsNumber, IsState, key_of, target_of}
 use Rattle.chart_compile.specs.chart_parts.Nodes.{node_after}
@@ -96,25 +96,6 @@ none_fresh chart path =
 
 paths_are : (p q : Path) → same (codes p) (codes q) ≡ true → p ≡ q
 paths_are p q e = path_is p q (sym (same_codes p q) ∙ e)
-
--- nodes with one key are one
-nodes_are : (m n : Node) → same (node_key m) (node_key n) ≡ true → m ≡ n
-nodes_are (a_state p) (a_state q) e = ap a_state (paths_are p q e)
-nodes_are (a_state p) (a_choice q d) e = absurd cc
-nodes_are (a_state p) (an_entry q d) e = absurd cc
-nodes_are (a_state p) (an_exit q d) e = absurd cc
-nodes_are (a_choice p c) (a_state q) e = absurd cc
-nodes_are (a_choice p c) (a_choice q d) e = let s = paths_are (c ∷ p) (d ∷ q) e in cc
-nodes_are (a_choice p c) (an_entry q d) e = absurd cc
-nodes_are (a_choice p c) (an_exit q d) e = absurd cc
-nodes_are (an_entry p c) (a_state q) e = absurd cc
-nodes_are (an_entry p c) (a_choice q d) e = absurd cc
-nodes_are (an_entry p c) (an_entry q d) e = let s = paths_are (c ∷ p) (d ∷ q) e in cc
-nodes_are (an_entry p c) (an_exit q d) e = absurd cc
-nodes_are (an_exit p c) (a_state q) e = absurd cc
-nodes_are (an_exit p c) (a_choice q d) e = absurd cc
-nodes_are (an_exit p c) (an_entry q d) e = absurd cc
-nodes_are (an_exit p c) (an_exit q d) e = let s = paths_are (c ∷ p) (d ∷ q) e in cc
 
 -- ---- the names
 

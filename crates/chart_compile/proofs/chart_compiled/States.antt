@@ -9,6 +9,7 @@ use Rattle.chart_model.specs.Named.{first, graph_at, same_name, same_path, state
 use Rattle.chart_model.specs.Valid.{HasRightNames, IsValid, names_in}
 use Rattle.chart_reader.proofs.chart_nodes.Members.{In, Contains-from_In}
 use Rattle.chart_compile.specs.chart_places.Places.{PlaceTree, place_of, places_below, places_of, states_at}
+use Rattle.chart_reader.proofs.NestedGraphs.{In-first, of_all}
 
 In_parts : {A B : Type 0} (f : A → List B) (xs : List A) (y : B) → In (flat_map f xs) y → (x : A) × In xs x × In (f x) y
 In_parts f [] y h = absurd h
@@ -39,20 +40,7 @@ place_is chart p h = place_below chart (length chart.graphs) [] p h
 
 -- ---- a state is found by its path
 
-In-first : {A : Type 0} (p : A → Bool) (xs : List A) (x : A) → first p xs ≡ Some x → In xs x
-In-first p [] x e = absurd cc
-In-first p (y ∷ xs) x e = split p y xs x (p y) (In-first p xs x) e
-  where
-    split : {A : Type 0} (p : A → Bool) (y : A) (xs : List A) (x : A) (b : Bool) → (first p xs ≡ Some x → In xs x) → cond b (Some y) (first p xs) ≡ Some x → In (y ∷ xs) x
-    split p y xs x true again e = inl (let s : y ≡ x = cc in s)
-    split p y xs x false again e = inr (again e)
-
-of_all : (x : Name) (xs : List Name) (y : Name) → AllByRecursion (λ z. same_name x z ≡ false) xs → In xs y → same_name x y ≡ false
-of_all x [] y h i = absurd i
-of_all x (z ∷ xs) y h (inl e) = subst (λ w. same_name x w ≡ false) e h.0
-of_all x (z ∷ xs) y h (inr i) = of_all x xs y h.1 i
-
-In-name : (states : List State) (rest : List Name) (s : State) → In states s → In (map (λ (s : State). s.name) states ++ rest) s.name
+pub In-name : (states : List State) (rest : List Name) (s : State) → In states s → In (map (λ (s : State). s.name) states ++ rest) s.name
 In-name [] rest s h = absurd h
 In-name (d ∷ ds) rest s (inl e) = inl (ap (λ (s : State). s.name) e)
 In-name (d ∷ ds) rest s (inr i) = inr (In-name ds rest s i)

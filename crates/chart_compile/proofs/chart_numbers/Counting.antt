@@ -21,7 +21,7 @@ use Rattle.chart_compile.proofs.chart_places.PlaceLaws.{owner_is}
 use Rattle.chart_compile.specs.chart_numbers.Order.{AreNumbered}
 use Rattle.chart_compile.proofs.chart_numbers.Members.{In-slice_get}
 use Rattle.chart_compile.proofs.chart_numbers.Ordering.{same_laws}
-use Rattle.chart_compile.proofs.chart_numbers.Distinct.{In-first, In_append}
+use Rattle.chart_reader.proofs.NestedGraphs.{In_left, In_right, In-first, In_append}
 
 -- ---- the nodes of graphs
 
@@ -59,15 +59,6 @@ all_size [] = refl
 all_size (g ∷ graphs) = length-append (graph_nodes g) (all_nodes graphs) ∙ ap (λ n. n + length (all_nodes graphs)) (graph_size g) ∙ ap (λ n. nodes_in g + n) (all_size graphs) ∙ sym (sum_by-cons (λ n. n) (nodes_in g) (map nodes_in graphs))
 
 -- ---- what a step leads to is one of them
-
-In_left : {A : Type 0} (xs ys : List A) (z : A) → In xs z → In (xs ++ ys) z
-In_left [] ys z h = absurd h
-In_left (x ∷ xs) ys z (inl e) = inl e
-In_left (x ∷ xs) ys z (inr i) = inr (In_left xs ys z i)
-
-In_right : {A : Type 0} (xs ys : List A) (z : A) → In ys z → In (xs ++ ys) z
-In_right [] ys z h = h
-In_right (x ∷ xs) ys z h = inr (In_right xs ys z h)
 
 pub In-map : {A B : Type 0} (f : A → B) (xs : List A) (x : A) → In xs x → In (map f xs) (f x)
 In-map f [] x h = absurd h

@@ -7,7 +7,7 @@ use Rattle.std.proofs.lemmas.List.Elements.{All-contains}
 use lib.Pointwise.{bytes_decides}
 use Rattle.name_tables.specs.name_numbers.Names.{same, AreDistinct}
 use Rattle.chart_model.specs.Chart.{Name, Path, State, Graph, Chart}
-use Rattle.chart_model.specs.Named.{first, graph_at, same_name, same_path}
+use Rattle.chart_model.specs.Named.{graph_at, same_name, same_path}
 use Rattle.chart_model.specs.States.{states_below, states_of}
 use Rattle.chart_model.specs.Valid.{HasRightNames, IsValid, names_in}
 use Rattle.chart_reader.proofs.chart_nodes.KeyLaws.{same_codes}
@@ -15,6 +15,8 @@ use Rattle.chart_reader.proofs.chart_nodes.Members.{In, Contains-from_In}
 use Rattle.chart_reader.proofs.chart_nodes.Onward.{path_is}
 use Rattle.chart_compile.specs.chart_places.Places.{PlaceTree, places_of, state_key}
 use Rattle.chart_compile.proofs.chart_places.PlaceLaws.{paths_are}
+use Rattle.chart_reader.proofs.NestedGraphs.{In-first, of_all, In_append, under_deep, not_longer}
+use Rattle.chart_compile.proofs.chart_compiled.States.{In-name}
 
 -- the key of a state
 abbrev pub key_of : PlaceTree → List ℕ
@@ -25,11 +27,6 @@ key_of p = state_key p.path
 abbrev Unique : {A : Type 0} → List A → Type 0
 Unique [] = Unit {0}
 Unique {A} (x ∷ xs) = ((y : A) → In xs y → x ≡ y → ⊥) × Unique xs
-
-pub In_append : {A : Type 0} (xs ys : List A) (z : A) → In (xs ++ ys) z → In xs z ⊎ In ys z
-In_append [] ys z h = inr h
-In_append (x ∷ xs) ys z (inl e) = inl (inl e)
-In_append (x ∷ xs) ys z (inr h) = elim (In_append xs ys z h) [ inl i ↦ inl (inr i) | inr i ↦ inr i ]
 
 unique_append : {A : Type 0} (xs ys : List A) → Unique xs → Unique ys → ((x y : A) → In xs x → In ys y → x ≡ y → ⊥) → Unique (xs ++ ys)
 unique_append [] ys u v apart = v
@@ -46,17 +43,11 @@ In_parts f (x ∷ xs) y h = elim (In_append (f x) (flat_map f xs) y h) [ inl i �
 abbrev Under : Path → Name → Path → Type 0
 Under owner n path = (inside : Path) × (path ≡ inside ++ n ∷ owner)
 
-under_deep : (owner : Path) (n m : Name) (path : Path) → Under (n ∷ owner) m path → Under owner n path
-under_deep owner n m path (inside, e) = (inside ++ m ∷ [], e ∙ sym (append_assoc inside (m ∷ []) (n ∷ owner)))
-
 under_same : (owner inside outside : Path) (m n : Name) → inside ++ m ∷ owner ≡ outside ++ n ∷ owner → m ≡ n
 under_same owner [] [] m n e = cc
 under_same owner [] (x ∷ xs) m n e = absurd (omega (arith, ap length e, length-append xs (n ∷ owner)))
 under_same owner (x ∷ xs) [] m n e = absurd (omega (arith, ap length e, length-append xs (m ∷ owner)))
 under_same owner (x ∷ xs) (y ∷ ys) m n e = under_same owner xs ys m n (let s : xs ++ m ∷ owner ≡ ys ++ n ∷ owner = cc in s)
-
-not_longer : (owner inside : Path) (m n : Name) → n ∷ owner ≡ inside ++ m ∷ n ∷ owner → ⊥
-not_longer owner inside m n e = omega (arith, ap length e, length-append inside (m ∷ n ∷ owner))
 
 abbrev states_in : Option Graph → List State
 states_in o = option_map_or (λ (g : Graph). g.states) o []
@@ -76,16 +67,6 @@ line_under : (chart : Chart) (n : ℕ) (owner : Path) (s : State) (path : Path) 
 line_under chart n owner s path (inl e) = ([], sym e)
 line_under chart n owner s path (inr i) = let deep = below_under chart n (s.name ∷ owner) path i in under_deep owner s.name deep.0 path deep.1
 
-of_all : (x : Name) (xs : List Name) (y : Name) → AllByRecursion (λ z. same_name x z ≡ false) xs → In xs y → same_name x y ≡ false
-of_all x [] y h i = absurd i
-of_all x (z ∷ xs) y h (inl e) = subst (λ w. same_name x w ≡ false) e h.0
-of_all x (z ∷ xs) y h (inr i) = of_all x xs y h.1 i
-
-In-name : (states : List State) (rest : List Name) (s : State) → In states s → In (map (λ (s : State). s.name) states ++ rest) s.name
-In-name [] rest s h = absurd h
-In-name (d ∷ ds) rest s (inl e) = inl (ap (λ (s : State). s.name) e)
-In-name (d ∷ ds) rest s (inr i) = inr (In-name ds rest s i)
-
 name_apart : (m n : Name) → same_name m n ≡ false → m ≡ n → ⊥
 name_apart m n e is = let own : same_name m n ≡ true = (bytes_decides m n).1 is in cc
 
@@ -102,14 +83,6 @@ lines_unique chart n owner (s ∷ states) rest d f =
     name_apart s.name r.0.name (of_all s.name (map (λ (s : State). s.name) states ++ rest) r.0.name d.0 (In-name states rest r.0 r.1)) (under_same owner u.0 w.0 s.name r.0.name (sym u.1 ∙ e ∙ w.1)))
 
 -- ---- the states of a valid chart
-
-pub In-first : {A : Type 0} (p : A → Bool) (xs : List A) (x : A) → first p xs ≡ Some x → In xs x
-In-first p [] x e = absurd cc
-In-first p (y ∷ xs) x e = split p y xs x (p y) (In-first p xs x) e
-  where
-    split : {A : Type 0} (p : A → Bool) (y : A) (xs : List A) (x : A) (b : Bool) → (first p xs ≡ Some x → In xs x) → cond b (Some y) (first p xs) ≡ Some x → In (y ∷ xs) x
-    split p y xs x true again e = inl (let s : y ≡ x = cc in s)
-    split p y xs x false again e = inr (again e)
 
 graph_unique : (chart : Chart) (n : ℕ) (owner : Path) (o : Option Graph) → ((g : Graph) → o ≡ Some g → IsDistinct same_name (names_in g)) → ((s : State) → Unique (states_below chart n (s.name ∷ owner))) → Unique (flat_map (line_of chart n owner) (states_in o))
 graph_unique chart n owner None d f = tt

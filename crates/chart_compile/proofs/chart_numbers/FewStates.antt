@@ -14,7 +14,8 @@ use Rattle.chart_reader.proofs.chart_nodes.Members.{In, In_any, any_In}
 use Rattle.chart_compile.specs.chart_places.Places.{PlaceTree, places_of, state_key}
 use Rattle.chart_compile.proofs.chart_compiled.States.{place_is}
 use Rattle.chart_compile.proofs.chart_numbers.Counting.{In-map, In_whole}
-use Rattle.chart_compile.proofs.chart_numbers.Distinct.{In-first, key_of, states_distinct}
+use Rattle.chart_reader.proofs.NestedGraphs.{In-first}
+use Rattle.chart_compile.proofs.chart_numbers.Distinct.{key_of, states_distinct}
 use Rattle.chart_compile.proofs.chart_numbers.Ordering.{same_laws}
 use Rattle.chart_compile.proofs.chart_places.PlaceLaws.{owner_is}
 

@@ -23,7 +23,8 @@ use Rattle.chart_compile.specs.chart_numbers.Order.{AllNumbered}
 use Rattle.chart_compile.specs.Joined.{AreKeyed}
 use Rattle.chart_compile.proofs.chart_places.PlaceLaws.{owner_is, paths_are}
 use Rattle.chart_compile.proofs.chart_numbers.Counting.{In-map, In_whole, of_graph}
-use Rattle.chart_compile.proofs.chart_numbers.Distinct.{In-first, In_append, In_parts, keys_of_paths}
+use Rattle.chart_reader.proofs.NestedGraphs.{In-first, In_append}
+use Rattle.chart_compile.proofs.chart_numbers.Distinct.{In_parts, keys_of_paths}
 use Rattle.chart_compile.proofs.chart_numbers.Members.{In-slice_get}
 use Rattle.chart_compile.proofs.chart_numbers.Ordering.{key_own, number_among}
 

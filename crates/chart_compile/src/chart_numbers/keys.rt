@@ -9,7 +9,8 @@ use std::alloc::{AllocError, Global};
 
 /// The keys of states.
 pub fn state_keys<'a>(alloc: Global, places: &[Place<'a>]) -> Result<Vec<Sequence<u8>>, AllocError>
-    ensures { IfOk result (λ keys. keys.items ≡ map (λ p. state_key p.path) (map place_view places.now)) }
+    ensures { IfOk result (λ keys.
+        keys.items ≡ map (λ p. state_key p.path) (map place_view places.now)) }
 {
     let mut keys = Vec::new(alloc);
     for place in places {

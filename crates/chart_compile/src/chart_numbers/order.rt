@@ -15,7 +15,8 @@ use std::alloc::{AllocError, Global};
 /// The numbers of steps in an order in which each node stands after those that it leads to.
 fn ordered(alloc: Global, steps: &[Step]) -> Result<Vec<usize>, AllocError>
     requires { NoneContainsItself (parts_of (map step_view steps.now)) }
-    ensures { IfOk result (λ order. IsContainmentOrder (parts_of (map step_view steps.now)) order.items) }
+    ensures { IfOk result (λ order.
+        IsContainmentOrder (parts_of (map step_view steps.now)) order.items) }
 {
     match node_order(alloc, steps)? {
         Some(order) => Ok(order),
@@ -48,7 +49,8 @@ fn add_node<'a>(
     key: &'a [u8],
     step: usize,
 ) -> Result<(), AllocError>
-    ensures { OnOk result (numbering keys.new targets.new.items ≡ with_node (not (is_among keys.old key.now)) step key.now (numbering keys.old targets.old.items)) }
+    ensures { OnOk result (numbering keys.new targets.new.items ≡ with_node
+        (not (is_among keys.old key.now)) step key.now (numbering keys.old targets.old.items)) }
 {
     if keys.add(key)? {
         targets.push(step)?;
@@ -65,7 +67,8 @@ fn add_step<'a, 'b>(
     targets: &mut Vec<usize>,
 ) -> Result<(), AllocError>
     requires { first.now ≡ targets_of (map step_view steps.now) }
-    ensures { OnOk result (numbering keys.new targets.new.items ≡ with_step (map step_view steps.now) (numbering keys.old targets.old.items) step) }
+    ensures { OnOk result (numbering keys.new targets.new.items
+        ≡ with_step (map step_view steps.now) (numbering keys.old targets.old.items) step) }
 {
     let Some(leading) = step_at(steps, step) else {
         return Ok(());
@@ -87,7 +90,8 @@ fn add_steps<'a, 'b>(
 ) -> Result<Vec<usize>, AllocError>
     requires empty { keys.old ≡ [] }
     requires indexed { first.now ≡ targets_of (map step_view steps.now) }
-    ensures { IfOk result (λ targets. numbering keys.new targets.items ≡ numbered (map step_view steps.now) order.now) }
+    ensures { IfOk result (λ targets.
+        numbering keys.new targets.items ≡ numbered (map step_view steps.now) order.now) }
 {
     let mut targets = Vec::new(alloc);
     for step in order {
@@ -102,7 +106,8 @@ fn add_key<'a, 'b>(
     number: usize,
     keys: &mut Vec<&'a [u8]>,
 ) -> Result<(), AllocError>
-    ensures { OnOk result (names_of keys.new.items ≡ names_of keys.old.items ++ targets_of (cons_option (slice_get (map step_view steps.now) number) [])) }
+    ensures { OnOk result (names_of keys.new.items ≡ names_of keys.old.items
+        ++ targets_of (cons_option (slice_get (map step_view steps.now) number) [])) }
 {
     let Some(step) = step_at(steps, number) else {
         return Ok(());
@@ -117,7 +122,8 @@ fn target_keys<'a, 'b>(
     steps: &'a [Step<'b>],
     targets: &[usize],
 ) -> Result<NameIndex<'a>, AllocError>
-    ensures { IfOk result (λ keys. keys ≡ targets_of (picked (map step_view steps.now) targets.now)) }
+    ensures { IfOk result (λ keys.
+        keys ≡ targets_of (picked (map step_view steps.now) targets.now)) }
 {
     let mut keys = Vec::new(alloc);
     for number in targets {
@@ -142,7 +148,8 @@ pub fn number_nodes<'a, 'b>(
     steps: &'a [Step<'b>],
 ) -> Result<NodeOrder<'a>, AllocError>
     requires { NoneContainsItself (parts_of (map step_view steps.now)) }
-    ensures numbered { IfOk result (λ nodes. AreNumbered (map step_view steps.now) nodes.keys nodes.targets.items) }
+    ensures numbered { IfOk result (λ nodes.
+        AreNumbered (map step_view steps.now) nodes.keys nodes.targets.items) }
     ensures all { IfOk result (λ nodes. AllNumbered (map step_view steps.now) nodes.keys) }
 {
     let first = target_index(alloc, steps)?;

@@ -21,7 +21,8 @@ fn no_groups(alloc: Global, count: usize) -> Result<Vec<Sequence<usize>>, AllocE
 
 fn add_to(groups: &mut Vec<Sequence<usize>>, group: usize, number: usize) -> Result<(), AllocError>
     requires { group < length groups.old.items }
-    ensures { OnOk result (groups.new.items ≡ slice_set groups.old.items group (slice_index_or groups.old.items group [] ++ number ∷ [])) }
+    ensures { OnOk result (groups.new.items ≡ slice_set groups.old.items group
+        (slice_index_or groups.old.items group [] ++ number ∷ [])) }
 {
     groups[group].push(number)?;
     Ok(())
@@ -36,7 +37,8 @@ fn put<'b, 'c>(
     number: usize,
 ) -> Result<(), AllocError>
     requires { length groups.old.items ≡ length places.now }
-    ensures { OnOk result (groups.new.items ≡ put_number (position (same (step_view step.now).origin) places.now) number groups.old.items) }
+    ensures { OnOk result (groups.new.items ≡ put_number
+        (position (same (step_view step.now).origin) places.now) number groups.old.items) }
 {
     match places.place_of(step.origin.as_slice()) {
         Some(group) => add_to(groups, group, number),

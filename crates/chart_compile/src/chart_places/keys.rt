@@ -36,7 +36,8 @@ pub fn index_of<'a>(alloc: Global, keys: &'a [Sequence<u8>]) -> Result<NameIndex
 
 /// The graph with a key.
 pub fn find_graph<'a, 'b>(chart: &'a Chart, graphs: &NameIndex<'b>, key: &[u8]) -> Option<&'a Graph>
-    ensures { option_map (λ g. g.now) result ≡ option_and_then (λ i. slice_get chart.entry.now.graphs.items i) (position (same key.now) graphs.now) }
+    ensures { option_map (λ g. g.now) result ≡ option_and_then
+        (λ i. slice_get chart.entry.now.graphs.items i) (position (same key.now) graphs.now) }
 {
     match graphs.place_of(key) {
         Some(number) => chart.graphs.get(number),

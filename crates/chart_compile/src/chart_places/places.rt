@@ -26,7 +26,8 @@ fn inner_graph<'a, 'b>(
     state: &State,
 ) -> Result<Option<&'a Graph>, AllocError>
     requires { graphs.now ≡ keys_of (map graph_view chart.now.graphs.items) }
-    ensures { IfOk result (λ inner. FoundAt (chart_view chart.entry.now) (state.now.name ∷ graph.now.owner) inner) }
+    ensures { IfOk result (λ inner.
+        FoundAt (chart_view chart.entry.now) (state.now.name ∷ graph.now.owner) inner) }
 {
     let key = named_key(alloc, 2, &state.name, graph.owner.as_slice())?;
     Ok(find_graph(chart, graphs, key.as_slice()))
@@ -57,7 +58,9 @@ fn add_state<'a, 'b>(
     places: &mut Vec<Place<'a>>,
 ) -> Result<(), AllocError>
     requires { graphs.now ≡ keys_of (map graph_view chart.now.graphs.items) }
-    ensures { OnOk result (map place_view places.new.items ≡ map place_view places.old.items ++ (place_of graph.now.owner (state_view state.now) ∷ places_below (chart_view chart.now) depth (state.now.name ∷ graph.now.owner))) }
+    ensures { OnOk result (map place_view places.new.items ≡ map place_view places.old.items
+        ++ (place_of graph.now.owner (state_view state.now)
+        ∷ places_below (chart_view chart.now) depth (state.now.name ∷ graph.now.owner))) }
 {
     let inner = inner_graph(alloc, chart, graphs, graph, state)?;
     places.push(Place { graph, state })?;
@@ -83,7 +86,8 @@ fn add_states<'a, 'b>(
 ) -> Result<(), AllocError>
     requires keyed { graphs.now ≡ keys_of (map graph_view chart.now.graphs.items) }
     requires there { graph_at (chart_view chart.now) graph.now.owner ≡ Some (graph_view graph.now) }
-    ensures { OnOk result (map place_view places.new.items ≡ map place_view places.old.items ++ places_below (chart_view chart.now) depth graph.now.owner) }
+    ensures { OnOk result (map place_view places.new.items ≡ map place_view places.old.items
+        ++ places_below (chart_view chart.now) depth graph.now.owner) }
 {
     if depth == 0 {
         return Ok(());
@@ -102,7 +106,8 @@ pub fn places_of<'a, 'b>(
     graphs: &NameIndex<'b>,
 ) -> Result<Vec<Place<'a>>, AllocError>
     requires { graphs.now ≡ keys_of (map graph_view chart.now.graphs.items) }
-    ensures { IfOk result (λ places. map place_view places.items ≡ places_of (chart_view chart.entry.now)) }
+    ensures { IfOk result (λ places.
+        map place_view places.items ≡ places_of (chart_view chart.entry.now)) }
 {
     let mut places = Vec::new(alloc);
     let top = top_graph(alloc, chart, graphs)?;

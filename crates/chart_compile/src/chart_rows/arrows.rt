@@ -14,7 +14,8 @@ use name_tables::NameIndex;
 use std::alloc::{AllocError, Global};
 
 fn copy_triggers(alloc: Global, triggers: &[Trigger]) -> Result<Vec<Trigger>, AllocError>
-    ensures { IfOk result (λ copies. map trigger_view copies.items ≡ map trigger_view triggers.now) }
+    ensures { IfOk result (λ copies.
+        map trigger_view copies.items ≡ map trigger_view triggers.now) }
 {
     let mut copies = Vec::new(alloc);
     for trigger in triggers {
@@ -57,7 +58,8 @@ fn add_arrow<'b, 'c>(
     arrows: &mut Vec<Arrow>,
 ) -> Result<(), AllocError>
     requires { LeadTo nodes.now (map step_view steps.now) }
-    ensures { OnOk result (AddsArrow nodes.now (slice_get (map step_view steps.now) number) arrows.old.items arrows.new.items) }
+    ensures { OnOk result (AddsArrow nodes.now (slice_get (map step_view steps.now) number)
+        arrows.old.items arrows.new.items) }
 {
     let Some(step) = step_at(steps, number) else {
         return Ok(());
@@ -75,7 +77,9 @@ pub fn arrows_of<'b, 'c>(
     group: &[usize],
 ) -> Result<Vec<Arrow>, AllocError>
     requires { LeadTo nodes.now (map step_view steps.now) }
-    ensures { IfOk result (λ arrows. Each (IsArrow nodes.now) (arrow_views arrows.items) (picked (map step_view steps.now) group.now)) }
+    ensures { IfOk result (λ arrows.
+        Each (IsArrow nodes.now) (arrow_views arrows.items)
+        (picked (map step_view steps.now) group.now)) }
 {
     let mut arrows = Vec::new(alloc);
     for number in group {

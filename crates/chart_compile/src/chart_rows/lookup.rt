@@ -60,7 +60,8 @@ fn find_group<'c, 'd>(
     groups: &'d [Sequence<usize>],
     key: &[u8],
 ) -> Option<&'d Sequence<usize>>
-    ensures { option_map (λ g. g.now) result ≡ option_and_then (λ i. slice_get groups.entry.now i) (position (same key.now) places.now) }
+    ensures { option_map (λ g. g.now) result
+        ≡ option_and_then (λ i. slice_get groups.entry.now i) (position (same key.now) places.now) }
 {
     match places.place_of(key) {
         Some(number) => groups.get(number),
@@ -76,7 +77,8 @@ pub fn steps_at<'c, 'd>(
 ) -> &'d [usize]
     requires grouped { (steps : List StepTree) × IsGrouped places.now groups.now steps }
     requires known { is_among places.now key.now ≡ true }
-    ensures { (steps : List StepTree) → IsGrouped places.now groups.entry.now steps → picked steps result.now ≡ from_key key.now steps }
+    ensures { (steps : List StepTree) → IsGrouped places.now groups.entry.now steps
+        → picked steps result.now ≡ from_key key.now steps }
 {
     let found = find_group(places, groups, key);
     match found {

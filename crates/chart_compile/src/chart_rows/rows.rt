@@ -27,7 +27,8 @@ fn up_line<'c>(
     owner: &[Name],
 ) -> Result<Vec<u16>, AllocError>
     requires { HaveShortNumbers states.now (name.now ∷ owner.now) }
-    ensures { IfOk result (λ up. Each (IsState states.now) up.items (outward (name.now ∷ owner.now))) }
+    ensures { IfOk result (λ up.
+        Each (IsState states.now) up.items (outward (name.now ∷ owner.now))) }
 {
     let mut up = Vec::new(alloc);
     let own = state_number(alloc, states, name, owner)?;
@@ -55,7 +56,9 @@ fn make_row<'b, 's, 'g, 'n, 'p>(
     requires known { is_among states.now (key_of (place_view place.now)) ≡ true }
     requires placed { IsPlaced states.now graphs.now (place_view place.now) }
     requires lead { LeadTo nodes.now (map step_view steps.now) }
-    ensures { IfOk result (λ row. IsRow states.now graphs.now nodes.now (map step_view steps.now) row (place_view place.now)) }
+    ensures { IfOk result (λ row.
+        IsRow states.now graphs.now nodes.now (map step_view steps.now) row
+        (place_view place.now)) }
 {
     let state = place.state;
     let owner = place.graph.owner.as_slice();
@@ -90,7 +93,9 @@ pub fn rows_of<'b, 's, 'g, 'n, 'p>(
     requires keyed { states.now ≡ map key_of (map place_view places.now) }
     requires placed { ArePlaced states.now graphs.now (map place_view places.now) }
     requires lead { LeadTo nodes.now (map step_view steps.now) }
-    ensures { IfOk result (λ rows. Each (IsRow states.now graphs.now nodes.now (map step_view steps.now)) rows.items (map place_view places.now)) }
+    ensures { IfOk result (λ rows.
+        Each (IsRow states.now graphs.now nodes.now (map step_view steps.now)) rows.items
+        (map place_view places.now)) }
 {
     let mut rows = Vec::new(alloc);
     for place in places {
@@ -130,7 +135,8 @@ pub fn shared_of<'b, 'g, 'n>(
     requires grouped { IsGrouped graphs.now groups.now (map step_view steps.now) }
     requires keyed { graphs.now ≡ keys.now }
     requires lead { LeadTo nodes.now (map step_view steps.now) }
-    ensures { IfOk result (λ shared. Each (IsShared nodes.now (map step_view steps.now)) shared.items keys.now) }
+    ensures { IfOk result (λ shared.
+        Each (IsShared nodes.now (map step_view steps.now)) shared.items keys.now) }
 {
     let mut shared = Vec::new(alloc);
     for key in keys {

@@ -44,7 +44,7 @@ paths_are : (p q : Path) → same (codes p) (codes q) ≡ true → p ≡ q
 paths_are p q e = path_is p q (sym (same_codes p q) ∙ e)
 
 -- nodes with one key are one
-nodes_are : (m n : Node) → same (node_key m) (node_key n) ≡ true → m ≡ n
+pub nodes_are : (m n : Node) → same (node_key m) (node_key n) ≡ true → m ≡ n
 nodes_are (a_state p) (a_state q) e = ap a_state (paths_are p q e)
 nodes_are (a_state p) (a_choice q d) e = absurd cc
 nodes_are (a_state p) (an_entry q d) e = absurd cc

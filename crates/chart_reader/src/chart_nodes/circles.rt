@@ -29,7 +29,8 @@ pub fn target_index<'a, 'b>(
 
 fn add_part(parts: &mut Vec<Sequence<usize>>, node: usize, next: usize) -> Result<(), AllocError>
     requires { node < length parts.old.items }
-    ensures { OnOk result (parts.new.items ≡ slice_set parts.old.items node (slice_index_or parts.old.items node [] ++ next ∷ [])) }
+    ensures { OnOk result (parts.new.items
+        ≡ slice_set parts.old.items node (slice_index_or parts.old.items node [] ++ next ∷ [])) }
 {
     parts[node].push(next)?;
     Ok(())
@@ -43,7 +44,8 @@ fn link<'a, 'b>(
     step: &Step<'b>,
 ) -> Result<(), AllocError>
     requires { length parts.old.items ≡ length nodes.now }
-    ensures { OnOk result (parts.new.items ≡ linked_by nodes.now parts.old.items (step_view step.now)) }
+    ensures { OnOk result (parts.new.items
+        ≡ linked_by nodes.now parts.old.items (step_view step.now)) }
 {
     let Some(node) = nodes.place_of(step.origin.as_slice()) else {
         return Ok(());

@@ -38,7 +38,8 @@ fn add_steps<'a>(
     steps: &mut Vec<Step<'a>>,
     graph: &'a Graph,
 ) -> Result<(), AllocError>
-    ensures { OnOk result (map step_view steps.new.items ≡ map step_view steps.old.items ++ steps_in (graph_view graph.now)) }
+    ensures { OnOk result (map step_view steps.new.items
+        ≡ map step_view steps.old.items ++ steps_in (graph_view graph.now)) }
 {
     let owner = graph.owner.as_slice();
     for transition in &graph.transitions {

@@ -29,7 +29,8 @@ pub(crate) fn count_origins<'a, 'b>(
     alloc: Global,
     steps: &'a [Step<'b>],
 ) -> Result<IndexMap<&'a [u8], usize>, AllocError>
-    ensures { IfOk result (λ counts. (key : List ℕ) → count_in counts key ≡ beginning (map step_view steps.now) key) }
+    ensures { IfOk result (λ counts.
+        (key : List ℕ) → count_in counts key ≡ beginning (map step_view steps.now) key) }
 {
     let mut counts = IndexMap::new(alloc);
     for step in steps {
@@ -44,7 +45,8 @@ fn count_plain<'a, 'b>(
     step: &'a Step<'b>,
 ) -> Result<(), AllocError>
     requires { count_in counts.old (step_view step.now).origin + 1 < 2 ^ 64 }
-    ensures { OnOk result (CountsPlainly (count_in counts.old) (count_in counts.new) (step_view step.now)) }
+    ensures { OnOk result (CountsPlainly (count_in counts.old) (count_in counts.new)
+        (step_view step.now)) }
 {
     if step.transition.condition.is_some() {
         return Ok(());
@@ -58,7 +60,8 @@ pub(crate) fn count_plain_origins<'a, 'b>(
     alloc: Global,
     steps: &'a [Step<'b>],
 ) -> Result<IndexMap<&'a [u8], usize>, AllocError>
-    ensures { IfOk result (λ counts. (key : List ℕ) → count_in counts key ≡ beginning_plainly (map step_view steps.now) key) }
+    ensures { IfOk result (λ counts.
+        (key : List ℕ) → count_in counts key ≡ beginning_plainly (map step_view steps.now) key) }
 {
     let mut counts = IndexMap::new(alloc);
     for step in steps {

@@ -31,8 +31,10 @@ pub(crate) struct ChartIndex<'a> {
     origins: IndexMap<&'a [u8], usize>,
     plain_origins: IndexMap<&'a [u8], usize>,
     ghost keys_are: { keys ≡ border_keys (map named_view graphs.items) },
-    ghost origins_are: { (key : List ℕ) → count_in origins key ≡ beginning (steps_of (chart_of graphs.items values.now)) key },
-    ghost plain_origins_are: { (key : List ℕ) → count_in plain_origins key ≡ beginning_plainly (steps_of (chart_of graphs.items values.now)) key },
+    ghost origins_are: { (key : List ℕ) → count_in origins key
+        ≡ beginning (steps_of (chart_of graphs.items values.now)) key },
+    ghost plain_origins_are: { (key : List ℕ) → count_in plain_origins key
+        ≡ beginning_plainly (steps_of (chart_of graphs.items values.now)) key },
 }
 
 /// The keys of the graphs of a chart.
@@ -74,7 +76,8 @@ fn find_graph<'a, 'b>(
     keys: &NameIndex<'a>,
     key: &[u8],
 ) -> Option<&'b NamedGraph<'a>>
-    ensures { option_map (λ g. named_view g.now) result ≡ option_and_then (λ i. slice_get (map named_view graphs.entry.now) i) (position (same key.now) keys.now) }
+    ensures { option_map (λ g. named_view g.now) result ≡ option_and_then
+        (λ i. slice_get (map named_view graphs.entry.now) i) (position (same key.now) keys.now) }
 {
     match keys.place_of(key) {
         Some(place) => graphs.get(place),
@@ -112,7 +115,8 @@ impl<'a> ChartIndex<'a> {
     }
 
     fn graph_with(&self, key: &[u8]) -> Option<&NamedGraph<'a>>
-        ensures { (path : Path) → key.now ≡ 0 ∷ codes path → option_map (λ g. named_view g.now) result ≡ graph_at (index_view self.now) path }
+        ensures { (path : Path) → key.now ≡ 0 ∷ codes path
+            → option_map (λ g. named_view g.now) result ≡ graph_at (index_view self.now) path }
     {
         find_graph(self.graphs.as_slice(), &self.keys, key)
     }
@@ -124,7 +128,9 @@ impl<'a> ChartIndex<'a> {
         state: &Name,
         owner: &[Name],
     ) -> Result<Option<&NamedGraph<'a>>, AllocError>
-        ensures { IfOk result (λ found. option_map (λ g. named_view g.now) found ≡ graph_at (index_view self.now) (state.now ∷ owner.now)) }
+        ensures { IfOk result (λ found.
+            option_map (λ g. named_view g.now) found
+            ≡ graph_at (index_view self.now) (state.now ∷ owner.now)) }
     {
         let key = named_key(alloc, 0, state, owner)?;
         Ok(self.graph_with(key.as_slice()))
@@ -172,7 +178,8 @@ impl<'a> ChartIndex<'a> {
         point: &Name,
         owner: &[Name],
     ) -> Result<usize, AllocError>
-        ensures { IfOk result (λ n. n ≡ length (from (is_from_entry point.now) (index_view self.now) owner.now)) }
+        ensures { IfOk result (λ n.
+            n ≡ length (from (is_from_entry point.now) (index_view self.now) owner.now)) }
     {
         let key = named_key(alloc, 4, point, owner)?;
         Ok(self.beginning(key.as_slice()))
@@ -186,7 +193,8 @@ impl<'a> ChartIndex<'a> {
         state: &Name,
         owner: &[Name],
     ) -> Result<usize, AllocError>
-        ensures { IfOk result (λ n. n ≡ length (from (is_from_exit point.now state.now) (index_view self.now) owner.now)) }
+        ensures { IfOk result (λ n.
+            n ≡ length (from (is_from_exit point.now state.now) (index_view self.now) owner.now)) }
     {
         let key = point_key(alloc, 5, point, state, owner)?;
         Ok(self.beginning(key.as_slice()))
@@ -199,7 +207,9 @@ impl<'a> ChartIndex<'a> {
         choice: &Name,
         owner: &[Name],
     ) -> Result<usize, AllocError>
-        ensures { IfOk result (λ n. n ≡ length (filter has_none (from (is_from_choice choice.now) (index_view self.now) owner.now))) }
+        ensures { IfOk result (λ n.
+            n ≡ length (filter has_none (from (is_from_choice choice.now) (index_view self.now)
+            owner.now))) }
     {
         let key = named_key(alloc, 3, choice, owner)?;
         Ok(self.beginning_plainly(key.as_slice()))

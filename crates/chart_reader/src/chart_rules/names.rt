@@ -24,7 +24,8 @@ pub(crate) struct NamedGraph<'a> {
     exits: NameIndex<'a>,
     ghost states_are: { states ≡ map name_of_state (graph_view graph.now).states },
     ghost choices_are: { choices ≡ (graph_view graph.now).choices },
-    ghost transition_points_are: { transition_points ≡ point_names a_transition_point (graph_view graph.now) },
+    ghost transition_points_are: { transition_points
+        ≡ point_names a_transition_point (graph_view graph.now) },
     ghost entries_are: { entries ≡ point_names an_entry_point (graph_view graph.now) },
     ghost exits_are: { exits ≡ point_names an_exit_point (graph_view graph.now) },
 }
@@ -62,7 +63,8 @@ fn choices_of<'a>(alloc: Global, choices: &'a [Name]) -> Result<NameIndex<'a>, A
 
 /// The name of a point, if it is of a kind.
 fn name_of_kind<'a>(kind: PointKind, point: &'a Point) -> Option<&'a Name>
-    ensures { option_map (λ n. n.now) result ≡ name_of_kind (kind_view kind) (point_view point.entry.now) }
+    ensures { option_map (λ n. n.now) result
+        ≡ name_of_kind (kind_view kind) (point_view point.entry.now) }
 {
     if is_kind(kind, point.kind) {
         Some(&point.name)
@@ -77,7 +79,8 @@ fn points_of<'a>(
     kind: PointKind,
     points: &'a [Point],
 ) -> Result<NameIndex<'a>, AllocError>
-    ensures { IfOk result (λ n. n ≡ filter_map (name_of_kind (kind_view kind)) (map point_view points.now)) }
+    ensures { IfOk result (λ n.
+        n ≡ filter_map (name_of_kind (kind_view kind)) (map point_view points.now)) }
 {
     let mut names = Vec::new(alloc);
     for point in points {

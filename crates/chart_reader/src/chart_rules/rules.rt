@@ -43,7 +43,8 @@ fn goes_on_once(
     owner: &[Name],
     point: &Point,
 ) -> Result<bool, AllocError>
-    ensures { IfOk result (λ b. b ≡ goes_on_once (index_view chart.now) owner.now (point_view point.now)) }
+    ensures { IfOk result (λ b.
+        b ≡ goes_on_once (index_view chart.now) owner.now (point_view point.now)) }
 {
     let [state, outer @ ..] = owner else {
         return match point.kind {
@@ -69,7 +70,9 @@ fn transitions_are_right(
     chart: &ChartIndex,
     graph: &NamedGraph,
 ) -> Result<bool, AllocError>
-    ensures { IfOk result (λ b. b ≡ list_all (is_right_transition (index_view chart.now) (named_view graph.now)) (named_view graph.now).transitions) }
+    ensures { IfOk result (λ b.
+        b ≡ list_all (is_right_transition (index_view chart.now) (named_view graph.now))
+        (named_view graph.now).transitions) }
 {
     for transition in &graph.graph.transitions {
         if !is_right_transition(alloc, chart, graph, transition)? {
@@ -80,7 +83,9 @@ fn transitions_are_right(
 }
 
 fn points_go_on(alloc: Global, chart: &ChartIndex, graph: &NamedGraph) -> Result<bool, AllocError>
-    ensures { IfOk result (λ b. b ≡ list_all (goes_on_once (index_view chart.now) (named_view graph.now).owner) (named_view graph.now).points) }
+    ensures { IfOk result (λ b.
+        b ≡ list_all (goes_on_once (index_view chart.now) (named_view graph.now).owner)
+        (named_view graph.now).points) }
 {
     for point in &graph.graph.points {
         if !goes_on_once(alloc, chart, graph.owner(), point)? {
@@ -95,7 +100,8 @@ fn graph_has_right_names(
     chart: &ChartIndex,
     graph: &NamedGraph,
 ) -> Result<bool, AllocError>
-    ensures { IfOk result (λ b. b ≡ graph_has_right_names (index_view chart.now) (named_view graph.now)) }
+    ensures { IfOk result (λ b.
+        b ≡ graph_has_right_names (index_view chart.now) (named_view graph.now)) }
 {
     if !has_distinct_names(alloc, graph.graph)? {
         return Ok(false);
@@ -139,7 +145,8 @@ fn graph_begins_inside(
     chart: &ChartIndex,
     graph: &NamedGraph,
 ) -> Result<bool, AllocError>
-    ensures { IfOk result (λ b. b ≡ graph_begins_inside (index_view chart.now) (named_view graph.now)) }
+    ensures { IfOk result (λ b.
+        b ≡ graph_begins_inside (index_view chart.now) (named_view graph.now)) }
 {
     for transition in &graph.graph.transitions {
         if !begins_inside(alloc, chart, graph, &transition.target)? {
@@ -150,7 +157,8 @@ fn graph_begins_inside(
 }
 
 fn graphs_begin_inside(alloc: Global, chart: &ChartIndex) -> Result<bool, AllocError>
-    ensures { IfOk result (λ b. b ≡ list_all (graph_begins_inside (index_view chart.now)) (index_view chart.now).graphs) }
+    ensures { IfOk result (λ b.
+        b ≡ list_all (graph_begins_inside (index_view chart.now)) (index_view chart.now).graphs) }
 {
     for graph in &chart.graphs {
         if !graph_begins_inside(alloc, chart, graph)? {
@@ -179,7 +187,8 @@ fn graph_has_defaults(
     chart: &ChartIndex,
     graph: &NamedGraph,
 ) -> Result<bool, AllocError>
-    ensures { IfOk result (λ b. b ≡ graph_has_defaults (index_view chart.now) (named_view graph.now)) }
+    ensures { IfOk result (λ b.
+        b ≡ graph_has_defaults (index_view chart.now) (named_view graph.now)) }
 {
     let choices = graph.graph.choices.as_slice();
     for choice in choices {

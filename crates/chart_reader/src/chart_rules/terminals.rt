@@ -21,7 +21,9 @@ fn has_point_of(
     point: &Name,
     state: &Name,
 ) -> Result<bool, AllocError>
-    ensures { IfOk result (λ b. b ≡ has_point_of (index_view chart.now) (kind_view kind) (named_view graph.now) point.now state.now) }
+    ensures { IfOk result (λ b.
+        b ≡ has_point_of (index_view chart.now) (kind_view kind) (named_view graph.now) point.now
+        state.now) }
 {
     if !graph.has_state(state) {
         return Ok(false);
@@ -39,7 +41,9 @@ fn source_is_there(
     graph: &NamedGraph,
     source: &Source,
 ) -> Result<bool, AllocError>
-    ensures { IfOk result (λ b. b ≡ source_is_there (index_view chart.now) (named_view graph.now) (source_view source.now)) }
+    ensures { IfOk result (λ b.
+        b
+        ≡ source_is_there (index_view chart.now) (named_view graph.now) (source_view source.now)) }
 {
     match source {
         Source::Initial => Ok(true),
@@ -59,7 +63,9 @@ fn target_is_there(
     graph: &NamedGraph,
     target: &Target,
 ) -> Result<bool, AllocError>
-    ensures { IfOk result (λ b. b ≡ target_is_there (index_view chart.now) (named_view graph.now) (target_view target.now)) }
+    ensures { IfOk result (λ b.
+        b
+        ≡ target_is_there (index_view chart.now) (named_view graph.now) (target_view target.now)) }
 {
     match target {
         Target::State(name) => Ok(graph.has_state(name)),
@@ -92,7 +98,9 @@ pub(crate) fn is_right_transition(
     graph: &NamedGraph,
     transition: &Transition,
 ) -> Result<bool, AllocError>
-    ensures { IfOk result (λ b. b ≡ is_right_transition (index_view chart.now) (named_view graph.now) (transition_view transition.now)) }
+    ensures { IfOk result (λ b.
+        b ≡ is_right_transition (index_view chart.now) (named_view graph.now)
+        (transition_view transition.now)) }
 {
     if !source_is_there(alloc, chart, graph, &transition.source)? {
         return Ok(false);
@@ -110,7 +118,8 @@ pub(crate) fn begins_inside(
     graph: &NamedGraph,
     target: &Target,
 ) -> Result<bool, AllocError>
-    ensures { IfOk result (λ b. b ≡ begins_inside (index_view chart.now) (named_view graph.now) (target_view target.now)) }
+    ensures { IfOk result (λ b.
+        b ≡ begins_inside (index_view chart.now) (named_view graph.now) (target_view target.now)) }
 {
     let owner = graph.owner();
     match target {

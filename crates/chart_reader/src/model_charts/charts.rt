@@ -27,7 +27,8 @@ fn chart_of(
     scope: &Scope,
     names: &mut ServiceNames,
 ) -> Result<Option<Chart>, ChartFault>
-    ensures { ReadsClass scope.now names.old names.new (option_map (λ s. graph_view s.now.items.items) machine.entry) result }
+    ensures { ReadsClass scope.now names.old names.new
+        (option_map (λ s. graph_view s.now.items.items) machine.entry) result }
 {
     let Some(machine) = machine else {
         return Ok(None);

@@ -32,8 +32,13 @@ fn checked(
     marks: &mut Marks,
 ) -> Result<Bound, AllocError>
     requires { marks.old.codes_fit ≡ true }
-    ensures program { IfOk result (λ b. numbered.program_view b ≡ bound_of scope.now names.old (named.program_view program.now)) }
-    ensures progress { OnOk result (progress marks.new names.new ≡ record { events_fit = marks.old.events_fit; names = names_bound scope.now names.old (named.program_view program.now) }) }
+    ensures program { IfOk result (λ b.
+        numbered.program_view b ≡ bound_of scope.now names.old (named.program_view program.now)) }
+    ensures progress { OnOk result (progress marks.new names.new
+        ≡ record {
+          events_fit = marks.old.events_fit;
+          names = names_bound scope.now names.old (named.program_view program.now);
+        }) }
     ensures grown { Grows names.old names.new }
 {
     match check_action(alloc, program, scope, names) {
@@ -56,8 +61,11 @@ pub fn action(
     names: &mut ServiceNames,
     marks: &mut Marks,
 ) -> Result<Bound, AllocError>
-    ensures program { IfOk result (λ b. numbered.program_view b ≡ action_of scope.now (progress marks.old names.old).names code.now) }
-    ensures progress { OnOk result (progress marks.new names.new ≡ after_action scope.now (progress marks.old names.old) code.now) }
+    ensures program { IfOk result (λ b.
+        numbered.program_view b
+        ≡ action_of scope.now (progress marks.old names.old).names code.now) }
+    ensures progress { OnOk result (progress marks.new names.new
+        ≡ after_action scope.now (progress marks.old names.old) code.now) }
     ensures grown { Grows names.old names.new }
 {
     let Some(code) = code else {

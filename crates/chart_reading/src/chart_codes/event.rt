@@ -55,7 +55,8 @@ fn add_event(
     marks: &mut Marks,
     event: Option<Event>,
 ) -> Result<(), AllocError>
-    ensures items { OnOk result (map event_view found.new.items ≡ map event_view found.old.items ++ unwrap_or (option_map event_view event) no_event ∷ []) }
+    ensures items { OnOk result (map event_view found.new.items
+        ≡ map event_view found.old.items ++ unwrap_or (option_map event_view event) no_event ∷ []) }
     ensures events { OnOk result (marks.new.events_fit ≡ (marks.old.events_fit && is_some event)) }
     ensures codes { OnOk result (marks.new.codes_fit ≡ marks.old.codes_fit) }
 {
@@ -79,8 +80,10 @@ pub(crate) fn events(
     scope: &Scope,
     marks: &mut Marks,
 ) -> Result<Vec<Event>, AllocError>
-    ensures items { IfOk result (λ v. map event_view v.items ≡ map (event_of scope.now) (events trigger.now)) }
-    ensures events { OnOk result (marks.new.events_fit ≡ (marks.old.events_fit && list_all (event_fits scope.now) (events trigger.now))) }
+    ensures items { IfOk result (λ v.
+        map event_view v.items ≡ map (event_of scope.now) (events trigger.now)) }
+    ensures events { OnOk result (marks.new.events_fit
+        ≡ (marks.old.events_fit && list_all (event_fits scope.now) (events trigger.now))) }
     ensures codes { OnOk result (marks.new.codes_fit ≡ marks.old.codes_fit) }
 {
     let mut found = Vec::new(alloc);

@@ -54,7 +54,9 @@ fn expression(alloc: Global, bytes: &[u8]) -> Result<Option<Expr>, AllocError>
 }
 
 fn checked(alloc: Global, condition: &Expr, scope: &Scope) -> Result<Option<BoundExpr>, AllocError>
-    ensures { IfOk result (λ e. option_map numbered.expr_view e ≡ bound_condition scope.now (named.expr_view condition.now)) }
+    ensures { IfOk result (λ e.
+        option_map numbered.expr_view e
+        ≡ bound_condition scope.now (named.expr_view condition.now)) }
 {
     match check_cond(alloc, condition, scope) {
         Ok(condition) => Ok(Some(condition)),

@@ -22,7 +22,8 @@ pub fn guard(
     scope: &Scope,
     marks: &mut Marks,
 ) -> Result<Option<BoundExpr>, AllocError>
-    ensures guard { IfOk result (λ g. option_map numbered.expr_view g ≡ guard_of scope.now code.now) }
+    ensures guard { IfOk result (λ g.
+        option_map numbered.expr_view g ≡ guard_of scope.now code.now) }
     ensures marks { OnOk result (marks.new ≡ marks_after_guard scope.now marks.old code.now) }
 {
     let Some(code) = code else {
@@ -57,9 +58,13 @@ fn all_triggers(
     scope: &Scope,
     marks: &mut Marks,
 ) -> Result<Vec<Trigger>, AllocError>
-    ensures triggers { IfOk result (λ v. map trigger_view v.items ≡ map (trigger_of scope.now) (written.now.first ∷ written.now.others)) }
-    ensures events { OnOk result (marks.new.events_fit ≡ (marks.old.events_fit && events_fit scope.now (written.now.first ∷ written.now.others))) }
-    ensures codes { OnOk result (marks.new.codes_fit ≡ (marks.old.codes_fit && guards_fit scope.now (written.now.first ∷ written.now.others))) }
+    ensures triggers { IfOk result (λ v.
+        map trigger_view v.items
+        ≡ map (trigger_of scope.now) (written.now.first ∷ written.now.others)) }
+    ensures events { OnOk result (marks.new.events_fit
+        ≡ (marks.old.events_fit && events_fit scope.now (written.now.first ∷ written.now.others))) }
+    ensures codes { OnOk result (marks.new.codes_fit
+        ≡ (marks.old.codes_fit && guards_fit scope.now (written.now.first ∷ written.now.others))) }
 {
     let mut found = Vec::new(alloc);
     found.push(trigger(alloc, &written.first, scope, marks)?)?;
@@ -77,9 +82,12 @@ pub fn triggers(
     scope: &Scope,
     marks: &mut Marks,
 ) -> Result<Vec<Trigger>, AllocError>
-    ensures triggers { IfOk result (λ v. map trigger_view v.items ≡ triggers_of scope.now written.now) }
-    ensures events { OnOk result (marks.new.events_fit ≡ (marks.old.events_fit && events_fit scope.now (trigger_list written.now))) }
-    ensures codes { OnOk result (marks.new.codes_fit ≡ (marks.old.codes_fit && guards_fit scope.now (trigger_list written.now))) }
+    ensures triggers { IfOk result (λ v.
+        map trigger_view v.items ≡ triggers_of scope.now written.now) }
+    ensures events { OnOk result (marks.new.events_fit
+        ≡ (marks.old.events_fit && events_fit scope.now (trigger_list written.now))) }
+    ensures codes { OnOk result (marks.new.codes_fit
+        ≡ (marks.old.codes_fit && guards_fit scope.now (trigger_list written.now))) }
 {
     match written {
         Some(written) => all_triggers(alloc, written, scope, marks),

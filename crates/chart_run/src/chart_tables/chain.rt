@@ -21,7 +21,8 @@ impl Mind {
     /// Remembers that the path which is left ended at `leaf`.
     fn remember(&mut self, tables: &Tables, leaf: u16, state: u16)
         requires { state < length self.old.past.items }
-        ensures { Becomes self.old self.new (remember (plan tables.now) state (Some leaf) (memory_of self.old)) }
+        ensures { Becomes self.old self.new
+            (remember (plan tables.now) state (Some leaf) (memory_of self.old)) }
     {
         self.past[usize::from(state)] = Some(leaf);
     }
@@ -31,7 +32,8 @@ impl Mind {
     fn keep(&mut self, tables: &Tables, began: Option<u16>, state: u16)
         requires sound { IsSound tables.now }
         requires size { length self.old.past.items ≡ length tables.now.states.items }
-        ensures { Becomes self.old self.new (remember (plan tables.now) state (runs_through (plan tables.now) began state) (memory_of self.old)) }
+        ensures { Becomes self.old self.new (remember (plan tables.now) state
+            (runs_through (plan tables.now) began state) (memory_of self.old)) }
     {
         if let Some(leaf) = began {
             if tables.is_inside(leaf, state) {
@@ -52,7 +54,8 @@ impl Mind {
     ) -> Result<(), AllocError>
         requires sound { IsSound tables.now }
         requires size { length self.old.past.items ≡ length tables.now.states.items }
-        ensures { OnOk result (Becomes self.old self.new (leave (plan tables.now) (acting at.now) began state (memory_of self.old))) }
+        ensures { OnOk result (Becomes self.old self.new
+            (leave (plan tables.now) (acting at.now) began state (memory_of self.old))) }
     {
         self.keep(tables, began, state);
         self.run_exit(alloc, tables, state, at)
@@ -71,7 +74,9 @@ impl Mind {
         requires sound { IsSound tables.now }
         requires within { count ≤ length (up_at tables.now leaf) }
         requires size { length self.old.past.items ≡ length tables.now.states.items }
-        ensures { OnOk result (Becomes self.old self.new (leave_all (plan tables.now) (acting at.now) (Some leaf) (take count (up_at tables.now leaf)) (memory_of self.old))) }
+        ensures { OnOk result (Becomes self.old self.new
+            (leave_all (plan tables.now) (acting at.now) (Some leaf)
+            (take count (up_at tables.now leaf)) (memory_of self.old))) }
     {
         let up = tables.up(leaf);
         for i in 0..count {
@@ -90,7 +95,8 @@ impl Mind {
         leaf: u16,
         at: &Moment,
     ) -> Result<(), AllocError>
-        ensures { OnOk result (Becomes self.old self.new (enter_all (plan tables.now) (acting at.now) (below (plan tables.now) state leaf) (memory_of self.old))) }
+        ensures { OnOk result (Becomes self.old self.new (enter_all (plan tables.now)
+            (acting at.now) (below (plan tables.now) state leaf) (memory_of self.old))) }
     {
         let up = tables.up(leaf);
         let count = up.len().saturating_sub(tables.up(state).len());
@@ -103,7 +109,9 @@ impl Mind {
     /// Whether the condition of a branch holds.
     #[tactic(auto, unfolding(crate::specs::chart_tables::Minds::arrow_holds))]
     fn branch_holds(&mut self, branch: &Arrow, at: &Moment) -> Result<bool, AllocError>
-        ensures { IfOk result (λ b. Gives self.old self.new b (arrow_holds at.now (arrow_view branch.now) (memory_of self.old))) }
+        ensures { IfOk result (λ b.
+            Gives self.old self.new b
+            (arrow_holds at.now (arrow_view branch.now) (memory_of self.old))) }
     {
         let holds = self.holds(&branch.condition, at)?;
         Ok(holds)
@@ -117,7 +125,9 @@ impl Mind {
         default: &'a Arrow,
         at: &Moment,
     ) -> Result<&'a Arrow, AllocError>
-        ensures { IfOk result (λ r. Gives self.old self.new (arrow_view r.now) (arrow_chosen at.now (arrow_view default.entry.now) (arrow_views branches.entry.now) (memory_of self.old))) }
+        ensures { IfOk result (λ r.
+            Gives self.old self.new (arrow_view r.now) (arrow_chosen at.now
+            (arrow_view default.entry.now) (arrow_views branches.entry.now) (memory_of self.old))) }
     {
         for branch in branches {
             if self.branch_holds(branch, at)? {
@@ -147,7 +157,10 @@ impl Mind {
         initial: &'a Arrow,
         at: &Moment,
     ) -> Result<Step<'a>, AllocError>
-        ensures { IfOk result (λ r. Gives self.old self.new (next_of r) (border (plan tables.now) (acting at.now) state (arrow_view initial.entry.now) (memory_of self.old) ((memory_of self.old).past state))) }
+        ensures { IfOk result (λ r.
+            Gives self.old self.new (next_of r)
+            (border (plan tables.now) (acting at.now) state (arrow_view initial.entry.now)
+            (memory_of self.old) ((memory_of self.old).past state))) }
     {
         match self.history(state) {
             Some(leaf) => {
@@ -170,7 +183,9 @@ impl Mind {
     ) -> Result<Step<'a>, AllocError>
         requires sound { IsSound tables.now }
         requires size { length self.old.past.items ≡ length tables.now.states.items }
-        ensures { IfOk result (λ r. Gives self.old self.new (next_of r) (arrive (plan tables.entry.now) (acting at.now) began (kind node.entry.now) (memory_of self.old))) }
+        ensures { IfOk result (λ r.
+            Gives self.old self.new (next_of r) (arrive (plan tables.entry.now) (acting at.now)
+            began (kind node.entry.now) (memory_of self.old))) }
     {
         match node {
             Node::Simple(state) => {
@@ -209,7 +224,9 @@ impl Mind {
     ) -> Result<Step<'a>, AllocError>
         requires sound { IsSound tables.now }
         requires size { length self.old.past.items ≡ length tables.now.states.items }
-        ensures { IfOk result (λ r. Gives self.old self.new (next_of r) (arrive (plan tables.entry.now) (acting at.now) began ((plan tables.entry.now).node node) (memory_of self.old))) }
+        ensures { IfOk result (λ r.
+            Gives self.old self.new (next_of r) (arrive (plan tables.entry.now) (acting at.now)
+            began ((plan tables.entry.now).node node) (memory_of self.old))) }
     {
         match tables.nodes.get(node) {
             Some(node) => {
@@ -236,7 +253,9 @@ impl Mind {
     ) -> Result<u16, AllocError>
         requires sound { IsSound tables.now }
         requires size { length self.old.past.items ≡ length tables.now.states.items }
-        ensures { IfOk result (λ s. Gives self.old self.new (Some s) (chain (plan tables.entry.now) (acting at.now) began (arrow_view first.entry.now) (memory_of self.old))) }
+        ensures { IfOk result (λ s.
+            Gives self.old self.new (Some s) (chain (plan tables.entry.now) (acting at.now) began
+            (arrow_view first.entry.now) (memory_of self.old))) }
     {
         let mut arrow = first;
         loop {

@@ -28,7 +28,8 @@ impl Mind {
         program: &Bound,
         at: &Moment,
     ) -> Result<(), AllocError>
-        ensures { OnOk result (Becomes self.old self.new (runs (acting at.now) (program_view program.now) (memory_of self.old))) }
+        ensures { OnOk result (Becomes self.old self.new
+            (runs (acting at.now) (program_view program.now) (memory_of self.old))) }
     {
         eval(alloc, program, &mut self.vars, at, &mut self.effects)
     }
@@ -40,7 +41,9 @@ impl Mind {
         condition: &Option<BoundExpr>,
         at: &Moment,
     ) -> Result<bool, AllocError>
-        ensures { IfOk result (λ b. Gives self.old self.new b (holds (acting at.now) (option_map expr_view condition.now) (memory_of self.old))) }
+        ensures { IfOk result (λ b.
+            Gives self.old self.new b
+            (holds (acting at.now) (option_map expr_view condition.now) (memory_of self.old))) }
     {
         match condition {
             None => Ok(true),
@@ -60,7 +63,8 @@ impl Mind {
         state: u16,
         at: &Moment,
     ) -> Result<(), AllocError>
-        ensures { OnOk result (Becomes self.old self.new (enter (plan tables.now) (acting at.now) state (memory_of self.old))) }
+        ensures { OnOk result (Becomes self.old self.new
+            (enter (plan tables.now) (acting at.now) state (memory_of self.old))) }
     {
         match tables.states.get(usize::from(state)) {
             Some(row) => self.run(alloc, &row.entry, at),
@@ -77,7 +81,8 @@ impl Mind {
         state: u16,
         at: &Moment,
     ) -> Result<(), AllocError>
-        ensures { OnOk result (Becomes self.old self.new (runs (acting at.now) ((plan tables.now).exit state) (memory_of self.old))) }
+        ensures { OnOk result (Becomes self.old self.new
+            (runs (acting at.now) ((plan tables.now).exit state) (memory_of self.old))) }
     {
         match tables.states.get(usize::from(state)) {
             Some(row) => self.run(alloc, &row.exit, at),

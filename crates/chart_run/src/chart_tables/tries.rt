@@ -34,7 +34,9 @@ impl Mind {
         event: Event,
         at: &Moment,
     ) -> Result<bool, AllocError>
-        ensures { IfOk result (λ b. Gives self.old self.new b (trigger_fits (acting at.now) same_event (event_view event) (trigger_view trigger.now) (memory_of self.old))) }
+        ensures { IfOk result (λ b.
+            Gives self.old self.new b (trigger_fits (acting at.now) same_event (event_view event)
+            (trigger_view trigger.now) (memory_of self.old))) }
     {
         let has = has_event(event, &trigger.events);
         if has {
@@ -48,7 +50,9 @@ impl Mind {
     /// Whether one of a transition's triggers fits, tried in their order.
     #[tactic(auto, using(crate::proofs::chart_tables::Trying::tried_start, crate::proofs::chart_tables::Trying::tried_miss, crate::proofs::chart_tables::Trying::fitting_hit, crate::proofs::chart_tables::Trying::fitting_none))]
     fn fits(&mut self, arrow: &Arrow, event: Event, at: &Moment) -> Result<bool, AllocError>
-        ensures { IfOk result (λ b. Gives self.old self.new b (arrow_fits at.now (event_view event) (arrow_view arrow.now) (memory_of self.old))) }
+        ensures { IfOk result (λ b.
+            Gives self.old self.new b
+            (arrow_fits at.now (event_view event) (arrow_view arrow.now) (memory_of self.old))) }
     {
         for trigger in &arrow.triggers {
             if self.trigger_fits(trigger, event, at)? {
@@ -66,7 +70,10 @@ impl Mind {
         event: Event,
         at: &Moment,
     ) -> Result<Option<&'a Arrow>, AllocError>
-        ensures { IfOk result (λ r. Gives self.old self.new (option_map (λ t. arrow_view t.now) r) (first_of (arrow_fits at.now (event_view event)) (arrow_views arrows.entry.now) (memory_of self.old))) }
+        ensures { IfOk result (λ r.
+            Gives self.old self.new (option_map (λ t. arrow_view t.now) r)
+            (first_of (arrow_fits at.now (event_view event)) (arrow_views arrows.entry.now)
+            (memory_of self.old))) }
     {
         for arrow in arrows {
             if self.fits(arrow, event, at)? {
@@ -86,7 +93,10 @@ impl Mind {
         event: Event,
         at: &Moment,
     ) -> Result<Option<&'a Arrow>, AllocError>
-        ensures { IfOk result (λ r. Gives self.old self.new (option_map (λ t. arrow_view t.now) r) (first_of (fits (plan tables.entry.now) (acting at.now) (event_view event)) ((plan tables.entry.now).tried state) (memory_of self.old))) }
+        ensures { IfOk result (λ r.
+            Gives self.old self.new (option_map (λ t. arrow_view t.now) r)
+            (first_of (fits (plan tables.entry.now) (acting at.now) (event_view event))
+            ((plan tables.entry.now).tried state) (memory_of self.old))) }
     {
         match self.first_fit(tables.own(state), event, at)? {
             Some(arrow) => Ok(Some(arrow)),
@@ -107,8 +117,11 @@ impl Mind {
         event: Event,
         at: &Moment,
     ) -> Result<Option<Taken<'a>>, AllocError>
-        ensures found { IfOk result (λ r. Gives self.old self.new (taken_view r) (enabled (plan tables.entry.now) (acting at.now) (event_view event) 0 (up_at tables.entry.now leaf) (memory_of self.old))) }
-        ensures within { IfOk result (λ r. IfSome r (λ t. t.leaves ≤ length (up_at tables.entry.now leaf))) }
+        ensures found { IfOk result (λ r.
+            Gives self.old self.new (taken_view r) (enabled (plan tables.entry.now) (acting at.now)
+            (event_view event) 0 (up_at tables.entry.now leaf) (memory_of self.old))) }
+        ensures within { IfOk result (λ r.
+            IfSome r (λ t. t.leaves ≤ length (up_at tables.entry.now leaf))) }
     {
         for (i, state) in tables.up(leaf).iter().enumerate() {
             if let Some(arrow) = self.tried(tables, *state, event, at)? {

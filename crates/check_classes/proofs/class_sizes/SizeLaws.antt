@@ -19,7 +19,7 @@ use Rattle.check_classes.specs.class_sizes.Sizes.{size_within, sizes_within, siz
 size_of_class : (depth : ℕ) (classes : List (List TypeEntry)) (i : ℕ) → size_within (suc depth) classes (types.Class i) ≡ sizes_within depth classes (slice_index_or classes i [])
 size_of_class depth classes i = length-flat_map (numbers_within depth classes) (slice_index_or classes i [])
 
-parts_at : (classes : List (List TypeEntry)) (i : ℕ) → parts_of (map classes_of_types classes) i ≡ classes_of_types (slice_index_or classes i [])
+pub parts_at : (classes : List (List TypeEntry)) (i : ℕ) → parts_of (map classes_of_types classes) i ≡ classes_of_types (slice_index_or classes i [])
 parts_at [] i = refl
 parts_at (c ∷ cs) zero = refl
 parts_at (c ∷ cs) (suc i) = parts_at cs i
@@ -56,7 +56,7 @@ sums_agree f g (types.Class c ∷ ts) numbers unknown classes =
 
 -- ---- how deep classes are looked into doesn't matter, once that is deep enough
 
-same_length : (cs : List (List TypeEntry)) → length (map classes_of_types cs) ≡ length cs
+pub same_length : (cs : List (List TypeEntry)) → length (map classes_of_types cs) ≡ length cs
 same_length [] = refl
 same_length (d ∷ ds) = ap suc (same_length ds)
 

@@ -67,7 +67,8 @@ fn ports_have_protocols(class: &Class, protocols: &NameIndex) -> bool
 }
 
 fn each_has_protocols(classes: &[Class], protocols: &NameIndex) -> bool
-    ensures { result ≡ list_all (λ c. ports_have_protocols protocols.now (class_view c)) classes.now }
+    ensures { result
+        ≡ list_all (λ c. ports_have_protocols protocols.now (class_view c)) classes.now }
 {
     classes
         .iter()
@@ -116,14 +117,16 @@ fn structure_has_classes(items: &[StructureItem], actors: &NameIndex) -> bool
 }
 
 fn each_has_class(items: &[SubsystemItem], actors: &NameIndex) -> bool
-    ensures { result ≡ list_all (λ i. subsystem_has_class actors.now (subsystem_item_view i)) items.now }
+    ensures { result
+        ≡ list_all (λ i. subsystem_has_class actors.now (subsystem_item_view i)) items.now }
 {
     items.iter().all(|item| subsystem_has_class(item, actors))
 }
 
 #[tactic(auto, using(crate::proofs::class_rules::Views::test_viewed))]
 fn subsystem_has_classes(items: &[SubsystemItem], actors: &NameIndex) -> bool
-    ensures { result ≡ list_all (subsystem_has_class actors.now) (map subsystem_item_view items.now) }
+    ensures { result
+        ≡ list_all (subsystem_has_class actors.now) (map subsystem_item_view items.now) }
 {
     each_has_class(items, actors)
 }
@@ -141,7 +144,8 @@ fn references_have_classes(class: &Class, actors: &NameIndex) -> bool
 }
 
 fn each_has_classes(classes: &[Class], actors: &NameIndex) -> bool
-    ensures { result ≡ list_all (λ c. references_have_classes actors.now (class_view c)) classes.now }
+    ensures { result
+        ≡ list_all (λ c. references_have_classes actors.now (class_view c)) classes.now }
 {
     classes
         .iter()
@@ -251,7 +255,8 @@ fn each_once_among<'a>(
     names: &[&'a [u8]],
     all: Vec<&'a [u8]>,
 ) -> Result<bool, AllocError>
-    ensures { IfOk result (λ b. b ≡ each_once_among (names_of names.now) (names_of all.entry.items)) }
+    ensures { IfOk result (λ b.
+        b ≡ each_once_among (names_of names.now) (names_of all.entry.items)) }
 {
     let all = NameIndex::of(alloc, all)?;
     let distinct = are_distinct(alloc, names)?;
@@ -263,7 +268,9 @@ fn repeats_external_ports(
     interface: &[InterfaceItem],
     structure: &[StructureItem],
 ) -> Result<bool, AllocError>
-    ensures { IfOk result (λ b. b ≡ each_once_among (filter_map external_name structure.now) (filter_map interface_port interface.now)) }
+    ensures { IfOk result (λ b.
+        b ≡ each_once_among (filter_map external_name structure.now) (filter_map interface_port
+        interface.now)) }
 {
     let names = external_names(alloc, structure)?;
     let all = interface_ports(alloc, interface)?;
@@ -275,7 +282,9 @@ fn implements_services(
     interface: &[InterfaceItem],
     structure: &[StructureItem],
 ) -> Result<bool, AllocError>
-    ensures { IfOk result (λ b. b ≡ each_once_among (filter_map implemented_name structure.now) (filter_map interface_service interface.now)) }
+    ensures { IfOk result (λ b.
+        b ≡ each_once_among (filter_map implemented_name structure.now) (filter_map
+        interface_service interface.now)) }
 {
     let names = implemented_names(alloc, structure)?;
     let all = interface_services(alloc, interface)?;
@@ -301,7 +310,8 @@ fn class_repeats_ports(alloc: Global, class: &Class) -> Result<bool, AllocError>
 }
 
 fn all_repeat_ports(alloc: Global, classes: &[Class]) -> Result<bool, AllocError>
-    ensures { IfOk result (λ b. b ≡ list_all (of_actor repeats_ports) (map class_view classes.now)) }
+    ensures { IfOk result (λ b.
+        b ≡ list_all (of_actor repeats_ports) (map class_view classes.now)) }
 {
     for class in classes {
         if !class_repeats_ports(alloc, class)? {

@@ -149,7 +149,8 @@ fn class_has_part_names(alloc: Global, class: &Class) -> Result<bool, AllocError
 }
 
 fn all_have_part_names(alloc: Global, classes: &[Class]) -> Result<bool, AllocError>
-    ensures { IfOk result (λ b. b ≡ list_all (of_actor actor_has_names) (map class_view classes.now)) }
+    ensures { IfOk result (λ b.
+        b ≡ list_all (of_actor actor_has_names) (map class_view classes.now)) }
 {
     for class in classes {
         if !class_has_part_names(alloc, class)? {
@@ -189,7 +190,8 @@ fn message_names<'a>(
     incoming: &'a [Message],
     outgoing: &'a [Message],
 ) -> Result<Vec<&'a [u8]>, AllocError>
-    ensures { IfOk result (λ v. names_of v.items ≡ message_names incoming.now ++ message_names outgoing.now) }
+    ensures { IfOk result (λ v.
+        names_of v.items ≡ message_names incoming.now ++ message_names outgoing.now) }
 {
     let mut names = names_of_messages(alloc, incoming)?;
     let others = names_of_messages(alloc, outgoing)?;
@@ -218,7 +220,8 @@ fn class_has_message_names(alloc: Global, class: &Class) -> Result<bool, AllocEr
 }
 
 fn all_have_message_names(alloc: Global, classes: &[Class]) -> Result<bool, AllocError>
-    ensures { IfOk result (λ b. b ≡ list_all (of_protocol protocol_has_names) (map class_view classes.now)) }
+    ensures { IfOk result (λ b.
+        b ≡ list_all (of_protocol protocol_has_names) (map class_view classes.now)) }
 {
     for class in classes {
         if !class_has_message_names(alloc, class)? {
@@ -248,7 +251,8 @@ fn field_name<'a>(item: &'a DataItem) -> Option<&'a Name>
 }
 
 fn field_names<'a>(alloc: Global, items: &'a [DataItem]) -> Result<Vec<&'a [u8]>, AllocError>
-    ensures { IfOk result (λ v. names_of v.items ≡ map (λ f. f.name) (filter_map as_field items.now)) }
+    ensures { IfOk result (λ v.
+        names_of v.items ≡ map (λ f. f.name) (filter_map as_field items.now)) }
 {
     let mut names = Vec::new(alloc);
     for item in items {
@@ -274,7 +278,8 @@ fn class_has_field_names(alloc: Global, class: &Class) -> Result<bool, AllocErro
 }
 
 fn all_have_field_names(alloc: Global, classes: &[Class]) -> Result<bool, AllocError>
-    ensures { IfOk result (λ b. b ≡ list_all (of_data data_has_names) (map class_view classes.now)) }
+    ensures { IfOk result (λ b.
+        b ≡ list_all (of_data data_has_names) (map class_view classes.now)) }
 {
     for class in classes {
         if !class_has_field_names(alloc, class)? {

@@ -36,7 +36,8 @@ fn add_system<'a>(
     systems: &mut Vec<&'a System>,
     system: Option<&'a System>,
 ) -> Result<(), AllocError>
-    ensures { OnOk result (systems_in systems.new.items ≡ systems_in systems.old.items ++ option_to_list (option_map (λ s. s.now) system.entry)) }
+    ensures { OnOk result (systems_in systems.new.items
+        ≡ systems_in systems.old.items ++ option_to_list (option_map (λ s. s.now) system.entry)) }
 {
     if let Some(system) = system {
         systems.push(system)?;
@@ -45,7 +46,8 @@ fn add_system<'a>(
 }
 
 fn systems<'a>(alloc: Global, classes: &'a [Class]) -> Result<Vec<&'a System>, AllocError>
-    ensures { IfOk result (λ v. systems_in v.items ≡ filter_map as_system (map class_view classes.now)) }
+    ensures { IfOk result (λ v.
+        systems_in v.items ≡ filter_map as_system (map class_view classes.now)) }
 {
     let mut systems = Vec::new(alloc);
     for class in classes {
@@ -64,7 +66,8 @@ fn is_one_system(systems: &[&System], subsystems: &NameIndex) -> bool
 }
 
 fn has_system(alloc: Global, classes: &[Class], subsystems: &NameIndex) -> Result<bool, AllocError>
-    ensures { IfOk result (λ b. b ≡ is_one_system subsystems.now (filter_map as_system (map class_view classes.now))) }
+    ensures { IfOk result (λ b.
+        b ≡ is_one_system subsystems.now (filter_map as_system (map class_view classes.now))) }
 {
     let systems = systems(alloc, classes)?;
     Ok(is_one_system(systems.as_slice(), subsystems))

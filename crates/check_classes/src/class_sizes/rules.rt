@@ -36,7 +36,8 @@ pub fn sizes_of(
 const MOST: usize = 64;
 
 fn all_small(classes: &[Sequence<TypeEntry>], sizes: &[usize]) -> bool
-    ensures { result ≡ list_all (λ ts. nat_le (min cap (sum_by (size_by sizes.now) ts)) 64) classes.now }
+    ensures { result
+        ≡ list_all (λ ts. nat_le (min cap (sum_by (size_by sizes.now) ts)) 64) classes.now }
 {
     classes
         .iter()
@@ -46,7 +47,9 @@ fn all_small(classes: &[Sequence<TypeEntry>], sizes: &[usize]) -> bool
 /// Whether each data class stands for at most 64 numbers, where none contains itself.
 #[tactic(auto, using(crate::proofs::class_sizes::RuleLaws::small_by_sizes, crate::proofs::class_sizes::RuleLaws::none_is_finite))]
 pub fn has_small_classes(alloc: Global, tables: &Tables) -> Result<bool, AllocError>
-    ensures { IfOk result (λ b. (m : ModelTree) → tables.now ≡ tables_of m → data_is_finite m ≡ true → b ≡ has_small_classes m) }
+    ensures { IfOk result (λ b.
+        (m : ModelTree) → tables.now ≡ tables_of m → data_is_finite m ≡ true
+        → b ≡ has_small_classes m) }
 {
     let classes = tables.data_types.as_slice();
     match sizes_of(alloc, classes)? {

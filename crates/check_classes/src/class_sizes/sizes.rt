@@ -48,7 +48,8 @@ pub fn size_of_types(types: &[TypeEntry], sizes: &[usize]) -> usize
 #[tactic(auto, using(crate::proofs::class_sizes::SizeLaws::set_beyond))]
 fn note_size(sizes: &mut Vec<usize>, classes: &[Sequence<TypeEntry>], class: usize)
     requires { length sizes.old.items ≡ length classes.now }
-    ensures { sizes.new.items ≡ slice_set sizes.old.items class (size_noted classes.now sizes.old.items class) }
+    ensures { sizes.new.items
+        ≡ slice_set sizes.old.items class (size_noted classes.now sizes.old.items class) }
 {
     if let Some(types) = classes.get(class) {
         let size = size_of_types(types.as_slice(), sizes.as_slice());
@@ -62,7 +63,9 @@ pub fn sizes_in_order(
     order: &[usize],
     classes: &[Sequence<TypeEntry>],
 ) -> Result<Vec<usize>, AllocError>
-    ensures { IfOk result (λ v. IsContainmentOrder (map classes_of_types classes.now) order.now → AreSizes classes.now v.items) }
+    ensures { IfOk result (λ v.
+        IsContainmentOrder (map classes_of_types classes.now) order.now
+        → AreSizes classes.now v.items) }
 {
     let mut sizes = vec![in alloc; 0; classes.len()]?;
     for class in order {

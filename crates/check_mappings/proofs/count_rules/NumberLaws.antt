@@ -92,11 +92,11 @@ all_fit m sizes (a ∷ cs) are = ap (λ b. b && list_all (numbers_fit (data_name
 
 -- ---- by the tables
 
-names_of_tables : (m : ModelTree) (t : Tables) → t ≡ tables_of m → t.names.data_classes ≡ data_names m
+pub names_of_tables : (m : ModelTree) (t : Tables) → t ≡ tables_of m → t.names.data_classes ≡ data_names m
 unfolding class_names tables_with
 names_of_tables m t e = ap (λ (x : Tables). x.names.data_classes) e
 
-types_of_tables : (m : ModelTree) (t : Tables) → t ≡ tables_of m → t.data_types ≡ data_types m
+pub types_of_tables : (m : ModelTree) (t : Tables) → t ≡ tables_of m → t.data_types ≡ data_types m
 unfolding class_names tables_with
 types_of_tables m t e = ap (λ (x : Tables). x.data_types) e
 

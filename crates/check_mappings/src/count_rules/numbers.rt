@@ -56,7 +56,8 @@ fn numbers_fit(class: &Class, names: &NameIndex, sizes: &[usize]) -> bool
 }
 
 fn each_fits(classes: &[Class], names: &NameIndex, sizes: &[usize]) -> bool
-    ensures { result ≡ list_all (λ c. of_actor (numbers_fit names.now sizes.now) (class_view c)) classes.now }
+    ensures { result
+        ≡ list_all (λ c. of_actor (numbers_fit names.now sizes.now) (class_view c)) classes.now }
 {
     classes.iter().all(|class| numbers_fit(class, names, sizes))
 }
@@ -65,7 +66,8 @@ fn each_fits(classes: &[Class], names: &NameIndex, sizes: &[usize]) -> bool
 /// and the sizes of the data classes.
 #[tactic(auto, using(crate::proofs::count_rules::Views::test_of_actors))]
 pub(crate) fn all_numbers_fit(classes: &[Class], names: &NameIndex, sizes: &[usize]) -> bool
-    ensures { result ≡ list_all (numbers_fit names.now sizes.now) (filter_map as_actor (map class_view classes.now)) }
+    ensures { result ≡ list_all (numbers_fit names.now sizes.now) (filter_map as_actor (map
+        class_view classes.now)) }
 {
     each_fits(classes, names, sizes)
 }

@@ -143,7 +143,8 @@ fn is_subsystem_reference(item: &SubsystemItem) -> bool
 
 #[tactic(auto, using(crate::proofs::count_rules::Views::count_viewed_picked))]
 fn subsystem_reference_count(items: &[SubsystemItem]) -> usize
-    ensures { result ≡ length (filter_map as_subsystem_reference (map subsystem_item_view items.now)) }
+    ensures { result
+        ≡ length (filter_map as_subsystem_reference (map subsystem_item_view items.now)) }
 {
     items
         .iter()

@@ -19,7 +19,9 @@ use std::alloc::{AllocError, Global};
 /// itself.
 fn has_few_numbers(alloc: Global, model: &Model, tables: &Tables) -> Result<bool, AllocError>
     requires { tables.now ≡ tables_of (model_view model.now) }
-    ensures { IfOk result (λ b. data_is_finite (model_view model.now) ≡ true → b ≡ list_all (numbers_are_few (model_view model.now)) (actors (model_view model.now))) }
+    ensures { IfOk result (λ b.
+        data_is_finite (model_view model.now) ≡ true
+        → b ≡ list_all (numbers_are_few (model_view model.now)) (actors (model_view model.now))) }
 {
     let classes = model.classes.as_slice();
     match sizes_of(alloc, tables.data_types.as_slice())? {
@@ -36,7 +38,8 @@ fn has_few_numbers(alloc: Global, model: &Model, tables: &Tables) -> Result<bool
 #[tactic(auto, unfolding(crate::specs::count_rules::Counts::has_few_parts))]
 pub fn has_few_parts(alloc: Global, model: &Model, tables: &Tables) -> Result<bool, AllocError>
     requires { tables.now ≡ tables_of (model_view model.now) }
-    ensures { IfOk result (λ b. data_is_finite (model_view model.now) ≡ true → b ≡ has_few_parts (model_view model.now)) }
+    ensures { IfOk result (λ b.
+        data_is_finite (model_view model.now) ≡ true → b ≡ has_few_parts (model_view model.now)) }
 {
     let classes = model.classes.as_slice();
     let few = has_few_numbers(alloc, model, tables)?;

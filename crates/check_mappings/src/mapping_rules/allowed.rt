@@ -39,7 +39,8 @@ fn may_end_at(place: Place) -> bool
 /// Whether a mapping's path, where it exists, may be mapped, and so may those in its braces.
 #[cycle(allowed)]
 fn is_allowed<'t>(classes: &'t [Container<'t>], place: Place<'t>, mapping: &Mapping) -> bool
-    ensures { result ≡ is_allowed classes.entry.now (place_view place.entry) (mapping_view mapping.now) }
+    ensures { result
+        ≡ is_allowed classes.entry.now (place_view place.entry) (mapping_view mapping.now) }
 {
     let Some(end) = path_end(classes, place, &mapping.path) else {
         return true;
@@ -55,7 +56,8 @@ fn is_allowed<'t>(classes: &'t [Container<'t>], place: Place<'t>, mapping: &Mapp
 
 #[cycle(allowed)]
 fn all_allowed<'t>(classes: &'t [Container<'t>], place: Place<'t>, mappings: &Vec<Mapping>) -> bool
-    ensures { result ≡ all_allowed classes.entry.now (place_view place.entry) (mappings_of (map mapping_view mappings.now.items)) }
+    ensures { result ≡ all_allowed classes.entry.now (place_view place.entry)
+        (mappings_of (map mapping_view mappings.now.items)) }
 {
     for mapping in mappings {
         if !is_allowed(classes, place, mapping) {
@@ -66,7 +68,8 @@ fn all_allowed<'t>(classes: &'t [Container<'t>], place: Place<'t>, mappings: &Ve
 }
 
 fn item_allowed<'t>(classes: &'t [Container<'t>], place: Place<'t>, item: &SubsystemItem) -> bool
-    ensures { result ≡ item_allowed classes.entry.now (place_view place.entry) (subsystem_item_view item.now) }
+    ensures { result
+        ≡ item_allowed classes.entry.now (place_view place.entry) (subsystem_item_view item.now) }
 {
     match item {
         SubsystemItem::Mapping(mapping) => is_allowed(classes, place, mapping),
@@ -79,7 +82,8 @@ fn items_allowed<'t>(
     place: Place<'t>,
     items: &[SubsystemItem],
 ) -> bool
-    ensures { result ≡ items_allowed classes.entry.now (place_view place.entry) (map subsystem_item_view items.now) }
+    ensures { result ≡ items_allowed classes.entry.now (place_view place.entry)
+        (map subsystem_item_view items.now) }
 {
     for item in items {
         if !item_allowed(classes, place, item) {

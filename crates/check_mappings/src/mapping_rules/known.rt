@@ -25,7 +25,8 @@ fn is_known<'t>(
     place: Place<'t>,
     mapping: &Mapping,
 ) -> bool
-    ensures { result ≡ is_known classes.entry.now threads.now (place_view place.entry) (mapping_view mapping.now) }
+    ensures { result ≡ is_known classes.entry.now threads.now (place_view place.entry)
+        (mapping_view mapping.now) }
 {
     if !(&*threads).has(mapping.thread.as_bytes()) {
         return false;
@@ -46,7 +47,8 @@ fn all_known<'t>(
     place: Place<'t>,
     mappings: &Vec<Mapping>,
 ) -> bool
-    ensures { result ≡ all_known classes.entry.now threads.now (place_view place.entry) (mappings_of (map mapping_view mappings.now.items)) }
+    ensures { result ≡ all_known classes.entry.now threads.now (place_view place.entry)
+        (mappings_of (map mapping_view mappings.now.items)) }
 {
     for mapping in mappings {
         if !is_known(classes, &*threads, place, mapping) {
@@ -62,7 +64,8 @@ fn item_known<'t>(
     place: Place<'t>,
     item: &SubsystemItem,
 ) -> bool
-    ensures { result ≡ item_known classes.entry.now threads.now (place_view place.entry) (subsystem_item_view item.now) }
+    ensures { result ≡ item_known classes.entry.now threads.now (place_view place.entry)
+        (subsystem_item_view item.now) }
 {
     match item {
         SubsystemItem::Mapping(mapping) => is_known(classes, threads, place, mapping),
@@ -76,7 +79,8 @@ fn items_known<'t>(
     place: Place<'t>,
     items: &[SubsystemItem],
 ) -> bool
-    ensures { result ≡ items_known classes.entry.now threads.now (place_view place.entry) (map subsystem_item_view items.now) }
+    ensures { result ≡ items_known classes.entry.now threads.now (place_view place.entry)
+        (map subsystem_item_view items.now) }
 {
     for item in items {
         if !item_known(classes, threads, place, item) {
@@ -88,7 +92,8 @@ fn items_known<'t>(
 
 /// Adds the name of an item that declares a thread.
 fn add_thread<'m>(names: &mut Vec<&'m [u8]>, item: &'m SubsystemItem) -> Result<(), AllocError>
-    ensures { OnOk result (names_of names.new.items ≡ names_of names.old.items ++ option_to_list (thread_name (subsystem_item_view item.entry.now))) }
+    ensures { OnOk result (names_of names.new.items ≡ names_of names.old.items
+        ++ option_to_list (thread_name (subsystem_item_view item.entry.now))) }
 {
     if let SubsystemItem::Thread(thread) = item {
         names.push(thread.name.as_bytes())?;
@@ -126,7 +131,8 @@ fn all_subsystems_known<'t>(
     classes: &'t [Container<'t>],
     wired: &[Wired<'t>],
 ) -> Result<bool, AllocError>
-    ensures { IfOk result (λ b. b ≡ list_all (subsystem_known classes.entry.now) (map wired_view wired.now)) }
+    ensures { IfOk result (λ b.
+        b ≡ list_all (subsystem_known classes.entry.now) (map wired_view wired.now)) }
 {
     for subsystem in wired {
         if !subsystem_known(alloc, classes, *subsystem)? {

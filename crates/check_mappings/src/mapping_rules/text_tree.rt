@@ -50,7 +50,8 @@ impl TextTree {
     /// The number of the text that is one byte longer than the text with this number.
     pub(crate) fn longer(&mut self, text: usize, byte: u8) -> Result<usize, AllocError>
         requires { text < length self.old }
-        ensures { IfOk result (λ n. Numbers self.old self.new n (text_in self.old text ++ byte ∷ [])) }
+        ensures { IfOk result (λ n.
+            Numbers self.old self.new n (text_in self.old text ++ byte ∷ [])) }
     {
         let (place, _) = self.branches.insert_full(Branch { above: text, byte })?;
         let count = self.branches.len();
@@ -61,7 +62,8 @@ impl TextTree {
     /// The number of the text that is longer by these bytes than the text with this number.
     pub(crate) fn longer_by(&mut self, text: usize, bytes: &[u8]) -> Result<usize, AllocError>
         requires { text < length self.old }
-        ensures { IfOk result (λ n. Numbers self.old self.new n (text_in self.old text ++ bytes.now)) }
+        ensures { IfOk result (λ n.
+            Numbers self.old self.new n (text_in self.old text ++ bytes.now)) }
     {
         let mut reached = text;
         for byte in bytes {

@@ -127,7 +127,8 @@ fn add_item_texts(
 
 /// Whether the whole paths that a subsystem maps are distinct.
 fn subsystem_distinct(alloc: Global, items: &[SubsystemItem]) -> Result<bool, AllocError>
-    ensures { IfOk result (λ b. b ≡ is_distinct (mapped_texts (map subsystem_item_view items.now))) }
+    ensures { IfOk result (λ b.
+        b ≡ is_distinct (mapped_texts (map subsystem_item_view items.now))) }
 {
     let mut texts = TextTree::new(alloc);
     let mut mapped = Vec::new(alloc);
@@ -138,7 +139,9 @@ fn subsystem_distinct(alloc: Global, items: &[SubsystemItem]) -> Result<bool, Al
 }
 
 fn all_subsystems_distinct(alloc: Global, wired: &[Wired]) -> Result<bool, AllocError>
-    ensures { IfOk result (λ b. b ≡ list_all (λ (s : WiredTree). is_distinct (mapped_texts s.items)) (map wired_view wired.now)) }
+    ensures { IfOk result (λ b.
+        b ≡ list_all (λ (s : WiredTree). is_distinct (mapped_texts s.items)) (map wired_view
+        wired.now)) }
 {
     for subsystem in wired {
         if !subsystem_distinct(alloc, subsystem.items)? {

@@ -111,7 +111,8 @@ fn behind<'t>(
 /// One segment further, if there is such a reference and index.
 #[tactic(auto, unfolding(crate::specs::mapping_rules::Walks::step))]
 fn step<'t>(classes: &'t [Container<'t>], place: Place<'t>, segment: &Segment) -> Option<Place<'t>>
-    ensures { option_map place_view result ≡ step classes.entry.now (place_view place.entry) segment.now }
+    ensures { option_map place_view result
+        ≡ step classes.entry.now (place_view place.entry) segment.now }
 {
     let Some(container) = place.container else {
         return None;
@@ -132,7 +133,8 @@ fn walk<'t>(
     place: Place<'t>,
     segments: &[Segment],
 ) -> Option<Place<'t>>
-    ensures { option_map place_view result ≡ walk classes.entry.now (place_view place.entry) segments.now }
+    ensures { option_map place_view result
+        ≡ walk classes.entry.now (place_view place.entry) segments.now }
 {
     let mut reached = place;
     for segment in segments {
@@ -151,7 +153,8 @@ pub(crate) fn path_end<'t>(
     place: Place<'t>,
     path: &MappingPath,
 ) -> Option<Place<'t>>
-    ensures { option_map place_view result ≡ path_end classes.entry.now (place_view place.entry) path.now }
+    ensures { option_map place_view result
+        ≡ path_end classes.entry.now (place_view place.entry) path.now }
 {
     let Some(first) = step(classes, place, &path.first) else {
         return None;

@@ -23,7 +23,10 @@ pub(crate) fn wired_in<'m>(
     classes: &'m [Class],
     containers: &'m [Container<'m>],
 ) -> Result<Vec<Wired<'m>>, AllocError>
-    ensures { IfOk result (λ v. (actors : List (List ℕ)) → containers.entry.now ≡ subsystem_containers actors (map class_view classes.entry.now) → map wired_view v.items ≡ wired_in actors (map class_view classes.entry.now)) }
+    ensures { IfOk result (λ v.
+        (actors : List (List ℕ))
+        → containers.entry.now ≡ subsystem_containers actors (map class_view classes.entry.now)
+        → map wired_view v.items ≡ wired_in actors (map class_view classes.entry.now)) }
 {
     let mut wired = Vec::new(alloc);
     let mut left = containers;

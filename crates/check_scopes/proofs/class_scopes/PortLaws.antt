@@ -11,7 +11,7 @@ use Rattle.check_scopes.specs.class_scopes.Scopes.{port_with, ports_in}
 use Rattle.check_scopes.specs.class_scopes.Signals.{signals_at}
 use Rattle.check_scopes.specs.class_scopes.Views.{SignalView, PortView, port_view}
 
-no_zip : {X Y : Type 0} (xs : List X) (ys : List Y) → length ys < 1 → zip xs ys ≡ []
+pub no_zip : {X Y : Type 0} (xs : List X) (ys : List Y) → length ys < 1 → zip xs ys ≡ []
 no_zip [] ys lt = refl
 no_zip (x ∷ xs) [] lt = refl
 no_zip (x ∷ xs) (y ∷ ys) lt = absurd (omega arith)

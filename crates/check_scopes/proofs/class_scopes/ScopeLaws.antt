@@ -43,6 +43,8 @@ use Rattle.check_scopes.specs.class_scopes.Views.{SignalView, ScopeView, attribu
 use Rattle.check_scopes.specs.class_scopes.Fields.{FieldView, field_view, fields_kept, kept_attribute, numbers_of_fields}
 use Rattle.check_scopes.proofs.class_scopes.ClassLaws.{actors_fit, class_numbers_are, picked_all}
 use Rattle.check_scopes.proofs.class_scopes.SignalLaws.{table_is}
+use Rattle.check_mappings.proofs.count_rules.NumberLaws.{names_of_tables, types_of_tables}
+use Rattle.check_scopes.proofs.class_scopes.PortLaws.{no_zip}
 
 -- ---- how many parts a scope has
 
@@ -84,11 +86,6 @@ few_references xs rs e few =
 pub both_true : (a b : Bool) → (a && b) ≡ true → (a ≡ true) × (b ≡ true)
 both_true true b e = (refl, e)
 both_true false b e = absurd cc
-
-no_zip : {X Y : Type 0} (xs : List X) (ys : List Y) → length ys < 1 → zip xs ys ≡ []
-no_zip [] ys lt = refl
-no_zip (x ∷ xs) [] lt = refl
-no_zip (x ∷ xs) (y ∷ ys) lt = absurd (omega arith)
 
 pub no_containers : (names : List (List ℕ)) (t : TablesView) (classes : List ActorTree) (containers : List Container) → length containers < 1 → scopes_by names t classes containers ≡ []
 no_containers names t classes containers lt = ap (map (λ (x : ActorTree × Container). scope_by names t x.0 x.1)) (no_zip classes containers lt)
@@ -152,10 +149,6 @@ all_scopes m t are fitting [] fits = refl
 all_scopes m t are fitting (a ∷ xs) fits =
     let both = both_true (list_all attribute_fits (attributes_of a)) (list_all (λ (b : ActorTree). list_all attribute_fits (attributes_of b)) xs) fits in
     ap (λ s. s ∷ scopes_by (data_names m) t xs (map (actor_container (protocol_names m) (actor_names m)) xs)) (scope_is m a t are fitting both.0) ∙ ap (λ ss. scope_of m a ∷ ss) (all_scopes m t are fitting xs both.1)
-
-pub names_of_tables : (m : ModelTree) (t : Tables) → t ≡ tables_of m → t.names.data_classes ≡ data_names m
-unfolding class_names tables_with
-names_of_tables m t e = ap (λ (x : Tables). x.names.data_classes) e
 
 actors_of_tables : (m : ModelTree) (t : Tables) → t ≡ tables_of m → t.actors ≡ map (actor_container (protocol_names m) (actor_names m)) (actors m)
 unfolding class_names tables_with actor_containers
@@ -275,10 +268,6 @@ all_numbers_few m tables t classes names made named are fitting few same =
     ap (λ ns. list_all (numbers_few ns t) classes) (named ∙ names_of_tables m tables made) ∙ ap (list_all (numbers_few (data_names m) t)) same ∙ few_each m t are fitting (actors m) (actors_fit m fitting) (numbers_few_in m few)
 
 -- ---- the tables that are made
-
-types_of_tables : (m : ModelTree) (t : Tables) → t ≡ tables_of m → t.data_types ≡ data_types m
-unfolding class_names tables_with
-types_of_tables m t e = ap (λ (x : Tables). x.data_types) e
 
 pub kinds_for : (m : ModelTree) (t : Tables) (classes : List (List TypeEntry)) (o : Option (Vec (List NumberType))) (kinds : Vec (List NumberType)) → t ≡ tables_of m → classes ≡ t.data_types → HasKinds classes o → o ≡ Some kinds → AreKinds (data_types m) kinds.items
 kinds_for m t classes o kinds made from has is =

@@ -10,16 +10,12 @@ use Rattle.room_kinds.specs.declared.number_type.NumberType.{NumberType}
 use Rattle.room_ast.specs.declared.model_parts.entries.TypeEntry.{TypeEntry}
 use Rattle.room_ast.specs.declared.model_parts.entries.TypeEntry.TheVariants as types
 use Rattle.room_ast.specs.model_parts.Types.{numbers_within}
-use Rattle.number_graphs.specs.class_containment.Containment.{parts_of, has_part, IsContainmentOrder, contains_itself}
+use Rattle.number_graphs.specs.class_containment.Containment.{has_part, IsContainmentOrder, contains_itself}
 use Rattle.number_graphs.specs.class_containment.Walks.{Orders}
 use Rattle.number_graphs.proofs.class_containment.Chains.{circle_is_seen}
 use Rattle.check_tables.specs.containment_rules.Circles.{classes_of_types}
 use Rattle.check_scopes.specs.number_kinds.Kinds.{kinds_by, kinds_noted, AreKinds}
-
-parts_at : (classes : List (List TypeEntry)) (i : ℕ) → parts_of (map classes_of_types classes) i ≡ classes_of_types (slice_index_or classes i [])
-parts_at [] i = refl
-parts_at (c ∷ cs) zero = refl
-parts_at (c ∷ cs) (suc i) = parts_at cs i
+use Rattle.check_classes.proofs.class_sizes.SizeLaws.{parts_at, same_length}
 
 beyond : {X : Type 0} (xs : List (List X)) (i : ℕ) → length xs ≤ i → slice_index_or xs i [] ≡ []
 beyond [] i ge = refl
@@ -60,10 +56,6 @@ same_unknown (suc a) zero classes = refl
 same_unknown (suc a) (suc b) classes = refl
 
 -- ---- how deep classes are looked into doesn't matter, once that is deep enough
-
-same_length : (cs : List (List TypeEntry)) → length (map classes_of_types cs) ≡ length cs
-same_length [] = refl
-same_length (d ∷ ds) = ap suc (same_length ds)
 
 module _ (classes : List (List TypeEntry)) (order : List ℕ) (is : IsContainmentOrder (map classes_of_types classes) order) where
   -- the class of a field of the class at a place stands at an earlier place

@@ -138,7 +138,8 @@ pub(crate) fn kept_attributes<'a>(
     names: &NameIndex,
     kinds: &[Sequence<NumberType>],
 ) -> Result<Vec<Field<'a>>, AllocError>
-    ensures { IfOk result (λ v. map field_view v.items ≡ filter_map (kept_attribute names.now kinds.now) items.entry.now) }
+    ensures { IfOk result (λ v.
+        map field_view v.items ≡ filter_map (kept_attribute names.now kinds.now) items.entry.now) }
 {
     let mut fields = Vec::new(alloc);
     for item in items {
@@ -153,7 +154,8 @@ fn kept_fields<'a>(
     names: &NameIndex,
     kinds: &[Sequence<NumberType>],
 ) -> Result<Vec<Field<'a>>, AllocError>
-    ensures { IfOk result (λ v. map field_view v.items ≡ filter_map (kept_field names.now kinds.now) items.entry.now) }
+    ensures { IfOk result (λ v.
+        map field_view v.items ≡ filter_map (kept_field names.now kinds.now) items.entry.now) }
 {
     let mut fields = Vec::new(alloc);
     for item in items {
@@ -168,7 +170,8 @@ fn fields_of_class<'a>(
     names: &NameIndex,
     kinds: &[Sequence<NumberType>],
 ) -> Result<Sequence<Field<'a>>, AllocError>
-    ensures { IfOk result (λ fields. map field_view fields ≡ fields_kept names.now kinds.now class.entry.now) }
+    ensures { IfOk result (λ fields.
+        map field_view fields ≡ fields_kept names.now kinds.now class.entry.now) }
 {
     let fields = kept_fields(alloc, class.items.as_slice(), names, kinds)?;
     Ok(Sequence::from(fields))
@@ -180,7 +183,9 @@ fn fields_if_data<'a>(
     names: &NameIndex,
     kinds: &[Sequence<NumberType>],
 ) -> Result<Option<Sequence<Field<'a>>>, AllocError>
-    ensures { IfOk result (λ fields. option_map (map field_view) fields ≡ option_map (fields_kept names.now kinds.now) (as_data (class_view class.entry.now))) }
+    ensures { IfOk result (λ fields.
+        option_map (map field_view) fields
+        ≡ option_map (fields_kept names.now kinds.now) (as_data (class_view class.entry.now))) }
 {
     match class {
         Class::Data(data) => {
@@ -198,7 +203,9 @@ pub(crate) fn fields_of_classes<'a>(
     names: &NameIndex,
     kinds: &[Sequence<NumberType>],
 ) -> Result<Vec<Sequence<Field<'a>>>, AllocError>
-    ensures { IfOk result (λ v. map (map field_view) v.items ≡ map (fields_kept names.now kinds.now) (filter_map as_data (map class_view classes.entry.now))) }
+    ensures { IfOk result (λ v.
+        map (map field_view) v.items ≡ map (fields_kept names.now kinds.now) (filter_map as_data
+        (map class_view classes.entry.now))) }
 {
     let mut table = Vec::new(alloc);
     for class in classes {

@@ -51,7 +51,9 @@ fn push_fields<'a>(
     before: usize,
     fields: &[Field<'a>],
 ) -> Result<(), AllocError>
-    ensures { OnOk result (reverse (map pending_view pending.new.items) ≡ map (pending_at depth before) (map field_view fields.entry.now) ++ reverse (map pending_view pending.old.items)) }
+    ensures { OnOk result (reverse (map pending_view pending.new.items)
+        ≡ map (pending_at depth before) (map field_view fields.entry.now)
+        ++ reverse (map pending_view pending.old.items)) }
 {
     let mut left = fields.len();
     while left > 0 {
@@ -71,7 +73,8 @@ fn cut_and_push<'a>(
     before: usize,
     name: &'a Name,
 ) -> Result<(), AllocError>
-    ensures { OnOk result (names_of path.new.items ≡ take before (names_of path.old.items) ++ name.entry.now ∷ []) }
+    ensures { OnOk result (names_of path.new.items
+        ≡ take before (names_of path.old.items) ++ name.entry.now ∷ []) }
 {
     path.truncate(before);
     path.push(name)?;
@@ -80,7 +83,11 @@ fn cut_and_push<'a>(
 
 /// The path goes to a field: the names before it, and its own.
 fn go_to<'a>(walk: &mut Walk<'a>, top: Pending<'a>) -> Result<(), AllocError>
-    ensures { OnOk result (walk_view walk.new ≡ record (walk_view walk.old) { path = take top.entry.before (walk_view walk.old).path ++ top.entry.field.name.now ∷ [] }) }
+    ensures { OnOk result (walk_view walk.new
+        ≡ record (walk_view walk.old) {
+          path = take top.entry.before (walk_view walk.old).path
+              ++ top.entry.field.name.now ∷ [];
+        }) }
 {
     cut_and_push(&mut walk.path, top.before, top.field.name)
 }
@@ -93,7 +100,11 @@ fn add_number(
     kind: NumberType,
     initial: i64,
 ) -> Result<(), AllocError>
-    ensures { OnOk result (walk_view walk.new ≡ record (walk_view walk.old) { numbers = (walk_view walk.old).numbers ++ record { path = (walk_view walk.old).path; kind = kind; initial = initial } ∷ [] }) }
+    ensures { OnOk result (walk_view walk.new
+        ≡ record (walk_view walk.old) {
+          numbers = (walk_view walk.old).numbers
+              ++ record { path = (walk_view walk.old).path; kind = kind; initial = initial } ∷ [];
+        }) }
 {
     let path = owned_path(alloc, walk.path.as_slice())?;
     walk.numbers.push(ScopeAttribute {
@@ -107,7 +118,11 @@ fn add_number(
 /// The fields of a class come next, if it may be looked into.
 #[tactic(auto, using(crate::proofs::class_scopes::Lists::opened_none, crate::proofs::class_scopes::Lists::opened_some))]
 fn open<'a>(walk: &mut Walk<'a>, depth: usize, fields: &[Field<'a>]) -> Result<(), AllocError>
-    ensures { OnOk result (walk_view walk.new ≡ record (walk_view walk.old) { pending = opened depth (length (walk_view walk.old).path) (map field_view fields.entry.now) ++ (walk_view walk.old).pending }) }
+    ensures { OnOk result (walk_view walk.new ≡ record (walk_view walk.old) {
+      pending = opened depth
+          (length (walk_view walk.old).path) (map field_view fields.entry.now)
+          ++ (walk_view walk.old).pending;
+    }) }
 {
     if depth == 0 {
         return Ok(());
@@ -124,7 +139,12 @@ fn open_class<'a>(
     class: usize,
     fields: &[Sequence<Field<'a>>],
 ) -> Result<(), AllocError>
-    ensures { OnOk result (walk_view walk.new ≡ record (walk_view walk.old) { pending = opened depth (length (walk_view walk.old).path) (slice_index_or (map (map field_view) fields.entry.now) class []) ++ (walk_view walk.old).pending }) }
+    ensures { OnOk result (walk_view walk.new
+        ≡ record (walk_view walk.old) {
+          pending = opened depth (length (walk_view walk.old).path)
+              (slice_index_or (map (map field_view) fields.entry.now) class [])
+              ++ (walk_view walk.old).pending;
+        }) }
 {
     match fields.get(class) {
         Some(inner) => open(walk, depth, inner.as_slice()),
@@ -139,7 +159,8 @@ fn step<'a>(
     top: Pending<'a>,
     fields: &[Sequence<Field<'a>>],
 ) -> Result<(), AllocError>
-    ensures { OnOk result (walk_view walk.new ≡ step_of (map (map field_view) fields.entry.now) (pending_view top.entry) (walk_view walk.old)) }
+    ensures { OnOk result (walk_view walk.new ≡ step_of (map (map field_view) fields.entry.now)
+        (pending_view top.entry) (walk_view walk.old)) }
 {
     go_to(walk, top)?;
     match top.field.entry {
@@ -155,7 +176,9 @@ fn walk_all<'a>(
     walk: &mut Walk<'a>,
     fields: &[Sequence<Field<'a>>],
 ) -> Result<(), AllocError>
-    ensures { OnOk result (Falls (length (walk_view walk.old).path) (walk_view walk.old).pending → (walk_view walk.new).numbers ≡ total (map (map field_view) fields.entry.now) (walk_view walk.old)) }
+    ensures { OnOk result (Falls (length (walk_view walk.old).path) (walk_view walk.old).pending
+        → (walk_view walk.new).numbers
+        ≡ total (map (map field_view) fields.entry.now) (walk_view walk.old)) }
 {
     while let Some(top) = walk.pending.pop() {
         step(alloc, walk, top, fields)?;
@@ -173,7 +196,9 @@ pub(crate) fn attributes_of<'a>(
     kinds: &[Sequence<NumberType>],
     fields: &[Sequence<Field<'a>>],
 ) -> Result<Vec<ScopeAttribute>, AllocError>
-    ensures { IfOk result (λ v. map attribute_view v.items ≡ numbers_of_fields (map (map field_view) fields.entry.now) (filter_map (kept_attribute names.now kinds.now) items.entry.now)) }
+    ensures { IfOk result (λ v.
+        map attribute_view v.items ≡ numbers_of_fields (map (map field_view) fields.entry.now)
+        (filter_map (kept_attribute names.now kinds.now) items.entry.now)) }
 {
     let attributes = kept_attributes(alloc, items, names, kinds)?;
     let mut walk = Walk {

@@ -19,7 +19,8 @@ fn port_with(
     signals: &Signals<ScopeSignal>,
 ) -> Result<ScopePort, AllocError>
     requires { length signals.now.incoming + length signals.now.outgoing < 2 ^ 16 }
-    ensures { IfOk result (λ p. port_view p ≡ port_with name.now entry (map_signals signal_view signals.now)) }
+    ensures { IfOk result (λ p.
+        port_view p ≡ port_with name.now entry (map_signals signal_view signals.now)) }
 {
     let name = Name::from_slice(alloc, name)?;
     let signals = signals.share()?;
@@ -41,7 +42,9 @@ pub(crate) fn ports_in(
     table: &SignalTable<ScopeSignal>,
 ) -> Result<Vec<ScopePort>, AllocError>
     requires { table_is_few (map_table signal_view table.now) ≡ true }
-    ensures { IfOk result (λ v. map port_view v.items ≡ ports_in (map_table signal_view table.now) (names_of names.now) entries.now) }
+    ensures { IfOk result (λ v.
+        map port_view v.items
+        ≡ ports_in (map_table signal_view table.now) (names_of names.now) entries.now) }
 {
     let mut ports = Vec::new(alloc);
     let (mut names, mut entries) = (names, entries);

@@ -53,7 +53,8 @@ fn signals_of(
     names: &NameIndex,
     kinds: &[Sequence<NumberType>],
 ) -> Result<SharedSequence<ScopeSignal>, AllocError>
-    ensures { IfOk result (λ s. map signal_view s ≡ map (signal_by names.now kinds.now) messages.now) }
+    ensures { IfOk result (λ s.
+        map signal_view s ≡ map (signal_by names.now kinds.now) messages.now) }
 {
     let mut signals = Vec::new(alloc);
     for message in messages {
@@ -68,7 +69,8 @@ fn protocol_signals(
     names: &NameIndex,
     kinds: &[Sequence<NumberType>],
 ) -> Result<Signals<ScopeSignal>, AllocError>
-    ensures { IfOk result (λ s. map_signals signal_view s ≡ signals_by names.now kinds.now class.now) }
+    ensures { IfOk result (λ s.
+        map_signals signal_view s ≡ signals_by names.now kinds.now class.now) }
 {
     let incoming = signals_of(alloc, messages_of(&class.incoming), names, kinds)?;
     let outgoing = signals_of(alloc, messages_of(&class.outgoing), names, kinds)?;
@@ -81,7 +83,9 @@ fn signals_if_protocol(
     names: &NameIndex,
     kinds: &[Sequence<NumberType>],
 ) -> Result<Option<Signals<ScopeSignal>>, AllocError>
-    ensures { IfOk result (λ s. option_map (map_signals signal_view) s ≡ option_map (signals_by names.now kinds.now) (as_protocol (class_view class.now))) }
+    ensures { IfOk result (λ s.
+        option_map (map_signals signal_view) s
+        ≡ option_map (signals_by names.now kinds.now) (as_protocol (class_view class.now))) }
 {
     match class {
         Class::Protocol(protocol) => {
@@ -99,7 +103,9 @@ fn signals_of_classes(
     names: &NameIndex,
     kinds: &[Sequence<NumberType>],
 ) -> Result<Vec<Signals<ScopeSignal>>, AllocError>
-    ensures { IfOk result (λ v. map (map_signals signal_view) v.items ≡ map (signals_by names.now kinds.now) (filter_map as_protocol (map class_view classes.now))) }
+    ensures { IfOk result (λ v.
+        map (map_signals signal_view) v.items ≡ map (signals_by names.now kinds.now) (filter_map
+        as_protocol (map class_view classes.now))) }
 {
     let mut table = Vec::new(alloc);
     for class in classes {
@@ -155,7 +161,9 @@ pub fn signal_table(
     names: &NameIndex,
     kinds: &[Sequence<NumberType>],
 ) -> Result<SignalTable<ScopeSignal>, AllocError>
-    ensures { IfOk result (λ t. map_table signal_view t ≡ table_by names.now kinds.now (filter_map as_protocol (map class_view classes.now))) }
+    ensures { IfOk result (λ t.
+        map_table signal_view t
+        ≡ table_by names.now kinds.now (filter_map as_protocol (map class_view classes.now))) }
 {
     let frame = frame_only(alloc)?;
     let none = Signals::none(alloc)?;

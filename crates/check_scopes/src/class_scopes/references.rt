@@ -31,7 +31,8 @@ fn reference_of(alloc: Global, reference: &ActorRef) -> Result<ScopeReference, A
 }
 
 fn reference_if(alloc: Global, item: &StructureItem) -> Result<Option<ScopeReference>, AllocError>
-    ensures { IfOk result (λ r. option_map reference_view r ≡ option_map reference_of (as_reference item.now)) }
+    ensures { IfOk result (λ r.
+        option_map reference_view r ≡ option_map reference_of (as_reference item.now)) }
 {
     match as_reference(item) {
         Some(reference) => {
@@ -47,7 +48,8 @@ pub(crate) fn references_of(
     alloc: Global,
     items: &[StructureItem],
 ) -> Result<Vec<ScopeReference>, AllocError>
-    ensures { IfOk result (λ v. map reference_view v.items ≡ map reference_of (filter_map as_reference items.now)) }
+    ensures { IfOk result (λ v.
+        map reference_view v.items ≡ map reference_of (filter_map as_reference items.now)) }
 {
     let mut references = Vec::new(alloc);
     for item in items {

@@ -46,7 +46,8 @@ pub fn actor_classes<'a>(
     alloc: Global,
     classes: &'a [Class],
 ) -> Result<Vec<&'a ActorClass>, AllocError>
-    ensures { IfOk result (λ v. actor_views v.items ≡ filter_map as_actor (map class_view classes.entry.now)) }
+    ensures { IfOk result (λ v.
+        actor_views v.items ≡ filter_map as_actor (map class_view classes.entry.now)) }
 {
     let mut actors = Vec::new(alloc);
     for class in classes {
@@ -65,8 +66,12 @@ fn tables_with<'a>(
     kinds: Vec<Sequence<NumberType>>,
 ) -> Result<ScopeTables<'a>, AllocError>
     ensures kinds { IfOk result (λ t. t.kinds.items ≡ kinds.items) }
-    ensures fields { IfOk result (λ t. map (map field_view) t.fields.items ≡ map (fields_kept names.now kinds.items) (filter_map as_data (map class_view classes.entry.now))) }
-    ensures signals { IfOk result (λ t. map_table signal_view t.signals ≡ table_by names.now kinds.items (filter_map as_protocol (map class_view classes.entry.now))) }
+    ensures fields { IfOk result (λ t.
+        map (map field_view) t.fields.items ≡ map (fields_kept names.now kinds.items) (filter_map
+        as_data (map class_view classes.entry.now))) }
+    ensures signals { IfOk result (λ t.
+        map_table signal_view t.signals ≡ table_by names.now kinds.items
+        (filter_map as_protocol (map class_view classes.entry.now))) }
 {
     let fields = fields_of_classes(alloc, classes, names, kinds.as_slice())?;
     let signals = signal_table(alloc, classes, names, kinds.as_slice())?;
@@ -110,10 +115,13 @@ fn scope_by<'a>(
     tables: &ScopeTables<'a>,
 ) -> Result<Scope, AllocError>
     requires signals { table_is_few (tables_view tables.now).signals ≡ true }
-    requires numbers { numbers_few names.now (tables_view tables.now) (actor_view class.now) ≡ true }
+    requires numbers { numbers_few names.now (tables_view tables.now) (actor_view class.now)
+        ≡ true }
     requires entries { entries_few container.now ≡ true }
     requires references { references_are_few (actor_view class.now) ≡ true }
-    ensures { IfOk result (λ s. scope_view s ≡ scope_by names.now (tables_view tables.now) (actor_view class.entry.now) container.now) }
+    ensures { IfOk result (λ s.
+        scope_view s
+        ≡ scope_by names.now (tables_view tables.now) (actor_view class.entry.now) container.now) }
 {
     let items = structure_items(class);
     let attributes = attributes_of(
@@ -147,10 +155,13 @@ fn scopes_by<'a>(
     tables: &ScopeTables<'a>,
 ) -> Result<Vec<Scope>, AllocError>
     requires signals { table_is_few (tables_view tables.now).signals ≡ true }
-    requires numbers { list_all (numbers_few names.now (tables_view tables.now)) (actor_views classes.now) ≡ true }
+    requires numbers { list_all (numbers_few names.now (tables_view tables.now)) (actor_views
+        classes.now) ≡ true }
     requires entries { list_all entries_few containers.now ≡ true }
     requires references { list_all references_are_few (actor_views classes.now) ≡ true }
-    ensures { IfOk result (λ v. map scope_view v.items ≡ scopes_by names.now (tables_view tables.now) (actor_views classes.now) containers.now) }
+    ensures { IfOk result (λ v.
+        map scope_view v.items
+        ≡ scopes_by names.now (tables_view tables.now) (actor_views classes.now) containers.now) }
 {
     let mut scopes = Vec::new(alloc);
     let (mut classes, mut containers) = (classes, containers);
@@ -174,7 +185,9 @@ pub fn scopes_of(alloc: Global, model: &Model, tables: &Tables) -> Result<Vec<Sc
     requires finite { data_is_finite (model_view model.now) ≡ true }
     requires fitting { has_fitting_values (model_view model.now) ≡ true }
     requires few { has_few_parts (model_view model.now) ≡ true }
-    ensures { IfOk result (λ v. map scope_view v.items ≡ map (scope_of (model_view model.now)) (actors (model_view model.now))) }
+    ensures { IfOk result (λ v.
+        map scope_view v.items
+        ≡ map (scope_of (model_view model.now)) (actors (model_view model.now))) }
 {
     let made = scope_tables(alloc, model, tables)?;
     let classes = actor_classes(alloc, model.classes.as_slice())?;

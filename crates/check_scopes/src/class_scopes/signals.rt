@@ -58,7 +58,8 @@ fn is_frame(kind: PortKind) -> bool
 
 impl<S: Drop> SignalTable<S> {
     fn of_protocol(&self, protocol: Option<usize>) -> Option<&Signals<S>>
-        ensures { option_map (λ s. s.now) result ≡ option_and_then (slice_get self.entry.now.protocols) protocol }
+        ensures { option_map (λ s. s.now) result
+            ≡ option_and_then (slice_get self.entry.now.protocols) protocol }
     {
         match protocol {
             Some(number) => self.protocols.as_slice().get(number),

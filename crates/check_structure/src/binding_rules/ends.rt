@@ -110,7 +110,8 @@ fn end_at_reference(
     reference: &ReferenceEntry,
     port: &[u8],
 ) -> Option<BindingEnd>
-    ensures { result ≡ option_and_then (inner_end (is_replicated reference.now)) (port_behind actors.now reference.now port.now) }
+    ensures { result ≡ option_and_then (inner_end (is_replicated reference.now)) (port_behind
+        actors.now reference.now port.now) }
 {
     match port_behind(actors, reference, port) {
         Some(port) => inner_end(reference.count.is_some(), &port),
@@ -124,7 +125,9 @@ fn end_behind(
     reference: &[u8],
     port: &[u8],
 ) -> Option<BindingEnd>
-    ensures { result ≡ option_and_then (λ r. option_and_then (inner_end (is_replicated r)) (port_behind actors.now r port.now)) (reference_named class.now reference.now) }
+    ensures { result ≡ option_and_then
+        (λ r. option_and_then (inner_end (is_replicated r)) (port_behind actors.now r port.now))
+        (reference_named class.now reference.now) }
 {
     match reference_named(class, reference) {
         Some(reference) => end_at_reference(actors, &reference, port),

@@ -21,7 +21,8 @@ fn is_spp(kind: PortKind) -> bool
 }
 
 fn has_service(actors: &[Container], reference: &ReferenceEntry, service: &[u8]) -> bool
-    ensures { result ≡ option_map_or (λ p. is_spp p.kind) (port_behind actors.now reference.now service.now) false }
+    ensures { result ≡ option_map_or (λ p. is_spp p.kind)
+        (port_behind actors.now reference.now service.now) false }
 {
     match port_behind(actors, reference, service) {
         Some(port) => is_spp(port.kind),
@@ -38,7 +39,8 @@ fn provides(actors: &[Container], reference: &ReferenceEntry, service: &[u8]) ->
 }
 
 fn is_connectable(class: &Container, reference: &[u8]) -> bool
-    ensures { result ≡ option_map_or is_connectable (reference_named class.now reference.now) false }
+    ensures { result
+        ≡ option_map_or is_connectable (reference_named class.now reference.now) false }
 {
     match reference_named(class, reference) {
         Some(reference) => !reference.kind.is_imported(),
@@ -47,7 +49,8 @@ fn is_connectable(class: &Container, reference: &[u8]) -> bool
 }
 
 fn is_provided(actors: &[Container], class: &Container, provider: &[u8], service: &[u8]) -> bool
-    ensures { result ≡ option_map_or (provides actors.now service.now) (reference_named class.now provider.now) false }
+    ensures { result ≡ option_map_or (provides actors.now service.now)
+        (reference_named class.now provider.now) false }
 {
     match reference_named(class, provider) {
         Some(reference) => provides(actors, &reference, service),

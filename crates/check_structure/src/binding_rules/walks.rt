@@ -54,7 +54,8 @@ fn item_holds(
     class: &Container,
     item: &StructureItem,
 ) -> bool
-    ensures { result ≡ item_passes (binding_holds rule actors.now class.now) (layer_holds rule actors.now class.now) item.now }
+    ensures { result ≡ item_passes (binding_holds rule actors.now class.now)
+        (layer_holds rule actors.now class.now) item.now }
 {
     match item {
         StructureItem::Binding(binding) => binding_holds(rule, actors, class, binding),
@@ -69,7 +70,10 @@ fn items_hold(
     class: &Container,
     items: &[StructureItem],
 ) -> bool
-    ensures { result ≡ list_all (item_passes (binding_holds rule actors.now class.now) (layer_holds rule actors.now class.now)) items.now }
+    ensures { result ≡ list_all
+        (item_passes (binding_holds rule actors.now class.now) (layer_holds rule actors.now
+        class.now))
+        items.now }
 {
     items
         .iter()
@@ -84,7 +88,8 @@ fn next_actor(
     class: &Class,
     number: usize,
 ) -> Option<usize>
-    ensures { option_map (λ n. drop n actors.now) result ≡ behind (actor_holds rule actors.now) (as_actor (class_view class.now)) (drop number actors.now) }
+    ensures { option_map (λ n. drop n actors.now) result ≡ behind (actor_holds rule actors.now)
+        (as_actor (class_view class.now)) (drop number actors.now) }
 {
     let Class::Actor(actor) = class else {
         return Some(number);
@@ -100,7 +105,8 @@ fn next_actor(
 }
 
 fn actors_hold(rule: ConnectionRule, classes: &[Class], actors: &[Container]) -> bool
-    ensures { result ≡ walk as_actor (actor_holds rule actors.now) (map class_view classes.now) actors.now }
+    ensures { result
+        ≡ walk as_actor (actor_holds rule actors.now) (map class_view classes.now) actors.now }
 {
     let mut number = 0;
     for class in classes {
@@ -120,7 +126,8 @@ fn subsystem_item_holds(
     class: &Container,
     item: &SubsystemItem,
 ) -> bool
-    ensures { result ≡ subsystem_item_passes (binding_holds rule actors.now class.now) (layer_holds rule actors.now class.now) (subsystem_item_view item.now) }
+    ensures { result ≡ subsystem_item_passes (binding_holds rule actors.now class.now)
+        (layer_holds rule actors.now class.now) (subsystem_item_view item.now) }
 {
     match item {
         SubsystemItem::Binding(binding) => binding_holds(rule, actors, class, binding),
@@ -135,7 +142,10 @@ fn subsystem_items_hold(
     class: &Container,
     items: &[SubsystemItem],
 ) -> bool
-    ensures { result ≡ list_all (subsystem_item_passes (binding_holds rule actors.now class.now) (layer_holds rule actors.now class.now)) (map subsystem_item_view items.now) }
+    ensures { result ≡ list_all
+        (subsystem_item_passes (binding_holds rule actors.now class.now) (layer_holds rule
+        actors.now class.now))
+        (map subsystem_item_view items.now) }
 {
     for item in items {
         if !subsystem_item_holds(rule, actors, class, item) {
@@ -154,7 +164,9 @@ fn next_subsystem(
     class: &Class,
     number: usize,
 ) -> Option<usize>
-    ensures { option_map (λ n. drop n subsystems.now) result ≡ behind (subsystem_holds rule actors.now) (as_subsystem (class_view class.now)) (drop number subsystems.now) }
+    ensures { option_map (λ n. drop n subsystems.now) result
+        ≡ behind (subsystem_holds rule actors.now) (as_subsystem (class_view class.now))
+        (drop number subsystems.now) }
 {
     let Class::Subsystem(subsystem) = class else {
         return Some(number);
@@ -175,7 +187,8 @@ fn subsystems_hold(
     actors: &[Container],
     subsystems: &[Container],
 ) -> bool
-    ensures { result ≡ walk as_subsystem (subsystem_holds rule actors.now) (map class_view classes.now) subsystems.now }
+    ensures { result ≡ walk as_subsystem (subsystem_holds rule actors.now)
+        (map class_view classes.now) subsystems.now }
 {
     let mut number = 0;
     for class in classes {
@@ -189,7 +202,10 @@ fn subsystems_hold(
 
 /// Whether a rule holds of all classes, where these are their tables.
 fn classes_hold(rule: ConnectionRule, classes: &[Class], tables: &Tables) -> bool
-    ensures { result ≡ (walk as_actor (actor_holds rule tables.now.actors) (map class_view classes.now) tables.now.actors && walk as_subsystem (subsystem_holds rule tables.now.actors) (map class_view classes.now) tables.now.subsystems) }
+    ensures { result ≡ (walk as_actor (actor_holds rule tables.now.actors)
+        (map class_view classes.now) tables.now.actors
+        && walk as_subsystem (subsystem_holds rule tables.now.actors) (map class_view classes.now)
+        tables.now.subsystems) }
 {
     let actors = tables.actors.as_slice();
     actors_hold(rule, classes, actors)
@@ -199,7 +215,9 @@ fn classes_hold(rule: ConnectionRule, classes: &[Class], tables: &Tables) -> boo
 /// Whether a rule holds of each binding and each layer connection of a model.
 pub(crate) fn connections_hold(rule: ConnectionRule, model: &Model, tables: &Tables) -> bool
     requires { tables.now ≡ tables_of (model_view model.now) }
-    ensures { result ≡ each_connection (binding_holds rule (tables_of (model_view model.now)).actors) (layer_holds rule (tables_of (model_view model.now)).actors) (model_view model.now) }
+    ensures { result
+        ≡ each_connection (binding_holds rule (tables_of (model_view model.now)).actors)
+        (layer_holds rule (tables_of (model_view model.now)).actors) (model_view model.now) }
 {
     classes_hold(rule, model.classes.as_slice(), tables)
 }

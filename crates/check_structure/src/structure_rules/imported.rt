@@ -53,7 +53,8 @@ fn is_importable(importable: &[bool], class: Option<usize>) -> bool
 }
 
 fn import_fits(importable: &[bool], reference: &ReferenceEntry) -> bool
-    ensures { result ≡ (not (is_imported reference.now.kind) || is_importable importable.now reference.now.class) }
+    ensures { result ≡ (not (is_imported reference.now.kind)
+        || is_importable importable.now reference.now.class) }
 {
     !reference.kind.is_imported() || is_importable(importable, reference.class)
 }

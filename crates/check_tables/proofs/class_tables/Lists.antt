@@ -39,3 +39,11 @@ pub behind_next : {X Y : Type 0} (front : List Y) (h : X → Option Y) (xs : Lis
 behind_next front h xs i x o old new lt is item so_far more =
     more ∙ ap (λ ys. ys ++ option_to_list o) so_far ∙ ap (λ p. (front ++ filter_map h (take i xs)) ++ option_to_list p) (item ∙ ap h is) ∙ append_assoc front (filter_map h (take i xs)) (option_to_list (h (get_or xs i x)))
     ∙ ap (λ ys. front ++ ys) (ap (λ ys. filter_map h (take i xs) ++ ys) (sym (one_kept (h (get_or xs i x)))) ∙ sym (ap (filter_map h) (take_more xs i x lt) ∙ filter_map-append h (take i xs) (get_or xs i x ∷ [])))
+
+-- the same, of items that are seen through a view
+pub picked_next : {W X Y : Type 0} (h : X → Option Y) (v : W → X) (xs : List W) (i : ℕ) (x : W) (o : Option Y) (old new : List Y) → i < length xs → x ≡ get_or xs i x → o ≡ h (v x) → old ≡ filter_map h (map v (take i xs)) → new ≡ old ++ option_to_list o
+    → new ≡ filter_map h (map v (take (i + 1) xs))
+picked_next h v xs i x o old new lt is item so_far more =
+    more ∙ ap (λ ys. ys ++ option_to_list o) so_far ∙ ap (λ p. filter_map h (map v (take i xs)) ++ option_to_list p) (item ∙ ap (λ y. h (v y)) is)
+    ∙ ap (λ ys. filter_map h (map v (take i xs)) ++ ys) (sym (one_kept (h (v (get_or xs i x)))))
+    ∙ sym (ap (filter_map h) (ap (map v) (take_more xs i x lt) ∙ map-append v (take i xs) (get_or xs i x ∷ [])) ∙ filter_map-append h (map v (take i xs)) (v (get_or xs i x) ∷ []))

@@ -17,8 +17,11 @@ use std::collections::VecDeque;
 pub(crate) fn fetch_all(controller: &mut Controller, messages: Vec<Msg>) -> Result<(), AllocError>
     requires { All HasPriority messages.items }
     ensures ok { OnOk result (FetchesEach controller.old.mail messages.items controller.new.mail) }
-    ensures waits { OnOk result ((n : ℕ) → All (IsAnswerable n) messages.items → WaitsWithin n controller.old.mail → WaitsWithin n controller.new.mail) }
-    ensures others { OnOk result (controller.new ≡ record controller.old { mail = controller.new.mail }) }
+    ensures waits { OnOk result
+        ((n : ℕ) → All (IsAnswerable n) messages.items → WaitsWithin n controller.old.mail
+        → WaitsWithin n controller.new.mail) }
+    ensures others { OnOk result (controller.new
+        ≡ record controller.old { mail = controller.new.mail }) }
     ensures me { controller.new.me ≡ controller.old.me }
 {
     let mut queue = VecDeque::from_vec(messages);
@@ -40,11 +43,16 @@ pub(crate) fn poll_boxes<M: Mail>(
 ) -> Result<usize, AllocError>
     requires controller { (M.log end.old).party + 1 < (M.log end.old).parties }
     requires tied { IsTied M.tied (M.log end.old).party office.old end.old }
-    ensures ok { IfOk result (λ count. PollsInto M.in_box (M.box_count (M.log end.old).party (M.log end.old).parties) controller.old.mail controller.new.mail (M.log end.old) (M.log end.new) count) }
-    ensures waits { OnOk result (WaitsWithin ((M.log end.old).parties - 1) controller.old.mail → WaitsWithin ((M.log end.old).parties - 1) controller.new.mail) }
-    ensures others { OnOk result (controller.new ≡ record controller.old { mail = controller.new.mail }) }
+    ensures ok { IfOk result (λ count.
+        PollsInto M.in_box (M.box_count (M.log end.old).party (M.log end.old).parties)
+        controller.old.mail controller.new.mail (M.log end.old) (M.log end.new) count) }
+    ensures waits { OnOk result (WaitsWithin ((M.log end.old).parties - 1) controller.old.mail
+        → WaitsWithin ((M.log end.old).parties - 1) controller.new.mail) }
+    ensures others { OnOk result (controller.new
+        ≡ record controller.old { mail = controller.new.mail }) }
     ensures me { controller.new.me ≡ controller.old.me }
-    ensures party { ((M.log end.new).party ≡ (M.log end.old).party) × ((M.log end.new).parties ≡ (M.log end.old).parties) }
+    ensures party { ((M.log end.new).party ≡ (M.log end.old).party)
+        × ((M.log end.new).parties ≡ (M.log end.old).parties) }
     ensures tied { StaysTied M.tied (M.log end.old).party office.old office.new end.old end.new }
 {
     let mut gave = Vec::new(alloc);

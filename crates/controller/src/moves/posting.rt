@@ -18,7 +18,8 @@ fn post_one<M: Mail>(office: &mut M::Office, end: &mut M, m: Msg) -> Result<(), 
     requires prio { m.prio.0 < 6 }
     requires tied { IsTied M.tied (M.log end.old).party office.old end.old }
     ensures ok { OnOk result (M.log end.new ≡ posting (M.log end.old) m) }
-    ensures party { ((M.log end.new).party ≡ (M.log end.old).party) × ((M.log end.new).parties ≡ (M.log end.old).parties) }
+    ensures party { ((M.log end.new).party ≡ (M.log end.old).party)
+        × ((M.log end.new).parties ≡ (M.log end.old).parties) }
     ensures tied { StaysTied M.tied (M.log end.old).party office.old office.new end.old end.new }
 {
     match end.post(office, m) {
@@ -38,12 +39,15 @@ pub(crate) fn post_outbox<M: Mail>(
     requires party { (M.log end.old).party ≡ controller.old.me.0 }
     requires waits { WaitsWithin ((M.log end.old).parties - 1) controller.old.mail }
     requires tied { IsTied M.tied (M.log end.old).party office.old end.old }
-    ensures ok { OnOk result (PostsFrom controller.old.me.0 ((M.log end.old).parties - 1) controller.old.mail controller.new.mail (M.log end.old) (M.log end.new)) }
+    ensures ok { OnOk result (PostsFrom controller.old.me.0 ((M.log end.old).parties - 1)
+        controller.old.mail controller.new.mail (M.log end.old) (M.log end.new)) }
     ensures waits { OnOk result (WaitsWithin ((M.log end.old).parties - 1) controller.new.mail) }
     ensures empty { OnOk result (controller.new.mail.outbox ≡ []) }
-    ensures others { OnOk result (controller.new ≡ record controller.old { mail = controller.new.mail }) }
+    ensures others { OnOk result (controller.new
+        ≡ record controller.old { mail = controller.new.mail }) }
     ensures me { controller.new.me ≡ controller.old.me }
-    ensures party { ((M.log end.new).party ≡ (M.log end.old).party) × ((M.log end.new).parties ≡ (M.log end.old).parties) }
+    ensures party { ((M.log end.new).party ≡ (M.log end.old).party)
+        × ((M.log end.new).parties ≡ (M.log end.old).parties) }
     ensures tied { StaysTied M.tied (M.log end.old).party office.old office.new end.old end.new }
 {
     while let Some(m) = controller.post()? {

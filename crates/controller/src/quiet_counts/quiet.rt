@@ -33,7 +33,8 @@ fn someone_keeps(all: &[Controller]) -> bool
 /// all controllers of a world in order of number. It takes no memory.
 pub fn has_message(all: &[Controller], environment: &Environment, c: ControllerId) -> bool
     requires { c.0 < length all.now }
-    ensures { (plant : Plant) (w : World (Body Actor)) → StandsAt plant all.now environment.now w → IsTrue result ↔ HasMessage w c.0 }
+    ensures { (plant : Plant) (w : World (Body Actor)) → StandsAt plant all.now environment.now w
+        → IsTrue result ↔ HasMessage w c.0 }
 {
     let controller = &all[usize::from(c.0)];
     let posted = Counted::PostsTo(c).in_all(all, environment);
@@ -44,7 +45,9 @@ pub fn has_message(all: &[Controller], environment: &Environment, c: ControllerI
 /// Whether all is quiet: no message is in a lane, and no controller keeps one, where these are all
 /// controllers of a world in order of number. It takes no memory.
 pub fn is_quiet(all: &[Controller], environment: &Environment) -> bool
-    ensures { (plant : Plant) (lines : List Line) (w : World (Body Actor)) → StandsAt plant all.now environment.now w → IsTrue result ↔ IsQuiet (run_plant plant lines) w }
+    ensures { (plant : Plant) (lines : List Line) (w : World (Body Actor))
+        → StandsAt plant all.now environment.now w
+        → IsTrue result ↔ IsQuiet (run_plant plant lines) w }
 {
     let posted = Counted::Posts.in_all(all, environment);
     let fetched = Counted::Fetches.in_all(all, environment);

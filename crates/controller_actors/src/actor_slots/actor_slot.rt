@@ -95,7 +95,8 @@ impl ActorSlot {
         who: Incarnation,
         notes: &mut Notes,
     ) -> Result<(), AllocError>
-        ensures slot { OnOk result (self.new ≡ record { occupant = Occupant.Chartless; deferred = [] }) }
+        ensures slot { OnOk result (self.new
+            ≡ record { occupant = Occupant.Chartless; deferred = [] }) }
         ensures told { OnOk result (notes.new ≡ notes.old ++ Up who 65535 ∷ []) }
     {
         self.occupant = Occupant::Chartless;
@@ -121,8 +122,15 @@ impl ActorSlot {
     ) -> Result<(), AllocError>
         requires serves { S.serves speaker.now.wiring.now speaker.now.me.0 services.old }
         requires there { speaker.now.who.slot.0 < length speaker.now.wiring.now.slots }
-        ensures serves { OnOk result (S.serves speaker.now.wiring.now speaker.now.me.0 services.new) }
-        ensures works { OnOk result (Works speaker.now.wiring.now speaker.now.me.0 (S.frame_of services.old) (S.links_of services.old) (S.frame_of services.new) (S.links_of services.new) speaker.now.who message commands self.old self.new output.old back.old output.new back.new) }
+        ensures serves { OnOk result (S.serves speaker.now.wiring.now speaker.now.me.0
+            services.new) }
+        ensures works { OnOk result (Works speaker.now.wiring.now speaker.now.me.0
+            (S.frame_of services.old)
+            (S.links_of services.old)
+            (S.frame_of services.new)
+            (S.links_of services.new)
+            speaker.now.who message commands self.old self.new output.old back.old output.new
+            back.new) }
     {
         if commands.is_empty() {
             return Ok(());
@@ -145,8 +153,15 @@ impl ActorSlot {
     ) -> Result<(), AllocError>
         requires serves { S.serves speaker.now.wiring.now speaker.now.me.0 services.old }
         requires there { speaker.now.who.slot.0 < length speaker.now.wiring.now.slots }
-        ensures serves { OnOk result (S.serves speaker.now.wiring.now speaker.now.me.0 services.new) }
-        ensures works { OnOk result (Works speaker.now.wiring.now speaker.now.me.0 (S.frame_of services.old) (S.links_of services.old) (S.frame_of services.new) (S.links_of services.new) speaker.now.who message commands self.old self.new output.old back.old output.new back.new) }
+        ensures serves { OnOk result (S.serves speaker.now.wiring.now speaker.now.me.0
+            services.new) }
+        ensures works { OnOk result (Works speaker.now.wiring.now speaker.now.me.0
+            (S.frame_of services.old)
+            (S.links_of services.old)
+            (S.frame_of services.new)
+            (S.links_of services.new)
+            speaker.now.who message commands self.old self.new output.old back.old output.new
+            back.new) }
     {
         let mut doing = Doing {
             deferred: mem::replace(&mut self.deferred, DeferredMessages::new(alloc)),
@@ -182,8 +197,19 @@ impl ActorSlot {
         requires prio { IsForActors m }
         requires serves { S.serves speaker.now.wiring.now speaker.now.me.0 services.old }
         requires there { speaker.now.who.slot.0 < length speaker.now.wiring.now.slots }
-        ensures serves { OnOk result (S.serves speaker.now.wiring.now speaker.now.me.0 services.new) }
-        ensures turns { IfOk result (λ o. MatchOption o ((actor_in self.old.occupant ≡ None) × (self.new ≡ self.old) × (services.new ≡ services.old)) (λ done. SlotTurns speaker.now.wiring.now speaker.now.me.0 (S.frame_of services.old) (S.links_of services.old) (S.frame_of services.new) (S.links_of services.new) speaker.now.who m (option_copied tables.entry) self.old self.new done)) }
+        ensures serves { OnOk result (S.serves speaker.now.wiring.now speaker.now.me.0
+            services.new) }
+        ensures turns { IfOk result (λ o.
+            MatchOption o
+            ((actor_in self.old.occupant ≡ None)
+            × (self.new ≡ self.old)
+            × (services.new ≡ services.old))
+            (λ done.
+            SlotTurns speaker.now.wiring.now speaker.now.me.0 (S.frame_of services.old)
+            (S.links_of services.old)
+            (S.frame_of services.new)
+            (S.links_of services.new)
+            speaker.now.who m (option_copied tables.entry) self.old self.new done)) }
     {
         let Some(reaction) = self.occupant.react(alloc, tables, &m)? else {
             return Ok(None);
@@ -231,8 +257,14 @@ impl ActorSlot {
         requires kept { All IsForActors self.old.deferred }
         requires serves { S.serves speaker.now.wiring.now speaker.now.me.0 services.old }
         requires there { speaker.now.who.slot.0 < length speaker.now.wiring.now.slots }
-        ensures serves { OnOk result (S.serves speaker.now.wiring.now speaker.now.me.0 services.new) }
-        ensures begins { IfOk result (λ e. SlotBegins speaker.now.wiring.now speaker.now.me.0 (S.frame_of services.old) (S.links_of services.old) (S.frame_of services.new) (S.links_of services.new) speaker.now.who (option_copied tables.entry) self.old self.new sent back e) }
+        ensures serves { OnOk result (S.serves speaker.now.wiring.now speaker.now.me.0
+            services.new) }
+        ensures begins { IfOk result (λ e.
+            SlotBegins speaker.now.wiring.now speaker.now.me.0 (S.frame_of services.old)
+            (S.links_of services.old)
+            (S.frame_of services.new)
+            (S.links_of services.new)
+            speaker.now.who (option_copied tables.entry) self.old self.new sent back e) }
     {
         let beginning = Occupant::begin(alloc, tables, speaker.who)?;
         let Beginning {
@@ -276,8 +308,15 @@ impl ActorSlot {
         requires sound { AreSound (option_copied tables) }
         requires serves { S.serves speaker.now.wiring.now speaker.now.me.0 services.old }
         requires there { speaker.now.who.slot.0 < length speaker.now.wiring.now.slots }
-        ensures serves { OnOk result (S.serves speaker.now.wiring.now speaker.now.me.0 services.new) }
-        ensures up { OnOk result (SlotComesUp speaker.now.wiring.now speaker.now.me.0 (S.frame_of services.old) (S.links_of services.old) (S.frame_of services.new) (S.links_of services.new) speaker.now.who (option_copied tables.entry) self.old self.new output.old back.old output.new back.new) }
+        ensures serves { OnOk result (S.serves speaker.now.wiring.now speaker.now.me.0
+            services.new) }
+        ensures up { OnOk result (SlotComesUp speaker.now.wiring.now speaker.now.me.0
+            (S.frame_of services.old)
+            (S.links_of services.old)
+            (S.frame_of services.new)
+            (S.links_of services.new)
+            speaker.now.who (option_copied tables.entry) self.old self.new output.old back.old
+            output.new back.new) }
     {
         let beginning = Occupant::begin(alloc, tables, speaker.who)?;
         let Beginning {
@@ -309,8 +348,15 @@ impl ActorSlot {
         requires sound { AreSound (option_copied tables) }
         requires serves { S.serves speaker.now.wiring.now speaker.now.me.0 services.old }
         requires there { speaker.now.who.slot.0 < length speaker.now.wiring.now.slots }
-        ensures serves { OnOk result (S.serves speaker.now.wiring.now speaker.now.me.0 services.new) }
-        ensures up { OnOk result (SlotComesUp speaker.now.wiring.now speaker.now.me.0 (S.frame_of services.old) (S.links_of services.old) (S.frame_of services.new) (S.links_of services.new) speaker.now.who (option_copied tables.entry) self.old self.new output.old back.old output.new back.new) }
+        ensures serves { OnOk result (S.serves speaker.now.wiring.now speaker.now.me.0
+            services.new) }
+        ensures up { OnOk result (SlotComesUp speaker.now.wiring.now speaker.now.me.0
+            (S.frame_of services.old)
+            (S.links_of services.old)
+            (S.frame_of services.new)
+            (S.links_of services.new)
+            speaker.now.who (option_copied tables.entry) self.old self.new output.old back.old
+            output.new back.new) }
     {
         match tables {
             Some(_) => {

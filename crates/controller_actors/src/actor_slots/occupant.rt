@@ -40,7 +40,8 @@ pub struct Beginning {
 
 /// An actor that doesn't handle a message.
 fn passed_over(alloc: Global, state: u16) -> Reaction
-    ensures { result ≡ record { came_to = Handling.Unhandled; state = state; notes = []; commands = [] } }
+    ensures { result
+        ≡ record { came_to = Handling.Unhandled; state = state; notes = []; commands = [] } }
 {
     Reaction {
         came_to: Handling::Unhandled,
@@ -60,7 +61,8 @@ fn react_by(
 ) -> Result<Reaction, AllocError>
     requires sound { AreSound (option_copied tables) }
     requires fits { MachineFits (option_copied tables) machine.old }
-    ensures { IfOk result (λ r. MachineReacts m.now (option_copied tables.entry) machine.old machine.new r) }
+    ensures { IfOk result (λ r.
+        MachineReacts m.now (option_copied tables.entry) machine.old machine.new r) }
 {
     match tables {
         Some(tables) => {
@@ -90,7 +92,9 @@ impl Occupant {
     ) -> Result<Option<Reaction>, AllocError>
         requires sound { AreSound (option_copied tables) }
         requires fits { HasTables (option_copied tables) self.old }
-        ensures { IfOk result (λ o. MatchOption o ((actor_in self.old ≡ None) × (self.new ≡ self.old)) (λ r. Reacts m.now (option_copied tables.entry) self.old self.new r)) }
+        ensures { IfOk result (λ o.
+            MatchOption o ((actor_in self.old ≡ None) × (self.new ≡ self.old))
+            (λ r. Reacts m.now (option_copied tables.entry) self.old self.new r)) }
     {
         match self {
             Occupant::Nobody => Ok(None),

@@ -29,7 +29,8 @@ use Rattle.world_agreement.proofs.Hearing.{from_append}
 use Rattle.world_agreement.proofs.Living.{Stepped, stays, makes, ends, first_whole}
 use Rattle.world_agreement.proofs.Turning.{TurnSays, treat_says}
 use Rattle.world_agreement.proofs.Moving.{Ranked, IsSorted, next_front, from_one, post_from, turn_from, world_after, controller_moves}
-use Rattle.world_agreement.proofs.Agreeing.{IsForetold, put_own, first_carries, start_foretold, controller_foretold, environment_foretold, environment_moves, fresh_trail}
+use Rattle.actor_world.proofs.TrueWorld.{put_own}
+use Rattle.world_agreement.proofs.Agreeing.{IsForetold, first_carries, start_foretold, controller_foretold, environment_foretold, environment_moves, fresh_trail}
 use Rattle.world_agreement.proofs.Lending.{runs_route}
 use Rattle.name_agreement.specs.Created.{NamesTheCreated, last_at}
 use Rattle.name_agreement.proofs.CreatedRuns.{runs_named, each_named}

@@ -24,7 +24,8 @@ use Rattle.actor_world.proofs.LifeSteps.{IsSound, up_parts, down_parts}
 use Rattle.world_agreement.proofs.Lists.{all_append, all_map, all_flat, all_passed, all_reverse, all_unit, flat_after_map}
 use Rattle.world_agreement.proofs.Duties.{request_parts, by_plainly, by_number, by_natural}
 use Rattle.world_agreement.proofs.Below.{made_itself}
-use Rattle.world_agreement.proofs.Telling.{own_owner, other_owner}
+use Rattle.actor_world.proofs.TrueTurns.{own_owner}
+use Rattle.world_agreement.proofs.Telling.{other_owner}
 use Rattle.world_agreement.proofs.Routing.{part_of_at}
 use Rattle.definition_laws.specs.message_forms.Forms.{AreFrames, IsRequest, IsAnswer, TellsLife}
 use Rattle.definition_laws.proofs.message_forms.Inner.{Inner, InnerOf, IsSent, AllSent, open_sent, sent_as, sent_if, done_sent_if, form_as}

@@ -17,7 +17,8 @@ fn with_own_change<'a>(
     body: Option<Box<StateBody>>,
     pending: &[Pending<'a>],
 ) -> Result<Option<Box<StateBody>>, AllocError>
-    ensures { IfOk result (λ b. body_if_view b ≡ widened (own_change (refining_views pending.now)) (body_if_view body)) }
+    ensures { IfOk result (λ b.
+        body_if_view b ≡ widened (own_change (refining_views pending.now)) (body_if_view body)) }
 {
     match own_change(pending) {
         Some(change) => widened(alloc, body, change),
@@ -34,8 +35,10 @@ fn refine_item<'p, 'a>(
     seen: &mut Numbers<'a>,
 ) -> Result<(), AllocError>
     requires { IsGrouped grouped.now }
-    ensures item { OnOk result (item_view item.new ≡ refined_item (item_view item.old) seen.old (refining_views grouped.now.pending.now)) }
-    ensures names { OnOk result (GivesTheSame (refining_views grouped.now.pending.now) seen.new (with_state (item_view item.old) seen.old)) }
+    ensures item { OnOk result (item_view item.new
+        ≡ refined_item (item_view item.old) seen.old (refining_views grouped.now.pending.now)) }
+    ensures names { OnOk result (GivesTheSame (refining_views grouped.now.pending.now) seen.new
+        (with_state (item_view item.old) seen.old)) }
 {
     match item {
         GraphItem::State(state) => refine_state(alloc, state, grouped, seen),
@@ -55,8 +58,10 @@ fn refine_state<'p, 'a>(
     seen: &mut Numbers<'a>,
 ) -> Result<(), AllocError>
     requires { IsGrouped grouped.now }
-    ensures state { OnOk result (state_view state.new ≡ refined_state (state_view state.old) seen.old (refining_views grouped.now.pending.now)) }
-    ensures names { OnOk result (GivesTheSame (refining_views grouped.now.pending.now) seen.new (with_state (AState (state_view state.old)) seen.old)) }
+    ensures state { OnOk result (state_view state.new
+        ≡ refined_state (state_view state.old) seen.old (refining_views grouped.now.pending.now)) }
+    ensures names { OnOk result (GivesTheSame (refining_views grouped.now.pending.now) seen.new
+        (with_state (AState (state_view state.old)) seen.old)) }
 {
     let changes = meant_for(alloc, seen, state.name.as_bytes(), grouped)?;
     if changes.is_empty() {
@@ -74,7 +79,8 @@ fn refined_body<'a>(
     body: Option<Box<StateBody>>,
     pending: &[Pending<'a>],
 ) -> Result<Option<Box<StateBody>>, AllocError>
-    ensures { IfOk result (λ b. body_if_view b ≡ refined_body (body_if_view body) (refining_views pending.now)) }
+    ensures { IfOk result (λ b.
+        body_if_view b ≡ refined_body (body_if_view body) (refining_views pending.now)) }
 {
     match body {
         Some(body) => {
@@ -93,7 +99,9 @@ fn refined_inside<'a>(
     body: StateBody,
     pending: &[Pending<'a>],
 ) -> Result<StateBody, AllocError>
-    ensures { IfOk result (λ b. body_view b ≡ record (body_view body) { subgraph = refined_subgraph (body_view body).subgraph (refining_views pending.now) }) }
+    ensures { IfOk result (λ b.
+        body_view b ≡ record (body_view body)
+        { subgraph = refined_subgraph (body_view body).subgraph (refining_views pending.now) }) }
 {
     let StateBody {
         entry,
@@ -125,7 +133,8 @@ pub(crate) fn refine_items<'a>(
     items: &mut Vec<GraphItem>,
     pending: &[Pending<'a>],
 ) -> Result<(), AllocError>
-    ensures { OnOk result (graph_view items.new.items ≡ refined (refining_views pending.now) (graph_view items.old.items)) }
+    ensures { OnOk result (graph_view items.new.items
+        ≡ refined (refining_views pending.now) (graph_view items.old.items)) }
 {
     if pending.is_empty() {
         return Ok(());

@@ -29,7 +29,8 @@ pub(super) struct Grouped<'p, 'a> {
 }
 
 fn push_if<'a>(names: &mut Vec<&'a [u8]>, name: Option<&'a Name>) -> Result<(), AllocError>
-    ensures { OnOk result (names_of names.new.items ≡ names_of names.old.items ++ option_to_list (option_map (λ n. n.now) name.entry)) }
+    ensures { OnOk result (names_of names.new.items
+        ≡ names_of names.old.items ++ option_to_list (option_map (λ n. n.now) name.entry)) }
 {
     if let Some(name) = name {
         names.push(name.as_bytes())?;
@@ -39,7 +40,8 @@ fn push_if<'a>(names: &mut Vec<&'a [u8]>, name: Option<&'a Name>) -> Result<(), 
 
 /// The first names of refinements.
 fn first_names<'a>(alloc: Global, pending: &[Pending<'a>]) -> Result<Vec<&'a [u8]>, AllocError>
-    ensures { IfOk result (λ names. names_of names.items ≡ first_names (refining_views pending.now)) }
+    ensures { IfOk result (λ names.
+        names_of names.items ≡ first_names (refining_views pending.now)) }
 {
     let mut names = Vec::new(alloc);
     for one in pending {
@@ -64,7 +66,8 @@ fn no_groups<'a>(alloc: Global, names: &[&'a [u8]]) -> Result<Vec<Group<'a>>, Al
 
 /// What a refinement without names left adds to a transition.
 fn code_of<'a>(one: &Pending<'a>) -> Option<&'a Code>
-    ensures { option_map (λ c. c.now) result ≡ code_of (refining_view one.now).path (refining_view one.now).change }
+    ensures { option_map (λ c. c.now) result
+        ≡ code_of (refining_view one.now).path (refining_view one.now).change }
 {
     match (one.next, one.change) {
         (None, Change::Transition(code)) => Some(code),
@@ -75,7 +78,8 @@ fn code_of<'a>(one: &Pending<'a>) -> Option<&'a Code>
 
 /// Adds a refinement to a group.
 fn gather_in<'a>(group: &mut Group<'a>, one: Pending<'a>) -> Result<(), AllocError>
-    ensures { OnOk result (group_view group.new ≡ gathered (group_view group.old) (refining_view one.entry)) }
+    ensures { OnOk result (group_view group.new
+        ≡ gathered (group_view group.old) (refining_view one.entry)) }
 {
     if group.action.is_none() {
         group.action = code_of(&one);
@@ -90,7 +94,8 @@ fn gather_at<'a>(
     place: usize,
     one: Pending<'a>,
 ) -> Result<(), AllocError>
-    ensures { OnOk result (group_views groups.new.items ≡ gathered_at (group_views groups.old.items) place (refining_view one.entry)) }
+    ensures { OnOk result (group_views groups.new.items
+        ≡ gathered_at (group_views groups.old.items) place (refining_view one.entry)) }
 {
     if place < groups.len() {
         gather_in(&mut groups[place], one)?;
@@ -104,7 +109,9 @@ fn gather<'a>(
     one: &Pending<'a>,
     groups: &mut Vec<Group<'a>>,
 ) -> Result<(), AllocError>
-    ensures { OnOk result (group_views groups.new.items ≡ gather names.now (refining_view one.now).path (refining_view one.now).change (group_views groups.old.items)) }
+    ensures { OnOk result (group_views groups.new.items
+        ≡ gather names.now (refining_view one.now).path (refining_view one.now).change
+        (group_views groups.old.items)) }
 {
     let Some(name) = one.next else {
         return Ok(());
@@ -120,7 +127,9 @@ fn gather_all<'a>(
     pending: &[Pending<'a>],
     groups: Vec<Group<'a>>,
 ) -> Result<Vec<Group<'a>>, AllocError>
-    ensures { IfOk result (λ v. group_views v.items ≡ gather_all names.now (refining_views pending.now) (group_views groups.entry.items)) }
+    ensures { IfOk result (λ v.
+        group_views v.items
+        ≡ gather_all names.now (refining_views pending.now) (group_views groups.entry.items)) }
 {
     let mut groups = groups;
     for one in pending {
@@ -154,7 +163,8 @@ impl<'p, 'a> Grouped<'p, 'a> {
     pub(super) fn inside(&self, name: &[u8]) -> Option<(&'a [u8], &[Pending<'a>])>
         requires { IsGrouped self.now }
         ensures same { IfSome result (λ found. found.0.now ≡ name.now) }
-        ensures inside { IfSome result (λ found. refining_views found.1.now ≡ below name.now (refining_views self.now.pending.now)) }
+        ensures inside { IfSome result (λ found.
+            refining_views found.1.now ≡ below name.now (refining_views self.now.pending.now)) }
         ensures other { IfNone result (below name.now (refining_views self.now.pending.now) ≡ []) }
     {
         let Some(place) = self.names.place_of(name) else {
@@ -172,7 +182,8 @@ impl<'p, 'a> Grouped<'p, 'a> {
     /// What is added to the action of a transition of this name, if anything is.
     pub(super) fn added_action(&self, name: &[u8]) -> Option<&'a Code>
         requires { IsGrouped self.now }
-        ensures { option_map (λ c. c.now) result ≡ added_action name.now (refining_views self.now.pending.now) }
+        ensures { option_map (λ c. c.now) result
+            ≡ added_action name.now (refining_views self.now.pending.now) }
     {
         let Some(place) = self.names.place_of(name) else {
             return None;

@@ -98,8 +98,11 @@ pub(super) fn meant_for<'p, 'a>(
     grouped: &Grouped<'p, 'a>,
 ) -> Result<Vec<Pending<'a>>, AllocError>
     requires { IsGrouped grouped.now }
-    ensures meant { IfOk result (λ v. refining_views v.items ≡ meant_for seen.old name.now (refining_views grouped.now.pending.now)) }
-    ensures names { OnOk result (GivesTheSame (refining_views grouped.now.pending.now) seen.new (with_name name.now seen.old)) }
+    ensures meant { IfOk result (λ v.
+        refining_views v.items
+        ≡ meant_for seen.old name.now (refining_views grouped.now.pending.now)) }
+    ensures names { OnOk result (GivesTheSame (refining_views grouped.now.pending.now) seen.new
+        (with_name name.now seen.old)) }
 {
     let Some((name, inside)) = grouped.inside(name) else {
         return Ok(Vec::new(alloc));
@@ -113,7 +116,9 @@ pub(super) fn meant_for<'p, 'a>(
 
 /// What a refinement adds to the state that sees it, if it is meant for that state itself.
 fn change_of_state<'a>(one: &Pending<'a>) -> Option<&'a StateBody>
-    ensures { (other : Option ChangeTree) → own_or (refining_view one.now).path (refining_view one.now).change other ≡ found_or (option_map (λ b. of_state (body_view b.now)) result) other }
+    ensures { (other : Option ChangeTree)
+        → own_or (refining_view one.now).path (refining_view one.now).change other
+        ≡ found_or (option_map (λ b. of_state (body_view b.now)) result) other }
 {
     if one.next.is_some() {
         return None;
@@ -126,7 +131,8 @@ fn change_of_state<'a>(one: &Pending<'a>) -> Option<&'a StateBody>
 
 /// What is added to the state itself, if anything is.
 pub(super) fn own_change<'a>(pending: &[Pending<'a>]) -> Option<&'a StateBody>
-    ensures { option_map (λ b. of_state (body_view b.now)) result ≡ own_change (refining_views pending.now) }
+    ensures { option_map (λ b. of_state (body_view b.now)) result
+        ≡ own_change (refining_views pending.now) }
 {
     for one in pending {
         if let Some(body) = change_of_state(one) {

@@ -107,7 +107,8 @@ pub(crate) fn add_items(
     items: &mut Vec<GraphItem>,
     more: &Vec<GraphItem>,
 ) -> Result<(), AllocError>
-    ensures { OnOk result (map item_view items.new.items ≡ map item_view items.old.items ++ map item_view more.now.items) }
+    ensures { OnOk result (map item_view items.new.items
+        ≡ map item_view items.old.items ++ map item_view more.now.items) }
 {
     for item in more {
         let item = copy_item(alloc, item)?;
@@ -123,7 +124,8 @@ fn joined_subgraph(
     items: Option<Vec<GraphItem>>,
     more: &Option<Vec<GraphItem>>,
 ) -> Result<Option<Vec<GraphItem>>, AllocError>
-    ensures { IfOk result (λ s. subgraph_tree s ≡ joined_subgraph (subgraph_tree items) (subgraph_tree more.now)) }
+    ensures { IfOk result (λ s.
+        subgraph_tree s ≡ joined_subgraph (subgraph_tree items) (subgraph_tree more.now)) }
 {
     let Some(more) = more else {
         return Ok(items);
@@ -138,7 +140,9 @@ fn joined_subgraph(
 
 /// A state's body with what a refinement adds.
 fn widened_body(alloc: Global, body: StateBody, change: &StateBody) -> Result<StateBody, AllocError>
-    ensures { IfOk result (λ b. body_of (Some (body_view b)) ≡ widened (Some (of_state (body_view change.now))) (body_of (Some (body_view body)))) }
+    ensures { IfOk result (λ b.
+        body_of (Some (body_view b))
+        ≡ widened (Some (of_state (body_view change.now))) (body_of (Some (body_view body)))) }
 {
     let entry = joined_if(alloc, body.entry, &change.entry)?;
     let exit = joined_before_if(alloc, &change.exit, body.exit)?;
@@ -156,7 +160,8 @@ pub(super) fn widened(
     body: Option<Box<StateBody>>,
     change: &StateBody,
 ) -> Result<Option<Box<StateBody>>, AllocError>
-    ensures { IfOk result (λ b. body_if_view b ≡ widened (Some (of_state (body_view change.now))) (body_if_view body)) }
+    ensures { IfOk result (λ b.
+        body_if_view b ≡ widened (Some (of_state (body_view change.now))) (body_if_view body)) }
 {
     if let Some(body) = body {
         let body = widened_body(alloc, Box::into_inner(body), change)?;
@@ -167,7 +172,9 @@ pub(super) fn widened(
 
 /// The body that a state without one gets.
 fn new_body(alloc: Global, change: &StateBody) -> Result<Option<Box<StateBody>>, AllocError>
-    ensures { IfOk result (λ b. body_if_view b ≡ new_body (body_view change.now).entry (body_view change.now).exit (body_view change.now).subgraph) }
+    ensures { IfOk result (λ b.
+        body_if_view b ≡ new_body (body_view change.now).entry (body_view change.now).exit
+        (body_view change.now).subgraph) }
 {
     match (&change.entry, &change.exit, &change.subgraph) {
         (None, None, None) => Ok(None),
@@ -212,7 +219,8 @@ fn acting_also(
 
 fn action_for<'p, 'a>(name: &Option<Name>, grouped: &Grouped<'p, 'a>) -> Option<&'a Code>
     requires { IsGrouped grouped.now }
-    ensures { option_map (λ c. c.now) result ≡ action_for name.now (refining_views grouped.now.pending.now) }
+    ensures { option_map (λ c. c.now) result
+        ≡ action_for name.now (refining_views grouped.now.pending.now) }
 {
     match name {
         Some(name) => grouped.added_action(name.as_bytes()),
@@ -227,7 +235,8 @@ pub(super) fn refine_transition<'p, 'a>(
     grouped: &Grouped<'p, 'a>,
 ) -> Result<(), AllocError>
     requires { IsGrouped grouped.now }
-    ensures { OnOk result (transition.new ≡ refined_transition (refining_views grouped.now.pending.now) transition.old) }
+    ensures { OnOk result (transition.new
+        ≡ refined_transition (refining_views grouped.now.pending.now) transition.old) }
 {
     let Some(code) = action_for(&transition.name, grouped) else {
         return Ok(());

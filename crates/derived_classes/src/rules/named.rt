@@ -15,7 +15,8 @@ use std::alloc::{AllocError, Global};
 
 /// An item of a graph, if it is a state of this name.
 fn as_state<'a>(item: &'a GraphItem, name: &[u8]) -> Option<&'a State>
-    ensures { option_map (λ s. state_view s.now) result ≡ as_state name.now (item_view item.entry.now) }
+    ensures { option_map (λ s. state_view s.now) result
+        ≡ as_state name.now (item_view item.entry.now) }
 {
     match item {
         GraphItem::State(state) => {
@@ -34,7 +35,8 @@ fn as_state<'a>(item: &'a GraphItem, name: &[u8]) -> Option<&'a State>
 
 /// The first state of a name.
 fn first_state<'a>(items: &'a [GraphItem], name: &[u8]) -> Option<&'a State>
-    ensures { option_map (λ s. state_view s.now) result ≡ first_state name.now (graph_view items.entry.now) }
+    ensures { option_map (λ s. state_view s.now) result
+        ≡ first_state name.now (graph_view items.entry.now) }
 {
     for item in items {
         if let Some(state) = as_state(item, name) {
@@ -122,7 +124,8 @@ fn names_transition<'a>(items: &'a [GraphItem], first: &Name, others: &[Name]) -
 
 /// Whether a refinement names what a graph has.
 fn is_named<'a>(items: &'a [GraphItem], one: &Pending) -> bool
-    ensures { result ≡ is_named (graph_view items.entry.now) (refining_view one.now).path (refining_view one.now).change }
+    ensures { result ≡ is_named (graph_view items.entry.now) (refining_view one.now).path
+        (refining_view one.now).change }
 {
     match (one.change, one.next) {
         (Change::State(_), None) => true,
@@ -137,7 +140,9 @@ fn is_named<'a>(items: &'a [GraphItem], one: &Pending) -> bool
 
 /// Whether a graph has what each of these refinements names, each sought by itself.
 fn all_are_named<'a>(items: &'a [GraphItem], pending: &[Pending]) -> bool
-    ensures { result ≡ list_all (λ (r : Refining). is_named (graph_view items.entry.now) r.path r.change) (refining_views pending.now) }
+    ensures { result
+        ≡ list_all (λ (r : Refining). is_named (graph_view items.entry.now) r.path r.change)
+        (refining_views pending.now) }
 {
     for one in pending {
         if !is_named(items, one) {
@@ -162,7 +167,8 @@ pub(crate) fn refinements_of<'a>(
     alloc: Global,
     class: &'a ActorClass,
 ) -> Result<Vec<Pending<'a>>, AllocError>
-    ensures { IfOk result (λ v. refining_views v.items ≡ refinements_of (actor_view class.entry.now)) }
+    ensures { IfOk result (λ v.
+        refining_views v.items ≡ refinements_of (actor_view class.entry.now)) }
 {
     match machine_of(class) {
         Some(machine) => refinements(alloc, &machine.items),
@@ -181,7 +187,8 @@ pub fn chart_is_known<'a>(
     chart: &'a [GraphItem],
     own: &'a ActorClass,
 ) -> Result<bool, AllocError>
-    ensures { IfOk result (λ b. b ≡ chart_is_known (graph_view chart.entry.now) (actor_view own.entry.now)) }
+    ensures { IfOk result (λ b.
+        b ≡ chart_is_known (graph_view chart.entry.now) (actor_view own.entry.now)) }
 {
     let sought = refinements_of(alloc, own)?;
     if sought.len() <= FEW {

@@ -21,7 +21,8 @@ pub(super) struct TransitionNames<'a> {
 
 /// Notes the name of one more transition.
 fn note<'a>(names: &mut TransitionNames<'a>, name: &'a Name) -> Result<(), AllocError>
-    ensures { OnOk result (transition_names names.new ≡ note name.now (transition_names names.old)) }
+    ensures { OnOk result (transition_names names.new
+        ≡ note name.now (transition_names names.old)) }
 {
     if names.once.has(name.as_bytes()) {
         names.again.add(name.as_bytes())?;
@@ -32,7 +33,8 @@ fn note<'a>(names: &mut TransitionNames<'a>, name: &'a Name) -> Result<(), Alloc
 }
 
 fn note_if<'a>(names: &mut TransitionNames<'a>, name: &'a Option<Name>) -> Result<(), AllocError>
-    ensures { OnOk result (transition_names names.new ≡ option_map_or (λ n. note n (transition_names names.old)) name.now (transition_names names.old)) }
+    ensures { OnOk result (transition_names names.new ≡ option_map_or
+        (λ n. note n (transition_names names.old)) name.now (transition_names names.old)) }
 {
     match name {
         Some(name) => note(names, name),
@@ -42,7 +44,8 @@ fn note_if<'a>(names: &mut TransitionNames<'a>, name: &'a Option<Name>) -> Resul
 
 /// Notes the name of an item of a graph, if it is a transition that has one.
 fn note_item<'a>(names: &mut TransitionNames<'a>, item: &'a GraphItem) -> Result<(), AllocError>
-    ensures { OnOk result (transition_names names.new ≡ note_item (item_view item.now) (transition_names names.old)) }
+    ensures { OnOk result (transition_names names.new
+        ≡ note_item (item_view item.now) (transition_names names.old)) }
 {
     match item {
         GraphItem::Transition(transition) => note_if(names, &transition.name),
@@ -59,7 +62,8 @@ impl<'a> TransitionNames<'a> {
         alloc: Global,
         graph: &'a [GraphItem],
     ) -> Result<TransitionNames<'a>, AllocError>
-        ensures { IfOk result (λ names. transition_names names ≡ note_items (graph_view graph.now) no_names) }
+        ensures { IfOk result (λ names.
+            transition_names names ≡ note_items (graph_view graph.now) no_names) }
     {
         let mut names = TransitionNames {
             once: Numbers::new(alloc),
@@ -106,7 +110,8 @@ pub(super) fn states_in<'a>(
     alloc: Global,
     graph: &'a [GraphItem],
 ) -> Result<Vec<&'a State>, AllocError>
-    ensures { IfOk result (λ states. map (λ s. state_view s.now) states.items ≡ states_in (graph_view graph.now)) }
+    ensures { IfOk result (λ states.
+        map (λ s. state_view s.now) states.items ≡ states_in (graph_view graph.now)) }
 {
     let mut states = Vec::new(alloc);
     for item in graph {

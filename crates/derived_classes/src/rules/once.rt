@@ -76,7 +76,8 @@ fn push_if<'a>(paths: &mut Vec<Path<'a>>, path: Option<Path<'a>>) -> Result<(), 
 }
 
 fn state_path<'a>(one: &Pending<'a>) -> Option<Path<'a>>
-    ensures { option_map path_view result ≡ state_path (refining_view one.now).path (refining_view one.now).change }
+    ensures { option_map path_view result
+        ≡ state_path (refining_view one.now).path (refining_view one.now).change }
 {
     match one.change {
         Change::State(_) => Some(Path {
@@ -88,7 +89,8 @@ fn state_path<'a>(one: &Pending<'a>) -> Option<Path<'a>>
 }
 
 fn transition_path<'a>(one: &Pending<'a>) -> Option<Path<'a>>
-    ensures { option_map path_view result ≡ transition_path (refining_view one.now).path (refining_view one.now).change }
+    ensures { option_map path_view result
+        ≡ transition_path (refining_view one.now).path (refining_view one.now).change }
 {
     match one.change {
         Change::Transition(_) => Some(Path {
@@ -100,7 +102,9 @@ fn transition_path<'a>(one: &Pending<'a>) -> Option<Path<'a>>
 }
 
 fn state_paths<'a>(alloc: Global, pending: &[Pending<'a>]) -> Result<Vec<Path<'a>>, AllocError>
-    ensures { IfOk result (λ v. path_views v.items ≡ filter_map (λ r. state_path r.path r.change) (refining_views pending.now)) }
+    ensures { IfOk result (λ v.
+        path_views v.items
+        ≡ filter_map (λ r. state_path r.path r.change) (refining_views pending.now)) }
 {
     let mut paths = Vec::new(alloc);
     for one in pending {
@@ -110,7 +114,9 @@ fn state_paths<'a>(alloc: Global, pending: &[Pending<'a>]) -> Result<Vec<Path<'a
 }
 
 fn transition_paths<'a>(alloc: Global, pending: &[Pending<'a>]) -> Result<Vec<Path<'a>>, AllocError>
-    ensures { IfOk result (λ v. path_views v.items ≡ filter_map (λ r. transition_path r.path r.change) (refining_views pending.now)) }
+    ensures { IfOk result (λ v.
+        path_views v.items
+        ≡ filter_map (λ r. transition_path r.path r.change) (refining_views pending.now)) }
 {
     let mut paths = Vec::new(alloc);
     for one in pending {

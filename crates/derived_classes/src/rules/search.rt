@@ -22,7 +22,8 @@ struct Search<'a> {
 
 /// The graphs of states, in which nothing is looked for yet.
 fn graphs_inside<'a>(alloc: Global, states: &[&'a State]) -> Result<Vec<Search<'a>>, AllocError>
-    ensures { IfOk result (λ v. search_views v.items ≡ map inside (map (λ s. state_view s.now) states.now)) }
+    ensures { IfOk result (λ v.
+        search_views v.items ≡ map inside (map (λ s. state_view s.now) states.now)) }
 {
     let mut searches = Vec::new(alloc);
     for state in states {
@@ -37,7 +38,8 @@ fn graphs_inside<'a>(alloc: Global, states: &[&'a State]) -> Result<Vec<Search<'
 /// Looks for a refinement in a graph.
 fn seek<'a>(search: &mut Search<'a>, one: Pending<'a>) -> Result<(), AllocError>
     ensures graph { OnOk result (search.new.graph ≡ search.old.graph) }
-    ensures sought { OnOk result (search.new.sought.items ≡ search.old.sought.items ++ one.entry ∷ []) }
+    ensures sought { OnOk result (search.new.sought.items
+        ≡ search.old.sought.items ++ one.entry ∷ []) }
 {
     search.sought.push(one)?;
     Ok(())
@@ -50,7 +52,8 @@ fn seek_at<'a>(
     place: usize,
     one: Pending<'a>,
 ) -> Result<(), AllocError>
-    ensures { OnOk result (search_views searches.new.items ≡ sought_at (search_views searches.old.items) place (refining_view one.entry)) }
+    ensures { OnOk result (search_views searches.new.items
+        ≡ sought_at (search_views searches.old.items) place (refining_view one.entry)) }
 {
     if place < searches.len() {
         seek(&mut searches[place], one)?;
@@ -65,7 +68,10 @@ fn seek_in<'a>(
     one: Pending<'a>,
     searches: &mut Vec<Search<'a>>,
 ) -> Result<bool, AllocError>
-    ensures { IfOk result (λ found. (if found then Some (search_views searches.new.items) else None) ≡ sought_in (position (same name.now) states.now) (refining_view one.entry) (search_views searches.old.items)) }
+    ensures { IfOk result (λ found.
+        (if found then Some (search_views searches.new.items) else None)
+        ≡ sought_in (position (same name.now) states.now) (refining_view one.entry)
+        (search_views searches.old.items)) }
 {
     match states.place_of(name.as_bytes()) {
         Some(place) => {
@@ -86,7 +92,10 @@ fn pass_name<'a>(
     change: &'a Change,
     searches: &mut Vec<Search<'a>>,
 ) -> Result<bool, AllocError>
-    ensures { IfOk result (λ found. (if found then Some (search_views searches.new.items) else None) ≡ passed states.now (transition_names transitions.now) (name.now ∷ others.entry.now) (change_view change.entry.now) (search_views searches.old.items)) }
+    ensures { IfOk result (λ found.
+        (if found then Some (search_views searches.new.items) else None)
+        ≡ passed states.now (transition_names transitions.now) (name.now ∷ others.entry.now)
+        (change_view change.entry.now) (search_views searches.old.items)) }
 {
     match (others, change) {
         ([], Change::Transition(_)) => Ok(transitions.has_one(name)),
@@ -116,7 +125,10 @@ fn pass<'a>(
     one: &Pending<'a>,
     searches: &mut Vec<Search<'a>>,
 ) -> Result<bool, AllocError>
-    ensures { IfOk result (λ found. (if found then Some (search_views searches.new.items) else None) ≡ passed states.now (transition_names transitions.now) (refining_view one.now).path (refining_view one.now).change (search_views searches.old.items)) }
+    ensures { IfOk result (λ found.
+        (if found then Some (search_views searches.new.items) else None)
+        ≡ passed states.now (transition_names transitions.now) (refining_view one.now).path
+        (refining_view one.now).change (search_views searches.old.items)) }
 {
     match (one.next, one.change) {
         (Some(name), change) => pass_name(states, transitions, name, one.others, change, searches),
@@ -132,7 +144,10 @@ fn pass_all<'a>(
     sought: &[Pending<'a>],
     inside: Vec<Search<'a>>,
 ) -> Result<Option<Vec<Search<'a>>>, AllocError>
-    ensures { IfOk result (λ found. option_map (λ v. search_views v.items) found ≡ all_passed states.now (transition_names transitions.now) (refining_views sought.now) (search_views inside.entry.items)) }
+    ensures { IfOk result (λ found.
+        option_map (λ v. search_views v.items) found
+        ≡ all_passed states.now (transition_names transitions.now) (refining_views sought.now)
+        (search_views inside.entry.items)) }
 {
     let mut searches = inside;
     for one in sought {
@@ -150,7 +165,9 @@ fn searched<'a>(
     graph: &'a [GraphItem],
     sought: &[Pending<'a>],
 ) -> Result<Option<Vec<Search<'a>>>, AllocError>
-    ensures { IfOk result (λ found. option_map (λ v. search_views v.items) found ≡ searched (graph_view graph.entry.now) (refining_views sought.now)) }
+    ensures { IfOk result (λ found.
+        option_map (λ v. search_views v.items) found
+        ≡ searched (graph_view graph.entry.now) (refining_views sought.now)) }
 {
     let transitions = TransitionNames::of(alloc, graph)?;
     let states = states_in(alloc, graph)?;
@@ -166,7 +183,9 @@ fn go_on<'a>(
     search: &Search<'a>,
     next: &mut Vec<Search<'a>>,
 ) -> Result<bool, AllocError>
-    ensures { IfOk result (λ found. (if found then Some (search_views next.new.items) else None) ≡ further (search_view search.now) (search_views next.old.items)) }
+    ensures { IfOk result (λ found.
+        (if found then Some (search_views next.new.items) else None)
+        ≡ further (search_view search.now) (search_views next.old.items)) }
 {
     if search.sought.is_empty() {
         return Ok(true);
@@ -186,7 +205,8 @@ fn next_round<'a>(
     alloc: Global,
     searches: &[Search<'a>],
 ) -> Result<Option<Vec<Search<'a>>>, AllocError>
-    ensures { IfOk result (λ next. option_map (λ v. search_views v.items) next ≡ next_of (search_views searches.now) []) }
+    ensures { IfOk result (λ next.
+        option_map (λ v. search_views v.items) next ≡ next_of (search_views searches.now) []) }
 {
     let mut next = Vec::new(alloc);
     for search in searches {
@@ -219,7 +239,8 @@ pub(super) fn are_named<'a>(
     graph: &'a [GraphItem],
     sought: Vec<Pending<'a>>,
 ) -> Result<bool, AllocError>
-    ensures { IfOk result (λ b. b ≡ are_named (graph_view graph.entry.now) (refining_views sought.entry.items)) }
+    ensures { IfOk result (λ b.
+        b ≡ are_named (graph_view graph.entry.now) (refining_views sought.entry.items)) }
 {
     let mut searches = Vec::new(alloc);
     searches.push(Search { graph, sought })?;

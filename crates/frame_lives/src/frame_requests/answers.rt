@@ -37,7 +37,8 @@ pub fn create_refused(
     code: i64,
     out: &mut Outbox,
 ) -> Result<(), AllocError>
-    ensures { OnOk result (out.new ≡ out.old ++ create_refused wiring.now me.0 slot container code) }
+    ensures { OnOk result (out.new
+        ≡ out.old ++ create_refused wiring.now me.0 slot container code) }
 {
     if !(Code::Occupied.is(code) || Code::NotHere.is(code)) {
         return Ok(());

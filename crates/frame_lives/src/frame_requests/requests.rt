@@ -24,7 +24,9 @@ fn asked(
     requires order { IsDepthFirst wiring.now }
     requires runs { AreRunEnds wiring.now runs.now }
     requires there { actor.slot.0 < length wiring.now.slots }
-    ensures { IfOk result (λ m. m ≡ asked_of wiring.now me.0 kind actor reference index (part_at wiring.now actor.slot.0 reference index)) }
+    ensures { IfOk result (λ m.
+        m ≡ asked_of wiring.now me.0 kind actor reference index
+        (part_at wiring.now actor.slot.0 reference index)) }
 {
     match runs.part_at(wiring, actor.slot, reference, index) {
         Some(slot) => {
@@ -52,7 +54,8 @@ pub fn incarnate(
     requires order { IsDepthFirst wiring.now }
     requires runs { AreRunEnds wiring.now runs.now }
     requires there { actor.slot.0 < length wiring.now.slots }
-    ensures { OnOk result (out.new ≡ out.old ++ incarnate wiring.now me.0 actor reference index ∷ []) }
+    ensures { OnOk result (out.new
+        ≡ out.old ++ incarnate wiring.now me.0 actor reference index ∷ []) }
 {
     let kind = SysKind::Create;
     out.push(asked(alloc, wiring, runs, me, kind, actor, reference, index)?)?;
@@ -75,7 +78,8 @@ pub fn destroy(
     requires order { IsDepthFirst wiring.now }
     requires runs { AreRunEnds wiring.now runs.now }
     requires there { actor.slot.0 < length wiring.now.slots }
-    ensures { OnOk result (out.new ≡ out.old ++ destroy_command wiring.now me.0 actor reference index ∷ []) }
+    ensures { OnOk result (out.new
+        ≡ out.old ++ destroy_command wiring.now me.0 actor reference index ∷ []) }
 {
     let kind = SysKind::Destroy;
     out.push(asked(alloc, wiring, runs, me, kind, actor, reference, index)?)?;

@@ -13,10 +13,7 @@ use Rattle.service_messages.proofs.slot_runs.Kept.{kept, kept_one, kept_none}
 use Rattle.service_messages.proofs.slot_runs.RunLemmas.{false_from, part_in_run, part_not_between, run_nested}
 use Rattle.frame_service.specs.frame_imports.import_places.Lending.{is_import_of}
 use Rattle.frame_service.specs.frame_endings.Ends.{back_at, back_if_own, all_given_back}
-
-append_nothing : (ms : List Msg) → ms ++ [] ≡ ms
-append_nothing [] = refl
-append_nothing (m ∷ ms) = ap (λ (more : List Msg). m ∷ more) (append_nothing ms)
+use Rattle.service_messages.proofs.frame_messages.Announced.{append_nothing}
 
 -- three steps, one after another
 pub three_parts : (out a b c : List Msg) → ((out ++ a) ++ b) ++ c ≡ out ++ (a ++ (b ++ c))
@@ -28,7 +25,7 @@ pub record GivingBack (t : Tables) (me : ℕ) (places : ℕ → ImportPlace) (x 
   pub within : n ≤ e
   pub sent : out ≡ before ++ flat_map (back_at t me places x) (kept (is_import_of t x.slot.0) n)
 
-not_import : (t : Tables) (s i : ℕ) → is_part_of t i s ≡ false → is_import_of t s i ≡ false
+pub not_import : (t : Tables) (s i : ℕ) → is_part_of t i s ≡ false → is_import_of t s i ≡ false
 not_import t s i h = and_right (is_imported t i) (is_part_of t i s) h
 
 pub giving_begun : (t : Tables) → IsDepthFirst t → (me : ℕ) (places : ℕ → ImportPlace) (x : Incarnation) (e : ℕ) (before : List Msg) → IsRunEnd t x.slot.0 e

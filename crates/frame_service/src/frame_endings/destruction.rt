@@ -29,7 +29,8 @@ fn may_end(
     slot: SlotId,
     from: Endpoint,
 ) -> bool
-    ensures { result ≡ (counts_as_live wiring.now me.0 (shown lives.now).lives (whose from) && (shown lives.now).lives.lives slot.0) }
+    ensures { result ≡ (counts_as_live wiring.now me.0 (shown lives.now).lives (whose from)
+        && (shown lives.now).lives.lives slot.0) }
 {
     lives.counts_as_live(wiring, me, whose(from)) && lives.lives(slot)
 }
@@ -43,7 +44,8 @@ fn answered(
     from: Endpoint,
     code: u8,
 ) -> Result<Msg, AllocError>
-    ensures { IfOk result (λ r. r ≡ reply me.0 m.now SysKind.DestroyDone gone from (pos code ∷ [])) }
+    ensures { IfOk result (λ r.
+        r ≡ reply me.0 m.now SysKind.DestroyDone gone from (pos code ∷ [])) }
 {
     let payload = Payload::from_slice(alloc, &[i64::from(code)])?;
     Ok(reply(me, m, SysKind::DestroyDone, gone, from, payload))
@@ -71,7 +73,8 @@ impl FrameState {
     ) -> Result<Sequence<Incarnation>, AllocError>
         requires fits { IsFrameOf wiring.now self.old }
         requires there { slot.0 < length wiring.now.slots }
-        ensures { IfOk result (λ xs. IsSetEnded wiring.now self.old self.new slot.0 out.old out.new xs) }
+        ensures { IfOk result (λ xs.
+            IsSetEnded wiring.now self.old self.new slot.0 out.old out.new xs) }
     {
         let ended = self
             .lives
@@ -104,8 +107,13 @@ impl FrameState {
         out: &mut Outbox,
     ) -> Result<DutyDone, AllocError>
         requires fits { IsFrameOf wiring.now self.old }
-        requires form { has_form wiring.now self.old.me.0 SysKind.Destroy m.now.payload from slot ≡ true }
-        ensures { IfOk result (λ d. IsDone wiring.now self.old self.new (frame_duty_of wiring.now self.old.me.0 (frame_in self.old) m.now SysKind.Destroy from slot) out.old out.new d) }
+        requires form { has_form wiring.now self.old.me.0 SysKind.Destroy m.now.payload from slot
+            ≡ true }
+        ensures { IfOk result (λ d.
+            IsDone wiring.now self.old self.new
+            (frame_duty_of wiring.now self.old.me.0 (frame_in self.old) m.now SysKind.Destroy from
+            slot)
+            out.old out.new d) }
     {
         if !may_end(&self.lives, wiring, self.me, slot.slot, from) {
             let nobody = frame_at(slot.slot, Generation(0));
@@ -129,8 +137,13 @@ impl FrameState {
         out: &mut Outbox,
     ) -> Result<DutyDone, AllocError>
         requires fits { IsFrameOf wiring.now self.old }
-        requires form { has_form wiring.now self.old.me.0 SysKind.PartEnd m.now.payload actor again ≡ true }
-        ensures { IfOk result (λ d. IsDone wiring.now self.old self.new (frame_duty_of wiring.now self.old.me.0 (frame_in self.old) m.now SysKind.PartEnd actor again) out.old out.new d) }
+        requires form { has_form wiring.now self.old.me.0 SysKind.PartEnd m.now.payload actor again
+            ≡ true }
+        ensures { IfOk result (λ d.
+            IsDone wiring.now self.old self.new
+            (frame_duty_of wiring.now self.old.me.0 (frame_in self.old) m.now SysKind.PartEnd actor
+            again)
+            out.old out.new d) }
     {
         let ended = self.end_set(wiring, actor.slot, out)?;
         Ok(left(self.alloc, ended, None))

@@ -73,7 +73,8 @@ fn give_back_at<I: Lent>(
     slot: SlotId,
     out: &mut Outbox,
 ) -> Result<(), AllocError>
-    ensures { OnOk result (out.new ≡ out.old ++ back_if_own wiring.now me.0 (I.places lent.now) actor slot.0) }
+    ensures { OnOk result (out.new
+        ≡ out.old ++ back_if_own wiring.now me.0 (I.places lent.now) actor slot.0) }
 {
     if !is_imported(wiring, slot) || !is_part_of(wiring, slot, actor.slot) {
         return Ok(());
@@ -100,7 +101,8 @@ fn give_all_back<I: Lent>(
     requires order { IsDepthFirst wiring.now }
     requires runs { AreRunEnds wiring.now runs.now }
     requires there { actor.slot.0 < length wiring.now.slots }
-    ensures { OnOk result (out.new ≡ out.old ++ all_given_back wiring.now me.0 (I.places lent.now) actor) }
+    ensures { OnOk result (out.new
+        ≡ out.old ++ all_given_back wiring.now me.0 (I.places lent.now) actor) }
 {
     let end = runs.end(wiring, actor.slot);
     let mut part = u32::from(actor.slot.0) + 1;
@@ -127,7 +129,8 @@ fn end_actor<I: Lent>(
     requires order { IsDepthFirst wiring.now }
     requires runs { AreRunEnds wiring.now runs.now }
     requires there { actor.slot.0 < length wiring.now.slots }
-    ensures { OnOk result (out.new ≡ out.old ++ end_sends wiring.now me.0 (I.places lent.now) (I.plugs lent.now) actor) }
+    ensures { OnOk result (out.new
+        ≡ out.old ++ end_sends wiring.now me.0 (I.places lent.now) (I.plugs lent.now) actor) }
 {
     end_plugs(alloc, wiring, me, actor, lent.plugs_of(actor.slot), out)?;
     give_all_back(alloc, wiring, runs, me, lent, actor, out)?;
@@ -147,7 +150,8 @@ pub fn end_actors<I: Lent>(
     requires order { IsDepthFirst wiring.now }
     requires runs { AreRunEnds wiring.now runs.now }
     requires there { All (λ x. x.slot.0 < length wiring.now.slots) actors.now }
-    ensures { OnOk result (out.new ≡ out.old ++ flat_map (end_sends wiring.now me.0 (I.places lent.now) (I.plugs lent.now)) actors.now) }
+    ensures { OnOk result (out.new ≡ out.old
+        ++ flat_map (end_sends wiring.now me.0 (I.places lent.now) (I.plugs lent.now)) actors.now) }
 {
     for actor in actors {
         end_actor(alloc, wiring, runs, me, lent, *actor, out)?;

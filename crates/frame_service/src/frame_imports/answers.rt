@@ -114,8 +114,11 @@ pub fn hear(
     answer: Answer,
     out: &mut Outbox,
 ) -> Result<(), AllocError>
-    ensures now { OnOk result (lending imports.new ≡ with_places (lending imports.old) ((answered wiring.now me.0 (shown lives.now).lives (lending imports.old).places answer).now)) }
-    ensures sent { OnOk result (out.new ≡ out.old ++ (answered wiring.now me.0 (shown lives.now).lives (lending imports.old).places answer).sent) }
+    ensures now { OnOk result (lending imports.new ≡ with_places (lending imports.old) ((answered
+        wiring.now me.0 (shown lives.now).lives (lending imports.old).places answer).now)) }
+    ensures sent { OnOk result (out.new ≡ out.old
+        ++ (answered wiring.now me.0 (shown lives.now).lives (lending imports.old).places
+        answer).sent) }
 {
     let Answer { home, place, .. } = answer;
     if is_container_live(wiring, lives, place) && answer.is_awaited(imports.place(place.slot)) {

@@ -33,7 +33,9 @@ fn refuse(
     code: Code,
     out: &mut Outbox,
 ) -> Result<(), AllocError>
-    ensures { OnOk result (out.new ≡ out.old ++ refused_at_once me.0 asked.actor asked.reference asked.index (code_number (code_of code)) ∷ []) }
+    ensures { OnOk result (out.new ≡ out.old
+        ++ refused_at_once me.0 asked.actor asked.reference asked.index (code_number (code_of code))
+        ∷ []) }
 {
     out.push(refused_at_once(alloc, me, asked.actor, asked.reference, asked.index, code)?)?;
     Ok(())
@@ -97,7 +99,8 @@ fn import_code(
     slot: SlotId,
     home: Option<Incarnation>,
 ) -> Option<Code>
-    ensures { option_map code_of result ≡ import_code wiring.now (lending imports.now).places slot.0 home }
+    ensures { option_map code_of result
+        ≡ import_code wiring.now (lending imports.now).places slot.0 home }
 {
     let Some(home) = home else {
         return Some(Code::StaleId);
@@ -122,8 +125,10 @@ fn ask(
     home: Incarnation,
     out: &mut Outbox,
 ) -> Result<(), AllocError>
-    ensures now { OnOk result (lending imports.new ≡ with_places (lending imports.old) ((asks_for wiring.now me.0 (lending imports.old).places actor slot.0 home).now)) }
-    ensures sent { OnOk result (out.new ≡ out.old ++ (asks_for wiring.now me.0 (lending imports.old).places actor slot.0 home).sent) }
+    ensures now { OnOk result (lending imports.new ≡ with_places (lending imports.old) ((asks_for
+        wiring.now me.0 (lending imports.old).places actor slot.0 home).now)) }
+    ensures sent { OnOk result (out.new ≡ out.old
+        ++ (asks_for wiring.now me.0 (lending imports.old).places actor slot.0 home).sent) }
 {
     imports.set_place(slot, ImportPlace::Asking(home))?;
     let place = frame_at(slot, actor.generation);
@@ -144,8 +149,12 @@ fn import_with(
     code: Option<Code>,
     out: &mut Outbox,
 ) -> Result<(), AllocError>
-    ensures now { OnOk result (lending imports.new ≡ with_places (lending imports.old) ((import_with wiring.now me.0 (lending imports.old).places asked.actor asked.reference asked.index slot.0 home (option_map code_of code)).now)) }
-    ensures sent { OnOk result (out.new ≡ out.old ++ (import_with wiring.now me.0 (lending imports.old).places asked.actor asked.reference asked.index slot.0 home (option_map code_of code)).sent) }
+    ensures now { OnOk result (lending imports.new ≡ with_places (lending imports.old) ((import_with
+        wiring.now me.0 (lending imports.old).places asked.actor asked.reference asked.index slot.0
+        home (option_map code_of code)).now)) }
+    ensures sent { OnOk result (out.new ≡ out.old
+        ++ (import_with wiring.now me.0 (lending imports.old).places asked.actor asked.reference
+        asked.index slot.0 home (option_map code_of code)).sent) }
 {
     if let Some(code) = code {
         refuse(alloc, me, asked, code, out)?;
@@ -174,8 +183,12 @@ fn import_into(
     slot: SlotId,
     out: &mut Outbox,
 ) -> Result<(), AllocError>
-    ensures now { OnOk result (lending imports.new ≡ with_places (lending imports.old) ((import_into wiring.now me.0 (lending imports.old).places asked.actor asked.reference asked.index id (Some slot.0)).now)) }
-    ensures sent { OnOk result (out.new ≡ out.old ++ (import_into wiring.now me.0 (lending imports.old).places asked.actor asked.reference asked.index id (Some slot.0)).sent) }
+    ensures now { OnOk result (lending imports.new ≡ with_places (lending imports.old) ((import_into
+        wiring.now me.0 (lending imports.old).places asked.actor asked.reference asked.index id
+        (Some slot.0)).now)) }
+    ensures sent { OnOk result (out.new ≡ out.old
+        ++ (import_into wiring.now me.0 (lending imports.old).places asked.actor asked.reference
+        asked.index id (Some slot.0)).sent) }
 {
     let home = home_of(wiring, id);
     let code = import_code(wiring, imports, slot, home);
@@ -201,8 +214,12 @@ pub fn request_import(
     requires order { IsDepthFirst wiring.now }
     requires runs { AreRunEnds wiring.now runs.now }
     requires there { asked.actor.slot.0 < length wiring.now.slots }
-    ensures now { OnOk result (lending imports.new ≡ with_places (lending imports.old) ((import_command wiring.now me.0 (lending imports.old).places asked.actor asked.reference asked.index id).now)) }
-    ensures sent { OnOk result (out.new ≡ out.old ++ (import_command wiring.now me.0 (lending imports.old).places asked.actor asked.reference asked.index id).sent) }
+    ensures now { OnOk result (lending imports.new
+        ≡ with_places (lending imports.old) ((import_command wiring.now me.0
+        (lending imports.old).places asked.actor asked.reference asked.index id).now)) }
+    ensures sent { OnOk result (out.new ≡ out.old
+        ++ (import_command wiring.now me.0 (lending imports.old).places asked.actor asked.reference
+        asked.index id).sent) }
 {
     match runs.part_at(wiring, asked.actor.slot, asked.reference, asked.index) {
         Some(slot) => {
@@ -227,8 +244,12 @@ fn give_back(
     home: Incarnation,
     out: &mut Outbox,
 ) -> Result<(), AllocError>
-    ensures now { OnOk result (lending imports.new ≡ with_places (lending imports.old) ((deport_from wiring.now me.0 (lending imports.old).places asked.actor asked.reference asked.index slot.0 (Held home)).now)) }
-    ensures sent { OnOk result (out.new ≡ out.old ++ (deport_from wiring.now me.0 (lending imports.old).places asked.actor asked.reference asked.index slot.0 (Held home)).sent) }
+    ensures now { OnOk result (lending imports.new ≡ with_places (lending imports.old) ((deport_from
+        wiring.now me.0 (lending imports.old).places asked.actor asked.reference asked.index slot.0
+        (Held home)).now)) }
+    ensures sent { OnOk result (out.new ≡ out.old
+        ++ (deport_from wiring.now me.0 (lending imports.old).places asked.actor asked.reference
+        asked.index slot.0 (Held home)).sent) }
 {
     imports.set_place(slot, ImportPlace::Leaving(home))?;
     let place = frame_at(slot, asked.actor.generation);
@@ -247,8 +268,12 @@ fn deport_from(
     slot: SlotId,
     out: &mut Outbox,
 ) -> Result<(), AllocError>
-    ensures now { OnOk result (lending imports.new ≡ with_places (lending imports.old) ((deport_from wiring.now me.0 (lending imports.old).places asked.actor asked.reference asked.index slot.0 ((lending imports.old).places slot.0)).now)) }
-    ensures sent { OnOk result (out.new ≡ out.old ++ (deport_from wiring.now me.0 (lending imports.old).places asked.actor asked.reference asked.index slot.0 ((lending imports.old).places slot.0)).sent) }
+    ensures now { OnOk result (lending imports.new ≡ with_places (lending imports.old) ((deport_from
+        wiring.now me.0 (lending imports.old).places asked.actor asked.reference asked.index slot.0
+        ((lending imports.old).places slot.0)).now)) }
+    ensures sent { OnOk result (out.new ≡ out.old
+        ++ (deport_from wiring.now me.0 (lending imports.old).places asked.actor asked.reference
+        asked.index slot.0 ((lending imports.old).places slot.0)).sent) }
 {
     match imports.place(slot) {
         ImportPlace::Empty => {
@@ -282,8 +307,12 @@ pub fn request_deport(
     requires order { IsDepthFirst wiring.now }
     requires runs { AreRunEnds wiring.now runs.now }
     requires there { asked.actor.slot.0 < length wiring.now.slots }
-    ensures now { OnOk result (lending imports.new ≡ with_places (lending imports.old) ((deport_command wiring.now me.0 (lending imports.old).places asked.actor asked.reference asked.index).now)) }
-    ensures sent { OnOk result (out.new ≡ out.old ++ (deport_command wiring.now me.0 (lending imports.old).places asked.actor asked.reference asked.index).sent) }
+    ensures now { OnOk result (lending imports.new
+        ≡ with_places (lending imports.old) ((deport_command wiring.now me.0
+        (lending imports.old).places asked.actor asked.reference asked.index).now)) }
+    ensures sent { OnOk result (out.new ≡ out.old
+        ++ (deport_command wiring.now me.0 (lending imports.old).places asked.actor asked.reference
+        asked.index).sent) }
 {
     match runs.part_at(wiring, asked.actor.slot, asked.reference, asked.index) {
         Some(slot) => {

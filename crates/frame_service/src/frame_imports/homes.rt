@@ -43,7 +43,8 @@ fn refuse(
     code: Code,
     out: &mut Outbox,
 ) -> Result<(), AllocError>
-    ensures { OnOk result (out.new ≡ out.old ++ reply me.0 m.now SysKind.ImportRefused home place (coded (code_of code)) ∷ []) }
+    ensures { OnOk result (out.new ≡ out.old
+        ++ reply me.0 m.now SysKind.ImportRefused home place (coded (code_of code)) ∷ []) }
 {
     let payload = Payload::from_slice(alloc, &[i64::from(code.number())])?;
     answer(me, m, SysKind::ImportRefused, home, place, payload, out)?;
@@ -66,8 +67,12 @@ pub fn import(
 ) -> Result<(), AllocError>
     requires ports { ArePortsNumbered wiring.now }
     requires there { place.slot.0 < length wiring.now.slots }
-    ensures now { OnOk result (lending imports.new ≡ with_plugs (lending imports.old) ((import wiring.now me.0 (shown lives.now).lives (lending imports.old).plugs m.now place home).now)) }
-    ensures sent { OnOk result (out.new ≡ out.old ++ (import wiring.now me.0 (shown lives.now).lives (lending imports.old).plugs m.now place home).sent) }
+    ensures now { OnOk result (lending imports.new
+        ≡ with_plugs (lending imports.old) ((import wiring.now me.0 (shown lives.now).lives
+        (lending imports.old).plugs m.now place home).now)) }
+    ensures sent { OnOk result (out.new ≡ out.old
+        ++ (import wiring.now me.0 (shown lives.now).lives (lending imports.old).plugs m.now place
+        home).sent) }
 {
     if !lives.is_live(whose(home)) {
         refuse(alloc, me, m, home, place, Code::StaleId, out)?;
@@ -96,8 +101,11 @@ pub fn deport(
     home: Endpoint,
     out: &mut Outbox,
 ) -> Result<(), AllocError>
-    ensures now { OnOk result (lending imports.new ≡ with_plugs (lending imports.old) ((deport me.0 (shown lives.now).lives (lending imports.old).plugs m.now place home).now)) }
-    ensures sent { OnOk result (out.new ≡ out.old ++ (deport me.0 (shown lives.now).lives (lending imports.old).plugs m.now place home).sent) }
+    ensures now { OnOk result (lending imports.new ≡ with_plugs (lending imports.old) ((deport me.0
+        (shown lives.now).lives (lending imports.old).plugs m.now place home).now)) }
+    ensures sent { OnOk result (out.new ≡ out.old
+        ++ (deport me.0 (shown lives.now).lives (lending imports.old).plugs m.now place
+        home).sent) }
 {
     let payload = Payload::empty(alloc);
     if !lives.is_live(whose(home)) {

@@ -36,7 +36,9 @@ fn is_plugged(
     port: u16,
     place: u32,
 ) -> bool
-    ensures { result ≡ list_any (λ q. not (is_incarnation q import) && is_end (joined_at wiring.now q.slot.0 port place)) plugs.now }
+    ensures { result ≡ list_any
+        (λ q. not (is_incarnation q import) && is_end (joined_at wiring.now q.slot.0 port place))
+        plugs.now }
 {
     plugs.iter().any(|plug| {
         !is_same_actor(*plug, import)
@@ -72,7 +74,8 @@ fn is_any_place_taken(
 ) -> bool
     requires slot { import.slot.0 < length wiring.now.slots }
     requires port { port < port_count wiring.now import.slot.0 }
-    ensures { result ≡ list_any (is_taken_at wiring.now plugs.now import home port) (places_of wiring.now import.slot.0 port) }
+    ensures { result ≡ list_any (is_taken_at wiring.now plugs.now import home port) (places_of
+        wiring.now import.slot.0 port) }
 {
     for place in 0..wiring.places(import.slot, port) {
         if is_taken_at(wiring, plugs, import, home, port, place) {

@@ -52,7 +52,8 @@ fn behind_blanks(bytes: &[u8]) -> &[u8]
 
 /// The first field, and what stands behind it.
 fn first_field(bytes: &[u8]) -> Option<(&[u8], &[u8])>
-    ensures { MatchOption result (fields bytes.now ≡ []) (λ p. fields bytes.now ≡ p.0.now ∷ fields p.1.now) }
+    ensures { MatchOption result (fields bytes.now ≡ [])
+        (λ p. fields bytes.now ≡ p.0.now ∷ fields p.1.now) }
 {
     let text = behind_blanks(bytes);
     let (word, rest) = text.split_at(word_len(text));

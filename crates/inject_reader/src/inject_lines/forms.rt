@@ -115,7 +115,8 @@ fn last_priority(mut words: Fields<'_>) -> Option<Priority>
 
 /// These numbers at a priority.
 fn loaded(numbers: Vec<i64>, prio: Option<Priority>) -> Option<Load>
-    ensures { option_map load_view result ≡ option_map (loaded numbers.items) (option_map (λ p. p.0) prio) }
+    ensures { option_map load_view result
+        ≡ option_map (loaded numbers.items) (option_map (λ p. p.0) prio) }
 {
     match prio {
         Some(prio) => Some(Load { numbers, prio }),
@@ -159,7 +160,8 @@ fn message<'a>(
     signal: &'a [u8],
     words: Fields<'a>,
 ) -> Result<Option<Form<'a>>, AllocError>
-    ensures { IfOk result (λ f. option_map form_view f ≡ message_in text.now signal.now words.entry) }
+    ensures { IfOk result (λ f.
+        option_map form_view f ≡ message_in text.now signal.now words.entry) }
 {
     if !is_ident(signal) {
         return Ok(None);

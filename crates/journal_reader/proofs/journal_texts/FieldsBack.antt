@@ -11,7 +11,8 @@ use Rattle.room_wiring.specs.declared.tables.Tables.{Tables}
 use Rattle.room_wiring.specs.WellNamed.{IsWellNamed}
 use Rattle.room_wiring.specs.wiring_names.Lookup.{slot_called, port_called}
 use Rattle.room_wiring.proofs.wiring_names.Fresh.{same_not}
-use Rattle.journal.specs.Names.{party_text, path_text, port_text, kind_text, port_signal_text}
+use Rattle.room_wiring.specs.Slots.{path_text, port_text}
+use Rattle.journal.specs.Names.{party_text, kind_text, port_signal_text}
 use Rattle.journal.specs.Fits.{IsParty, FitsIncarnation, FitsEndpoint, FitsSource, FitsSignal}
 use Rattle.journal_reader.specs.journal_lines.Numerals.{upto, past, begins, word_in}
 use Rattle.journal_reader.specs.journal_lines.Fields.{party_in, incarnation_in, after_incarnation, after_path, after_generation, after_port, endpoint_in, after_endpoint, source_in, after_source, signal_in}

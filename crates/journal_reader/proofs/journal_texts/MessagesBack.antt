@@ -9,7 +9,8 @@ use Rattle.room_kinds.specs.declared.numbers.Endpoint.{Endpoint}
 use Rattle.room_kinds.specs.declared.message.Msg.{Msg}
 use Rattle.room_wiring.specs.declared.tables.Tables.{Tables}
 use Rattle.room_outside.specs.line_text.Lines.{numbers_text}
-use Rattle.journal.specs.Names.{path_text, port_text, source_parts, endpoint_parts}
+use Rattle.room_wiring.specs.Slots.{path_text, port_text}
+use Rattle.journal.specs.Names.{source_parts, endpoint_parts}
 use Rattle.journal.specs.Lines.{signal_parts, message_parts}
 use Rattle.journal.specs.Fits.{FitsEndpoint, FitsSource, FitsMessage}
 use Rattle.journal_reader.specs.journal_lines.Numerals.{upto, past, byte_in, signed_in}

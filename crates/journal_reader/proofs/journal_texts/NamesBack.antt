@@ -12,14 +12,14 @@ use Rattle.room_wiring.specs.declared.slot.Slot.{Slot}
 use Rattle.room_wiring.specs.declared.names.ClassNames.{ClassNames}
 use Rattle.room_wiring.specs.declared.names.PortNames.{PortNames}
 use Rattle.room_wiring.specs.declared.names.SignalNames.{SignalNames}
-use Rattle.room_wiring.specs.Slots.{class_of, port_at}
+use Rattle.room_wiring.specs.Slots.{class_of, port_at, path_text, port_text}
 use Rattle.room_wiring.specs.Places.{port_count}
 use Rattle.room_wiring.specs.WellNamed.{IsWellNamed, IsWellNamedPort, IsPath, IsIdent, IsStateLabel, signals_of}
 use Rattle.room_wiring.specs.wiring_names.Lookup.{slot_called, port_called, signal_called}
 use Rattle.room_wiring.proofs.wiring_names.Found.{all_at}
 use Rattle.room_wiring.proofs.wiring_names.Fresh.{same_not}
 use Rattle.room_wiring.proofs.wiring_names.Back.{slot_back, class_named, port_back, state_back, signal_back}
-use Rattle.journal.specs.Names.{path_text, port_text, state_text, kind_text, signal_of_port_text, port_signal_text}
+use Rattle.journal.specs.Names.{state_text, kind_text, signal_of_port_text, port_signal_text}
 use Rattle.journal.specs.Fits.{HasSignal, FitsState}
 use Rattle.journal_reader.specs.journal_lines.Fields.{state_in, kind_in}
 use Rattle.journal_reader.proofs.journal_texts.NamesText.{word_byte, path_byte, label_byte, ident_bytes, path_bytes, label_bytes}

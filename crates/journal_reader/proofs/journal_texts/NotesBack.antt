@@ -10,7 +10,8 @@ use Rattle.room_kinds.specs.declared.note.Note.TheVariants as notes
 use Rattle.room_wiring.specs.declared.tables.Tables.{Tables}
 use Rattle.journal.specs.declared.entry.Did.{Did}
 use Rattle.journal.specs.declared.entry.Did.TheVariants as outcomes
-use Rattle.journal.specs.Names.{path_text, state_text, port_text}
+use Rattle.room_wiring.specs.Slots.{path_text, port_text}
+use Rattle.journal.specs.Names.{state_text}
 use Rattle.journal.specs.Lines.{did_parts, note_line, speaking_port_text}
 use Rattle.journal.specs.Fits.{FitsIncarnation, FitsStanding, FitsDid, FitsSpeaker, FitsNote}
 use Rattle.journal_reader.specs.journal_lines.Numerals.{upto, past, number_in, signed_in}

@@ -109,7 +109,9 @@ fn sender_rank(wiring: &Wiring, from: ControllerId) -> u64
 
 /// Pending messages come before the lanes, and those lane by lane.
 fn list_rank(wiring: &Wiring, pending: bool, from: ControllerId) -> u64
-    ensures rank { result ≡ (if pending then 0 else (6 * (1 + length wiring.now.controllers) + sender_rank wiring.now from.0)) }
+    ensures rank { result ≡ (if pending
+        then 0
+        else (6 * (1 + length wiring.now.controllers) + sender_rank wiring.now from.0)) }
     ensures small { result < 4096 }
 {
     if pending {

@@ -184,7 +184,8 @@ fn unposted(draft: &mut Draft, rest: Rest<'_>) -> Result<(), AllocError>
 }
 
 fn controller(alloc: Global, draft: &mut Draft, mut rest: Rest<'_>) -> Result<(), AllocError>
-    ensures { OnOk result (draft.new ≡ titled_by draft.old (record { 0 = byte_in (upto 32 rest.entry) })) }
+    ensures { OnOk result (draft.new
+        ≡ titled_by draft.old (record { 0 = byte_in (upto 32 rest.entry) })) }
 {
     let party = ControllerId(byte(rest.take_until(b' ')));
     draft.begin(alloc, party)

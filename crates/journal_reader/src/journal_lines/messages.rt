@@ -39,7 +39,8 @@ pub fn message(
     sent: Sent,
     mut rest: Rest<'_>,
 ) -> Result<Msg, AllocError>
-    ensures { IfOk result (λ m. m ≡ message_in names.now sent.from.0 sent.to.0 sent.stamp.0 rest.entry) }
+    ensures { IfOk result (λ m.
+        m ≡ message_in names.now sent.from.0 sent.to.0 sent.stamp.0 rest.entry) }
 {
     let prio = Priority(byte(rest.take_until(b' ')));
     let source = source(names, &mut rest);

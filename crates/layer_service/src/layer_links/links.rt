@@ -90,7 +90,8 @@ impl Links {
         port: u16,
         next: Registration,
     ) -> Result<(), AllocError>
-        ensures { let now = with_registration (links_of self.old) slot.0 port (registration_of next) in
+        ensures { let now =
+            with_registration (links_of self.old) slot.0 port (registration_of next) in
             OnOk result (links_of self.new ≡ now) }
     {
         self.list(slot, port)?;

@@ -23,16 +23,13 @@ use Rattle.check_scopes.specs.class_scopes.Views.{SignalView, PortView, Referenc
 use Rattle.wiring_plan.specs.wiring_classes.Classes.{labelled_signals, ports_in, references_in, class_names}
 use Rattle.wiring_plan.specs.wiring_classes.Parts.{labelled, port_names_of, reference_names_of, named}
 use Rattle.model_laws.proofs.class_laws.Scopes.{as_wired, IsPortOf, IsScopeOf}
+use Rattle.binding_expand.proofs.plan_laws.Services.{mapped_some}
 
 -- ---- lists
 
 map_twice : {X Y Z : Type 0} (f : X → Y) (g : Y → Z) (xs : List X) → map g (map f xs) ≡ map (λ x. g (f x)) xs
 map_twice f g [] = refl
 map_twice f g (x ∷ xs) = ap (λ ys. g (f x) ∷ ys) (map_twice f g xs)
-
-mapped_some : {X Y : Type 0} (f : X → Y) (o : Option X) (y : Y) → option_map f o ≡ Some y → (x : X) × (o ≡ Some x) × (f x ≡ y)
-mapped_some f None y e = absurd cc
-mapped_some f (Some x) y e = (x, refl, same_Some (f x) y e)
 
 -- what names and entries make in two ways
 zipped_at : {X Y Z : Type 0} (f : List ℕ → X → Y) (g : List ℕ × X → Z) (ns : List (List ℕ)) (xs : List X) (k : ℕ) (z : Z)

@@ -31,7 +31,7 @@ use Rattle.model_laws.proofs.class_laws.Scopes.{IsScopeOf, found_number, receive
 use Rattle.model_laws.proofs.class_laws.Named.{numbers_in, expression_named, program_named}
 
 -- the program of a text is well formed
-program_is : (bytes : List ℕ) (p : named.Stmts) → program_of bytes ≡ Some p → AreStmts p
+pub program_is : (bytes : List ℕ) (p : named.Stmts) → program_of bytes ≡ Some p → AreStmts p
 unfolding program_of
 program_is bytes p e =
     option_and_then_some (λ ts. option_and_then limited (to_end (stmts_at (statement 64)) ts)) (action_values bytes) p e

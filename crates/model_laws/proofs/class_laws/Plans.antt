@@ -19,7 +19,7 @@ use Rattle.model_laws.specs.class_laws.Programs.{IfAnyNames, ProgramNames, Trigg
 use Rattle.model_laws.proofs.class_laws.Charts.{each_both}
 
 -- what is found first in a list is like all in it
-found_like : {X : Type 0} (P : X → Type 0) (test : X → Bool) (xs : List X) (x : X) → Each P xs → first test xs ≡ Some x → P x
+pub found_like : {X : Type 0} (P : X → Type 0) (test : X → Bool) (xs : List X) (x : X) → Each P xs → first test xs ≡ Some x → P x
 found_like P test [] x h e = absurd cc
 found_like {X} P test (y ∷ ys) x h e = pick (test y) (found_like P test ys x h.1) e
   where
@@ -27,7 +27,7 @@ found_like {X} P test (y ∷ ys) x h e = pick (test y) (found_like P test ys x h
     pick true next k = subst P (same_Some y x k) h.0
     pick false next k = next k
 
-kept_like : {X : Type 0} (P : X → Type 0) (test : X → Bool) (xs : List X) → Each P xs → Each P (filter test xs)
+pub kept_like : {X : Type 0} (P : X → Type 0) (test : X → Bool) (xs : List X) → Each P xs → Each P (filter test xs)
 kept_like P test [] h = tt
 kept_like {X} P test (x ∷ xs) h = pick (test x) (kept_like P test xs h.1)
   where

@@ -20,10 +20,7 @@ use Rattle.wiring_plan.specs.wiring_classes.Classes.{labelled_signals, ports_in,
 use Rattle.wiring_plan.specs.declared.structure_plan.plan.ClassPlan.{ClassPlan}
 use Rattle.wiring_plan.specs.declared.structure_plan.plan.PortPlan.{PortPlan}
 use Rattle.wiring_places.specs.place_rules.Parts.{class_plan, no_class}
-
-pub mapped_some : {X Y : Type 0} (f : X → Y) (o : Option X) (y : Y) → option_map f o ≡ Some y → (x : X) × (o ≡ Some x) × (f x ≡ y)
-mapped_some f None y e = absurd cc
-mapped_some f (Some x) y e = (x, refl, same_Some (f x) y e)
+use Rattle.binding_expand.proofs.plan_laws.Services.{mapped_some}
 
 -- a port of a class that may be known
 abbrev pub port_in : Option Container → ℕ → Option PortEntry

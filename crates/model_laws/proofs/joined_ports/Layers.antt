@@ -20,7 +20,7 @@ use Rattle.wiring_joins.specs.place_faces.SlotsOf.{GivesService, AreSlotsOf}
 use Rattle.wiring_joins.proofs.place_faces.Rows.{IsPort}
 use Rattle.wiring_joins.proofs.place_faces.Services.{IsOfKind}
 use Rattle.wiring_joins.proofs.place_faces.Uses.{of_reference}
-use Rattle.model_laws.proofs.settled_models.Charts.{each_both}
+use Rattle.model_laws.proofs.class_laws.Charts.{each_both}
 
 -- what is found in a list is one of it, and passes the test
 found_in : {X : Type 0} (P : X → Type 0) (test : X → Bool) (xs : List X) (x : X) → All P xs → find test xs ≡ Some x → P x × (test x ≡ true)

@@ -40,11 +40,11 @@ use Rattle.name_agreement.specs.Registrations.{is_point_port}
 use Rattle.model_laws.specs.joined_ports.Protocols.{HasOneProtocol, ModelsLinkOneProtocol}
 use Rattle.model_laws.proofs.joined_ports.Entries.{entry_at, port_in, known_of, tables_are, names_at, names_entry}
 use Rattle.model_laws.proofs.joined_ports.Named.{duty_ports, IsNamed, named_alike}
-use Rattle.model_laws.proofs.settled_models.Charts.{each_both}
+use Rattle.model_laws.proofs.class_laws.Charts.{each_both}
 
 -- ---- the rule on protocols
 
-ends_kept : (m : ModelTree) → first_broken all_rules m ≡ None → first_broken end_rules m ≡ None
+pub ends_kept : (m : ModelTree) → first_broken all_rules m ≡ None → first_broken end_rules m ≡ None
 unfolding single_rules later_rules part_rules
 ends_kept m e = none_first end_rules outer_rules m (none_later data_rules part_rules m (none_later name_rules later_rules m (none_first single_rules count_rules m e)))
 

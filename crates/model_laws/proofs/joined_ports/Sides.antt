@@ -29,7 +29,8 @@ use Rattle.wiring_joins.specs.place_faces.SlotsOf.{AreSlotsOf}
 use Rattle.wiring_joins.proofs.place_faces.Faces.{IsFace}
 use Rattle.wiring_joins.proofs.place_faces.Uses.{UsesOwn, UsesInner, Uses}
 use Rattle.binding_expand.proofs.plan_laws.Numbers.{actors_few, class_is, number_kept}
-use Rattle.model_laws.proofs.joined_ports.Entries.{entry_at, port_in, mapped_some, planned_entry, tables_are, known_of}
+use Rattle.binding_expand.proofs.plan_laws.Services.{mapped_some}
+use Rattle.model_laws.proofs.joined_ports.Entries.{entry_at, port_in, planned_entry, tables_are, known_of}
 use Rattle.model_laws.proofs.joined_ports.Ends.{IsEnd}
 
 -- the type that `binding_rules` keeps to itself, told by the function that gives it

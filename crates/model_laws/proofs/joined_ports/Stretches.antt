@@ -10,14 +10,14 @@ use Rattle.number_graphs.specs.declared.face_chains.FacePair.{FacePair}
 use Rattle.number_graphs.specs.face_chains.Chains.{IsPair, IsPaired}
 use Rattle.wiring_places.specs.declared.place_rules.place.LayerJoin.{LayerJoin}
 use Rattle.wiring_places.specs.declared.place_rules.stretch.Stretch.{Stretch}
-use Rattle.wiring_places.specs.declared.place_rules.stretch.Supply.{Supply}
-use Rattle.wiring_places.specs.declared.place_rules.stretch.Supply.TheVariants.{Limited, Growing}
 use Rattle.wiring_places.specs.place_rules.Parts.{container_class}
 use Rattle.wiring_places.specs.place_rules.Stretches.{side_number, supply, pair_count, stretch, take_more, taken_after, stretches_from, taken_from, none_taken, stretches, all_taken}
 use Rattle.wiring_places.specs.place_rules.Counts.{counts, spans_from, first_ports_from}
 use Rattle.wiring_places.specs.place_rules.Pairs.{side_face, stretch_pair, stretch_pairs, binding_pairs, container_pairs}
 use Rattle.wiring_joins.specs.place_faces.SlotsOf.{AreSlotsOf}
-use Rattle.wiring_joins.proofs.place_faces.Uses.{IsWithin, Uses, side_use}
+use Rattle.wiring_joins.proofs.place_faces.Uses.{Uses, side_use}
+use Rattle.wiring_joins.proofs.place_faces.Containers.{pair_within}
+use Rattle.wiring_places.proofs.binding_stretches.Growing.{right_after, left_after, take_grows}
 
 pub paired_either : (xs ys : List FacePair) (f g : ℕ) → IsPaired (xs ++ ys) f g → IsPaired xs f g ⊎ IsPaired ys f g
 paired_either [] ys f g h = inr h
@@ -29,16 +29,6 @@ paired_either (x ∷ xs) ys f g (inr h) = elim (paired_either xs ys f g h) [
 
 -- ---- what is taken
 
-take_grows : (taken : ℕ → ℕ) (side n other : ℕ) → taken other ≤ take_more taken side n other
-take_grows taken side n other = pick (other == side)
-  where
-    pick : (b : Bool) → taken other ≤ cond b (taken other + n) (taken other)
-    pick true = omega arith
-    pick false = omega arith
-
-take_here : (taken : ℕ → ℕ) (side n : ℕ) → take_more taken side n side ≡ taken side + n
-take_here taken side n = ap (λ b. cond b (taken side + n) (taken side)) (eq-eqb side side refl)
-
 taken_grows : (plan : StructurePlan) (class : ClassPlan) (bs : List BindingPlan) (taken : ℕ → ℕ) (side : ℕ) → taken side ≤ taken_from plan class taken bs side
 unfolding taken_from
 taken_grows plan class [] taken side = omega arith
@@ -49,25 +39,7 @@ taken_grows plan class (b ∷ bs) taken side =
     let more = taken_grows plan class bs (taken_after taken b n) side in
     omega (arith, one, two, more)
 
-left_after : (taken : ℕ → ℕ) (b : BindingPlan) (n : ℕ) → taken (side_number b.left) + n ≤ taken_after taken b n (side_number b.left)
-left_after taken b n =
-    let one = take_here taken (side_number b.left) n in
-    let two = take_grows (take_more taken (side_number b.left) n) (side_number b.right) n (side_number b.left) in
-    omega (arith, one, two)
-
-right_after : (taken : ℕ → ℕ) (b : BindingPlan) (n : ℕ) → taken (side_number b.right) + n ≤ taken_after taken b n (side_number b.right)
-right_after taken b n =
-    let one = take_here (take_more taken (side_number b.left) n) (side_number b.right) n in
-    let two = take_grows taken (side_number b.left) n (side_number b.right) in
-    omega (arith, one, two)
-
 -- ---- a stretch's places are those of its sides
-
-pair_within : (a b : Supply) (i j most other k : ℕ) → k < pair_count a i b j → i + pair_count a i b j ≤ most → j + pair_count a i b j ≤ other → IsWithin a most (i + k) × IsWithin b other (j + k)
-pair_within (Limited m) (Limited n) i j most other k lt le le' = (omega (arith, lt), omega (arith, lt))
-pair_within (Limited m) Growing i j most other k lt le le' = (omega (arith, lt), omega (arith, lt, le'))
-pair_within Growing (Limited n) i j most other k lt le le' = (omega (arith, lt, le), omega (arith, lt))
-pair_within Growing Growing i j most other k lt le le' = absurd (omega (arith, lt))
 
 counted : (same : Bool) (k many : ℕ) → k < cond same 0 many → cond same 0 many ≡ many
 counted true k many less = absurd (omega (arith, less))

@@ -12,6 +12,7 @@ use Rattle.chart_reading.specs.Around.{Around, around, list_of}
 use Rattle.chart_reading.specs.Reading.{before_action, transition_of, state_of, Piece, begun, graphs_of, with_actions, with_transition, with_inner, action_in, with_item, with_state, with_body, with_subgraph, with_items, at_first, chart_of}
 use Rattle.chart_reading.specs.chart_codes.Progress.{Progress, after_action}
 use Rattle.model_laws.proofs.settled_models.Programs.{action_worded}
+use Rattle.model_laws.proofs.class_laws.Charts.{each_both}
 
 abbrev pub StateWorded : State → Type 0
 StateWorded s = ProgramAsks is_worded s.entry × ProgramAsks is_worded s.exit
@@ -25,10 +26,6 @@ GraphWorded g = Each StateWorded g.states × Each TransitionWorded g.transitions
 -- no program of the chart sends at the system level
 abbrev pub ChartWorded : Chart → Type 0
 ChartWorded c = Each GraphWorded c.graphs
-
-pub each_both : {X : Type 0} (P : X → Type 0) (xs ys : List X) → Each P xs → Each P ys → Each P (xs ++ ys)
-each_both P [] ys h k = k
-each_both P (x ∷ xs) ys h k = (h.0, each_both P xs ys h.1 k)
 
 record PieceWorded (p : Piece) : Type 0 where
   states : Each StateWorded p.states

@@ -39,7 +39,7 @@ use Rattle.wiring_places.specs.declared.place_rules.place.Role.TheVariants as ro
 use Rattle.wiring_places.specs.place_rules.Parts.{class_plan, no_class}
 use Rattle.wiring_places.specs.place_rules.Counts.{counts, spans_from, first_ports_from, span_of}
 use Rattle.wiring_places.specs.place_rules.Layers.{layer_joins}
-use Rattle.wiring_places.specs.place_rules.Partners.{role_of, is_relay_role, is_end_role, across_places, across_from, partner_of_role, lets_tell, any_joined, owner_of as owner_by}
+use Rattle.wiring_places.specs.place_rules.Partners.{role_of, is_relay_role, is_end_role, across_places, partner_of_role, lets_tell, any_joined, owner_of as owner_by}
 use Rattle.wiring_joins.specs.place_joins.Joined.{IsJoined}
 use Rattle.wiring_joins.specs.joined_places.Wired.{counts_in, spans_in, places_in, pairs_in}
 use Rattle.wiring_joins.proofs.join_laws.Looks.{fails_at}
@@ -56,6 +56,7 @@ use Rattle.world_agreement.specs.Imports.{OwnersAreThere}
 use Rattle.world_agreement.specs.Mutual.{seen_as}
 use Rattle.model_laws.proofs.settled_models.Chains.{leads_back}
 use Rattle.model_laws.proofs.settled_models.Located.{IsAt, place_found}
+use Rattle.wiring_joins.proofs.joined_places.Shown.{two_faces}
 
 -- ---- lists
 
@@ -68,11 +69,6 @@ as_long [] ys i x d long e = absurd cc
 as_long (x ∷ xs) [] i y d long e = absurd (omega (arith, long))
 as_long (x ∷ xs) (y ∷ ys) zero z d long e = refl
 as_long (x ∷ xs) (y ∷ ys) (suc i) z d long e = as_long xs ys i z d (omega (arith, long)) e
-
-two_faces : (face : ℕ) (xs : List Place) → length (across_from face xs) ≡ 2 * length xs
-unfolding across_from
-two_faces face [] = refl
-two_faces face (x ∷ xs) = let h = two_faces (face + 2) xs in omega (arith, h)
 
 any_at : (test : Place → Partner → Bool) (places : List Place) (ps : List Partner) (i : ℕ) (x : Place) (p : Partner) → slice_get places i ≡ Some x → slice_get ps i ≡ Some p → test x p ≡ true
     → any_joined test places ps ≡ true

@@ -14,7 +14,7 @@ use Rattle.wiring_places.specs.place_rules.Partners.{role_of, places_of_port, pl
 use Rattle.number_graphs.specs.face_matchings.Offsets.{offset}
 use Rattle.number_graphs.proofs.face_matchings.Places.{offset_next}
 use Rattle.wiring_joins.proofs.slot_references.Counting.{get_either}
-use Rattle.wiring_joins.proofs.place_faces.Rows.{offset_first, port_lengths, IsPort, own_count, row_of, count_at, ports_places_long}
+use Rattle.wiring_joins.proofs.place_faces.Rows.{offset_first, port_lengths, IsPort, own_count, row_of, count_at, ports_places_long, port_places_long}
 
 port_place_of : (s p : ℕ) (role : Role) (k n i : ℕ) (y : Place) → slice_get (places_of_port s p role k n) i ≡ Some y
     → (i < n) × (y ≡ record { slot = s; port = p; place = k + i; role = role })
@@ -28,11 +28,6 @@ port_place_of s p role k (suc n) (suc i) y e =
     let below = more.0 in
     let same : (k + 1) + i ≡ k + suc i = omega arith in
     (omega (arith, below), more.1 ∙ ap (λ m. let x : Place = record { slot = s; port = p; place = m; role = role } in x) same)
-
-port_places_long : (s p : ℕ) (role : Role) (k n : ℕ) → length (places_of_port s p role k n) ≡ n
-unfolding places_of_port
-port_places_long s p role k zero = refl
-port_places_long s p role k (suc n) = ap suc (port_places_long s p role (k + 1) n)
 
 -- the place at i of the places of ports, the first of which has the number p, is one of the port q behind it
 record IsOfPort (imported : Bool) (s : ℕ) (cs : List ℕ) (row p : ℕ) (ports : List PortPlan) (i : ℕ) (y : Place) : Type 0 where

@@ -56,6 +56,7 @@ use Rattle.model_laws.proofs.settled_models.Types.{Above, Pending}
 use Rattle.model_laws.proofs.settled_models.Trails.{Stand, all_stand, stand_both, number_above}
 use Rattle.model_laws.proofs.settled_models.Kept.{wired_all, planned_here}
 use Rattle.model_laws.proofs.settled_models.Wired.{wiring_consistent}
+use Rattle.model_laws.proofs.class_laws.Charts.{each_both}
 
 -- ---- each slot's owner is a controller
 
@@ -90,10 +91,6 @@ Local t x = is_imported_kind x.kind ≡ true → (c : ℕ) → container_number 
 -- what stands above has this owner
 abbrev Owned : Tables → Above → Type 0
 Owned t above = (c : ℕ) → number_above above ≡ Some c → above.owner.0 ≡ owner_in t c
-
-each_both : {X : Type 0} (P : X → Type 0) (xs ys : List X) → Each P xs → Each P ys → Each P (xs ++ ys)
-each_both P [] ys h k = k
-each_both P (x ∷ xs) ys h k = (h.0, each_both P xs ys h.1 k)
 
 imported_kind : (k : ReferenceKind) → is_imported_kind k ≡ true → k ≡ kinds.Imported
 imported_kind kinds.Fixed h = absurd cc

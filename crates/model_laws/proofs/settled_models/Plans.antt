@@ -2,7 +2,7 @@
 use Rattle.std.proofs.Common.{◌≡◌, inl, inr, ℕ, ◌<◌, Bool, true, false, cond, List, [], ◌∷◌, ◌++◌, length, map, Option, Some, None, refl, sym, subst}
 use Rattle.std.specs.List.{AllByRecursion as Each, filter}
 use Rattle.std.specs.Option.{option_map_or}
-use Rattle.std.proofs.lemmas.Option.{same_Some, slice_get_cases}
+use Rattle.std.proofs.lemmas.Option.{slice_get_cases}
 use Rattle.action_program.specs.Numbered.{no_stmt, program_view}
 use Rattle.chart_model.specs.chart_plan.Plan.{Kind, Border, Choice, Entry, Exit}
 use Rattle.chart_model.specs.chart_plan.Same.{Each as EachSame, none, more, SameKind, simple, border, choice, entry, exit}
@@ -14,27 +14,12 @@ use Rattle.chart_run.specs.declared.chart_tables.tables.Tables.{Tables}
 use Rattle.chart_run.specs.ByName.{Names, IsPath, IsTransition, Shows}
 use Rattle.model_laws.specs.settled_models.Open.{is_worded}
 use Rattle.chart_behaviour.specs.chart_asks.Asking.{ProgramAsks, ArrowAsks, GoesOn, TablesAsk}
-use Rattle.model_laws.proofs.settled_models.Charts.{StateWorded, TransitionWorded, GraphWorded, ChartWorded, each_both}
+use Rattle.model_laws.proofs.class_laws.Charts.{each_both}
+use Rattle.model_laws.proofs.settled_models.Charts.{StateWorded, TransitionWorded, GraphWorded, ChartWorded}
+use Rattle.model_laws.proofs.class_laws.Plans.{found_like, kept_like}
 
 abbrev pub PlacedWorded : Placed → Type 0
 PlacedWorded t = TransitionWorded t.transition
-
--- what is found first in a list is like all in it
-found_like : {X : Type 0} (P : X → Type 0) (test : X → Bool) (xs : List X) (x : X) → Each P xs → first test xs ≡ Some x → P x
-found_like P test [] x h e = absurd cc
-found_like {X} P test (y ∷ ys) x h e = pick (test y) (found_like P test ys x h.1) e
-  where
-    pick : (b : Bool) → (first test ys ≡ Some x → P x) → cond b (Some y) (first test ys) ≡ Some x → P x
-    pick true next k = subst P (same_Some y x k) h.0
-    pick false next k = next k
-
-kept_like : {X : Type 0} (P : X → Type 0) (test : X → Bool) (xs : List X) → Each P xs → Each P (filter test xs)
-kept_like P test [] h = tt
-kept_like {X} P test (x ∷ xs) h = pick (test x) (kept_like P test xs h.1)
-  where
-    pick : (b : Bool) → Each P (filter test xs) → Each P (cond b (x ∷ filter test xs) (filter test xs))
-    pick true k = (h.0, k)
-    pick false k = k
 
 -- ---- the plan of a chart
 

@@ -3,22 +3,18 @@ use Rattle.std.proofs.Common.{◌≡◌, nat_le, ◌&&◌, Bool, true, false, co
 use Rattle.std.specs.Prelude.{option_and_then, is_none}
 use Rattle.std.specs.Option.{option_map_or}
 use Rattle.std.proofs.lemmas.Bool.{and_from}
-use Rattle.std.proofs.lemmas.Option.{cond_some, option_and_then_some}
 use Rattle.room_kinds.specs.declared.numbers.Priority.{Priority}
 use Rattle.room_ast.specs.declared.chart.Code.{Code}
 use Rattle.room_ast.specs.declared.scope.Scope.{Scope}
-use Rattle.token_reading.specs.Reader.{to_end}
-use Rattle.token_reading.specs.action_tokens.Values.{action_values}
 use Rattle.action_program.specs.Named as named
 use Rattle.action_program.specs.Numbered as numbered
-use Rattle.action_parse.specs.action_reading.Written.{IsPrio, IsStmt, AreStmts, AreBranches, IsElse, repeats_within}
-use Rattle.action_parse.specs.action_reading.StmtReading.{stmts_at, statement}
-use Rattle.action_parse.proofs.action_reading.Whole.{program_fits}
+use Rattle.action_parse.specs.action_reading.Written.{IsPrio, IsStmt, AreStmts, AreBranches, IsElse}
 use Rattle.action_lang.specs.action_check.Faults.{stmts_fault}
 use Rattle.action_lang.specs.action_check.Numbering.{priority_of, stmt_names, stmts_names, branches_names, numbered_stmt, numbered_stmts, numbered_branches, numbered_else}
 use Rattle.model_laws.specs.settled_models.Open.{is_worded}
 use Rattle.chart_behaviour.specs.chart_asks.Asking.{StatementAsks, ProgramAsks, BranchesAsk}
-use Rattle.chart_reading.specs.chart_codes.Codes.{code_bytes, limited, program_of, bound_of, action_of}
+use Rattle.chart_reading.specs.chart_codes.Codes.{code_bytes, program_of, bound_of, action_of}
+use Rattle.model_laws.proofs.class_laws.Codes.{program_is}
 
 -- a priority that has a word, or general where none is written
 prio_worded : (p : Option Priority) → IsPrio p → (nat_le 1 (priority_of p).0 && nat_le (priority_of p).0 5) ≡ true
@@ -53,14 +49,6 @@ mutual
   else_worded : (scope : Scope) (names : List (List ℕ)) (o : named.Otherwise) → IsElse o → ProgramAsks is_worded (numbered_else scope names o)
   else_worded scope names named.no_else h = tt
   else_worded scope names (named.an_else body) h = stmts_worded scope names body h
-
--- the program of a text is well formed
-program_is : (bytes : List ℕ) (p : named.Stmts) → program_of bytes ≡ Some p → AreStmts p
-unfolding program_of
-program_is bytes p e =
-    option_and_then_some (λ ts. option_and_then limited (to_end (stmts_at (statement 64)) ts)) (action_values bytes) p e
-    (λ ts at is. option_and_then_some limited (to_end (stmts_at (statement 64)) ts) p is
-    (λ t read fits. subst AreStmts (cond_some (repeats_within t 2) t p fits).1 (program_fits 64 ts t read).0))
 
 -- so an action sends at no other priority
 pub action_worded : (scope : Scope) (names : Option (List (List ℕ))) (code : Option Code) → ProgramAsks is_worded (action_of scope names code)

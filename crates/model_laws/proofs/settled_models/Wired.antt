@@ -10,8 +10,8 @@ use Rattle.check_classes.specs.class_rules.Types.{has_fitting_values}
 use Rattle.check_tables.specs.containment_rules.Circles.{actors_are_finite}
 use Rattle.check_structure.specs.structure_rules.Threads.{threads_are_few}
 use Rattle.structure_check.specs.Rules.{first_broken}
-use Rattle.structure_check.specs.List.{name_rules, data_rules, end_rules, outer_rules, part_rules, later_rules, single_rules, count_rules, thread_rules, all_rules}
-use Rattle.structure_check.proofs.KeptRules.{none_first, none_later, head_kept}
+use Rattle.structure_check.specs.List.{end_rules, thread_rules, all_rules}
+use Rattle.structure_check.proofs.KeptRules.{head_kept}
 use Rattle.wiring_plan.specs.structure_plan.Plans.{plan_of}
 use Rattle.wiring_places.specs.place_rules.Layers.{layer_joins}
 use Rattle.wiring_slots.specs.model_slots.Answers.{slots_in, wired}
@@ -23,12 +23,9 @@ use Rattle.binding_expand.specs.Wirings.{IsWiringOf}
 use Rattle.binding_expand.specs.wiring_tables.Assembled.{assembled, AreComplete}
 use Rattle.binding_expand.proofs.wiring_tables.Consistent.{assembled_consistent}
 use Rattle.model_laws.proofs.settled_models.Kept.{threads_kept}
+use Rattle.model_laws.proofs.joined_ports.Points.{ends_kept}
 
 -- ---- the rules that are kept
-
-ends_kept : (m : ModelTree) → first_broken all_rules m ≡ None → first_broken end_rules m ≡ None
-unfolding single_rules later_rules part_rules
-ends_kept m e = none_first end_rules outer_rules m (none_later data_rules part_rules m (none_later name_rules later_rules m (none_first single_rules count_rules m e)))
 
 fourth_kept : (a b c d : Bool) (o : Option ℕ) (i j k l : ℕ) → cond a (cond b (cond c (cond d o (Some l)) (Some k)) (Some j)) (Some i) ≡ None → d ≡ true
 fourth_kept true true true true o i j k l e = refl

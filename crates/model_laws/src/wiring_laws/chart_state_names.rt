@@ -18,5 +18,10 @@ ghost use Rattle.model_laws.specs.wiring_laws.read_wirings.Differ.{StatesDiffer}
 /// The wiring of a model that keeps all rules, and none of whose charts has a fault, is well named, where
 /// the names among the model's tokens are names of the language, as they are in each text.
 pub fn sound_wirings_are_well_named()
-    ensures { (m : ModelTree) (t : AnyTables) (charts : List (Option Chart)) → first_broken all_rules m ≡ None → HasNames (model_tokens m) → HasCharts m charts → IsWiringOf m t → IsWellNamed t }
+    ensures { (m : ModelTree) (t : AnyTables) (charts : List (Option Chart))
+        → first_broken all_rules m ≡ None
+        → HasNames (model_tokens m)
+        → HasCharts m charts
+        → IsWiringOf m t
+        → IsWellNamed t }
 {}

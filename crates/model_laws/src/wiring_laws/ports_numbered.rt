@@ -15,6 +15,14 @@ ghost use Rattle.frame_service.specs.frame_imports.Numbered.{ArePortsNumbered};
 /// Tables that have the slots and the classes of a model that breaks no rule, as its wiring has, meet
 /// what the frame service asks of a wiring.
 pub fn wiring_fits()
-    ensures order { (m : ModelTree) (t : AnyTables) → first_broken all_rules m ≡ None → t.slots ≡ slots_in m → t.classes ≡ classes_of m → IsDepthFirst t }
-    ensures ports { (m : ModelTree) (t : AnyTables) → first_broken all_rules m ≡ None → t.slots ≡ slots_in m → t.classes ≡ classes_of m → ArePortsNumbered t }
+    ensures order { (m : ModelTree) (t : AnyTables)
+        → first_broken all_rules m ≡ None
+        → t.slots ≡ slots_in m
+        → t.classes ≡ classes_of m
+        → IsDepthFirst t }
+    ensures ports { (m : ModelTree) (t : AnyTables)
+        → first_broken all_rules m ≡ None
+        → t.slots ≡ slots_in m
+        → t.classes ≡ classes_of m
+        → ArePortsNumbered t }
 {}

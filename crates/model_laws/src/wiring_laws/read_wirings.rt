@@ -16,5 +16,10 @@ ghost use Rattle.model_laws.specs.wiring_laws.read_wirings.Differ.{StatesDiffer}
 /// of the language, as they are in each text, and the states of each graph of a chart have different
 /// names.
 pub fn read_wirings_are_well_named()
-    ensures { (m : ModelTree) (t : AnyTables) → first_broken all_rules m ≡ None → HasNames (model_tokens m) → StatesDiffer m → IsWiringOf m t → IsWellNamed t }
+    ensures { (m : ModelTree) (t : AnyTables)
+        → first_broken all_rules m ≡ None
+        → HasNames (model_tokens m)
+        → StatesDiffer m
+        → IsWiringOf m t
+        → IsWellNamed t }
 {}

@@ -21,6 +21,7 @@ use Rattle.controller.proofs.Going.{goes_none}
 use Rattle.model_run.specs.run_worker.Works.{Works}
 use Rattle.model_run.proofs.run_loop.ListFacts.{found}
 use Rattle.model_run.specs.joined_round.Joined.{AllStand, Changes, LastTurn, IsReady, seat, WorkedAt, FetchedAt, TurnedAt, HaveWorked, AreJoined, Joined, RoundDone}
+use Rattle.controller.proofs.Standing.{some_at}
 
 -- where nobody's turn is, no message waits
 lowest_none : (pending : ℕ → List Msg) (at k : ℕ) → lowest pending at k ≡ None → (j : ℕ) → at ≤ j → j < at + k → pending j ≡ []
@@ -139,11 +140,6 @@ pub list_at : {X : Type 0} (f : X → List Msg) (lists first : List X) (i : ℕ)
 list_at f lists first i v same at h =
     let there : slice_get first i ≡ Some v = sym same ∙ slice_get_read lists (length lists) i v refl h at in
     sym (get_or-map f first i v [] (slice_get_within first i v there) ∙ ap f (get_or_from_slice_get first i v v there))
-
-pub some_at : {X : Type 0} (xs : List X) (c : ℕ) → c < length xs → (x : X) × (slice_get xs c ≡ Some x)
-some_at [] c h = absurd (omega arith)
-some_at (x ∷ xs) zero h = (x, refl)
-some_at (x ∷ xs) (suc c) h = some_at xs c (omega arith)
 
 -- after the workers each controller is one of the plant, with nothing left to post
 pub worked_of : (plant : Plant) (olds mids : List Controller) (logs logs' : List EndLog) → StepsBelow (WorkedAt plant) (length olds) (seat olds logs) (seat mids logs')

@@ -23,7 +23,8 @@ use Rattle.model_run.specs.run_rounds.Rounds.{EndDid, PostsAbove}
 use Rattle.model_run.specs.run_so_far.SoFar.{EndsPosted}
 use Rattle.model_run.specs.joined_round.ByPriority.{AreOfPriority, IsByPriority, AreByPriority, HavePriorities, AreAnswerable}
 use Rattle.model_run.specs.joined_round.Joined.{HaveWorked, Seat}
-use Rattle.model_run.proofs.joined_round.JoinLaw.{same_there, some_at}
+use Rattle.controller.proofs.Standing.{some_at}
+use Rattle.model_run.proofs.joined_round.JoinLaw.{same_there}
 use Rattle.model_run.proofs.run_rounds.LaneLists.{given_for, replays_from}
 
 -- ---- lists

@@ -14,7 +14,8 @@ use Rattle.model_run.specs.declared.joined_round.seat.Seat.{Seat}
 use Rattle.model_run.specs.run_worker.Works.{Works}
 use Rattle.model_run.specs.joined_round.Joined.{AllStand, WorkedAt, HaveWorked, seat}
 use Rattle.model_run.specs.joined_round.Seats.{Each, CanWork, HasWorked, AreSeated}
-use Rattle.model_run.proofs.joined_round.JoinLaw.{some_at, same_there}
+use Rattle.controller.proofs.Standing.{some_at}
+use Rattle.model_run.proofs.joined_round.JoinLaw.{same_there}
 
 front_at : {X : Type 0} (xs ys : List X) (c : ℕ) (x : X) → slice_get xs c ≡ Some x → slice_get (xs ++ ys) c ≡ Some x
 front_at [] ys c x h = absurd cc

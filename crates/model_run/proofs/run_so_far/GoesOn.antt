@@ -33,6 +33,7 @@ use Rattle.controller.proofs.Standing.{some_at, state_is}
 use Rattle.model_run.proofs.run_worker.WorkLaw.{fetched_of}
 use Rattle.model_run.specs.joined_round.Joined.{Joined, RoundDone}
 use Rattle.model_run.specs.run_so_far.SoFar.{world_of, whole, IsSound, RunSoFar, EndsPosted, EnvironmentPosts}
+use Rattle.model_run.proofs.joined_round.JoinLaw.{same_there}
 
 turns_even : (c : ℕ) (es : List Entry) → OnlyTurns es → OwnFetched c es
 turns_even c es h = record { all = λ p b. turns_give (lane c c p) c es h ∙ sym (turns_take (lane c c p) c es h) }
@@ -42,9 +43,6 @@ turns_prompt : (c : ℕ) (before es : List Entry) → OwnFetched c before → On
 turns_prompt c before [] h o = tt
 turns_prompt c before (e ∷ es) h o =
     (λ t. may_turn_even c before h, turns_prompt c (before ++ e ∷ []) es (own_append c before (e ∷ []) h (turns_even c (e ∷ []) (o.0, tt))) o.1)
-
-same_there : {X : Type 0} (o : Option X) (x y : X) → o ≡ Some x → o ≡ Some y → x ≡ y
-same_there o x y e f = let both : Some x ≡ Some y = sym e ∙ f in cc
 
 module _ (plant : Plant) where
   module _ (gone : List Item) (fuel : ℕ) (ks news : List Controller) (v after : Environment) (posts es : List Entry) (logs logs' : List EndLog) (answer : List (List Msg))

@@ -27,6 +27,7 @@ use Rattle.controller.specs.Controllers.{IsOf, Begins, run_plant, state_in, stat
 use Rattle.controller.specs.View.{Controller}
 use Rattle.model_run.specs.run_so_far.SoFar.{world_of, RunSoFar}
 use Rattle.model_run.specs.run_start.Begun.{AllBegun}
+use Rattle.controller.proofs.Standing.{some_at}
 
 -- each of these entries is a start
 abbrev pub IsStart : Entry → Type 0
@@ -81,11 +82,6 @@ start_no_turn (entry.Post stamp m) h = refl
 starts_no_turns : (es : List Entry) → OnlyStarts es → NoTurns es
 starts_no_turns [] h = tt
 starts_no_turns (e ∷ es) h = (start_no_turn e h.0, starts_no_turns es h.1)
-
-some_at : {X : Type 0} (xs : List X) (c : ℕ) → c < length xs → (x : X) × (slice_get xs c ≡ Some x)
-some_at [] c h = absurd (omega arith)
-some_at (x ∷ xs) zero h = (x, refl)
-some_at (x ∷ xs) (suc c) h = some_at xs c (omega arith)
 
 -- one element more at the end
 pushed : {X : Type 0} (xs : List X) (x : X) (c : ℕ) (k : X) → slice_get (xs ++ x ∷ []) c ≡ Some k → (slice_get xs c ≡ Some k) ⊎ ((c ≡ length xs) × (x ≡ k))

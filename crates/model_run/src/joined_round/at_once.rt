@@ -24,7 +24,9 @@ pub(crate) fn work_at_once<M: Mail<Office = ()> + Send + Drop, G: Gate + Sync, R
     requires stand { AllStand plant.now controllers.old.items }
     requires count { length ends.items ≡ length plant.now.wiring.controllers + 1 }
     requires tied { M.tied tt ends.items }
-    ensures worked { IfOk result (λ after. HaveWorked plant.now controllers.old.items (map M.log ends.items) controllers.new.items (map M.log after.items)) }
+    ensures worked { IfOk result (λ after.
+        HaveWorked plant.now controllers.old.items (map M.log ends.items) controllers.new.items
+        (map M.log after.items)) }
     ensures tied { IfOk result (λ after. M.tied tt after.items) }
 {
     let Some(environment) = ends.pop() else {

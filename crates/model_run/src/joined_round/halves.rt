@@ -58,11 +58,19 @@ fn work_both<S: Works<P, G> + Send, P: Sync, G: Sync, R: Threads + Sync>(
     ensures back { OnOk result (Each (S.did plant.now) back.old back.new) }
 {
     let mut first = || -> Result<(), AllocError>
-        requires { IsSync R.row × IsSync P.row × IsSync G.row × IsSend S.row × All (S.can plant.now) front.now }
+        requires { IsSync R.row
+            × IsSync P.row
+            × IsSync G.row
+            × IsSend S.row
+            × All (S.can plant.now) front.now }
         ensures { OnOk result (Each (S.did plant.entry.now) front.entry.now front.exit.now) }
     { work_halves(rt, plant, gate, front) };
     let mut second = || -> Result<(), AllocError>
-        requires { IsSync R.row × IsSync P.row × IsSync G.row × IsSend S.row × All (S.can plant.now) back.now }
+        requires { IsSync R.row
+            × IsSync P.row
+            × IsSync G.row
+            × IsSend S.row
+            × All (S.can plant.now) back.now }
         ensures { OnOk result (Each (S.did plant.entry.now) back.entry.now back.exit.now) }
     { work_halves(rt, plant, gate, back) };
     let (one, other) = join_mut(rt, &mut first, &mut second);

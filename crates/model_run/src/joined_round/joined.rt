@@ -18,11 +18,15 @@ pub(crate) fn fetch_all(
     plant: &Plant,
     mut left: Vec<Vec<Msg>>,
 ) -> Result<(), AllocError>
-    requires of { (c : ℕ) (k : Seated) → slice_get controllers.old.items c ≡ Some k → IsOf plant.now k }
+    requires of { (c : ℕ) (k : Seated) → slice_get controllers.old.items c ≡ Some k
+        → IsOf plant.now k }
     requires count { length left.items ≡ length controllers.old.items }
     requires priorities { HavePriorities (map (λ v. v.items) left.items) }
-    requires answerable { AreAnswerable (length plant.now.wiring.controllers) (map (λ v. v.items) left.items) }
-    ensures ok { OnOk result (StepsBelow (FetchedAt plant.now (map (λ v. v.items) left.items)) (length controllers.old.items) (slice_get controllers.old.items) (slice_get controllers.new.items)) }
+    requires answerable { AreAnswerable (length plant.now.wiring.controllers) (map (λ v. v.items)
+        left.items) }
+    ensures ok { OnOk result (StepsBelow (FetchedAt plant.now (map (λ v. v.items) left.items))
+        (length controllers.old.items)
+        (slice_get controllers.old.items) (slice_get controllers.new.items)) }
     ensures count { OnOk result (length controllers.new.items ≡ length controllers.old.items) }
 {
     for i in 0..controllers.len() {
@@ -47,8 +51,10 @@ fn last_turn(controller: &mut Controller, plant: &Plant) -> Result<(), AllocErro
 
 /// Each controller whose fuel is not spent takes a turn, if a message waits for one.
 pub(crate) fn turn_all(controllers: &mut Vec<Controller>, plant: &Plant) -> Result<(), AllocError>
-    requires ready { (c : ℕ) (k : Seated) → slice_get controllers.old.items c ≡ Some k → IsReady plant.now k }
-    ensures ok { OnOk result (StepsBelow (TurnedAt plant.now) (length controllers.old.items) (slice_get controllers.old.items) (slice_get controllers.new.items)) }
+    requires ready { (c : ℕ) (k : Seated) → slice_get controllers.old.items c ≡ Some k
+        → IsReady plant.now k }
+    ensures ok { OnOk result (StepsBelow (TurnedAt plant.now) (length controllers.old.items)
+        (slice_get controllers.old.items) (slice_get controllers.new.items)) }
     ensures count { OnOk result (length controllers.new.items ≡ length controllers.old.items) }
 {
     for i in 0..controllers.len() {

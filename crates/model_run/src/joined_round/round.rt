@@ -25,8 +25,10 @@ fn join_all<M: Mail>(
     requires posted { HavePosted plant.now controllers.old.items }
     requires count { length ends.items ≡ length controllers.old.items + 1 }
     requires tied { M.tied office ends.items }
-    requires by_priority { AreByPriority (length plant.now.wiring.controllers) (map M.log ends.items) }
-    ensures { OnOk result (AreJoined plant.now controllers.old.items controllers.new.items (map M.log ends.items)) }
+    requires by_priority { AreByPriority (length plant.now.wiring.controllers) (map M.log
+        ends.items) }
+    ensures { OnOk result (AreJoined plant.now controllers.old.items controllers.new.items
+        (map M.log ends.items)) }
 {
     let left = M::close(alloc, office, ends)?;
     fetch_all(alloc, controllers, plant, left)?;
@@ -47,8 +49,12 @@ where
     requires stand { AllStand plant.now controllers.old.items }
     requires count { length ends.items ≡ length plant.now.wiring.controllers + 1 }
     requires tied { M.tied office ends.items }
-    requires by_priority { AreByPriority (length plant.now.wiring.controllers) (map M.log ends.items) }
-    ensures { OnOk result ((logs : List EndLog) × (answer : List (List Message)) × RoundDone plant.now controllers.old.items controllers.new.items (map M.log ends.items) logs answer) }
+    requires by_priority { AreByPriority (length plant.now.wiring.controllers) (map M.log
+        ends.items) }
+    ensures { OnOk result ((logs : List EndLog)
+        × (answer : List (List Message))
+        × RoundDone plant.now controllers.old.items controllers.new.items (map M.log ends.items)
+        logs answer) }
 {
     work_in_order(controllers, plant, &mut office, &mut ends)?;
     join_all(alloc, controllers, plant, office, ends)
@@ -68,8 +74,12 @@ pub fn round_at_once<M: Mail<Office = ()> + Send + Drop, G: Gate + Sync, R: Thre
     requires stand { AllStand plant.now controllers.old.items }
     requires count { length ends.items ≡ length plant.now.wiring.controllers + 1 }
     requires tied { M.tied tt ends.items }
-    requires by_priority { AreByPriority (length plant.now.wiring.controllers) (map M.log ends.items) }
-    ensures { OnOk result ((logs : List EndLog) × (answer : List (List Message)) × RoundDone plant.now controllers.old.items controllers.new.items (map M.log ends.items) logs answer) }
+    requires by_priority { AreByPriority (length plant.now.wiring.controllers) (map M.log
+        ends.items) }
+    ensures { OnOk result ((logs : List EndLog)
+        × (answer : List (List Message))
+        × RoundDone plant.now controllers.old.items controllers.new.items (map M.log ends.items)
+        logs answer) }
 {
     let after = work_at_once(rt, alloc, controllers, plant, ends, gate)?;
     join_all(alloc, controllers, plant, (), after)

@@ -18,7 +18,8 @@ pub(crate) fn work_in_order<M: Mail>(
     requires stand { AllStand plant.now controllers.old.items }
     requires count { length ends.old.items ≡ length plant.now.wiring.controllers + 1 }
     requires tied { M.tied office.old ends.old.items }
-    ensures worked { OnOk result (HaveWorked plant.now controllers.old.items (map M.log ends.old.items) controllers.new.items (map M.log ends.new.items)) }
+    ensures worked { OnOk result (HaveWorked plant.now controllers.old.items
+        (map M.log ends.old.items) controllers.new.items (map M.log ends.new.items)) }
     ensures tied { OnOk result (M.tied office.new ends.new.items) }
 {
     for number in 0..plant.wiring.controller_count() {

@@ -25,7 +25,8 @@ pub fn post_part<M: Mail>(
     requires tied { IsTied M.tied (M.log end.old).party office.old end.old }
     requires part { IsPart part.now }
     requires fits { FitLines plant.now.wiring part.now }
-    ensures ok { OnOk result (PostsThePart plant.now part.now environment.old environment.new (M.log end.old) (M.log end.new)) }
+    ensures ok { OnOk result (PostsThePart plant.now part.now environment.old environment.new
+        (M.log end.old) (M.log end.new)) }
     ensures tied { StaysTied M.tied (M.log end.old).party office.old office.new end.old end.new }
 {
     for at in 0..part.len() {

@@ -23,9 +23,11 @@ pub fn told<S: PartSource>(
     fuel: u64,
     done: bool,
 ) -> Result<Journals, AllocError>
-    requires at_end { IsAtEnd plant.now (items_of plant.now.wiring (S.given source.now)) fuel controllers.items environment done }
+    requires at_end { IsAtEnd plant.now (items_of plant.now.wiring (S.given source.now)) fuel
+        controllers.items environment done }
     requires whole { done ≡ true → S.left source.now ≡ [] }
-    ensures ran { IfOk result (λ j. RanThrough plant.now (S.given source.now) (S.left source.now) fuel j) }
+    ensures ran { IfOk result (λ j.
+        RanThrough plant.now (S.given source.now) (S.left source.now) fuel j) }
     ensures seen { IfOk result (λ j. seen_in j ≡ seen controllers.items environment) }
 {
     let count = plant.wiring.controller_count();

@@ -23,13 +23,19 @@ fn next_part<S: PartSource>(
     source: &mut S,
     fuel: u64,
 ) -> Result<bool, AllocError>
-    requires within { InPart plant.now (items_of plant.now.wiring (S.given source.old)) fuel run.old.controllers.items run.old.environment }
+    requires within { InPart plant.now (items_of plant.now.wiring (S.given source.old)) fuel
+        run.old.controllers.items run.old.environment }
     requires stopped { list_all (rests fuel) run.old.controllers.items ≡ true }
-    ensures stands { IfOk result (λ more. StandsAtPart plant.now (S.given source.new) (S.stands_at source.new) (S.left source.new) fuel run.new more) }
-    ensures fits { OnOk result (S.fits plant.now.wiring source.old → S.fits plant.now.wiring source.new) }
+    ensures stands { IfOk result (λ more.
+        StandsAtPart plant.now (S.given source.new) (S.stands_at source.new) (S.left source.new)
+        fuel run.new more) }
+    ensures fits { OnOk result (S.fits plant.now.wiring source.old
+        → S.fits plant.now.wiring source.new) }
     ensures some { IfOk result (λ more. more ≡ true → 0 < length (S.stands_at source.new)) }
     ensures stays { OnOk result (StaysAtPart run.old run.new) }
-    ensures asks { IfOk result (λ more. Asks S.goes_on source.old source.new (seen run.old.controllers.items run.old.environment) (seen run.new.controllers.items run.new.environment)) }
+    ensures asks { IfOk result (λ more.
+        Asks S.goes_on source.old source.new (seen run.old.controllers.items run.old.environment)
+        (seen run.new.controllers.items run.new.environment)) }
 {
     if someone_waits(&run.controllers) {
         return Ok(false);
@@ -53,15 +59,23 @@ pub(crate) fn next_round<M: Mail + Drop, S: PartSource>(
 ) -> Result<Option<(M::Office, Vec<M>)>, AllocError>
 where
     M::Office: Drop,
-    requires stands { StandsBetween plant.now (S.given source.old) (S.stands_at source.old) fuel run.old }
+    requires stands { StandsBetween plant.now (S.given source.old) (S.stands_at source.old) fuel
+        run.old }
     requires fits { S.fits plant.now.wiring source.old }
-    ensures begun { IfOk result (λ next. IfSome next (λ made. IsInRound plant.now (items_of plant.now.wiring (S.given source.new)) fuel run.new (map M.log made.1.items))) }
-    ensures count { IfOk result (λ next. IfSome next (λ made. length made.1.items ≡ length plant.now.wiring.controllers + 1)) }
+    ensures begun { IfOk result (λ next.
+        IfSome next (λ made.
+        IsInRound plant.now (items_of plant.now.wiring (S.given source.new)) fuel run.new
+        (map M.log made.1.items))) }
+    ensures count { IfOk result (λ next.
+        IfSome next (λ made. length made.1.items ≡ length plant.now.wiring.controllers + 1)) }
     ensures tied { IfOk result (λ next. IfSome next (λ made. M.tied made.0 made.1.items)) }
     ensures begins { IfOk result (λ next. IfSome next (λ made. RoundBegins fuel run.old run.new)) }
-    ensures over { IfOk result (λ next. IfNone next (IsOver plant.now (S.given source.new) (S.left source.new) fuel run.new)) }
+    ensures over { IfOk result (λ next.
+        IfNone next (IsOver plant.now (S.given source.new) (S.left source.new) fuel run.new)) }
     ensures fits { OnOk result (S.fits plant.now.wiring source.new) }
-    ensures asks { IfOk result (λ next. Asks S.goes_on source.old source.new (seen run.old.controllers.items run.old.environment) (seen run.new.controllers.items run.new.environment)) }
+    ensures asks { IfOk result (λ next.
+        Asks S.goes_on source.old source.new (seen run.old.controllers.items run.old.environment)
+        (seen run.new.controllers.items run.new.environment)) }
 {
     if run.in_part {
         if !have_stopped(&run.controllers, fuel) {

@@ -18,7 +18,8 @@ use std::alloc::{AllocError, Global};
 
 /// A mail for the controllers of a plant and the environment.
 pub(crate) fn open<M: Mail>(alloc: Global, plant: &Plant) -> Result<(M::Office, Vec<M>), AllocError>
-    ensures fresh { IfOk result (λ made. AreFresh (length plant.now.wiring.controllers + 1) (map M.log made.1.items)) }
+    ensures fresh { IfOk result (λ made.
+        AreFresh (length plant.now.wiring.controllers + 1) (map M.log made.1.items)) }
     ensures tied { IfOk result (λ made. M.tied made.0 made.1.items) }
 {
     M::set_up(alloc, plant.wiring.controller_count() + 1)
@@ -37,7 +38,8 @@ fn post_at_last<M: Mail>(
     requires tied { M.tied office.old ends.old.items }
     requires part { IsPart part.now }
     requires fits { FitLines plant.now.wiring part.now }
-    ensures posted { OnOk result (PartPosted plant.now part.now environment.old environment.new (map M.log ends.new.items)) }
+    ensures posted { OnOk result (PartPosted plant.now part.now environment.old environment.new
+        (map M.log ends.new.items)) }
     ensures tied { M.tied office.new ends.new.items }
 {
     let last = &mut ends[usize::from(plant.wiring.controller_count())];
@@ -54,12 +56,18 @@ pub(crate) fn begin_part<M: Mail + Drop, S: PartSource>(
 ) -> Result<(M::Office, Vec<M>), AllocError>
 where
     M::Office: Drop,
-    requires before { BeforePart plant.now (items_of plant.now.wiring (S.given source.now)) (S.stands_at source.now) fuel run.old.controllers.items run.old.environment }
+    requires before { BeforePart plant.now (items_of plant.now.wiring (S.given source.now))
+        (S.stands_at source.now) fuel run.old.controllers.items run.old.environment }
     requires fits { S.fits plant.now.wiring source.now }
-    ensures begun { IfOk result (λ made. IsInRound plant.now (items_of plant.now.wiring (S.given source.now)) fuel run.new (map M.log made.1.items)) }
-    ensures count { IfOk result (λ made. length made.1.items ≡ length plant.now.wiring.controllers + 1) }
+    ensures begun { IfOk result (λ made.
+        IsInRound plant.now (items_of plant.now.wiring (S.given source.now)) fuel run.new
+        (map M.log made.1.items)) }
+    ensures count { IfOk result (λ made.
+        length made.1.items ≡ length plant.now.wiring.controllers + 1) }
     ensures tied { IfOk result (λ made. M.tied made.0 made.1.items) }
-    ensures grew { IfOk result (λ made. Grew (seen run.old.controllers.items run.old.environment) (seen run.new.controllers.items run.new.environment)) }
+    ensures grew { IfOk result (λ made.
+        Grew (seen run.old.controllers.items run.old.environment) (seen run.new.controllers.items
+        run.new.environment)) }
     ensures part { IfOk result (λ made. BeginsPart (S.stands_at source.now) run.old run.new) }
 {
     let (mut office, mut ends) = open::<M>(alloc, plant)?;

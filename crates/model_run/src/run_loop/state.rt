@@ -27,7 +27,8 @@ pub(crate) struct Run {
 impl Run {
     /// A run before its first part, each controller with so much fuel.
     pub(crate) fn start(alloc: Global, plant: &Plant, fuel: u64) -> Result<Run, AllocError>
-        ensures { IfOk result (λ run. (part : List Accepted) → IsPart part → StandsBetween plant.now part part fuel run) }
+        ensures { IfOk result (λ run.
+            (part : List Accepted) → IsPart part → StandsBetween plant.now part part fuel run) }
     {
         let controllers = start_all(alloc, plant, fuel)?;
         Ok(Run {
@@ -46,7 +47,8 @@ impl Run {
         fuel: u64,
     ) -> Result<Journals, AllocError>
         requires { IsOver plant.now (S.given source.now) (S.left source.now) fuel self }
-        ensures ran { IfOk result (λ j. RanThrough plant.now (S.given source.now) (S.left source.now) fuel j) }
+        ensures ran { IfOk result (λ j.
+            RanThrough plant.now (S.given source.now) (S.left source.now) fuel j) }
         ensures seen { IfOk result (λ j. seen_in j ≡ seen self.controllers.items self.environment) }
     {
         let done = !someone_waits(&self.controllers);

@@ -51,7 +51,9 @@ fn less_state(left: usize, state: &State) -> usize
 /// What stands in the braces of a state's body, and the braces.
 #[cycle(counting)]
 fn less_body(left: usize, body: &StateBody) -> usize
-    ensures { result ≡ left - length (in_body (body_view body.now).entry (body_view body.now).exit (subgraph_tokens (body_view body.now).subgraph)) }
+    ensures { result ≡ left
+        - length (in_body (body_view body.now).entry (body_view body.now).exit
+        (subgraph_tokens (body_view body.now).subgraph)) }
 {
     let left = less_code_if(left.saturating_sub(2), &body.entry);
     let left = less_code_if(left, &body.exit);

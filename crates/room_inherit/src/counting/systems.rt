@@ -58,7 +58,8 @@ fn less_mapping(left: usize, mapping: &Mapping) -> usize
 
 #[cycle(mappings)]
 fn less_mappings(left: usize, mappings: &Vec<Mapping>) -> usize
-    ensures { result ≡ left - length (mappings_tokens (mappings_of (map mapping_view mappings.now.items))) }
+    ensures { result
+        ≡ left - length (mappings_tokens (mappings_of (map mapping_view mappings.now.items))) }
 {
     let mut left = left;
     for mapping in mappings {

@@ -27,7 +27,8 @@ fn class_name<'a>(class: &'a Class) -> &'a Name
 
 /// The names of all classes, in order of declaration.
 fn class_names<'a>(alloc: Global, classes: &'a [Class]) -> Result<Vec<&'a [u8]>, AllocError>
-    ensures { IfOk result (λ v. names_of v.items ≡ map class_name (map class_view classes.entry.now)) }
+    ensures { IfOk result (λ v.
+        names_of v.items ≡ map class_name (map class_view classes.entry.now)) }
 {
     let mut names = Vec::new(alloc);
     for class in classes {
@@ -38,7 +39,8 @@ fn class_names<'a>(alloc: Global, classes: &'a [Class]) -> Result<Vec<&'a [u8]>,
 
 /// The name with which a class names its base.
 fn base_name<'a>(class: &'a Class) -> Option<&'a Name>
-    ensures { option_map (λ n. n.now) result ≡ option_and_then (λ a. a.base) (as_actor (class_view class.entry.now)) }
+    ensures { option_map (λ n. n.now) result
+        ≡ option_and_then (λ a. a.base) (as_actor (class_view class.entry.now)) }
 {
     match class {
         Class::Actor(actor) => match &actor.base {
@@ -52,7 +54,8 @@ fn base_name<'a>(class: &'a Class) -> Option<&'a Name>
 /// The number of the class that a class extends, where these are the names of all classes: the first
 /// of the name. There is none where it extends none, or where no class has the name.
 fn number_above(class: &Class, names: &NameIndex) -> Option<usize>
-    ensures { result ≡ option_and_then (number_in names.now) (option_and_then (λ a. a.base) (as_actor (class_view class.now))) }
+    ensures { result ≡ option_and_then (number_in names.now) (option_and_then (λ a. a.base)
+        (as_actor (class_view class.now))) }
 {
     match base_name(class) {
         Some(name) => names.place_of(name.as_bytes()),
@@ -97,7 +100,8 @@ fn is_actor_at(classes: &[Class], number: Option<usize>) -> bool
 #[tactic(auto, using(crate::proofs::Bases::known_base))]
 fn has_known_base(classes: &[Class], names: &NameIndex, class: &Class) -> bool
     requires { names.now ≡ map class_name (map class_view classes.now) }
-    ensures { result ≡ of_actor (has_known_base (map class_view classes.now)) (class_view class.now) }
+    ensures { result
+        ≡ of_actor (has_known_base (map class_view classes.now)) (class_view class.now) }
 {
     if base_name(class).is_some() {
         is_actor_at(classes, number_above(class, names))
@@ -109,7 +113,8 @@ fn has_known_base(classes: &[Class], names: &NameIndex, class: &Class) -> bool
 /// Whether every base names an actor class.
 pub(crate) fn bases_are_known(classes: &[Class], names: &NameIndex) -> bool
     requires { names.now ≡ map class_name (map class_view classes.now) }
-    ensures { result ≡ list_all (of_actor (has_known_base (map class_view classes.now))) (map class_view classes.now) }
+    ensures { result ≡ list_all (of_actor (has_known_base (map class_view classes.now))) (map
+        class_view classes.now) }
 {
     for class in classes {
         if !has_known_base(classes, names, class) {
@@ -122,7 +127,8 @@ pub(crate) fn bases_are_known(classes: &[Class], names: &NameIndex) -> bool
 /// The actor class of a number, if the class of this number is one.
 #[tactic(auto, using(crate::proofs::Bases::class_got))]
 pub(crate) fn actor_at<'a>(classes: &'a [Class], number: usize) -> Option<&'a ActorClass>
-    ensures { option_map (λ a. actor_view a.now) result ≡ actor_at (map class_view classes.entry.now) number }
+    ensures { option_map (λ a. actor_view a.now) result
+        ≡ actor_at (map class_view classes.entry.now) number }
 {
     match classes.get(number) {
         Some(Class::Actor(actor)) => Some(actor),
@@ -158,7 +164,8 @@ pub(crate) fn extended_classes(
     names: &NameIndex,
 ) -> Result<Vec<Sequence<usize>>, AllocError>
     requires { names.now ≡ map class_name (map class_view classes.now) }
-    ensures { IfOk result (λ v. v.items ≡ map (extended (map class_view classes.now)) (map class_view classes.now)) }
+    ensures { IfOk result (λ v.
+        v.items ≡ map (extended (map class_view classes.now)) (map class_view classes.now)) }
 {
     all_above(alloc, classes, names)
 }
@@ -168,7 +175,12 @@ fn all_above(
     classes: &[Class],
     names: &NameIndex,
 ) -> Result<Vec<Sequence<usize>>, AllocError>
-    ensures { IfOk result (λ v. v.items ≡ map (λ c. option_to_list (option_and_then (number_in names.now) (option_and_then (λ a. a.base) (as_actor (class_view c))))) classes.now) }
+    ensures { IfOk result (λ v.
+        v.items ≡ map
+        (λ c.
+        option_to_list (option_and_then (number_in names.now) (option_and_then (λ a. a.base)
+        (as_actor (class_view c)))))
+        classes.now) }
 {
     let mut extended = Vec::new(alloc);
     for class in classes {

@@ -82,7 +82,8 @@ fn is_plain_inside(items: &Vec<GraphItem>) -> bool
 
 /// Whether refinements stand where they may in the top graph of a class that has a base or none.
 fn stands_right(has_base: bool, items: &Vec<GraphItem>) -> bool
-    ensures { result ≡ (if has_base then is_plain_inside else is_plain) (graph_view items.now.items) }
+    ensures { result
+        ≡ (if has_base then is_plain_inside else is_plain) (graph_view items.now.items) }
 {
     if has_base {
         is_plain_inside(items)

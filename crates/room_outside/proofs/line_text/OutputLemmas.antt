@@ -59,10 +59,10 @@ pub breaks_flushed : (w w' : Written) (held : List ℕ) → BreaksOff w w' held 
 breaks_flushed w w' held p = record {
   front = take p.taken held;
   rest = drop p.taken held;
-  appends = p.place.front;
+  appends = p.front;
   split = append-nil held ∙ sym (take-append-drop p.taken held);
-  lost = let within : p.taken < length held = p.place.within in omega (arith, length-drop p.taken held);
-  fault = p.place.fault;
+  lost = let within : p.taken < length held = p.within in omega (arith, length-drop p.taken held);
+  fault = p.fault;
 }
 
 -- a fault at the second part
@@ -100,11 +100,9 @@ breaks_off w w' text p =
     let front : take (length p.front) text ≡ p.front = rw whole (take-append_seam p.front p.rest) in
     record {
       taken = length p.front;
-      place = record {
-        within = rw whole (omega (arith, length-append p.front p.rest));
-        front = rw front p.appends;
-        fault = p.fault;
-      };
+      within = rw whole (omega (arith, length-append p.front p.rest));
+      front = rw front p.appends;
+      fault = p.fault;
     }
 
 -- the same of a call's result

@@ -77,7 +77,8 @@ pub fn code_if<'a>(
     rest: Rest<'a>,
     word: Word,
 ) -> Result<(Option<Code>, Rest<'a>), ReadFault>
-    ensures { Gives (λ x. (x.0, left x.1)) result (optional (comes_word_at word) (word_code_at word) (left rest.entry)) }
+    ensures { Gives (λ x. (x.0, left x.1)) result
+        (optional (comes_word_at word) (word_code_at word) (left rest.entry)) }
 {
     if !comes_word(rest, word) {
         return Ok((None, rest));

@@ -23,7 +23,8 @@ fn items<'a>(
     depth: usize,
     rest: Rest<'a>,
 ) -> Result<(Vec<GraphItem>, Rest<'a>), ReadFault>
-    ensures { Gives (λ x. (item_views x.0.items, left x.1)) result (all_while before_close_at (item_to depth) (left rest.entry)) }
+    ensures { Gives (λ x. (item_views x.0.items, left x.1)) result
+        (all_while before_close_at (item_to depth) (left rest.entry)) }
 {
     let mut found = Vec::new(alloc);
     let mut turns = rest.tokens.len();
@@ -48,7 +49,8 @@ fn subgraph_if<'a>(
     depth: usize,
     rest: Rest<'a>,
 ) -> Result<(Option<Vec<GraphItem>>, Rest<'a>), ReadFault>
-    ensures { Gives (λ x. (subgraph_view x.0, left x.1)) result (subgraph_at (graph_below depth) (left rest.entry)) }
+    ensures { Gives (λ x. (subgraph_view x.0, left x.1)) result
+        (subgraph_at (graph_below depth) (left rest.entry)) }
 {
     if !comes_word(rest, Word::Subgraph) {
         return Ok((None, rest));
@@ -67,7 +69,8 @@ fn subgraph_if<'a>(
 #[cycle(graph)]
 #[tactic(auto, unfolding(crate::specs::chart_parser::Graphs::body_at))]
 fn body<'a>(alloc: Global, depth: usize, rest: Rest<'a>) -> Result<(StateBody, Rest<'a>), ReadFault>
-    ensures { Gives (λ x. (body_view x.0, left x.1)) result (body_at (graph_below depth) (left rest.entry)) }
+    ensures { Gives (λ x. (body_view x.0, left x.1)) result
+        (body_at (graph_below depth) (left rest.entry)) }
 {
     let rest = take_mark(rest, Mark::OpenBrace)?;
     let (entry, rest) = code_if(alloc, rest, Word::Entry)?;
@@ -92,7 +95,8 @@ fn body_if<'a>(
     depth: usize,
     rest: Rest<'a>,
 ) -> Result<(Option<Box<StateBody>>, Rest<'a>), ReadFault>
-    ensures { Gives (λ x. (body_if_view x.0, left x.1)) result (body_if_at (graph_below depth) (left rest.entry)) }
+    ensures { Gives (λ x. (body_if_view x.0, left x.1)) result
+        (body_if_at (graph_below depth) (left rest.entry)) }
 {
     if !comes(rest, Mark::OpenBrace) {
         return Ok((None, rest));
@@ -106,7 +110,8 @@ fn body_if<'a>(
 #[cycle(graph)]
 #[tactic(auto, unfolding(crate::specs::chart_parser::Graphs::state_at))]
 fn state<'a>(alloc: Global, depth: usize, rest: Rest<'a>) -> Result<(State, Rest<'a>), ReadFault>
-    ensures { Gives (λ x. (state_view x.0, left x.1)) result (state_at (graph_below depth) (left rest.entry)) }
+    ensures { Gives (λ x. (state_view x.0, left x.1)) result
+        (state_at (graph_below depth) (left rest.entry)) }
 {
     let rest = take_word(rest, Word::State)?;
     let (name, rest) = token_reading::name(alloc, rest)?;
@@ -122,7 +127,8 @@ fn refined_state<'a>(
     depth: usize,
     rest: Rest<'a>,
 ) -> Result<(Refinement, Rest<'a>), ReadFault>
-    ensures { Gives (λ x. (refinement_view x.0, left x.1)) result (refined_state_at (graph_below depth) (left rest.entry)) }
+    ensures { Gives (λ x. (refinement_view x.0, left x.1)) result
+        (refined_state_at (graph_below depth) (left rest.entry)) }
 {
     let rest = take_word(rest, Word::RefinedState)?;
     let (path, rest) = dotted(alloc, rest)?;
@@ -137,7 +143,8 @@ fn refined_transition<'a>(
     alloc: Global,
     rest: Rest<'a>,
 ) -> Result<(Refinement, Rest<'a>), ReadFault>
-    ensures { Gives (λ x. (refinement_view x.0, left x.1)) result (refined_transition_at (left rest.entry)) }
+    ensures { Gives (λ x. (refinement_view x.0, left x.1)) result
+        (refined_transition_at (left rest.entry)) }
 {
     let rest = take_word(rest, Word::RefinedTransition)?;
     let (path, rest) = dotted(alloc, rest)?;
@@ -199,7 +206,8 @@ pub fn state_machine<'a>(
     alloc: Global,
     rest: Rest<'a>,
 ) -> Result<(StateMachine, Rest<'a>), ReadFault>
-    ensures { Gives (λ x. (graph_view x.0.items.items, left x.1)) result (machine_at (left rest.entry)) }
+    ensures { Gives (λ x. (graph_view x.0.items.items, left x.1)) result
+        (machine_at (left rest.entry)) }
 {
     let rest = take_word(rest, Word::StateMachine)?;
     let rest = take_mark(rest, Mark::OpenBrace)?;

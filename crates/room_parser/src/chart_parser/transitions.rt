@@ -19,7 +19,8 @@ use token_reading::{
 /// `of` state, if it comes
 #[tactic(auto, unfolding(token_reading::specs::Reader::optional))]
 fn state_if<'a>(alloc: Global, rest: Rest<'a>) -> Result<(Option<Name>, Rest<'a>), ReadFault>
-    ensures { Gives (λ x. (x.0, left x.1)) result (optional (comes_word_at words.Of) (word words.Of ▹ name_at) (left rest.entry)) }
+    ensures { Gives (λ x. (x.0, left x.1)) result
+        (optional (comes_word_at words.Of) (word words.Of ▹ name_at) (left rest.entry)) }
 {
     if !comes_word(rest, Word::Of) {
         return Ok((None, rest));
@@ -108,7 +109,8 @@ fn transition_body_if<'a>(
     alloc: Global,
     rest: Rest<'a>,
 ) -> Result<(Option<TransitionBody>, Rest<'a>), ReadFault>
-    ensures { Gives (λ x. (x.0, left x.1)) result (optional (comes_at marks.OpenBrace) transition_body_at (left rest.entry)) }
+    ensures { Gives (λ x. (x.0, left x.1)) result
+        (optional (comes_at marks.OpenBrace) transition_body_at (left rest.entry)) }
 {
     if !comes(rest, Mark::OpenBrace) {
         return Ok((None, rest));
@@ -120,7 +122,8 @@ fn transition_body_if<'a>(
 /// A name, if one comes.
 #[tactic(auto, unfolding(token_reading::specs::Reader::optional))]
 fn name_if<'a>(alloc: Global, rest: Rest<'a>) -> Result<(Option<Name>, Rest<'a>), ReadFault>
-    ensures { Gives (λ x. (x.0, left x.1)) result (optional comes_name_at name_at (left rest.entry)) }
+    ensures { Gives (λ x. (x.0, left x.1)) result
+        (optional comes_name_at name_at (left rest.entry)) }
 {
     if !comes_name(rest) {
         return Ok((None, rest));

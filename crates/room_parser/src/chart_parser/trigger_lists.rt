@@ -124,7 +124,8 @@ pub fn triggers_if<'a>(
     alloc: Global,
     rest: Rest<'a>,
 ) -> Result<(Option<Triggers>, Rest<'a>), ReadFault>
-    ensures { Gives (λ x. (x.0, left x.1)) result (optional (comes_word_at words.Triggers) triggers_at (left rest.entry)) }
+    ensures { Gives (λ x. (x.0, left x.1)) result
+        (optional (comes_word_at words.Triggers) triggers_at (left rest.entry)) }
 {
     if !comes_word(rest, Word::Triggers) {
         return Ok((None, rest));

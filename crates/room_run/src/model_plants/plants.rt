@@ -28,7 +28,8 @@ fn tables_of(alloc: Global, chart: &Option<Chart>) -> Result<Option<Tables>, All
 #[tactic(auto, using(crate::proofs::model_plants::Tabled::valid_at, crate::proofs::model_plants::Tabled::one_more))]
 fn all_tables(alloc: Global, charts: &[Option<Chart>]) -> Result<Vec<Option<Tables>>, AllocError>
     requires { AreValid (map (option_map chart_view) charts.now) }
-    ensures { IfOk result (λ tables. ShowCharts tables.items (map (option_map chart_view) charts.now)) }
+    ensures { IfOk result (λ tables.
+        ShowCharts tables.items (map (option_map chart_view) charts.now)) }
 {
     let mut tables = Vec::new(alloc);
     for chart in charts {
@@ -46,9 +47,12 @@ pub fn plant_of(
     charts: &[Option<Chart>],
 ) -> Result<Plant, AllocError>
     requires valid { AreValid (map (option_map chart_view) charts.now) }
-    requires plant { (tables : List (Option AnyTables)) → ShowCharts tables (map (option_map chart_view) charts.now) → AreOfPlant wiring tables }
+    requires plant { (tables : List (Option AnyTables))
+        → ShowCharts tables (map (option_map chart_view) charts.now)
+        → AreOfPlant wiring tables }
     ensures wiring { IfOk result (λ p. p.wiring ≡ wiring) }
-    ensures tables { IfOk result (λ p. ShowCharts p.tables.items (map (option_map chart_view) charts.now)) }
+    ensures tables { IfOk result (λ p.
+        ShowCharts p.tables.items (map (option_map chart_view) charts.now)) }
 {
     let tables = all_tables(alloc, charts)?;
     let rows = SlotRows::of(alloc, &wiring)?;

@@ -90,7 +90,7 @@ found_none {A} hash name w xs e =
 
 -- ---- a search that begins further on
 
-same_turn : (a b : List ℕ) → same a b ≡ same b a
+pub same_turn : (a b : List ℕ) → same a b ≡ same b a
 same_turn a b = by_tests (same a b) (same b a) refl refl
   where
     by_tests : (t u : Bool) → same a b ≡ t → same b a ≡ u → t ≡ u
@@ -99,7 +99,7 @@ same_turn a b = by_tests (same a b) (same b a) refl refl
     by_tests true false e f = let own : same b a ≡ true = subst (λ (x : List ℕ). same x a ≡ true) (same_is a b e) (same_own a) in absurd cc
     by_tests false true e f = let own : same a b ≡ true = subst (λ (x : List ℕ). same x b ≡ true) (same_is b a f) (same_own b) in absurd cc
 
-named_place : {A : Type 0} (name : A → List ℕ) (w : List ℕ) (xs : List A) → position_or_len (same w) (map name xs) ≡ position_or_len (λ (x : A). same (name x) w) xs
+pub named_place : {A : Type 0} (name : A → List ℕ) (w : List ℕ) (xs : List A) → position_or_len (same w) (map name xs) ≡ position_or_len (λ (x : A). same (name x) w) xs
 named_place name w [] = refl
 named_place name w (x ∷ xs) = ap (λ (t : Bool). cond (not t) (1 + position_or_len (same w) (map name xs)) 0) (same_turn w (name x)) ∙ ap (λ (n : ℕ). cond (not (same (name x) w)) (1 + n) 0) (named_place name w xs)
 

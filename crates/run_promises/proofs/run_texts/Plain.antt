@@ -20,14 +20,14 @@ use Rattle.room_wiring.specs.declared.slot.Slot.{Slot}
 use Rattle.room_wiring.specs.declared.names.ClassNames.{ClassNames}
 use Rattle.room_wiring.specs.declared.names.PortNames.{PortNames}
 use Rattle.room_wiring.specs.declared.names.SignalNames.{SignalNames}
-use Rattle.room_wiring.specs.Slots.{slot_at, class_of, port_at}
+use Rattle.room_wiring.specs.Slots.{slot_at, class_of, port_at, path_text, port_text}
 use Rattle.room_wiring.specs.WellNamed.{IsWellNamed, IsWellNamedPort, IsPath, IsIdent, IsStateLabel, signals_of}
 use Rattle.room_wiring.proofs.wiring_names.Found.{all_at}
 use Rattle.room_wiring.proofs.wiring_names.Back.{class_named}
 use Rattle.room_outside.specs.line_text.Lines.{numbers_text}
 use Rattle.journal.specs.declared.entry.Did.{Did}
 use Rattle.journal.specs.declared.entry.Did.TheVariants as outcomes
-use Rattle.journal.specs.Names.{party_text, path_text, port_text, state_text, kind_text, signal_of_port_text, port_signal_text, signal_text, incarnation_parts, endpoint_parts, source_parts}
+use Rattle.journal.specs.Names.{party_text, state_text, kind_text, signal_of_port_text, port_signal_text, signal_text, incarnation_parts, endpoint_parts, source_parts}
 use Rattle.journal.specs.Lines.{message_parts, signal_parts, standing_parts, did_parts, speaking_port_text}
 use Rattle.journal_reader.specs.journal_lines.Numerals.{begins_digit}
 use Rattle.journal_reader.proofs.journal_lines.Cutting.{lacks}

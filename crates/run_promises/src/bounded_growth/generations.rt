@@ -9,7 +9,8 @@ ghost use Rattle.actor_world.specs.Start.{first_frame};
 
 /// A duty of the frame service raises the last generation of a slot by at most one.
 pub fn duties_raise_by_one()
-    ensures { (t : AnyTables) (me : ℕ) (f : Frame) (kind : AnyKind) (m : AnyMsg) (s : ℕ) → (frame_duty t me f kind m).frame.lives.generation s ≤ f.lives.generation s + 1 }
+    ensures { (t : AnyTables) (me : ℕ) (f : Frame) (kind : AnyKind) (m : AnyMsg) (s : ℕ)
+        → (frame_duty t me f kind m).frame.lives.generation s ≤ f.lives.generation s + 1 }
 {}
 
 /// At the start the last generation of a slot is at most 1.

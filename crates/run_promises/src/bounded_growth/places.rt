@@ -12,13 +12,24 @@ ghost use Rattle.run_promises.specs.bounded_growth.Growth.{AreGrown};
 /// A name table after `n` registrations is one after `n + 1` when one more point registers, and stays
 /// one after `n` when a point withdraws.
 pub fn registrations_grow_by_one()
-    ensures provider { (t : AnyTables) (b n name protocol base : ℕ) (e : AnyEndpoint) (table : NameTable) → base ≤ b → AreGrown b n table → AreGrown b (n + 1) (register_spp t name protocol base e table).now }
-    ensures user { (t : AnyTables) (b n name protocol : ℕ) (e : AnyEndpoint) (table : NameTable) → AreGrown b n table → AreGrown b (n + 1) (register_sap t name protocol e table).now }
-    ensures withdrawal { (t : AnyTables) (b n : ℕ) (e : AnyEndpoint) (table : NameTable) → AreGrown b n table → AreGrown b n (withdraw t e table).now }
+    ensures provider { (t : AnyTables) (b n name protocol base : ℕ) (e : AnyEndpoint)
+        (table : NameTable)
+        → base ≤ b
+        → AreGrown b n table
+        → AreGrown b (n + 1) (register_spp t name protocol base e table).now }
+    ensures user { (t : AnyTables) (b n name protocol : ℕ) (e : AnyEndpoint) (table : NameTable)
+        → AreGrown b n table
+        → AreGrown b (n + 1) (register_sap t name protocol e table).now }
+    ensures withdrawal { (t : AnyTables) (b n : ℕ) (e : AnyEndpoint) (table : NameTable)
+        → AreGrown b n table
+        → AreGrown b n (withdraw t e table).now }
 {}
 
 /// So a name table after `n` messages is one after `n + 1` at each message, where no port has more than
 /// `b` places.
 pub fn duties_grow_by_one()
-    ensures { (t : AnyTables) (me b n : ℕ) (table : NameTable) (kind : AnyKind) (m : AnyMsg) → ((s p : ℕ) → place_count t s p ≤ b) → AreGrown b n table → AreGrown b (n + 1) (table_duty t me table kind m).now }
+    ensures { (t : AnyTables) (me b n : ℕ) (table : NameTable) (kind : AnyKind) (m : AnyMsg)
+        → ((s p : ℕ) → place_count t s p ≤ b)
+        → AreGrown b n table
+        → AreGrown b (n + 1) (table_duty t me table kind m).now }
 {}

@@ -13,7 +13,7 @@ use Rattle.actor_duties.specs.Lives.{announce_to, announces, told_controllers}
 abbrev pub announced_to : Tables → ℕ → Incarnation → ℤ → ℕ → List Msg
 announced_to t me x up n = map (announce_to me x up) (filter (is_told t x.slot.0) (range_with_len 0 n))
 
-range_more : (a n : ℕ) → range_with_len a (suc n) ≡ range_with_len a n ++ (a + n) ∷ []
+pub range_more : (a n : ℕ) → range_with_len a (suc n) ≡ range_with_len a n ++ (a + n) ∷ []
 range_more a zero = let e : a + 0 ≡ a = omega arith in rw e refl
 range_more a (suc n) =
     let e : a + 1 + n ≡ a + suc n = omega arith in
@@ -29,7 +29,7 @@ one_more t me x up n =
     ∙ ap (map (announce_to me x up)) (filter-append (is_told t x.slot.0) (range_with_len 0 n) (n ∷ []))
     ∙ map-append (announce_to me x up) (filter (is_told t x.slot.0) (range_with_len 0 n)) (cond (is_told t x.slot.0 n) (n ∷ []) []))
 
-append_nothing : (ms : List Msg) → ms ++ [] ≡ ms
+pub append_nothing : (ms : List Msg) → ms ++ [] ≡ ms
 append_nothing [] = refl
 append_nothing (m ∷ ms) = ap (λ (more : List Msg). m ∷ more) (append_nothing ms)
 

@@ -79,7 +79,8 @@ pub fn told_of(
     slot: SlotId,
     last: i64,
 ) -> Result<Msg, AllocError>
-    ensures { IfOk result (λ m. m ≡ told_of wiring.now me.0 (signal_of signal) source target slot.0 last) }
+    ensures { IfOk result (λ m.
+        m ≡ told_of wiring.now me.0 (signal_of signal) source target slot.0 last) }
 {
     let reference = i64::from(reference_of(wiring, slot));
     let index = i64::from(index_of(wiring, slot));
@@ -97,7 +98,8 @@ pub fn refused_at_once(
     index: i64,
     code: Code,
 ) -> Result<Msg, AllocError>
-    ensures { IfOk result (λ m. m ≡ refused_at_once me.0 actor reference index (code_number (code_of code))) }
+    ensures { IfOk result (λ m.
+        m ≡ refused_at_once me.0 actor reference index (code_number (code_of code))) }
 {
     let payload = Payload::from_slice(
         alloc,

@@ -26,7 +26,8 @@ impl SlotRuns {
         requires order { IsDepthFirst wiring.now }
         requires runs { AreRunEnds wiring.now self.now }
         requires there { container.0 < length wiring.now.slots }
-        ensures { option_map (λ s. s.0) result ≡ position (is_slot_for container.0 reference index) wiring.now.slots }
+        ensures { option_map (λ s. s.0) result
+            ≡ position (is_slot_for container.0 reference index) wiring.now.slots }
     {
         let end = self.end(wiring, container);
         let mut part = u32::from(container.0) + 1;

@@ -107,7 +107,8 @@ impl SlotRuns {
 fn end_from(wiring: &Wiring, ends: &[u32], slot: u32) -> u32
     requires count { length ends.now ≡ length wiring.now.slots }
     requires there { slot < length wiring.now.slots }
-    requires known { (u : ℕ) → slot < u → u < length wiring.now.slots → IsRunEnd wiring.now u (slice_index ends.now u) }
+    requires known { (u : ℕ) → slot < u → u < length wiring.now.slots
+        → IsRunEnd wiring.now u (slice_index ends.now u) }
     ensures { IsRunEnd wiring.now slot result }
 {
     let count = wiring.slot_count();

@@ -118,7 +118,8 @@ fn source_if<'a>(
     alloc: Global,
     rest: Rest<'a>,
 ) -> Result<(Option<ImportSource>, Rest<'a>), ReadFault>
-    ensures { Gives (λ x. (x.0, left x.1)) result (optional source_comes source_at (left rest.entry)) }
+    ensures { Gives (λ x. (x.0, left x.1)) result
+        (optional source_comes source_at (left rest.entry)) }
 {
     if !source_comes(rest) {
         return Ok((None, rest));

@@ -19,7 +19,8 @@ use token_reading::{
 /// `:` name, if it comes
 #[tactic(auto, unfolding(token_reading::specs::Reader::optional))]
 fn type_if<'a>(alloc: Global, rest: Rest<'a>) -> Result<(Option<Name>, Rest<'a>), ReadFault>
-    ensures { Gives (λ x. (x.0, left x.1)) result (optional (comes_at marks.Colon) (mark marks.Colon ▹ name_at) (left rest.entry)) }
+    ensures { Gives (λ x. (x.0, left x.1)) result
+        (optional (comes_at marks.Colon) (mark marks.Colon ▹ name_at) (left rest.entry)) }
 {
     if !comes(rest, Mark::Colon) {
         return Ok((None, rest));
@@ -93,7 +94,8 @@ fn messages_if<'a>(
     rest: Rest<'a>,
     word: Word,
 ) -> Result<(Option<Sequence<Message>>, Rest<'a>), ReadFault>
-    ensures { Gives (λ x. (x.0, left x.1)) result (optional (comes_word_at word) (messages_at word) (left rest.entry)) }
+    ensures { Gives (λ x. (x.0, left x.1)) result
+        (optional (comes_word_at word) (messages_at word) (left rest.entry)) }
 {
     if !comes_word(rest, word) {
         return Ok((None, rest));

@@ -48,7 +48,8 @@ fn value<'a>(alloc: Global, rest: Rest<'a>) -> Result<(Value, Rest<'a>), ReadFau
 /// `=` value, if it comes
 #[tactic(auto, unfolding(crate::specs::value_parser::Values::equals_value_at, token_reading::specs::Reader::optional))]
 fn value_if<'a>(alloc: Global, rest: Rest<'a>) -> Result<(Option<Value>, Rest<'a>), ReadFault>
-    ensures { Gives (λ x. (x.0, left x.1)) result (optional (comes_at marks.Equals) equals_value_at (left rest.entry)) }
+    ensures { Gives (λ x. (x.0, left x.1)) result
+        (optional (comes_at marks.Equals) equals_value_at (left rest.entry)) }
 {
     if !comes(rest, Mark::Equals) {
         return Ok((None, rest));

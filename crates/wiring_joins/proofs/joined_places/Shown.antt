@@ -15,7 +15,7 @@ use Rattle.wiring_joins.specs.joined_places.Wired.{AreSoundPairs, HasSoundPairs,
 use Rattle.wiring_joins.proofs.joined_places.Counted.{places_counted}
 
 -- each place has two faces
-two_faces : (face : ℕ) (xs : List Place) → length (across_from face xs) ≡ 2 * length xs
+pub two_faces : (face : ℕ) (xs : List Place) → length (across_from face xs) ≡ 2 * length xs
 unfolding across_from
 two_faces face [] = refl
 two_faces face (x ∷ xs) = let h = two_faces (face + 2) xs in omega (arith, h)

@@ -24,7 +24,7 @@ use Rattle.wiring_joins.proofs.place_faces.Uses.{IsWithin, Uses, same_use, side_
 
 -- ---- a stretch's places are those of its sides
 
-pair_within : (a b : Supply) (i j most other k : ℕ) → k < pair_count a i b j → i + pair_count a i b j ≤ most → j + pair_count a i b j ≤ other → IsWithin a most (i + k) × IsWithin b other (j + k)
+pub pair_within : (a b : Supply) (i j most other k : ℕ) → k < pair_count a i b j → i + pair_count a i b j ≤ most → j + pair_count a i b j ≤ other → IsWithin a most (i + k) × IsWithin b other (j + k)
 pair_within (Limited m) (Limited n) i j most other k lt le le' = (omega (arith, lt), omega (arith, lt))
 pair_within (Limited m) Growing i j most other k lt le le' = (omega (arith, lt), omega (arith, lt, le'))
 pair_within Growing (Limited n) i j most other k lt le le' = (omega (arith, lt, le), omega (arith, lt))

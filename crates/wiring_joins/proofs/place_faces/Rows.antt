@@ -134,7 +134,7 @@ module _ (plan : StructurePlan) (slots : List Slot) (joins : List LayerJoin) whe
 
 -- ---- places
 
-port_places_long : (s p : ℕ) (role : Role) (k n : ℕ) → length (places_of_port s p role k n) ≡ n
+pub port_places_long : (s p : ℕ) (role : Role) (k n : ℕ) → length (places_of_port s p role k n) ≡ n
 unfolding places_of_port
 port_places_long s p role k zero = refl
 port_places_long s p role k (suc n) = ap suc (port_places_long s p role (k + 1) n)

@@ -37,7 +37,9 @@ pub(crate) fn all_pairs(
     requires taken { TakesFew known.plan.now known.slots.now }
     requires faces { AreBelow (2 ^ 32) (pairs_at known.plan.now known.slots.now first_ports.now
         spans.now known.joins.now) }
-    ensures { IfOk result (λ v. v.items ≡ pairs_at known.entry.plan.now known.entry.slots.now first_ports.now spans.now known.entry.joins.now) }
+    ensures { IfOk result (λ v.
+        v.items ≡ pairs_at known.entry.plan.now known.entry.slots.now first_ports.now spans.now
+        known.entry.joins.now) }
 {
     let mut pairs = container_pairs(
         alloc,

@@ -95,7 +95,9 @@ pub fn wired_places(
     requires few { length slots.now ≤ 2 ^ 16 }
     requires ports { HasFewPorts plan.now }
     requires places { HasFewPlaces plan.now slots.now }
-    ensures { IfOk result (λ o. MatchOption o (lacks_place plan.now slots.now ≡ true) (λ p. ArePlacesOf plan.now slots.now p)) }
+    ensures { IfOk result (λ o.
+        MatchOption o (lacks_place plan.now slots.now ≡ true)
+        (λ p. ArePlacesOf plan.now slots.now p)) }
 {
     let Some(containers) = container_stretches(alloc, plan, slots)? else {
         return Ok(None);

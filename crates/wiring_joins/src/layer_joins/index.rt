@@ -46,7 +46,8 @@ impl LayerIndex {
 
     #[tactic(auto, unfolding(crate::specs::layer_joins::Index::layer_at))]
     fn put(&mut self, key: u64, layer: LayerPlan) -> Result<(), AllocError>
-        ensures { OnOk result ((k : ℕ) → layer_at self.new k ≡ (if key == k then Some layer else layer_at self.old k)) }
+        ensures { OnOk result ((k : ℕ)
+            → layer_at self.new k ≡ (if key == k then Some layer else layer_at self.old k)) }
     {
         self.layers.insert(key, layer)?;
         Ok(())
@@ -68,7 +69,9 @@ fn index_of(
     class: &ClassPlan,
     layers: &[LayerPlan],
 ) -> Result<LayerIndex, AllocError>
-    ensures { IfOk result (λ index. (r p : ℕ) → r < 2 ^ 16 → p < 2 ^ 16 → layer_at index (layer_key r p) ≡ first_fitting plan.now class.now r p layers.now) }
+    ensures { IfOk result (λ index.
+        (r p : ℕ) → r < 2 ^ 16 → p < 2 ^ 16
+        → layer_at index (layer_key r p) ≡ first_fitting plan.now class.now r p layers.now) }
 {
     let mut index = LayerIndex::new(alloc);
     let mut left = layers.len();
@@ -88,7 +91,9 @@ pub fn class_index(
     plan: &StructurePlan,
     class: &ClassPlan,
 ) -> Result<LayerIndex, AllocError>
-    ensures { IfOk result (λ index. (r p : ℕ) → r < 2 ^ 16 → p < 2 ^ 16 → layer_at index (layer_key r p) ≡ fitting plan.now class.now r (Some p)) }
+    ensures { IfOk result (λ index.
+        (r p : ℕ) → r < 2 ^ 16 → p < 2 ^ 16
+        → layer_at index (layer_key r p) ≡ fitting plan.now class.now r (Some p)) }
 {
     index_of(alloc, plan, class, class.layers.as_slice())
 }

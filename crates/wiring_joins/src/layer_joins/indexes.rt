@@ -80,7 +80,8 @@ impl Indexes {
         protocol: u16,
     ) -> Option<LayerPlan>
         requires { AreIndexes plan.now self.now }
-        ensures { result ≡ fitting plan.now (inside_of plan.now (option_copied slot.entry)) reference (Some protocol) }
+        ensures { result ≡ fitting plan.now (inside_of plan.now (option_copied slot.entry))
+            reference (Some protocol) }
     {
         match slot {
             Some(slot) => {
@@ -104,7 +105,8 @@ impl Indexes {
         protocol: Option<u16>,
     ) -> Option<LayerPlan>
         requires { AreIndexes plan.now self.now }
-        ensures { result ≡ fitting plan.now (container_class plan.now slots.now container) reference protocol }
+        ensures { result
+            ≡ fitting plan.now (container_class plan.now slots.now container) reference protocol }
     {
         let Some(protocol) = protocol else {
             return None;

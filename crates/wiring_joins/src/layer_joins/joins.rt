@@ -82,7 +82,8 @@ fn add_port_joins(
     requires children { IsTableOf children.now slots.now }
     requires indexes { AreIndexes plan.now indexes.now }
     requires few { length ports.now ≤ 65535 }
-    ensures { OnOk result (joins.new.items ≡ joins.old.items ++ port_joins plan.now slots.now slot 0 ports.now) }
+    ensures { OnOk result (joins.new.items
+        ≡ joins.old.items ++ port_joins plan.now slots.now slot 0 ports.now) }
 {
     for (p, port) in ports.iter().enumerate() {
         let to = service_of_port(plan, slots, children, indexes, slot, *port);

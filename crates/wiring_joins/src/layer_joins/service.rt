@@ -33,7 +33,8 @@ fn slot_if(slots: &[Slot], slot: Option<u16>) -> Option<&Slot>
 
 /// The slot and the port of the service that a layer connection of a container gives.
 fn service_at(children: &Children, container: u32, layer: LayerPlan) -> Option<(u16, u16)>
-    ensures { (slots : List AnySlot) → IsTableOf children.now slots → result ≡ service_at slots container layer }
+    ensures { (slots : List AnySlot) → IsTableOf children.now slots
+        → result ≡ service_at slots container layer }
 {
     match children.of(container, layer.provider).first() {
         Some(slot) => Some((*slot, layer.service)),
@@ -53,7 +54,8 @@ pub(crate) fn service(
 ) -> Option<(u16, u16)>
     requires children { IsTableOf children.now slots.now }
     requires indexes { AreIndexes plan.now indexes.now }
-    ensures { result ≡ service plan.now slots.now (length slots.now) protocol (slice_get slots.now slot) }
+    ensures { result
+        ≡ service plan.now slots.now (length slots.now) protocol (slice_get slots.now slot) }
 {
     let mut at = Some(slot);
     let mut left = slots.len();

@@ -81,7 +81,11 @@ fn partner_row(alloc: Global, places: &[Place], far: &[u32]) -> Result<Vec<Partn
 pub fn partners_of(alloc: Global, places: &[Place], far: &[u32]) -> Result<Vec<Partner>, AllocError>
     requires { length places.now < 2 ^ 31 }
     ensures row { IfOk result (λ v. v.items ≡ partners places.now far.now) }
-    ensures joins { IfOk result (λ v. (pairs : List AnyPair) → ShowsChains (across_places places.now) pairs far.now → PairsInnerFacesOfRelays places.now pairs → ShowsJoins places.now pairs v.items) }
+    ensures joins { IfOk result (λ v.
+        (pairs : List AnyPair)
+        → ShowsChains (across_places places.now) pairs far.now
+        → PairsInnerFacesOfRelays places.now pairs
+        → ShowsJoins places.now pairs v.items) }
 {
     let all = partner_row(alloc, places, far)?;
     Ok(all)

@@ -54,7 +54,8 @@ impl Marks {
 
     /// All controllers are told of a slot.
     pub fn tell_all(&mut self, slot: u16)
-        ensures { (slots controllers : ℕ) → IsFor slots controllers self.old → Marking slots controllers (λ s d. slot == s) self.old self.new }
+        ensures { (slots controllers : ℕ) → IsFor slots controllers self.old
+            → Marking slots controllers (λ s d. slot == s) self.old self.new }
     {
         if usize::from(slot) < self.everyone.len() {
             self.everyone[usize::from(slot)] = true;
@@ -63,7 +64,9 @@ impl Marks {
 
     /// A controller is told of a slot.
     pub fn tell(&mut self, slot: u16, controller: u8)
-        ensures { (slots controllers : ℕ) → IsFor slots controllers self.old → Marking slots controllers (λ s d. (slot == s) && (controller == d)) self.old self.new }
+        ensures { (slots controllers : ℕ) → IsFor slots controllers self.old
+            → Marking slots controllers (λ s d. (slot == s) && (controller == d)) self.old
+            self.new }
     {
         if controller >= self.controllers {
             return;

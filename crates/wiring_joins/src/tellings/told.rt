@@ -13,7 +13,8 @@ use wiring_places::Place;
 
 /// Marks the controllers that are told of a place's slot because of what the place is joined to.
 fn mark_place(marks: &mut Marks, slots: &[Slot], place: Place, partner: Partner)
-    ensures { (n controllers : ℕ) → IsFor n controllers marks.old → Marking n controllers (λ s d. lets_tell slots.now s d place partner) marks.old marks.new }
+    ensures { (n controllers : ℕ) → IsFor n controllers marks.old
+        → Marking n controllers (λ s d. lets_tell slots.now s d place partner) marks.old marks.new }
 {
     if !place.role.is_end() {
         return;
@@ -35,7 +36,9 @@ fn marks_of(
 ) -> Result<Marks, AllocError>
     requires few { length slots.now ≤ 2 ^ 16 }
     requires joined { length places.now ≡ length partners.now }
-    ensures { IfOk result (λ m. (s d : ℕ) → s < length slots.now → d < controllers → marked m s d ≡ any_joined (lets_tell slots.now s d) places.now partners.now) }
+    ensures { IfOk result (λ m.
+        (s d : ℕ) → s < length slots.now → d < controllers
+        → marked m s d ≡ any_joined (lets_tell slots.now s d) places.now partners.now) }
 {
     let mut marks = Marks::new(alloc, slots.len(), controllers)?;
     for (i, place) in places.iter().enumerate() {
@@ -81,7 +84,8 @@ pub fn told_controllers(
 ) -> Result<Sequence<Sequence<bool>>, AllocError>
     requires few { length slots.now ≤ 2 ^ 16 }
     requires joined { length places.now ≡ length partners.now }
-    ensures { IfOk result (λ told. SaysWhoIsTold slots.now places.now partners.now controllers told) }
+    ensures { IfOk result (λ told.
+        SaysWhoIsTold slots.now places.now partners.now controllers told) }
 {
     let marks = marks_of(alloc, slots, controllers, places, partners)?;
     let mut told = Sequence::new(alloc);

@@ -8,7 +8,7 @@ use Rattle.wiring_plan.specs.declared.structure_plan.plan.StructurePlan.{Structu
 use Rattle.wiring_places.specs.place_rules.Stretches.{side_number, stretch, take_more, taken_after, stretches_from, taken_from}
 use Rattle.wiring_places.specs.place_pairs.Fits.{EndsWithin}
 
-take_grows : (taken : ℕ → ℕ) (side n other : ℕ) → taken other ≤ take_more taken side n other
+pub take_grows : (taken : ℕ → ℕ) (side n other : ℕ) → taken other ≤ take_more taken side n other
 take_grows taken side n other = pick (other == side)
   where
     pick : (b : Bool) → taken other ≤ cond b (taken other + n) (taken other)

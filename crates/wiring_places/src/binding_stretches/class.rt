@@ -66,8 +66,10 @@ fn stretches_of(
     bindings: &[BindingPlan],
 ) -> Result<ClassStretches, AllocError>
     requires { (side : ℕ) → taken_from plan.now class.now none_taken bindings.now side < 2 ^ 64 }
-    ensures stretches { IfOk result (λ r. r.stretches.items ≡ stretches_from plan.now class.now none_taken bindings.now) }
-    ensures taken { IfOk result (λ r. taken_in r.taken ≡ taken_from plan.now class.now none_taken bindings.now) }
+    ensures stretches { IfOk result (λ r.
+        r.stretches.items ≡ stretches_from plan.now class.now none_taken bindings.now) }
+    ensures taken { IfOk result (λ r.
+        taken_in r.taken ≡ taken_from plan.now class.now none_taken bindings.now) }
 {
     let mut taken = Taken::new(alloc);
     let mut stretches = Vec::new(alloc);

@@ -60,7 +60,8 @@ impl Taken {
     #[tactic(auto, unfolding(crate::specs::binding_stretches::Taken::taken_in))]
     pub fn take(&mut self, side: u64, count: u64) -> Result<(), AllocError>
         requires { taken_in self.old side + count < 2 ^ 64 }
-        ensures { OnOk result ((other : ℕ) → taken_in self.new other ≡ take_more (taken_in self.old) side count other) }
+        ensures { OnOk result ((other : ℕ)
+            → taken_in self.new other ≡ take_more (taken_in self.old) side count other) }
     {
         let after = self.at(side) + count;
         self.counts.insert(side, after)?;
@@ -70,7 +71,8 @@ impl Taken {
     /// Takes `count` more places of both sides of a binding.
     pub(crate) fn take_both(&mut self, binding: BindingPlan, count: u64) -> Result<(), AllocError>
         requires { (side : ℕ) → taken_after (taken_in self.old) binding count side < 2 ^ 64 }
-        ensures { OnOk result ((side : ℕ) → taken_in self.new side ≡ taken_after (taken_in self.old) binding count side) }
+        ensures { OnOk result ((side : ℕ)
+            → taken_in self.new side ≡ taken_after (taken_in self.old) binding count side) }
     {
         self.take(side_number(binding.left), count)?;
         self.take(side_number(binding.right), count)?;

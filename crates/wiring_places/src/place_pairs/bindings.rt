@@ -30,7 +30,9 @@ fn pair_at(container: &Container, binding: BindingPlan, stretch: Stretch, k: u64
     requires ends { EndsWithin stretch }
     requires faces { PairFits container.now.children.now container.now.first_ports.now
         container.now.spans.now container.now.class.now container.now.number binding stretch k }
-    ensures { (slots : List AnySlot) → IsTableOf container.now.children.now slots → result ≡ stretch_pair slots container.now.first_ports.now container.now.spans.now container.now.class.now container.now.number binding stretch k }
+    ensures { (slots : List AnySlot) → IsTableOf container.now.children.now slots
+        → result ≡ stretch_pair slots container.now.first_ports.now container.now.spans.now
+        container.now.class.now container.now.number binding stretch k }
 {
     let left = side_face(
         container.first_ports,
@@ -63,7 +65,10 @@ fn add_stretch(
     requires ends { EndsWithin stretch }
     requires faces { StretchFits container.now.children.now container.now.first_ports.now
         container.now.spans.now container.now.class.now container.now.number binding stretch }
-    ensures { OnOk result ((slots : List AnySlot) → IsTableOf container.now.children.now slots → pairs.new.items ≡ pairs.old.items ++ stretch_pairs slots container.now.first_ports.now container.now.spans.now container.now.class.now container.now.number binding stretch 0 stretch.count) }
+    ensures { OnOk result ((slots : List AnySlot) → IsTableOf container.now.children.now slots
+        → pairs.new.items ≡ pairs.old.items
+        ++ stretch_pairs slots container.now.first_ports.now container.now.spans.now
+        container.now.class.now container.now.number binding stretch 0 stretch.count) }
 {
     for k in 0..stretch.count {
         pairs.push(pair_at(container, binding, stretch, k))?;
@@ -84,7 +89,10 @@ pub fn add_binding_pairs(
     requires faces { BindingsFit container.now.children.now container.now.first_ports.now
         container.now.spans.now container.now.class.now container.now.number
         bindings.now stretches.now }
-    ensures { OnOk result ((slots : List AnySlot) → IsTableOf container.now.children.now slots → pairs.new.items ≡ pairs.old.items ++ binding_pairs slots container.now.first_ports.now container.now.spans.now container.now.class.now container.now.number bindings.now stretches.now) }
+    ensures { OnOk result ((slots : List AnySlot) → IsTableOf container.now.children.now slots
+        → pairs.new.items ≡ pairs.old.items
+        ++ binding_pairs slots container.now.first_ports.now container.now.spans.now
+        container.now.class.now container.now.number bindings.now stretches.now) }
 {
     for (i, binding) in bindings.iter().enumerate() {
         add_stretch(pairs, container, *binding, stretches[i])?;

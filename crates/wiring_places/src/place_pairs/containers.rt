@@ -83,7 +83,10 @@ fn add_container(
     requires faces { BindingsFit children.now first_ports.now spans.now
         (class_or_none (option_copied class)) number
         (class_or_none (option_copied class)).bindings stretches.now }
-    ensures { OnOk result ((slots : List AnySlot) → IsTableOf children.now slots → pairs.new.items ≡ pairs.old.items ++ binding_pairs slots first_ports.now spans.now (class_or_none (option_copied class.entry)) number (class_or_none (option_copied class.entry)).bindings stretches.now) }
+    ensures { OnOk result ((slots : List AnySlot) → IsTableOf children.now slots
+        → pairs.new.items ≡ pairs.old.items
+        ++ binding_pairs slots first_ports.now spans.now (class_or_none (option_copied class.entry))
+        number (class_or_none (option_copied class.entry)).bindings stretches.now) }
 {
     match class {
         Some(class) => {
@@ -119,7 +122,9 @@ pub fn container_pairs(
     requires taken { TakesFew plan.now slots.now }
     requires faces { AreBelow (2 ^ 32)
         (container_pairs plan.now slots.now first_ports.now spans.now 0 (length slots.now + 1)) }
-    ensures { IfOk result (λ v. v.items ≡ container_pairs plan.now slots.now first_ports.now spans.now 0 (length slots.now + 1)) }
+    ensures { IfOk result (λ v.
+        v.items
+        ≡ container_pairs plan.now slots.now first_ports.now spans.now 0 (length slots.now + 1)) }
 {
     let mut pairs = Vec::new(alloc);
     for (c, container) in containers.iter().enumerate() {

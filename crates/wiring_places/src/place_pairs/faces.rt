@@ -28,7 +28,8 @@ fn own_side_face(
     n: u64,
 ) -> u32
     requires { side_face [] first_ports.now spans.now class.now container (Own port) n < 2 ^ 32 }
-    ensures { (slots : List AnySlot) → result ≡ side_face slots first_ports.now spans.now class.now container (Own port) n }
+    ensures { (slots : List AnySlot)
+        → result ≡ side_face slots first_ports.now spans.now class.now container (Own port) n }
 {
     let span = span_of(first_ports, spans, container.saturating_sub(1), port);
     let inner = inner_side(class.ports.as_slice(), port);
@@ -60,7 +61,8 @@ pub(crate) fn side_face(
     n: u64,
 ) -> u32
     requires { FaceFits children.now first_ports.now spans.now class.now container side n }
-    ensures { (slots : List AnySlot) → IsTableOf children.now slots → result ≡ side_face slots first_ports.now spans.now class.now container side n }
+    ensures { (slots : List AnySlot) → IsTableOf children.now slots
+        → result ≡ side_face slots first_ports.now spans.now class.now container side n }
 {
     match side {
         SidePlan::Own { port } => own_side_face(first_ports, spans, class, container, port, n),

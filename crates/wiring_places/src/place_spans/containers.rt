@@ -52,7 +52,9 @@ pub fn container_stretches(
     slots: &[Slot],
 ) -> Result<Option<Vec<ClassStretches>>, AllocError>
     requires { TakesFew plan.now slots.now }
-    ensures { IfOk result (λ o. MatchOption o (lacks_place plan.now slots.now ≡ true) (λ v. AreContainers plan.now slots.now v.items)) }
+    ensures { IfOk result (λ o.
+        MatchOption o (lacks_place plan.now slots.now ≡ true)
+        (λ v. AreContainers plan.now slots.now v.items)) }
 {
     let subsystem = class_stretches(alloc, plan, &plan.subsystem)?;
     if has_idle_binding(&subsystem) {

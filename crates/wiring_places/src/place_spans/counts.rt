@@ -56,7 +56,9 @@ pub(crate) struct Counting<'a> {
 
 /// How many places port `p` of the slot has.
 fn port_count(known: &Counting, p: u16, port: PortPlan) -> u64
-    ensures { result ≡ port_count (taken_in known.now.outside.now) (taken_in known.now.inside.now) (taken_in known.now.served.now) known.now.slot known.now.imported known.now.reference p port }
+    ensures { result ≡ port_count (taken_in known.now.outside.now) (taken_in known.now.inside.now)
+        (taken_in known.now.served.now)
+        known.now.slot known.now.imported known.now.reference p port }
 {
     let outside = known.outside.at(inner_number(known.reference, p));
     let inside = known.inside.at(own_number(p));
@@ -75,7 +77,10 @@ pub(crate) fn add_counts(
     requires places { sum (counts_of_ports (taken_in known.now.outside.now)
         (taken_in known.now.inside.now) (taken_in known.now.served.now) known.now.slot
         known.now.imported known.now.reference 0 ports.now) < 2 ^ 32 }
-    ensures { OnOk result (counts.new.items ≡ counts.old.items ++ counts_of_ports (taken_in known.now.outside.now) (taken_in known.now.inside.now) (taken_in known.now.served.now) known.now.slot known.now.imported known.now.reference 0 ports.now) }
+    ensures { OnOk result (counts.new.items ≡ counts.old.items
+        ++ counts_of_ports (taken_in known.now.outside.now) (taken_in known.now.inside.now)
+        (taken_in known.now.served.now)
+        known.now.slot known.now.imported known.now.reference 0 ports.now) }
 {
     for (p, port) in ports.iter().enumerate() {
         counts.push(port_count(known, p as u16, *port) as u32)?;

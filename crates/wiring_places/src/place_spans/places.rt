@@ -44,7 +44,8 @@ fn add_places(
     role: Role,
     count: u32,
 ) -> Result<(), AllocError>
-    ensures { OnOk result (places.new.items ≡ places.old.items ++ places_of_port slot port role 0 count) }
+    ensures { OnOk result (places.new.items
+        ≡ places.old.items ++ places_of_port slot port role 0 count) }
 {
     for place in 0..count {
         places.push(Place {
@@ -68,7 +69,8 @@ fn add_port_places(
     ports: &[PortPlan],
 ) -> Result<(), AllocError>
     requires { length ports.now ≤ 65535 }
-    ensures { OnOk result (places.new.items ≡ places.old.items ++ places_of_ports imported slot counts.now row 0 ports.now) }
+    ensures { OnOk result (places.new.items
+        ≡ places.old.items ++ places_of_ports imported slot counts.now row 0 ports.now) }
 {
     for (p, port) in ports.iter().enumerate() {
         let number = p as u16;

@@ -36,7 +36,8 @@ fn stretches_at(containers: &[ClassStretches], container: usize) -> Option<&Clas
 /// What the bindings of a container take; `nothing` where there is no such container.
 fn taken_at<'a>(containers: &'a [ClassStretches], nothing: &'a Taken, container: usize) -> &'a Taken
     requires { taken_in nothing.now ≡ none_taken }
-    ensures { (plan : AnyPlan) (slots : List AnySlot) → AreContainers plan slots containers.now → taken_in result.now ≡ all_taken plan (container_class plan slots container) }
+    ensures { (plan : AnyPlan) (slots : List AnySlot) → AreContainers plan slots containers.now
+        → taken_in result.now ≡ all_taken plan (container_class plan slots container) }
 {
     match stretches_at(containers, container) {
         Some(class) => &class.taken,
@@ -69,7 +70,9 @@ pub fn port_counts(
     requires containers { AreContainers plan.now slots.now containers.now }
     requires places { (joins : List AnyJoin) × (taken_in served.now ≡ served_at joins)
         × (sum (counts plan.now slots.now joins) < 2 ^ 32) }
-    ensures { IfOk result (λ v. (joins : List AnyJoin) → taken_in served.now ≡ served_at joins → v.items ≡ counts plan.now slots.now joins) }
+    ensures { IfOk result (λ v.
+        (joins : List AnyJoin) → taken_in served.now ≡ served_at joins
+        → v.items ≡ counts plan.now slots.now joins) }
 {
     let nothing = Taken::new(alloc);
     let mut counts = Vec::new(alloc);

@@ -39,7 +39,7 @@ pub found_all : {X P : Type 0} (kind : X → Option SubsystemTree) (name : List 
 found_all kind name make parts [] = refl
 found_all kind name make parts (x ∷ xs) = found_next kind name make parts xs (kind x) (filter_map kind xs) (found_all kind name make parts xs)
 
-or_of_map : {X P : Type 0} (f : X → P) (o : Option X) (none : P) → unwrap_or (option_map f o) none ≡ option_map_or f o none
+pub or_of_map : {X P : Type 0} (f : X → P) (o : Option X) (none : P) → unwrap_or (option_map f o) none ≡ option_map_or f o none
 or_of_map f None none = refl
 or_of_map f (Some x) none = refl
 

@@ -93,7 +93,8 @@ fn item_bindings<'t>(
     class: &Container,
     items: &[StructureItem],
 ) -> Result<Vec<BindingPlan>, AllocError>
-    ensures { IfOk result (λ v. v.items ≡ filter_map (item_binding actors.entry.now class.now) items.now) }
+    ensures { IfOk result (λ v.
+        v.items ≡ filter_map (item_binding actors.entry.now class.now) items.now) }
 {
     let mut plans = Vec::new(alloc);
     for item in items {
@@ -108,7 +109,8 @@ fn item_layers<'t>(
     class: &Container,
     items: &[StructureItem],
 ) -> Result<Vec<LayerPlan>, AllocError>
-    ensures { IfOk result (λ v. v.items ≡ filter_map (item_layer actors.entry.now class.now) items.now) }
+    ensures { IfOk result (λ v.
+        v.items ≡ filter_map (item_layer actors.entry.now class.now) items.now) }
 {
     let mut plans = Vec::new(alloc);
     for item in items {
@@ -165,7 +167,9 @@ fn subsystem_bindings<'t>(
     class: &Container,
     items: &[SubsystemItem],
 ) -> Result<Vec<BindingPlan>, AllocError>
-    ensures { IfOk result (λ v. v.items ≡ filter_map (subsystem_binding actors.entry.now class.now) (map subsystem_item_view items.now)) }
+    ensures { IfOk result (λ v.
+        v.items ≡ filter_map (subsystem_binding actors.entry.now class.now) (map subsystem_item_view
+        items.now)) }
 {
     let mut plans = Vec::new(alloc);
     for item in items {
@@ -180,7 +184,9 @@ fn subsystem_layers<'t>(
     class: &Container,
     items: &[SubsystemItem],
 ) -> Result<Vec<LayerPlan>, AllocError>
-    ensures { IfOk result (λ v. v.items ≡ filter_map (subsystem_layer actors.entry.now class.now) (map subsystem_item_view items.now)) }
+    ensures { IfOk result (λ v.
+        v.items ≡ filter_map (subsystem_layer actors.entry.now class.now) (map subsystem_item_view
+        items.now)) }
 {
     let mut plans = Vec::new(alloc);
     for item in items {
@@ -196,7 +202,8 @@ pub(crate) fn subsystem_plan<'t>(
     class: &Container,
     items: &[SubsystemItem],
 ) -> Result<ClassPlan, AllocError>
-    ensures { IfOk result (λ p. p ≡ subsystem_plan actors.entry.now class.now (map subsystem_item_view items.now)) }
+    ensures { IfOk result (λ p.
+        p ≡ subsystem_plan actors.entry.now class.now (map subsystem_item_view items.now)) }
 {
     let bindings = subsystem_bindings(alloc, actors, class, items)?;
     let layers = subsystem_layers(alloc, actors, class, items)?;

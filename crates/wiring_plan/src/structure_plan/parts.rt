@@ -156,7 +156,8 @@ fn named_side<'t>(
     reference: &[u8],
     port: &[u8],
 ) -> Option<SidePlan>
-    ensures { result ≡ option_and_then (inner_side actors.entry.now class.now port.now) (number_of class.now.reference_names reference.now) }
+    ensures { result ≡ option_and_then (inner_side actors.entry.now class.now port.now) (number_of
+        class.now.reference_names reference.now) }
 {
     match number_of(&class.reference_names, reference) {
         Some(reference) => inner_side(actors, class, port, reference),

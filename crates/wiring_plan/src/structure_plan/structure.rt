@@ -21,7 +21,8 @@ fn actor_plans<'t>(
     classes: &[Class],
     actors: &'t [Container<'t>],
 ) -> Result<Vec<ClassPlan>, AllocError>
-    ensures { IfOk result (λ v. v.items ≡ actor_plans actors.entry.now (map class_view classes.now)) }
+    ensures { IfOk result (λ v.
+        v.items ≡ actor_plans actors.entry.now (map class_view classes.now)) }
 {
     let mut plans = Vec::with_capacity(alloc, actors.len())?;
     let mut left = actors;
@@ -45,7 +46,9 @@ fn named_plan<'t>(
     actors: &'t [Container<'t>],
     subsystems: &'t [Container<'t>],
 ) -> Result<Option<ClassPlan>, AllocError>
-    ensures { IfOk result (λ p. p ≡ named_plan actors.entry.now subsystems.entry.now (map class_view classes.now) name.now) }
+    ensures { IfOk result (λ p.
+        p
+        ≡ named_plan actors.entry.now subsystems.entry.now (map class_view classes.now) name.now) }
 {
     let mut left = subsystems;
     for class in classes {
@@ -74,7 +77,8 @@ fn first_reference<'m>(references: &'m [SubsystemRef]) -> Option<&'m Name>
 
 /// The name of the subsystem class that is wired.
 pub fn wired_name<'m>(classes: &'m [Class]) -> Option<&'m Name>
-    ensures { option_map (λ n. n.now) result ≡ wired_name (filter_map as_system (map class_view classes.entry.now)) }
+    ensures { option_map (λ n. n.now) result
+        ≡ wired_name (filter_map as_system (map class_view classes.entry.now)) }
 {
     for class in classes {
         if let Class::System(system) = class {
@@ -90,7 +94,8 @@ fn wired_plan<'t>(
     actors: &'t [Container<'t>],
     subsystems: &'t [Container<'t>],
 ) -> Result<ClassPlan, AllocError>
-    ensures { IfOk result (λ p. p ≡ wired_plan actors.entry.now subsystems.entry.now (map class_view classes.now)) }
+    ensures { IfOk result (λ p.
+        p ≡ wired_plan actors.entry.now subsystems.entry.now (map class_view classes.now)) }
 {
     let Some(name) = wired_name(classes) else {
         return Ok(no_plan(alloc));
@@ -107,7 +112,8 @@ fn plan_in<'t>(
     actors: &'t [Container<'t>],
     subsystems: &'t [Container<'t>],
 ) -> Result<StructurePlan, AllocError>
-    ensures { IfOk result (λ p. p ≡ plan_in actors.entry.now subsystems.entry.now (map class_view classes.now)) }
+    ensures { IfOk result (λ p.
+        p ≡ plan_in actors.entry.now subsystems.entry.now (map class_view classes.now)) }
 {
     let plans = actor_plans(alloc, classes, actors)?;
     let subsystem = wired_plan(alloc, classes, actors, subsystems)?;

@@ -50,7 +50,8 @@ fn names_if_attribute(
     names: &NameIndex,
     kinds: &[Sequence<NumberType>],
 ) -> Result<Option<AttrNames>, AllocError>
-    ensures { IfOk result (λ a. a ≡ option_map (attribute_by names.now kinds.now) (as_attribute item.now)) }
+    ensures { IfOk result (λ a.
+        a ≡ option_map (attribute_by names.now kinds.now) (as_attribute item.now)) }
 {
     match item {
         StructureItem::Attribute(attribute) => {
@@ -68,7 +69,8 @@ pub(crate) fn attributes_of(
     names: &NameIndex,
     kinds: &[Sequence<NumberType>],
 ) -> Result<Vec<AttrNames>, AllocError>
-    ensures { IfOk result (λ v. v.items ≡ map (attribute_by names.now kinds.now) (filter_map as_attribute items.now)) }
+    ensures { IfOk result (λ v.
+        v.items ≡ map (attribute_by names.now kinds.now) (filter_map as_attribute items.now)) }
 {
     let mut all = Vec::new(alloc);
     for item in items {

@@ -28,7 +28,8 @@ fn class_names(
     container: &Container,
     class: &ActorClass,
 ) -> Result<ClassNames, AllocError>
-    ensures { IfOk result (λ c. c ≡ class_by names.now signals.now kinds.now container.now (actor_view class.now)) }
+    ensures { IfOk result (λ c.
+        c ≡ class_by names.now signals.now kinds.now container.now (actor_view class.now)) }
 {
     let name = label_of(alloc, class.name.as_bytes())?;
     let ports = ports_of(
@@ -63,7 +64,9 @@ fn all_names(
     classes: &[Class],
     actors: &[Container],
 ) -> Result<Vec<ClassNames>, AllocError>
-    ensures { IfOk result (λ v. v.items ≡ classes_by names.now signals.now kinds.now (map class_view classes.now) actors.now) }
+    ensures { IfOk result (λ v.
+        v.items
+        ≡ classes_by names.now signals.now kinds.now (map class_view classes.now) actors.now) }
 {
     let mut all = Vec::with_capacity(alloc, actors.len())?;
     let mut left = actors;
@@ -86,7 +89,8 @@ fn named_in(
     tables: &Tables,
     kinds: &[Sequence<NumberType>],
 ) -> Result<Vec<ClassNames>, AllocError>
-    ensures { IfOk result (λ v. v.items ≡ named_in tables.now kinds.now (map class_view classes.now)) }
+    ensures { IfOk result (λ v.
+        v.items ≡ named_in tables.now kinds.now (map class_view classes.now)) }
 {
     let signals = signal_table(alloc, classes, &tables.names.data_classes, kinds)?;
     let labelled = labelled_table(alloc, &signals)?;

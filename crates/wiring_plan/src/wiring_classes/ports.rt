@@ -13,7 +13,8 @@ use room_wiring::{Label, PortNames, RefNames, SignalNames};
 use std::alloc::{AllocError, Global};
 
 fn name_at<'a>(names: &'a [&'a [u8]], number: Option<usize>) -> Option<&'a [u8]>
-    ensures { option_map (λ n. n.now) result ≡ option_and_then (slice_get (names_of names.entry.now)) number }
+    ensures { option_map (λ n. n.now) result
+        ≡ option_and_then (slice_get (names_of names.entry.now)) number }
 {
     match number {
         Some(number) => names.get(number).copied(),
@@ -40,7 +41,8 @@ fn port_names(
     name: &[u8],
     port: &PortEntry,
 ) -> Result<PortNames, AllocError>
-    ensures { IfOk result (λ p. p ≡ port_names_of (names_of names.now) signals.now name.now port.now) }
+    ensures { IfOk result (λ p.
+        p ≡ port_names_of (names_of names.now) signals.now name.now port.now) }
 {
     let signals = signals.at(port).share()?;
     let protocol_name = label_if_any(alloc, name_at(names, port.protocol))?;
@@ -65,7 +67,9 @@ pub(crate) fn ports_of(
     names: &[&[u8]],
     ports: &[PortEntry],
 ) -> Result<Vec<PortNames>, AllocError>
-    ensures { IfOk result (λ v. v.items ≡ named (port_names_of (names_of protocol_names.now) signals.now) (names_of names.now) ports.now) }
+    ensures { IfOk result (λ v.
+        v.items ≡ named (port_names_of (names_of protocol_names.now) signals.now)
+        (names_of names.now) ports.now) }
 {
     let mut all = Vec::with_capacity(alloc, ports.len())?;
     let mut left = ports;
@@ -102,7 +106,8 @@ pub(crate) fn references_of(
     names: &[&[u8]],
     references: &[ReferenceEntry],
 ) -> Result<Vec<RefNames>, AllocError>
-    ensures { IfOk result (λ v. v.items ≡ named reference_names_of (names_of names.now) references.now) }
+    ensures { IfOk result (λ v.
+        v.items ≡ named reference_names_of (names_of names.now) references.now) }
 {
     let mut all = Vec::with_capacity(alloc, references.len())?;
     let mut left = references;

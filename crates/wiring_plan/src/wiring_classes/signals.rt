@@ -50,7 +50,8 @@ fn labelled_protocols(
     alloc: Global,
     protocols: &[Signals<ScopeSignal>],
 ) -> Result<Vec<Signals<SignalNames>>, AllocError>
-    ensures { IfOk result (λ v. v.items ≡ map (map_signals labelled) (map (map_signals signal_view) protocols.now)) }
+    ensures { IfOk result (λ v.
+        v.items ≡ map (map_signals labelled) (map (map_signals signal_view) protocols.now)) }
 {
     let mut all = Vec::with_capacity(alloc, protocols.len())?;
     for signals in protocols {

@@ -35,7 +35,8 @@ fn add_item(
     prefix: &[u8],
     item: &GraphItem,
 ) -> Result<(), AllocError>
-    ensures { OnOk result (labels.new.items ≡ labels.old.items ++ map label_of (states_of_item left prefix.now (item_view item.now))) }
+    ensures { OnOk result (labels.new.items
+        ≡ labels.old.items ++ map label_of (states_of_item left prefix.now (item_view item.now))) }
 {
     match item {
         GraphItem::State(state) => add_state(alloc, labels, left, prefix, state),
@@ -55,7 +56,8 @@ fn add_state(
     prefix: &[u8],
     state: &State,
 ) -> Result<(), AllocError>
-    ensures { OnOk result (labels.new.items ≡ labels.old.items ++ map label_of (states_of_state left prefix.now (state_view state.now))) }
+    ensures { OnOk result (labels.new.items ≡ labels.old.items
+        ++ map label_of (states_of_state left prefix.now (state_view state.now))) }
 {
     let text = joined(alloc, prefix, state.name.as_bytes())?;
     labels.push(label_of(alloc, text.as_slice())?)?;
@@ -77,7 +79,8 @@ fn add_below(
     text: &[u8],
     items: &Vec<GraphItem>,
 ) -> Result<(), AllocError>
-    ensures { OnOk result (labels.new.items ≡ labels.old.items ++ map label_of (states_below left text.now (graph_view items.now.items))) }
+    ensures { OnOk result (labels.new.items ≡ labels.old.items
+        ++ map label_of (states_below left text.now (graph_view items.now.items))) }
 {
     if left == 0 {
         return Ok(());
@@ -94,7 +97,8 @@ fn add_graph(
     prefix: &[u8],
     items: &Vec<GraphItem>,
 ) -> Result<(), AllocError>
-    ensures { OnOk result (labels.new.items ≡ labels.old.items ++ map label_of (states_of_graph left prefix.now (graph_view items.now.items))) }
+    ensures { OnOk result (labels.new.items ≡ labels.old.items
+        ++ map label_of (states_of_graph left prefix.now (graph_view items.now.items))) }
 {
     for item in items {
         add_item(alloc, labels, left, prefix, item)?;

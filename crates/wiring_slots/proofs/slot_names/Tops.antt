@@ -7,7 +7,7 @@ use Rattle.room_ast.specs.model_parts.Classes.{as_subsystem, systems, subsystems
 use Rattle.check_tables.specs.class_tables.Containers.{tables_of, tables_with, class_names, subsystem_containers, subsystem_container}
 use Rattle.check_tables.specs.declared.class_tables.tables.Tables.{Tables}
 use Rattle.wiring_plan.specs.structure_plan.Steps.{first_named}
-use Rattle.wiring_plan.proofs.structure_plan.Walks.{found_all}
+use Rattle.wiring_plan.proofs.structure_plan.Walks.{found_all, or_of_map}
 use Rattle.wiring_slots.specs.slot_names.Found.{wired_with, named_in, wired_in}
 use Rattle.check_mappings.specs.mapping_rules.Rules.{thread_names}
 use Rattle.check_tables.specs.declared.class_tables.container.Container.{Container}
@@ -16,10 +16,6 @@ use Rattle.wiring_slots.specs.declared.slot_tree.names.ReferenceLabel.{Reference
 use Rattle.wiring_slots.specs.declared.slot_names.names.WiredNames.{WiredNames}
 use Rattle.wiring_slots.specs.slot_names.Names.{labels_of, controllers_of, mappings_in, names_with, nothing_wired, wired_of, wired_names}
 use Rattle.wiring_slots.specs.slot_names.Wireds.{WiredTree}
-
-or_of_map : {X P : Type 0} (f : X → P) (o : Option X) (none : P) → unwrap_or (option_map f o) none ≡ option_map_or f o none
-or_of_map f None none = refl
-or_of_map f (Some x) none = refl
 
 found_is : {X P : Type 0} (f : X → P) (found_by : List ℕ → Option P) (first_by : List ℕ → Option X) (none : P) → ((name : List ℕ) → found_by name ≡ option_map f (first_by name)) → (name : Option (List ℕ))
     → unwrap_or (option_and_then found_by name) none ≡ option_map_or f (option_map_or first_by name None) none

@@ -11,15 +11,18 @@ index_added {X} f old now i x h e =
     ∙ ap (λ (xs : List X). old ++ xs) (sym (map-range_with_len_more f 0 i i (omega arith)))
 
 -- all indexes
-pub indexes_fit : {X : Type 0} (f : ℕ → X) (old now : List X) (i count room : ℕ) → i ≡ count → count ≤ room - length old → length old ≤ room → now ≡ old ++ map f (range_with_len 0 i) → (now ≡ old ++ map f (range_with_len 0 count)) × (length now ≤ room)
-indexes_fit {X} f old now i count room all fits few h =
-    let whole : now ≡ old ++ map f (range_with_len 0 count) = h ∙ ap (λ k. old ++ map f (range_with_len 0 k)) all in
-    let size = ap length whole ∙ length-append old (map f (range_with_len 0 count)) in
-    (whole, omega (arith, size, length-map-range_with_len f 0 count))
+pub all_indexes : {X : Type 0} (f : ℕ → X) (old now : List X) (i count : ℕ) → i ≡ count → now ≡ old ++ map f (range_with_len 0 i) → now ≡ old ++ map f (range_with_len 0 count)
+all_indexes {X} f old now i count all h = h ∙ ap (λ (k : ℕ). old ++ map f (range_with_len 0 k)) all
 
-module _ {X Y : Type 0} (f : ℕ × X → List Y) (xs : List X) (i : ℕ) (x : X) (l : i < length xs) (is : x ≡ get_or xs i x) where
+-- what the slots of a reference make of a list in a room
+pub indexes_fit : {X : Type 0} (f : ℕ → X) (old now : List X) (count room : ℕ) → count ≤ room - length old → length old ≤ room → now ≡ old ++ map f (range_with_len 0 count) → length now ≤ room
+indexes_fit {X} f old now count room fits few whole =
+    let size = ap length whole ∙ length-append old (map f (range_with_len 0 count)) in
+    omega (arith, size, length-map-range_with_len f 0 count)
+
+module _ {X Y : Type 0} (f : ℕ × X → List Y) (xs : List X) (i : ℕ) (d x : X) (l : i < length xs) (is : x ≡ get_or xs i d) where
   first : flat_map f (enumerate_from i (drop i xs)) ≡ f (i, x) ++ flat_map f (enumerate_from (i + 1) (drop (i + 1) xs))
-  first = ap (λ (ys : List X). flat_map f (enumerate_from i ys)) (drop_more xs i x l) ∙ ap (λ (y : X). f (i, y) ++ flat_map f (enumerate_from (i + 1) (drop (i + 1) xs))) (sym is)
+  first = ap (λ (ys : List X). flat_map f (enumerate_from i ys)) (drop_more xs i d l) ∙ ap (λ (y : X). f (i, y) ++ flat_map f (enumerate_from (i + 1) (drop (i + 1) xs))) (sym is)
 
   -- one more reference
   pub reference_added : (now new all : List Y) → now ++ flat_map f (enumerate_from i (drop i xs)) ≡ all → new ≡ now ++ f (i, x) → new ++ flat_map f (enumerate_from (i + 1) (drop (i + 1) xs)) ≡ all

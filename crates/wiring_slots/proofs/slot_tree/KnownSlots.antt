@@ -25,7 +25,7 @@ all_in_order P Q f step n (x ∷ xs) h =
     All-append Q (f n x) (in_order f (n + length (f n x)) xs) (step n x (All-head P x xs h)) (all_in_order P Q f step (n + length (f n x)) xs (All-tail P x xs h))
 
 -- the item at a place
-at_place : {X : Type 0} (P : X → Type 0) (xs : List X) (i : ℕ) (x : X) → All P xs → slice_get xs i ≡ Some x → P x
+pub at_place : {X : Type 0} (P : X → Type 0) (xs : List X) (i : ℕ) (x : X) → All P xs → slice_get xs i ≡ Some x → P x
 at_place P [] i x h e = absurd cc
 at_place P (y ∷ ys) zero x h e = let is : y ≡ x = cc in subst P is (All-head P y ys h)
 at_place P (y ∷ ys) (suc i) x h e = at_place P ys i x (All-tail P y ys h) e

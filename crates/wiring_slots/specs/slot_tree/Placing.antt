@@ -1,5 +1,5 @@
 -- Placing the slots that wait, one after another, within a limit.
-use Rattle.std.specs.Prelude.{◌≡◌, ℕ, zero, suc, ◌+◌, ◌<◌, ◌≤◌, nat_le, Bool, true, false, List, [], ◌++◌, length, Option, Some, None, if◌then◌else◌}
+use Rattle.std.specs.Prelude.{◌≡◌, ℕ, zero, suc, ◌+◌, ◌<◌, ◌≤◌, nat_le, Bool, List, [], ◌++◌, length, Option, Some, None, if◌then◌else◌}
 use Rattle.std.specs.Global.{Vec}
 use Rattle.std.specs.List.{All}
 use Rattle.room_wiring.specs.declared.slot.Slot.{Slot}
@@ -26,11 +26,6 @@ TellsFew plan b = (names : SlotNames) (mappings : List MappingPlan) → b ≡ na
 pub record IsNumbered (plan : StructurePlan) : Type 0 where
   pub classes : All (λ (c : ClassPlan). length c.references ≤ 65536) plan.classes
   pub subsystem : length plan.subsystem.references ≤ 65536
-
--- What adding to a list in a room does: the items are added, or they don't fit.
-abbrev pub Adds : {X : Type 0} → ℕ → List X → List X → List X → Bool → Type 0
-Adds room old new more true = (new ≡ old ++ more) × (length new ≤ room)
-Adds room old new more false = room < length old + length more
 
 -- These are the items, or they don't fit in a room.
 abbrev pub Fits : {X : Type 0} → ℕ → List X → Option (Vec X) → Type 0

@@ -53,7 +53,8 @@ fn labels_with(
     names: &[&[u8]],
     references: &[ReferenceEntry],
 ) -> Result<Vec<ReferenceLabel>, AllocError>
-    ensures { IfOk result (λ v. v.items ≡ named reference_label (names_of names.now) references.now) }
+    ensures { IfOk result (λ v.
+        v.items ≡ named reference_label (names_of names.now) references.now) }
 {
     let mut labels = Vec::with_capacity(alloc, names.len())?;
     let mut left = references;
@@ -131,7 +132,11 @@ fn mappings_in<'m>(
     wired: Wired<'m>,
     threads: &NameIndex,
 ) -> Result<MappingOrder, AllocError>
-    ensures { IfOk result (λ v. v ≡ flat_map (item_mappings actors.entry.now threads.now (record { steps = []; place = Some (wired_view wired.entry).container })) (wired_view wired.entry).items) }
+    ensures { IfOk result (λ v.
+        v ≡ flat_map
+        (item_mappings actors.entry.now threads.now
+        (record { steps = []; place = Some (wired_view wired.entry).container }))
+        (wired_view wired.entry).items) }
 {
     let mut plans = MappingOrder::new(alloc);
     for item in wired.items {
@@ -186,7 +191,9 @@ fn names_in<'m>(
     actors: &'m [Container<'m>],
     subsystems: &'m [Container<'m>],
 ) -> Result<WiredNames, AllocError>
-    ensures { IfOk result (λ n. n ≡ names_with actors.entry.now (unwrap_or (wired_in (map class_view classes.entry.now) subsystems.entry.now) nothing_wired)) }
+    ensures { IfOk result (λ n.
+        n ≡ names_with actors.entry.now (unwrap_or
+        (wired_in (map class_view classes.entry.now) subsystems.entry.now) nothing_wired)) }
 {
     match wired_in(classes, subsystems) {
         Some(wired) => names_with(alloc, actors, wired),

@@ -30,7 +30,8 @@ fn stepped<'t>(
     class: &Container,
     reference: u16,
 ) -> Result<Way<'t>, AllocError>
-    ensures { IfOk result (λ w. way_view w ≡ stepped actors.entry.now (way_view way.entry) index class.now reference) }
+    ensures { IfOk result (λ w.
+        way_view w ≡ stepped actors.entry.now (way_view way.entry) index class.now reference) }
 {
     let mut steps = way.steps;
     steps.push(StepPlan { reference, index })?;
@@ -44,7 +45,9 @@ fn step_in<'t>(
     segment: &Segment,
     class: &Container,
 ) -> Result<Option<Way<'t>>, AllocError>
-    ensures { IfOk result (λ w. option_map way_view w ≡ step_in actors.entry.now (way_view way.entry) segment.now class.now) }
+    ensures { IfOk result (λ w.
+        option_map way_view w
+        ≡ step_in actors.entry.now (way_view way.entry) segment.now class.now) }
 {
     match number_of(&class.reference_names, segment.name.as_bytes()) {
         Some(reference) => {
@@ -62,7 +65,8 @@ fn further<'t>(
     way: Way<'t>,
     segment: &Segment,
 ) -> Result<Option<Way<'t>>, AllocError>
-    ensures { IfOk result (λ w. option_map way_view w ≡ further actors.entry.now (way_view way.entry) segment.now) }
+    ensures { IfOk result (λ w.
+        option_map way_view w ≡ further actors.entry.now (way_view way.entry) segment.now) }
 {
     match way.place {
         Some(class) => step_in(actors, way, segment, class),
@@ -77,7 +81,8 @@ fn walked<'t>(
     way: Way<'t>,
     segments: &[Segment],
 ) -> Result<Option<Way<'t>>, AllocError>
-    ensures { IfOk result (λ w. option_map way_view w ≡ walked actors.entry.now (way_view way.entry) segments.now) }
+    ensures { IfOk result (λ w.
+        option_map way_view w ≡ walked actors.entry.now (way_view way.entry) segments.now) }
 {
     let mut reached = way;
     for segment in segments {
@@ -95,7 +100,8 @@ fn path_end<'t>(
     way: Way<'t>,
     path: &MappingPath,
 ) -> Result<Option<Way<'t>>, AllocError>
-    ensures { IfOk result (λ w. option_map way_view w ≡ path_end actors.entry.now (way_view way.entry) path.now) }
+    ensures { IfOk result (λ w.
+        option_map way_view w ≡ path_end actors.entry.now (way_view way.entry) path.now) }
 {
     let Some(first) = further(actors, way, &path.first)? else {
         return Ok(None);
@@ -111,7 +117,9 @@ fn path_from<'t>(
     place: Option<&'t Container<'t>>,
     path: &MappingPath,
 ) -> Result<Option<Way<'t>>, AllocError>
-    ensures { IfOk result (λ w. LeadsBehind actors.entry.now (option_map (λ c. c.now) place.entry) path.now (option_map way_view w)) }
+    ensures { IfOk result (λ w.
+        LeadsBehind actors.entry.now (option_map (λ c. c.now) place.entry) path.now
+        (option_map way_view w)) }
 {
     let start = Way {
         steps: Vec::new(alloc),
@@ -139,7 +147,8 @@ fn controller_of(threads: &NameIndex, name: &[u8]) -> ControllerId
 
 /// What a mapping adds to the path that leads to it: its own steps, and its controller.
 fn own_plan(alloc: Global, way: &Way, controller: ControllerId) -> Result<MappingPlan, AllocError>
-    ensures { IfOk result (λ m. m ≡ record { steps = (way_view way.now).steps; controller = controller }) }
+    ensures { IfOk result (λ m.
+        m ≡ record { steps = (way_view way.now).steps; controller = controller }) }
 {
     let steps = Vec::from_slice(alloc, way.steps.as_slice())?;
     Ok(MappingPlan {
@@ -163,7 +172,10 @@ fn add_mapping<'t>(
 ) -> Result<(), AllocError>
     requires there { LastBegins path.old.items plans.old }
     ensures back { OnOk result (path.new.items ≡ path.old.items) }
-    ensures added { OnOk result (AddsBehind path.old.items plans.old plans.new (mappings_of actors.entry.now threads.now (record { steps = path.old.items; place = option_map (λ c. c.now) place.entry }) (mapping_view mapping.now))) }
+    ensures added { OnOk result (AddsBehind path.old.items plans.old plans.new
+        (mappings_of actors.entry.now threads.now
+        (record { steps = path.old.items; place = option_map (λ c. c.now) place.entry })
+        (mapping_view mapping.now))) }
 {
     let Some(end) = path_from(alloc, actors, place, &mapping.path)? else {
         return Ok(());
@@ -200,7 +212,10 @@ fn add_all<'t>(
 ) -> Result<(), AllocError>
     requires there { LastBegins path.old.items plans.old }
     ensures back { OnOk result (path.new.items ≡ path.old.items) }
-    ensures added { OnOk result (AddsBehind path.old.items plans.old plans.new (all_mappings actors.entry.now threads.now (record { steps = path.old.items; place = option_map (λ c. c.now) place.entry }) (mappings_tree (map mapping_view mappings.now.items)))) }
+    ensures added { OnOk result (AddsBehind path.old.items plans.old plans.new
+        (all_mappings actors.entry.now threads.now
+        (record { steps = path.old.items; place = option_map (λ c. c.now) place.entry })
+        (mappings_tree (map mapping_view mappings.now.items)))) }
 {
     for mapping in mappings {
         add_mapping(alloc, plans, path, actors, threads, place, mapping)?;
@@ -218,7 +233,9 @@ pub(crate) fn add_item<'t>(
     class: &'t Container<'t>,
     item: &SubsystemItem,
 ) -> Result<(), AllocError>
-    ensures { OnOk result (plans.new ≡ plans.old ++ item_mappings actors.entry.now threads.now (record { steps = []; place = Some class.entry.now }) (subsystem_item_view item.now)) }
+    ensures { OnOk result (plans.new ≡ plans.old
+        ++ item_mappings actors.entry.now threads.now
+        (record { steps = []; place = Some class.entry.now }) (subsystem_item_view item.now)) }
 {
     match item {
         SubsystemItem::Mapping(mapping) => {

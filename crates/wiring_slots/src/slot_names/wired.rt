@@ -21,7 +21,8 @@ fn named_in<'m>(
     classes: &'m [Class],
     subsystems: &'m [Container<'m>],
 ) -> Option<Wired<'m>>
-    ensures { option_map wired_view result ≡ named_in (map class_view classes.entry.now) subsystems.entry.now name.now }
+    ensures { option_map wired_view result
+        ≡ named_in (map class_view classes.entry.now) subsystems.entry.now name.now }
 {
     let mut left = subsystems;
     for class in classes {
@@ -46,7 +47,8 @@ pub(crate) fn wired_in<'m>(
     classes: &'m [Class],
     subsystems: &'m [Container<'m>],
 ) -> Option<Wired<'m>>
-    ensures { option_map wired_view result ≡ wired_in (map class_view classes.entry.now) subsystems.entry.now }
+    ensures { option_map wired_view result
+        ≡ wired_in (map class_view classes.entry.now) subsystems.entry.now }
 {
     match wired_name(classes) {
         Some(name) => named_in(name, classes, subsystems),

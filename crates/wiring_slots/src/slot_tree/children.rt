@@ -1,10 +1,10 @@
 //! The slots directly inside a container.
 
-ghost use Rattle.std.specs.Prelude.{◌≡◌, ◌≤◌, length, IfOk};
+ghost use Rattle.std.specs.Prelude.{◌≡◌, ◌≤◌, ◌++◌, length, IfOk, OnOk};
 ghost use Rattle.wiring_slots.specs.slot_tree.Slots.{owner_of};
 ghost use Rattle.wiring_slots.specs.slot_tree.WaitingSlots.{waiting_with, waiting_of_reference, waiting_of_references, container_of};
 ghost use Rattle.wiring_slots.specs.slot_tree.Leading.{trails_through};
-ghost use Rattle.wiring_slots.specs.slot_tree.Placing.{Adds, Fits};
+ghost use Rattle.wiring_slots.specs.slot_tree.Placing.{Fits};
 
 use crate::slot_tree::leading::{by_index, by_reference};
 use crate::slot_tree::mapping_order::MappingOrder;
@@ -83,34 +83,27 @@ fn waiting_with(
     }
 }
 
-/// Adds the slots of a reference, if they fit in the room; with it these of the container's trails go
-/// on.
+/// Adds the slots of a reference; with it these of the container's trails go on.
 fn add_reference(
     alloc: Global,
     children: &mut Vec<Waiting>,
-    room: usize,
     mappings: &MappingOrder,
     container: &Container,
     number: u16,
     reference: &ReferencePlan,
     trails: &Trails,
-) -> Result<bool, AllocError>
-    requires room { length children.old.items ≤ room }
-    requires through { trails.now ≡ trails_through mappings.now container.now.trails number }
-    ensures { IfOk result (λ fits.
-        let added = waiting_of_reference mappings.now container.now (number, reference.now) in
-        Adds room children.old.items children.new.items added fits) }
+) -> Result<(), AllocError>
+    requires { trails.now ≡ trails_through mappings.now container.now.trails number }
+    ensures { OnOk result (children.new.items ≡ children.old.items
+        ++ waiting_of_reference mappings.now container.now (number, reference.now)) }
 {
     let count = reference.count as usize;
-    if count > room - children.len() {
-        return Ok(false);
-    }
     let mut lists = by_index(alloc, mappings, number, count, trails)?;
     for index in 0..reference.count {
         let leading = mem::replace(&mut lists[index as usize], Trails::new(alloc));
         children.push(waiting_with(mappings, container, number, reference, index, leading))?;
     }
-    Ok(true)
+    Ok(())
 }
 
 /// The slots directly inside a container with these references, if they fit in the room. It takes time
@@ -130,18 +123,18 @@ pub(crate) fn waiting_of_references(
     let lists = by_reference(alloc, mappings, references.len(), &container.trails)?;
     let mut children = Vec::new(alloc);
     for (number, reference) in references.iter().enumerate() {
-        if !add_reference(
+        if reference.count as usize > room - children.len() {
+            return Ok(None);
+        }
+        add_reference(
             alloc,
             &mut children,
-            room,
             mappings,
             container,
             number as u16,
             reference,
             &lists[number],
-        )? {
-            return Ok(None);
-        }
+        )?;
     }
     Ok(Some(children))
 }

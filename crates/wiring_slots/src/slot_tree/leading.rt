@@ -48,7 +48,8 @@ fn sort_group_by_reference(
     group: Run,
 ) -> Result<(), AllocError>
     requires { AreAlike mappings.now group }
-    ensures { OnOk result (SortsByReference mappings.now (trails_of group) lists.old.items lists.new.items) }
+    ensures { OnOk result (SortsByReference mappings.now (trails_of group) lists.old.items
+        lists.new.items) }
 {
     if let Some(step) = mappings.next_step(group.head()) {
         add_at(lists, usize::from(step.reference), group)?;
@@ -61,7 +62,8 @@ fn sort_by_reference(
     mappings: &MappingOrder,
     run: Run,
 ) -> Result<(), AllocError>
-    ensures { OnOk result (SortsByReference mappings.now (trails_of run) lists.old.items lists.new.items) }
+    ensures { OnOk result (SortsByReference mappings.now (trails_of run) lists.old.items
+        lists.new.items) }
 {
     let mut first = run.first;
     while first < run.end {
@@ -106,7 +108,8 @@ fn sort_group_by_index(
     group: Run,
 ) -> Result<(), AllocError>
     requires { AreAlike mappings.now group }
-    ensures { OnOk result (SortsByIndex mappings.now reference (trails_of group) lists.old.items lists.new.items) }
+    ensures { OnOk result (SortsByIndex mappings.now reference (trails_of group) lists.old.items
+        lists.new.items) }
 {
     let Some(step) = mappings.next_step(group.head()) else {
         return Ok(());
@@ -123,7 +126,8 @@ fn sort_by_index(
     reference: u16,
     run: Run,
 ) -> Result<(), AllocError>
-    ensures { OnOk result (SortsByIndex mappings.now reference (trails_of run) lists.old.items lists.new.items) }
+    ensures { OnOk result (SortsByIndex mappings.now reference (trails_of run) lists.old.items
+        lists.new.items) }
 {
     let mut first = run.first;
     while first < run.end {
@@ -142,7 +146,8 @@ pub(crate) fn by_index(
     count: usize,
     trails: &Trails,
 ) -> Result<Vec<Trails>, AllocError>
-    ensures { IfOk result (λ lists. lists.items ≡ by_index mappings.now reference count trails.now) }
+    ensures { IfOk result (λ lists.
+        lists.items ≡ by_index mappings.now reference count trails.now) }
 {
     let mut lists = no_trails(alloc, count)?;
     for run in trails.runs() {

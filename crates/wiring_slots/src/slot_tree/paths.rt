@@ -28,7 +28,8 @@ fn push_segment(
     label: Option<&ReferenceLabel>,
     index: u32,
 ) -> Result<(), AllocError>
-    ensures { OnOk result (text.new.items ≡ text.old.items ++ option_map_or (segment_text index) (option_map (λ l. l.now) label.entry) []) }
+    ensures { OnOk result (text.new.items ≡ text.old.items
+        ++ option_map_or (segment_text index) (option_map (λ l. l.now) label.entry) []) }
 {
     if let Some(label) = label {
         text.extend_from_slice(label.name.as_bytes())?;

@@ -89,8 +89,8 @@ impl Placed {
         slot: BareSlot,
     ) -> Result<(), AllocError>
         ensures slots { OnOk result (self.new.slots.items ≡ self.old.slots.items ++ slot ∷ []) }
-        ensures paths { OnOk result (
-            self.new.paths ≡ self.old.paths ++ (container_path self.old.paths slot ++ end.now) ∷ []) }
+        ensures paths { OnOk result (self.new.paths
+            ≡ self.old.paths ++ (container_path self.old.paths slot ++ end.now) ∷ []) }
     {
         self.paths.add(alloc, number_of(slot.parent), end)?;
         self.slots.push(slot)?;

@@ -70,7 +70,8 @@ impl Trails {
 
     /// So many mappings at their beginnings.
     pub(crate) fn all(alloc: Global, count: usize) -> Result<Trails, AllocError>
-        ensures { IfOk result (λ t. t ≡ map (λ i. record { mapping = i; steps = 0 }) (range_with_len 0 count)) }
+        ensures { IfOk result (λ t.
+            t ≡ map (λ i. record { mapping = i; steps = 0 }) (range_with_len 0 count)) }
     {
         let mut trails = Trails::new(alloc);
         trails.push(Run {

@@ -137,7 +137,8 @@ pub fn slots_of(
     mappings: &MappingOrder,
 ) -> Result<Option<Sequence<Slot>>, AllocError>
     requires { IsNumbered plan.now }
-    ensures { IfOk result (λ slots. slots ≡ at_most most_slots (slots_of plan.now names.now mappings.now)) }
+    ensures { IfOk result (λ slots.
+        slots ≡ at_most most_slots (slots_of plan.now names.now mappings.now)) }
 {
     let Some(tops) = waiting_tops(alloc, plan, mappings)? else {
         return Ok(None);

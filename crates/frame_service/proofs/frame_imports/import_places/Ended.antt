@@ -15,13 +15,11 @@ use Rattle.frame_lives.proofs.Rows.{updated_here, updated_else}
 use Rattle.frame_lives.proofs.Making.{one_below, and_true}
 use Rattle.frame_service.specs.frame_imports.import_places.Lending.{Lending, is_import_of, with_places, forgotten, forgotten_where}
 use Rattle.frame_service.proofs.frame_imports.import_places.Written.{same_lending}
+use Rattle.frame_service.proofs.frame_endings.Back.{not_import}
 
 -- of the import places that pass a test those below n hold nothing
 abbrev pub cleared_below : (ℕ → Bool) → ℕ → (ℕ → rows.ImportPlace) → ℕ → rows.ImportPlace
 cleared_below p n places i = cond (p i && nat_lt i n) rows.Empty (places i)
-
-not_import : (t : Tables) (s i : ℕ) → is_part_of t i s ≡ false → is_import_of t s i ≡ false
-not_import t s i h = and_right (is_imported t i) (is_part_of t i s) h
 
 -- what doesn't stand behind s, in its run, is no import place of s
 outside : (t : Tables) → IsDepthFirst t → (s e i : ℕ) → IsRunEnd t s e → ((s < i) × (i < e) → ⊥) → is_import_of t s i ≡ false

@@ -39,7 +39,8 @@ fn known_end(
     port: u16,
     place: u32,
 ) -> Option<Endpoint>
-    ensures { result ≡ end_in slot.0 (known_in wiring.now me.0 (shown lives.now) slot.0) port place }
+    ensures { result
+        ≡ end_in slot.0 (known_in wiring.now me.0 (shown lives.now) slot.0) port place }
 {
     match lives.known(wiring, me, slot) {
         Some(generation) => Some(Endpoint {
@@ -66,7 +67,9 @@ pub fn peer<I: Lent>(
     port: u16,
     place: u64,
 ) -> Option<Endpoint>
-    ensures peer { result ≡ frame_peer wiring.now me.0 (frame_by (shown lives.now) (I.places lent.now) (I.plugs lent.now)) (endpoint who.slot.0 who.generation.0 port place) }
+    ensures peer { result ≡ frame_peer wiring.now me.0
+        (frame_by (shown lives.now) (I.places lent.now) (I.plugs lent.now))
+        (endpoint who.slot.0 who.generation.0 port place) }
     ensures near { IfSome result (λ e. place < 2 ^ 32) }
 {
     match joined_at(wiring, who.slot, port, place) {

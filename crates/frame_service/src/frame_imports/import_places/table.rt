@@ -80,7 +80,8 @@ impl Imports {
 
     /// A slot holds something else.
     pub fn set_place(&mut self, slot: SlotId, place: ImportPlace) -> Result<(), AllocError>
-        ensures { OnOk result (lending self.new ≡ with_places (lending self.old) (updated (lending self.old).places slot.0 (place_of place))) }
+        ensures { OnOk result (lending self.new ≡ with_places (lending self.old) (updated
+            (lending self.old).places slot.0 (place_of place))) }
     {
         let held = self.places.reach(usize::from(slot.0))?;
         *held = place;
@@ -89,7 +90,8 @@ impl Imports {
 
     /// A slot holds nothing any more. It takes no memory.
     fn empty_place(&mut self, slot: SlotId)
-        ensures { lending self.new ≡ with_places (lending self.old) (updated (lending self.old).places slot.0 Empty) }
+        ensures { lending self.new
+            ≡ with_places (lending self.old) (updated (lending self.old).places slot.0 Empty) }
     {
         if let Some(place) = self.places.get_mut(usize::from(slot.0)) {
             *place = ImportPlace::Empty;
@@ -98,7 +100,8 @@ impl Imports {
 
     /// A slot has one more plug, its youngest.
     pub fn add_plug(&mut self, slot: SlotId, plug: Incarnation) -> Result<(), AllocError>
-        ensures { OnOk result (lending self.new ≡ with_plugs (lending self.old) (updated (lending self.old).plugs slot.0 ((lending self.old).plugs slot.0 ++ plug ∷ []))) }
+        ensures { OnOk result (lending self.new ≡ with_plugs (lending self.old) (updated
+            (lending self.old).plugs slot.0 ((lending self.old).plugs slot.0 ++ plug ∷ []))) }
     {
         let plugs = self.plugs.reach(usize::from(slot.0))?;
         plugs.push(plug)?;
@@ -107,7 +110,8 @@ impl Imports {
 
     /// A plug of a slot goes, if it is there.
     pub fn remove_plug(&mut self, slot: SlotId, plug: Incarnation)
-        ensures { lending self.new ≡ with_plugs (lending self.old) (updated (lending self.old).plugs slot.0 (filter (λ q. not (is_incarnation q plug)) ((lending self.old).plugs slot.0))) }
+        ensures { lending self.new ≡ with_plugs (lending self.old) (updated (lending self.old).plugs
+            slot.0 (filter (λ q. not (is_incarnation q plug)) ((lending self.old).plugs slot.0))) }
     {
         if let Some(plugs) = self.plugs.get_mut(usize::from(slot.0)) {
             plugs.remove(plug);
@@ -116,7 +120,8 @@ impl Imports {
 
     /// All plugs of a slot go.
     fn clear_plugs(&mut self, slot: SlotId)
-        ensures { lending self.new ≡ with_plugs (lending self.old) (updated (lending self.old).plugs slot.0 []) }
+        ensures { lending self.new
+            ≡ with_plugs (lending self.old) (updated (lending self.old).plugs slot.0 []) }
     {
         if let Some(plugs) = self.plugs.get_mut(usize::from(slot.0)) {
             plugs.clear();
@@ -126,7 +131,10 @@ impl Imports {
     /// A slot holds nothing any more, if it is an imported one of a container.
     #[tactic(auto, using(crate::proofs::frame_imports::import_places::Written::place_kept))]
     fn clear_place(&mut self, wiring: &Wiring, container: SlotId, slot: SlotId)
-        ensures { lending self.new ≡ with_places (lending self.old) (updated (lending self.old).places slot.0 (if is_import_of wiring.now container.0 slot.0 then Empty else (lending self.old).places slot.0)) }
+        ensures { lending self.new ≡ with_places (lending self.old)
+            (updated (lending self.old).places slot.0 (if is_import_of wiring.now container.0 slot.0
+            then Empty
+            else (lending self.old).places slot.0)) }
     {
         if is_imported(wiring, slot) && is_part_of(wiring, slot, container) {
             self.empty_place(slot);
@@ -139,7 +147,8 @@ impl Imports {
         requires order { IsDepthFirst wiring.now }
         requires runs { AreRunEnds wiring.now runs.now }
         requires there { container.0 < length wiring.now.slots }
-        ensures { lending self.new ≡ with_places (lending self.old) (λ i. if is_import_of wiring.now container.0 i then Empty else (lending self.old).places i) }
+        ensures { lending self.new ≡ with_places (lending self.old) (λ i.
+            if is_import_of wiring.now container.0 i then Empty else (lending self.old).places i) }
     {
         let end = runs.end(wiring, container);
         let mut part = u32::from(container.0) + 1;
@@ -167,7 +176,8 @@ impl Imports {
         requires order { IsDepthFirst wiring.now }
         requires runs { AreRunEnds wiring.now runs.now }
         requires there { All (λ x. x.slot.0 < length wiring.now.slots) ended.now }
-        ensures { lending self.new ≡ forgotten_where wiring.now (is_among ended.now) (lending self.old) }
+        ensures { lending self.new
+            ≡ forgotten_where wiring.now (is_among ended.now) (lending self.old) }
     {
         for actor in ended {
             self.forget(wiring, runs, actor.slot);

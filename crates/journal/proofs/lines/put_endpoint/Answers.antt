@@ -1,6 +1,6 @@
 use Rattle.std.proofs.Common.{List, ℕ, [], ◌∷◌, codes, decimal}
 use Rattle.std.proofs.lemmas.Result.{err_from_is_err_and}
-use Rattle.journal.specs.Names.{path_text, port_text}
+use Rattle.room_wiring.specs.Slots.{path_text, port_text}
 use Rattle.room_outside.proofs.line_text.PartLemmas.{parts_second, parts_break_first}
 use Rattle.journal.proofs.lines.put_endpoint.Goals as goal
 

@@ -1,7 +1,7 @@
 use Rattle.std.proofs.Common.{List, ℕ, [], ◌∷◌, codes, decimal}
 use Rattle.std.specs.List.{concat}
 use Rattle.std.proofs.lemmas.Result.{err_from_is_err_and}
-use Rattle.journal.specs.Names.{path_text}
+use Rattle.room_wiring.specs.Slots.{path_text}
 use Rattle.room_outside.proofs.line_text.OutputLemmas.{puts_second, breaks_first}
 use Rattle.journal.proofs.lines.put_incarnation.Goals as goal
 

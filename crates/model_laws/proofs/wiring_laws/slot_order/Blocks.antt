@@ -3,6 +3,7 @@ use Rattle.std.proofs.Common.{◌≡◌, ◌∙◌, ◌⊎◌, inl, inr, ℕ, ze
 use Rattle.std.proofs.lemmas.Option.{same_Some, slice_get_within}
 use Rattle.room_wiring.specs.declared.slot.Slot.{Slot}
 use Rattle.actor_duties.specs.Words.{container_number}
+use Rattle.wiring_joins.proofs.slot_references.Counting.{get_either}
 
 -- a container, if it is a slot, has a number below n
 abbrev pub IsBelow : Option ℕ → ℕ → Type 0
@@ -22,15 +23,6 @@ block_none n c = record { stands = λ i x e. absurd cc; between = λ i u p x y e
 
 same_number : (o : Option ℕ) (p q : ℕ) → o ≡ Some p → o ≡ Some q → p ≡ q
 same_number o p q a b = same_Some p q (sym a ∙ b)
-
--- a place of two lists is one of the first or one of the second
-get_either : {X : Type 0} (xs ys : List X) (i : ℕ) (x : X) → slice_get (xs ++ ys) i ≡ Some x → (slice_get xs i ≡ Some x) ⊎ ((j : ℕ) × (i ≡ length xs + j) × (slice_get ys j ≡ Some x))
-get_either [] ys i x e = inr (i, omega arith, e)
-get_either (y ∷ xs) ys zero x e = inl e
-get_either (y ∷ xs) ys (suc i) x e = elim (get_either xs ys i x e) [
-  | inl a ↦ inl a
-  | inr b ↦ inr (let at = b.1 in (b.0, omega (arith, at), b.2))
-]
 
 -- two blocks in a row are one
 module _ (n : ℕ) (c : Option ℕ) (xs ys : List Slot) (below : IsBelow c n) (a : IsBlock n c xs) (b : IsBlock (n + length xs) c ys) where

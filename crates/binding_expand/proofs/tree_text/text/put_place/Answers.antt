@@ -1,6 +1,7 @@
 use Rattle.std.specs.List.{concat}
 use Rattle.std.proofs.lemmas.Result.{err_from_is_err_and}
-use Rattle.binding_expand.specs.tree_text.Names.{path_text, port_parts}
+use Rattle.room_wiring.specs.Slots.{path_text}
+use Rattle.binding_expand.specs.tree_text.Names.{port_parts}
 use Rattle.room_outside.proofs.line_text.OutputLemmas.{puts_second, breaks_first}
 use Rattle.binding_expand.proofs.tree_text.text.put_place.Goals as goal
 

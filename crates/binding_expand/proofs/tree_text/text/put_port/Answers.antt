@@ -1,6 +1,6 @@
 use Rattle.std.proofs.Common.{List, ℕ, [], ◌∷◌, codes, decimal}
 use Rattle.std.proofs.lemmas.Result.{err_from_is_err_and}
-use Rattle.binding_expand.specs.tree_text.Names.{port_text}
+use Rattle.room_wiring.specs.Slots.{port_text}
 use Rattle.room_outside.proofs.line_text.PartLemmas.{parts_second, parts_break_first}
 use Rattle.binding_expand.proofs.tree_text.text.put_port.Goals as goal
 

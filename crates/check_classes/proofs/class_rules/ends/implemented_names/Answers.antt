@@ -1,6 +1,6 @@
 use Rattle.std.proofs.Common.{[]}
 use Rattle.check_classes.specs.class_rules.Ends.{implemented_name}
-use Rattle.check_classes.proofs.class_rules.Lists.{behind_next}
+use Rattle.check_tables.proofs.class_tables.Lists.{behind_next}
 use Rattle.check_classes.proofs.class_rules.ends.implemented_names.Goals as goal
 
 pub loop-item-preserved : goal.loop-item-preserved

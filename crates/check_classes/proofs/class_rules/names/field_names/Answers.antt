@@ -1,5 +1,5 @@
 use Rattle.room_ast.specs.model_parts.Types.{as_field}
-use Rattle.check_classes.proofs.class_rules.Lists.{mapped_next}
+use Rattle.check_tables.proofs.class_tables.Lists.{mapped_next}
 use Rattle.check_classes.proofs.class_rules.names.field_names.Goals as goal
 
 pub loop-item-preserved : goal.loop-item-preserved

@@ -1,5 +1,5 @@
 use Rattle.check_classes.specs.class_rules.Names.{declared_name}
-use Rattle.check_classes.proofs.class_rules.Lists.{behind_next}
+use Rattle.check_tables.proofs.class_tables.Lists.{behind_next}
 use Rattle.check_classes.proofs.class_rules.names.part_names.Goals as goal
 
 pub loop-item-preserved : goal.loop-item-preserved

@@ -1,6 +1,6 @@
 use Rattle.room_ast.specs.Trees.{class_view}
 use Rattle.room_ast.specs.model_parts.Classes.{as_system}
-use Rattle.check_classes.proofs.class_rules.Lists.{picked_next}
+use Rattle.check_tables.proofs.class_tables.Lists.{picked_next}
 use Rattle.check_classes.proofs.class_rules.system.systems.Goals as goal
 
 pub loop-class-preserved : goal.loop-class-preserved

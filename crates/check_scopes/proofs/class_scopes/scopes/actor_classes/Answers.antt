@@ -2,7 +2,7 @@ use Rattle.std.specs.Borrow.{Bor}
 use Rattle.room_ast.specs.Trees.{actor_view, class_view}
 use Rattle.room_ast.specs.declared.actor.ActorClass.{ActorClass}
 use Rattle.room_ast.specs.model_parts.Classes.{as_actor}
-use Rattle.check_classes.proofs.class_rules.Lists.{picked_next}
+use Rattle.check_tables.proofs.class_tables.Lists.{picked_next}
 use Rattle.check_scopes.proofs.class_scopes.Lists.{viewed_push_if}
 use Rattle.check_scopes.proofs.class_scopes.scopes.actor_classes.Goals as goal
 

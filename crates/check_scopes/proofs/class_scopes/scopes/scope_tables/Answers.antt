@@ -1,7 +1,8 @@
 use Rattle.std.proofs.Common.{map, ap}
 use Rattle.room_ast.specs.Trees.{class_view, model_view}
 use Rattle.check_classes.proofs.class_sizes.RuleLaws.{none_is_finite}
-use Rattle.check_scopes.proofs.class_scopes.ScopeLaws.{names_of_tables, kinds_for, no_kinds_of, made_tables}
+use Rattle.check_mappings.proofs.count_rules.NumberLaws.{names_of_tables}
+use Rattle.check_scopes.proofs.class_scopes.ScopeLaws.{kinds_for, no_kinds_of, made_tables}
 use Rattle.check_scopes.proofs.class_scopes.scopes.scope_tables.Goals as goal
 
 pub unreachable-requires : goal.unreachable-requires

@@ -1,14 +1,8 @@
 use Rattle.std.proofs.Common.{◌∙◌, ◌<◌, length, arith}
-use Rattle.std.proofs.lemmas.List.FromFn.{length-map-range_with_len}
 use Rattle.wiring_slots.specs.slot_tree.WaitingSlots.{waiting_at}
-use Rattle.wiring_slots.proofs.slot_tree.Growing.{index_added, indexes_fit}
+use Rattle.wiring_slots.proofs.slot_tree.Growing.{index_added, all_indexes}
 use Rattle.wiring_slots.proofs.slot_tree.Handing.{handed, inside_lists, left_behind, waiting_is}
 use Rattle.wiring_slots.proofs.slot_tree.children.add_reference.Goals as goal
-
-pub returns-then-count-room : goal.returns-then-count-room
-returns-then-count-room c =
-    let size = length-map-range_with_len (waiting_at c.args.mappings.now c.args.container.now c.args.number c.args.reference.now) 0 c.args.reference.now.count in
-    omega (arith, size)
 
 pub index_mut-requires : goal.index_mut-requires
 index_mut-requires c =
@@ -27,10 +21,10 @@ loop-index-preserved c =
           c.in_ok-push.ensures.items
           ∙ index_added (waiting_at mappings c.args.container.now number c.args.reference.now) c.args.children.now.items c.loop-index.children.items i c.waiting_with.result c.loop-index.invariant.children (
           waiting_is mappings c.args.container.now number c.args.reference.now i c.replace-leading.result c.waiting_with.result c.waiting_with.ensures
-          (handed mappings number count i c.args.container.now.trails c.args.trails.now c.loop-index.lists.items c.replace-leading.result c.index_mut.result.now c.requires.through c.loop-index.invariant.lists (omega arith) (c.replace-leading.ensures.value ∙ c.index_mut.ensures.value) inside)
+          (handed mappings number count i c.args.container.now.trails c.args.trails.now c.loop-index.lists.items c.replace-leading.result c.index_mut.result.now c.requires c.loop-index.invariant.lists (omega arith) (c.replace-leading.ensures.value ∙ c.index_mut.ensures.value) inside)
           );
       lists = left_behind c.loop-index.lists.items _ i c.replace-leading.new.dest c.loop-index.invariant.lists;
     }
 
 pub returns : goal.returns
-returns c = indexes_fit (waiting_at c.args.mappings.now c.args.container.now c.args.number c.args.reference.now) c.args.children.now.items c.loop-index.children.items c.loop-index.index c.args.reference.now.count c.args.room (omega arith) (omega arith) (omega arith) c.loop-index.invariant.children
+returns c = all_indexes (waiting_at c.args.mappings.now c.args.container.now c.args.number c.args.reference.now) c.args.children.now.items c.loop-index.children.items c.loop-index.index c.args.reference.now.count (omega arith) c.loop-index.invariant.children
