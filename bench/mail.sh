@@ -7,8 +7,8 @@
 set -eu
 . "$(dirname "${BASH_SOURCE[0]}")/timing.sh"
 count="${1:-2000000}"
-mail="$top/crates/mail_bench/out/mail_bench"
-[ -x "$mail" ] || (cd "$top/crates/mail_bench" && rt run) >/dev/null 2>&1 </dev/null || true
+mail="$top/crates/bench_mail/out/bench_mail"
+[ -x "$mail" ] || (cd "$top/crates/bench_mail" && rt run) >/dev/null 2>&1 </dev/null || true
 
 # Tells how fast a command carries the messages, under some name.
 measure() {

@@ -4,12 +4,12 @@ use Rattle.room_kinds.specs.declared.numbers.Priority.{Priority}
 use Rattle.room_lexer.specs.declared.token.Mark.{Mark}
 use Rattle.room_lexer.specs.declared.token.Mark.TheVariants as marks
 use Rattle.room_ast.specs.Tokens.{each}
-use Rattle.token_reading.specs.Reader.{◌⊕◌, reads_as}
-use Rattle.token_reading.proofs.Readers.{Reads, Reads-⊕, Reads-as, Anything}
-use Rattle.token_reading.specs.action_tokens.Values.{Value, AWord, AName, ANumber, AMark}
-use Rattle.token_reading.specs.action_tokens.Single.{comes, comes_word, mark, name_at, number_at}
-use Rattle.token_reading.specs.declared.action_tokens.word.ActionWord.TheVariants as words
-use Rattle.token_reading.proofs.action_tokens.Singles.{comes_here, mark_reads, name_reads}
+use Rattle.room_tokens.specs.Reader.{◌⊕◌, reads_as}
+use Rattle.room_tokens.proofs.Readers.{Reads, Reads-⊕, Reads-as, Anything}
+use Rattle.room_tokens.specs.action_tokens.Values.{Value, AWord, AName, ANumber, AMark}
+use Rattle.room_tokens.specs.action_tokens.Single.{comes, comes_word, mark, name_at, number_at}
+use Rattle.room_tokens.specs.declared.action_tokens.word.ActionWord.TheVariants as words
+use Rattle.room_tokens.proofs.action_tokens.Singles.{comes_here, mark_reads, name_reads}
 use Rattle.action_program.specs.Named.{ExprTree, a_number, the_true, the_false, a_datum, the_place, the_self, an_attribute, a_paren, a_unary, a_chain, Steps, no_step, a_step, SendTree, StmtTree, empty, assign, choose, repeat, send, defer, recall, recall_all, frame, import_at, register, withdraw, Stmts, no_stmt, a_stmt, Branches, no_branch, a_branch, Otherwise, no_else, an_else}
 use Rattle.action_program.specs.declared.operator.UnaryOp.{UnaryOp}
 use Rattle.action_program.specs.declared.operator.UnaryOp.TheVariants as unary

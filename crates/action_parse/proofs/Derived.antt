@@ -5,13 +5,13 @@ use Rattle.room_kinds.specs.declared.numbers.Priority.{Priority}
 use Rattle.room_lexer.specs.declared.token.Mark.{Mark}
 use Rattle.room_lexer.specs.declared.token.Mark.TheVariants as marks
 use Rattle.room_ast.specs.Tokens.{each}
-use Rattle.token_reading.specs.Reader.{Reader, ◌⊕◌, reads_as, rest_of}
-use Rattle.token_reading.proofs.Readers.{Sound-⊕}
-use Rattle.token_reading.specs.action_tokens.Values.{Value, AWord, AName, ANumber, AMark}
-use Rattle.token_reading.specs.action_tokens.Single.{comes, comes_word, mark, name_at, number_at}
-use Rattle.token_reading.specs.declared.action_tokens.word.ActionWord.{ActionWord}
-use Rattle.token_reading.specs.declared.action_tokens.word.ActionWord.TheVariants as words
-use Rattle.token_reading.proofs.action_tokens.Singles.{comes_is, comes_word_is, mark_sound, name_sound, number_sound}
+use Rattle.room_tokens.specs.Reader.{Reader, ◌⊕◌, reads_as, rest_of}
+use Rattle.room_tokens.proofs.Readers.{Sound-⊕}
+use Rattle.room_tokens.specs.action_tokens.Values.{Value, AWord, AName, ANumber, AMark}
+use Rattle.room_tokens.specs.action_tokens.Single.{comes, comes_word, mark, name_at, number_at}
+use Rattle.room_tokens.specs.declared.action_tokens.word.ActionWord.{ActionWord}
+use Rattle.room_tokens.specs.declared.action_tokens.word.ActionWord.TheVariants as words
+use Rattle.room_tokens.proofs.action_tokens.Singles.{comes_is, comes_word_is, mark_sound, name_sound, number_sound}
 use Rattle.action_program.specs.Named.{ExprTree, a_paren, a_unary, StmtTree, empty, assign, choose, repeat, send, defer, recall, recall_all, frame, import_at, Stmts, no_stmt, a_stmt, Branches, no_branch, a_branch, Otherwise, no_else, an_else}
 use Rattle.action_program.specs.declared.operator.UnaryOp.TheVariants as unary
 use Rattle.action_program.specs.declared.operator.BinaryOp.{BinaryOp}

@@ -1,10 +1,10 @@
 -- What the readers, the recogniser and the limits say together.
 use Rattle.std.proofs.Common.{◌≡◌, ℕ, true, false, List, Some, None, Result, Ok, Err, sym, ap, ◌∙◌, subst, arith}
 use Rattle.std.specs.Prelude.{[], ◌∷◌}
-use Rattle.token_reading.specs.Reader.{to_end, Fails}
-use Rattle.token_reading.specs.declared.fault.ReadFault.{ReadFault}
-use Rattle.token_reading.specs.declared.fault.ReadFault.TheVariants as reading
-use Rattle.token_reading.specs.action_tokens.Values.{Value, action_values}
+use Rattle.room_tokens.specs.Reader.{to_end, Fails}
+use Rattle.room_tokens.specs.declared.fault.ReadFault.{ReadFault}
+use Rattle.room_tokens.specs.declared.fault.ReadFault.TheVariants as reading
+use Rattle.room_tokens.specs.action_tokens.Values.{Value, action_values}
 use Rattle.action_program.specs.declared.fault.ActionFault.{ActionFault}
 use Rattle.action_program.specs.declared.fault.ActionFault.TheVariants as faults
 use Rattle.action_program.specs.declared.program.Expr.{Expr}

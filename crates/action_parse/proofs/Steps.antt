@@ -3,13 +3,13 @@ use Rattle.std.proofs.Common.{◌≡◌, ℕ, suc, ◌+◌, ◌*◌, ◌<◌, �
 use Rattle.std.specs.Prelude.{option_map, option_and_then, reverse, map}
 use Rattle.std.proofs.lemmas.List.{reverse-append, length-reverse}
 use Rattle.room_lexer.specs.declared.token.Mark.TheVariants as marks
-use Rattle.token_reading.specs.Reader.{Reader, ◌⊕◌, reads_as, rest_of}
-use Rattle.token_reading.proofs.Readers.{Sound-⊕}
-use Rattle.token_reading.specs.declared.action_tokens.token.ActionToken.{ActionToken}
-use Rattle.token_reading.specs.action_tokens.Values.{Value, AWord, AName, AMark, token_value}
-use Rattle.token_reading.specs.action_tokens.Single.{comes, comes_word, mark, name_at, number_at}
-use Rattle.token_reading.specs.declared.action_tokens.word.ActionWord.TheVariants as words
-use Rattle.token_reading.proofs.action_tokens.Singles.{comes_is, comes_word_is, mark_sound, name_sound, number_sound}
+use Rattle.room_tokens.specs.Reader.{Reader, ◌⊕◌, reads_as, rest_of}
+use Rattle.room_tokens.proofs.Readers.{Sound-⊕}
+use Rattle.room_tokens.specs.declared.action_tokens.token.ActionToken.{ActionToken}
+use Rattle.room_tokens.specs.action_tokens.Values.{Value, AWord, AName, AMark, token_value}
+use Rattle.room_tokens.specs.action_tokens.Single.{comes, comes_word, mark, name_at, number_at}
+use Rattle.room_tokens.specs.declared.action_tokens.word.ActionWord.TheVariants as words
+use Rattle.room_tokens.proofs.action_tokens.Singles.{comes_is, comes_word_is, mark_sound, name_sound, number_sound}
 use Rattle.action_program.specs.Named.{StmtTree}
 use Rattle.action_parse.specs.action_reading.Tokens.{operator_mark, path_tokens, expr_tokens, prio_tokens, stmt_tokens}
 use Rattle.action_parse.specs.action_reading.ExprReading.{operator_comes, path_at, operand}

@@ -1,10 +1,10 @@
 -- A recogniser of programs and conditions with a stack of what is still expected (Knuth 1971), which nests without recursion.
 use Rattle.std.specs.Prelude.{◌≡◌, List, [], ◌∷◌, ◌++◌, Option, Some, None, if◌then◌else◌, option_and_then}
 use Rattle.room_lexer.specs.declared.token.Mark.TheVariants as marks
-use Rattle.token_reading.specs.Reader.{◌⊕◌, reads_as, rest_of}
-use Rattle.token_reading.specs.action_tokens.Values.{Value, AWord, AName, AMark}
-use Rattle.token_reading.specs.action_tokens.Single.{comes, comes_word, mark, name_at, number_at}
-use Rattle.token_reading.specs.declared.action_tokens.word.ActionWord.TheVariants as words
+use Rattle.room_tokens.specs.Reader.{◌⊕◌, reads_as, rest_of}
+use Rattle.room_tokens.specs.action_tokens.Values.{Value, AWord, AName, AMark}
+use Rattle.room_tokens.specs.action_tokens.Single.{comes, comes_word, mark, name_at, number_at}
+use Rattle.room_tokens.specs.declared.action_tokens.word.ActionWord.TheVariants as words
 use Rattle.action_parse.specs.action_reading.ExprReading.{operator_comes, path_at, operand}
 use Rattle.action_parse.specs.action_reading.StmtReading.{is_send, prio_at, register_at, withdraw_at, else_if_comes}
 use Rattle.action_parse.specs.declared.goal.Goal.{Goal}

@@ -1,6 +1,6 @@
 -- What parsing answers.
 use Rattle.std.specs.Prelude.{◌≡◌, ◌≤◌, ℕ, List, Bool, true, false, Result, Ok, Err}
-use Rattle.token_reading.specs.action_tokens.Values.{Value}
+use Rattle.room_tokens.specs.action_tokens.Values.{Value}
 use Rattle.action_program.specs.declared.fault.ActionFault.{ActionFault}
 use Rattle.action_program.specs.declared.fault.ActionFault.TheVariants as faults
 use Rattle.action_program.specs.declared.program.Expr.{Expr}
@@ -8,8 +8,8 @@ use Rattle.action_program.specs.declared.program.Program.{Program}
 use Rattle.action_program.specs.Named.{ExprTree, Stmts, expr_view, program_view}
 use Rattle.action_parse.specs.action_reading.Tokens.{expr_tokens, stmts_tokens}
 use Rattle.action_parse.specs.action_reading.Written.{IsExpr, AreStmts, IsProgramOf, IsConditionOf, IsWithinLimits, repeats_within, expr_nesting}
-use Rattle.token_reading.specs.declared.fault.ReadFault.{ReadFault}
-use Rattle.token_reading.specs.declared.fault.ReadFault.TheVariants as reading
+use Rattle.room_tokens.specs.declared.fault.ReadFault.{ReadFault}
+use Rattle.room_tokens.specs.declared.fault.ReadFault.TheVariants as reading
 
 -- The program of the text, within the limits; or that it has none; or one beyond the limits.
 abbrev pub IsParsed : List ℕ → Result Program ActionFault → Type 0

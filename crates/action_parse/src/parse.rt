@@ -1,8 +1,8 @@
 //! Programs and conditions of texts.
 ghost use Rattle.std.specs.Prelude.{◌≡◌, ◌∷◌, [], map, reverse};
-ghost use Rattle.token_reading.specs.Reader.{Gives, to_end};
-ghost use Rattle.token_reading.specs.action_tokens.Values.{token_value};
-ghost use Rattle.token_reading.specs.action_tokens.Single.{left};
+ghost use Rattle.room_tokens.specs.Reader.{Gives, to_end};
+ghost use Rattle.room_tokens.specs.action_tokens.Values.{token_value};
+ghost use Rattle.room_tokens.specs.action_tokens.Single.{left};
 ghost use Rattle.action_program.specs.Named.{expr_view, program_view};
 ghost use Rattle.action_parse.specs.action_reading.ExprReading.{expression};
 ghost use Rattle.action_parse.specs.action_reading.StmtReading.{stmts_at, statement};
@@ -14,9 +14,9 @@ use crate::goal::Goal;
 use crate::recogniser::accepts;
 use crate::repeats::repeats_within;
 use action_program::{ActionFault, Expr, Program};
+use room_tokens::action_tokens::{ActionToken, Rest, action_tokens};
+use room_tokens::{ReadFault, place};
 use std::alloc::Global;
-use token_reading::action_tokens::{ActionToken, Rest, action_tokens};
-use token_reading::{ReadFault, place};
 
 /// How deep blocks, parentheses and signs may nest, together.
 const DEPTH: usize = 64;

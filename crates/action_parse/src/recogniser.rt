@@ -2,9 +2,9 @@
 //!
 //! The stack of what is expected lies on the heap, so nothing here calls itself.
 ghost use Rattle.std.specs.Prelude.{◌≡◌, ◌++◌, ◌∷◌, [], OnOk, MatchResult, Some, reverse};
-ghost use Rattle.token_reading.specs.Reader.{Gives, reads_as};
-ghost use Rattle.token_reading.specs.action_tokens.Values.{AWord};
-ghost use Rattle.token_reading.specs.action_tokens.Single.{left, name_at};
+ghost use Rattle.room_tokens.specs.Reader.{Gives, reads_as};
+ghost use Rattle.room_tokens.specs.action_tokens.Values.{AWord};
+ghost use Rattle.room_tokens.specs.action_tokens.Single.{left, name_at};
 ghost use Rattle.action_parse.specs.action_reading.ExprReading.{operand};
 ghost use Rattle.action_parse.specs.Expected.{expand, message_goals, operand_goals, otherwise_goals, named_goals, statements_goals, Accepted};
 ghost use Rattle.action_parse.specs.Parsed.{Decided};
@@ -14,9 +14,9 @@ use crate::action_reading::{
 };
 use crate::goal::Goal;
 use room_lexer::Mark;
+use room_tokens::action_tokens::{ActionWord, Kind, Rest};
+use room_tokens::{ReadFault, comes, comes_word, name, next, number, place, skip, take_mark};
 use std::alloc::{AllocError, Global};
-use token_reading::action_tokens::{ActionWord, Kind, Rest};
-use token_reading::{ReadFault, comes, comes_word, name, next, number, place, skip, take_mark};
 
 // Goals in the order in which they are put on the stack: what is expected first comes last.
 

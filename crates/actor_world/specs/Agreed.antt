@@ -1,5 +1,5 @@
 -- A world in which all controllers agree: what the trails of system messages lead to.
--- That is: directories, imports, links and peers. `world_agreement` has the laws that say of a
+-- That is: directories, imports, links and peers. `law_agreement` has the laws that say of a
 -- quiet world what is agreed in it.
 use Rattle.std.specs.Prelude.{◌≡◌, ℕ, ◌≤◌, ◌<◌, ◌⊎◌, ◌↔◌, Bool, true, count_by, Contains, length, Option, Some}
 use Rattle.room_kinds.specs.declared.numbers.Incarnation.{Incarnation}

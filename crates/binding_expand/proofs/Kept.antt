@@ -1,11 +1,11 @@
 -- What a model keeps that breaks none of the rules.
 use Rattle.std.proofs.Common.{◌≡◌, ℕ, Bool, true, false, cond, Option, Some, None}
 use Rattle.room_ast.specs.Trees.{ModelTree}
-use Rattle.check_structure.specs.binding_rules.Rules.{any_places_bind_once, binding_sides_agree, binding_sides_exist, layers_are_known}
+use Rattle.check_bindings.specs.binding_rules.Rules.{any_places_bind_once, binding_sides_agree, binding_sides_exist, layers_are_known}
 use Rattle.check_classes.specs.class_rules.Ends.{has_known_protocols, has_own_ports, has_known_actors}
 use Rattle.check_classes.specs.class_rules.Types.{has_fitting_values}
 use Rattle.check_tables.specs.containment_rules.Circles.{actors_are_finite}
-use Rattle.check_structure.specs.structure_rules.Threads.{threads_are_few}
+use Rattle.check_bindings.specs.structure_rules.Threads.{threads_are_few}
 use Rattle.structure_check.specs.List.{name_rules, data_rules, end_rules, place_rules, binding_rules, thread_rules, joint_rules, outer_rules, part_rules, later_rules, single_rules, count_rules, all_rules}
 use Rattle.structure_check.specs.Rules.{first_broken}
 use Rattle.structure_check.proofs.KeptRules.{none_first, none_later, head_kept, tail_kept}

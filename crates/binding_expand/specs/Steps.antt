@@ -6,7 +6,7 @@ use Rattle.room_wiring.specs.declared.tables.Tables.{Tables}
 use Rattle.wiring_plan.specs.structure_plan.Plans.{plan_of}
 use Rattle.wiring_plan.specs.declared.structure_plan.plan.StructurePlan.{StructurePlan}
 use Rattle.check_classes.specs.class_rules.Ends.{has_known_actors}
-use Rattle.check_structure.specs.structure_rules.Threads.{threads_are_few}
+use Rattle.check_bindings.specs.structure_rules.Threads.{threads_are_few}
 use Rattle.wiring_slots.specs.slot_tree.Places.{has_too_many_places}
 use Rattle.wiring_slots.specs.model_slots.Answers.{slots_in, wired}
 use Rattle.wiring_slots.specs.declared.model_slots.slots.WiredSlots.{WiredSlots}

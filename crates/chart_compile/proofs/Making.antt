@@ -19,8 +19,8 @@ use Rattle.chart_run.specs.declared.chart_tables.tables.Arrow.{Arrow}
 use Rattle.chart_run.specs.declared.chart_tables.tables.Node.{Node as CodeNode}
 use Rattle.chart_run.specs.declared.chart_tables.tables.Node.TheVariants as nodes
 use Rattle.chart_run.specs.declared.chart_tables.tables.Tables.{Tables}
-use Rattle.chart_reading.specs.chart_graphs.Views.{graph_view}
-use Rattle.chart_reading.specs.declared.chart_graphs.Graph.{Graph as CodeGraph}
+use Rattle.chart_trees.specs.chart_graphs.Views.{graph_view}
+use Rattle.chart_trees.specs.declared.chart_graphs.Graph.{Graph as CodeGraph}
 use Rattle.chart_reader.specs.chart_nodes.Keys.{codes}
 use Rattle.chart_reader.specs.chart_nodes.Steps.{StepTree, steps_of}
 use Rattle.chart_reader.specs.chart_nodes.Circles.{parts_of}

@@ -3,7 +3,7 @@ ghost use Rattle.std.specs.Prelude.{◌≡◌, ◌<◌, ◌≤◌, ◌∷◌, []
 ghost use Rattle.number_graphs.specs.class_containment.Containment.{NoneContainsItself};
 ghost use Rattle.chart_model.specs.chart_plan.Same.{Each};
 ghost use Rattle.chart_model.specs.Named.{nodes_in};
-ghost use Rattle.chart_reading.specs.chart_graphs.Views.{graph_view};
+ghost use Rattle.chart_trees.specs.chart_graphs.Views.{graph_view};
 ghost use Rattle.chart_reader.specs.chart_nodes.Keys.{codes};
 ghost use Rattle.chart_reader.specs.chart_nodes.Steps.{step_view};
 ghost use Rattle.chart_reader.specs.chart_nodes.Circles.{parts_of};
@@ -18,8 +18,8 @@ use crate::chart_rows::{rows_of, shared_of};
 use crate::nodes::{fill_up, nodes_of};
 use crate::start::initial_arrow;
 use chart_reader::Step;
-use chart_reading::Graph;
 use chart_run::{Arrow, Node, Row, Tables};
+use chart_trees::Graph;
 use name_tables::NameIndex;
 use room_kinds::Sequence;
 use std::alloc::{AllocError, Global};

@@ -12,8 +12,8 @@ ghost use Rattle.chart_compile.specs.chart_parts.Nodes.{AddsBranch, GoesOn, IsFi
 
 use crate::chart_rows::{make_arrow, state_number, step_at};
 use chart_reader::Step;
-use chart_reading::Target;
 use chart_run::{Arrow, Node};
+use chart_trees::Target;
 use name_tables::NameIndex;
 use room_ast::Name;
 use std::alloc::{AllocError, Global};

@@ -3,7 +3,7 @@ ghost use Rattle.std.specs.Prelude.{◌≡◌, ◌+◌, ◌-◌, ◌≤◌, true
 ghost use Rattle.name_tables.specs.name_numbers.Names.{is_among};
 ghost use Rattle.chart_model.specs.chart_plan.Same.{Each};
 ghost use Rattle.chart_model.specs.Named.{nodes_in};
-ghost use Rattle.chart_reading.specs.chart_graphs.Views.{graph_view};
+ghost use Rattle.chart_trees.specs.chart_graphs.Views.{graph_view};
 ghost use Rattle.chart_reader.specs.chart_nodes.Steps.{StepTree, step_view};
 ghost use Rattle.chart_reader.specs.chart_nodes.Circles.{targets_of};
 ghost use Rattle.chart_compile.specs.chart_places.Groups.{IsGrouped, picked};
@@ -14,8 +14,8 @@ ghost use Rattle.chart_compile.specs.Joined.{AddsNode, AllGoOn, AreKeyed, SameNo
 use crate::chart_kinds::make_node;
 use crate::chart_rows::{step_at, steps_at};
 use chart_reader::Step;
-use chart_reading::Graph;
 use chart_run::Node;
+use chart_trees::Graph;
 use name_tables::NameIndex;
 use room_kinds::Sequence;
 use std::alloc::{AllocError, Global};

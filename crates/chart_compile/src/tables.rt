@@ -1,6 +1,6 @@
 //! Compiling a chart.
 ghost use Rattle.std.specs.Prelude.{IfOk};
-ghost use Rattle.chart_reading.specs.chart_graphs.Views.{chart_view};
+ghost use Rattle.chart_trees.specs.chart_graphs.Views.{chart_view};
 ghost use Rattle.chart_reader.specs.Whole.{IsWhole};
 ghost use Rattle.chart_compile.specs.chart_parts.Compiled.{Compiles};
 
@@ -8,8 +8,8 @@ use crate::assemble::assemble;
 use crate::chart_numbers::state_keys;
 use crate::chart_places::{graph_keys, index_of, places_of};
 use chart_reader::steps_of;
-use chart_reading::Chart;
 use chart_run::Tables;
+use chart_trees::Chart;
 use std::alloc::{AllocError, Global};
 
 /// The tables of a valid chart whose graphs are those of its states, of which there are at most

@@ -8,11 +8,11 @@ use Rattle.chart_model.specs.Valid.{IsValid}
 use Rattle.chart_reader.specs.chart_nodes.Circles.{HasCircle}
 use Rattle.chart_reader.specs.chart_rules.Rules.{nests_within, has_right_names, has_one_initial_at_most, has_initials, has_defaults}
 use Rattle.chart_reader.proofs.chart_rules.Law.{is_valid}
-use Rattle.chart_reading.specs.declared.chart_codes.marks.Marks.{Marks}
-use Rattle.chart_reading.specs.chart_codes.Progress.{Progress, progress}
-use Rattle.chart_reading.specs.declared.chart_graphs.Chart.{Chart as CodeChart}
-use Rattle.chart_reading.specs.chart_graphs.Views.{chart_view}
-use Rattle.chart_reading.specs.Reading.{chart_of, reading}
+use Rattle.chart_trees.specs.declared.chart_codes.marks.Marks.{Marks}
+use Rattle.chart_trees.specs.chart_codes.Progress.{Progress, progress}
+use Rattle.chart_trees.specs.declared.chart_graphs.Chart.{Chart as CodeChart}
+use Rattle.chart_trees.specs.chart_graphs.Views.{chart_view}
+use Rattle.chart_trees.specs.Reading.{chart_of, reading}
 use Rattle.chart_reader.specs.declared.fault.ChartFault.{ChartFault}
 use Rattle.chart_reader.specs.declared.fault.ChartFault.TheVariants as faults
 use Rattle.chart_reader.specs.Faults.{names_fault}

@@ -12,8 +12,8 @@ use Rattle.room_ast.specs.ChartTree.{GraphItemTree, AState, AChoice, APoint, ATr
 use Rattle.chart_model.specs.Chart.{Name, Path, State, Point, Graph}
 use Rattle.chart_model.specs.Named.{first, same_name, same_path}
 use Rattle.chart_model.specs.Valid.{HasRightNames, IsValid, has_state, names_in}
-use Rattle.chart_reading.specs.Around.{Around, around, list_of}
-use Rattle.chart_reading.specs.Reading.{Piece, begun, state_of, with_actions, with_item, with_state, with_body, with_subgraph, with_items, piece_of, at_first, chart_of}
+use Rattle.chart_trees.specs.Around.{Around, around, list_of}
+use Rattle.chart_trees.specs.Reading.{Piece, begun, state_of, with_actions, with_item, with_state, with_body, with_subgraph, with_items, piece_of, at_first, chart_of}
 use Rattle.room_ast.specs.model_parts.Charts.{states_in}
 use Rattle.chart_reader.specs.Whole.{IsWhole}
 use Rattle.chart_reader.proofs.StateCounts.{states_counted}

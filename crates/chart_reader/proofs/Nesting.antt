@@ -7,8 +7,8 @@ use Rattle.room_ast.specs.declared.scope.Scope.{Scope}
 use Rattle.room_ast.specs.ChartTree.{GraphItemTree, AState, AChoice, APoint, ATransition, ARefinement, StateTree, StateOf, BodyTree, no_body, body, SubgraphTree, no_subgraph, subgraph, GraphItems, no_items, item}
 use Rattle.chart_model.specs.Chart.{Name, Path, State, Graph, Chart}
 use Rattle.chart_model.specs.Valid.{is_shallow, is_nothing}
-use Rattle.chart_reading.specs.Around.{Around, around, list_of}
-use Rattle.chart_reading.specs.Reading.{Piece, begun, graphs_of, with_actions, with_inner, with_item, with_state, with_body, with_subgraph, with_items, piece_of, at_first, chart_of}
+use Rattle.chart_trees.specs.Around.{Around, around, list_of}
+use Rattle.chart_trees.specs.Reading.{Piece, begun, graphs_of, with_actions, with_inner, with_item, with_state, with_body, with_subgraph, with_items, piece_of, at_first, chart_of}
 use Rattle.chart_reader.specs.chart_rules.Rules.{nests_within}
 use Rattle.chart_reader.specs.Depth.{item_nests, state_nests, body_nests, subgraph_nests, graph_nests}
 use Rattle.chart_reader.specs.Faults.{names_fault}

@@ -8,8 +8,8 @@ use Rattle.room_ast.specs.declared.scope.Scope.{Scope}
 use Rattle.room_ast.specs.ChartTree.{GraphItemTree, AState, AChoice, APoint, ATransition, ARefinement, StateOf, BodyTree, no_body, body, no_subgraph, subgraph, GraphItems, no_items, item}
 use Rattle.room_ast.specs.model_parts.Charts.{states_in_item, states_in_body, states_in}
 use Rattle.chart_model.specs.Chart.{Name, Path, Graph}
-use Rattle.chart_reading.specs.Around.{Around, around, list_of}
-use Rattle.chart_reading.specs.Reading.{Piece, begun, graphs_of, state_of, with_actions, with_item, with_body, with_items, piece_of, at_first, chart_of}
+use Rattle.chart_trees.specs.Around.{Around, around, list_of}
+use Rattle.chart_trees.specs.Reading.{Piece, begun, graphs_of, state_of, with_actions, with_item, with_body, with_items, piece_of, at_first, chart_of}
 use Rattle.chart_reader.specs.Whole.{count_of_states}
 
 abbrev size : Graph → ℕ

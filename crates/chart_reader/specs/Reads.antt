@@ -5,9 +5,9 @@ use Rattle.room_ast.specs.ChartTree.{GraphItems}
 use Rattle.chart_model.specs.Chart.{Chart}
 use Rattle.chart_model.specs.Named.{Node}
 use Rattle.chart_model.specs.Valid.{LeadsTo}
-use Rattle.chart_reading.specs.declared.chart_graphs.Chart.{Chart as CodeChart}
-use Rattle.chart_reading.specs.chart_graphs.Views.{chart_view}
-use Rattle.chart_reading.specs.Reading.{chart_of, reading}
+use Rattle.chart_trees.specs.declared.chart_graphs.Chart.{Chart as CodeChart}
+use Rattle.chart_trees.specs.chart_graphs.Views.{chart_view}
+use Rattle.chart_trees.specs.Reading.{chart_of, reading}
 use Rattle.chart_reader.specs.declared.fault.ChartFault.{ChartFault}
 use Rattle.chart_reader.specs.declared.fault.ChartFault.TheVariants as faults
 use Rattle.chart_reader.specs.Faults.{names_fault}

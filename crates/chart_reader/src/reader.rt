@@ -3,8 +3,8 @@ ghost use Rattle.std.specs.Prelude.{◌≡◌, Some, None, IfOk, OnOk};
 ghost use Rattle.action_lang.specs.action_check.Answers.{Grows};
 ghost use Rattle.room_ast.specs.ChartTree.{graph_view};
 ghost use Rattle.chart_model.specs.Valid.{IsValid};
-ghost use Rattle.chart_reading.specs.chart_graphs.Views.{chart_view};
-ghost use Rattle.chart_reading.specs.Reading.{reading};
+ghost use Rattle.chart_trees.specs.chart_graphs.Views.{chart_view};
+ghost use Rattle.chart_trees.specs.Reading.{reading};
 ghost use Rattle.chart_reader.specs.Faults.{names_fault};
 ghost use Rattle.chart_reader.specs.Reads.{IsLowestFault, Reads};
 ghost use Rattle.chart_reader.specs.chart_rules.IndexView.{index_view};
@@ -17,7 +17,7 @@ use crate::chart_rules::{
 use crate::depth::{MOST_DEEP, graph_nests};
 use crate::fault::ChartFault;
 use action_lang::action_check::ServiceNames;
-use chart_reading::{Chart, Marks, write_chart};
+use chart_trees::{Chart, Marks, write_chart};
 use room_ast::{Scope, StateMachine};
 use std::alloc::{AllocError, Global};
 

@@ -12,7 +12,7 @@ use crate::actor_slots::{ActorSlot, Entrance};
 use crate::plant::Plant;
 use crate::services::ActorServices;
 use crate::start::start;
-use actor_commands::{Recalled, Speaker};
+use controller_commands::{Recalled, Speaker};
 use controller_mail::TurnResult;
 use journal::{Did, Journal};
 use layer_service::NameService;

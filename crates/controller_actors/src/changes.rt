@@ -7,7 +7,7 @@ ghost use Rattle.controller_actors.specs.Steps.{IsLast, IsOwn, IsVacated, Moves,
 
 use crate::actors::Actors;
 use crate::plant::Plant;
-use actor_commands::{Output, Recalled, Speaker};
+use controller_commands::{Output, Recalled, Speaker};
 use room_kinds::{ControllerId, Incarnation, Note};
 use std::alloc::AllocError;
 

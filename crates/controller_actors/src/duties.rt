@@ -13,7 +13,7 @@ ghost use Rattle.controller_actors.specs.Duties.{Finishes, HasDuty, service_of};
 use crate::actors::Actors;
 use crate::changes::SoFar;
 use crate::plant::Plant;
-use actor_commands::{Output, Recalled};
+use controller_commands::{Output, Recalled};
 use controller_mail::TurnResult;
 use frame_lives::DutyDone;
 use journal::Did;

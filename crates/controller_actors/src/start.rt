@@ -10,7 +10,7 @@ use crate::actors::{Actors, Begun};
 use crate::plant::Plant;
 use crate::services::ActorServices;
 use crate::slot_rows::own_count;
-use actor_commands::{Output, Recalled};
+use controller_commands::{Output, Recalled};
 use frame_service::FrameState;
 use journal::{Entry, Journal};
 use layer_service::{Links, NameService};

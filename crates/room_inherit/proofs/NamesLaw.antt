@@ -20,8 +20,8 @@ use Rattle.room_ast.specs.declared.chart.Transition.{Transition}
 use Rattle.room_ast.specs.declared.chart.TransitionBody.{TransitionBody}
 use Rattle.room_ast.specs.declared.model.Dotted.{Dotted}
 use Rattle.room_ast.specs.model_parts.Classes.{as_actor}
-use Rattle.token_reading.specs.token_names.Names.{HasNames}
-use Rattle.token_reading.proofs.token_names.Parts.{HasNames-append as split}
+use Rattle.room_tokens.specs.token_names.Names.{HasNames}
+use Rattle.room_tokens.proofs.token_names.Parts.{HasNames-append as split}
 use Rattle.derived_classes.specs.Codes.{joined_if}
 use Rattle.derived_classes.specs.Derived.{joined_items, derived_machine, derived_behavior, derived}
 use Rattle.room_inherit.specs.Flat.{base_number, base_in, over_base, flat_with, flat_actor, flat_class, flat}

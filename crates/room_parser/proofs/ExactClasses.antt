@@ -15,11 +15,11 @@ use Rattle.room_ast.specs.declared.actor.StructureItem.TheVariants as structures
 use Rattle.room_ast.specs.declared.model.Import.{Import}
 use Rattle.room_ast.specs.declared.protocol.UsercodeSection.{UsercodeSection}
 use Rattle.room_ast.specs.declared.protocol.UsercodeSection.TheVariants as sections
-use Rattle.token_reading.specs.Reader.{reads_as, rest_of}
-use Rattle.token_reading.specs.Single.{comes, comes_word, comes_string, before_close, word_here}
-use Rattle.token_reading.proofs.Readers.{Anything}
-use Rattle.token_reading.proofs.Whole.{Reading}
-use Rattle.token_reading.proofs.Exact.{Exact, mark_exact, word_exact, name_exact, Exact-then, Exact-⊕, Exact-behind, Exact-before, Exact-as, Exact-maybe, Exact-many, Exact-flag, Exact-items, Begins, word_begins, case_takes, case_again, whole}
+use Rattle.room_tokens.specs.Reader.{reads_as, rest_of}
+use Rattle.room_tokens.specs.Single.{comes, comes_word, comes_string, before_close, word_here}
+use Rattle.room_tokens.proofs.Readers.{Anything}
+use Rattle.room_tokens.proofs.Whole.{Reading}
+use Rattle.room_tokens.proofs.Exact.{Exact, mark_exact, word_exact, name_exact, Exact-then, Exact-⊕, Exact-behind, Exact-before, Exact-as, Exact-maybe, Exact-many, Exact-flag, Exact-items, Begins, word_begins, case_takes, case_again, whole}
 use Rattle.structure_parser.specs.value_parser.Names.{source_comes}
 use Rattle.structure_parser.specs.value_parser.Values.{usercode_at}
 use Rattle.structure_parser.specs.value_parser.Protocols.{protocol_at}

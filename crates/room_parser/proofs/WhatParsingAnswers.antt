@@ -4,10 +4,10 @@ use Rattle.room_ast.specs.Values.{TokenValue}
 use Rattle.room_ast.specs.Tokens.{model_tokens}
 use Rattle.room_ast.specs.Trees.{ModelTree, model_view}
 use Rattle.room_ast.specs.declared.model.Model.{Model}
-use Rattle.token_reading.specs.Reader.{Fails}
-use Rattle.token_reading.specs.declared.fault.ReadFault.{ReadFault}
-use Rattle.token_reading.specs.declared.fault.ReadFault.TheVariants as reads
-use Rattle.token_reading.proofs.Whole.{Reading, one_tree}
+use Rattle.room_tokens.specs.Reader.{Fails}
+use Rattle.room_tokens.specs.declared.fault.ReadFault.{ReadFault}
+use Rattle.room_tokens.specs.declared.fault.ReadFault.TheVariants as reads
+use Rattle.room_tokens.proofs.Whole.{Reading, one_tree}
 use Rattle.room_parser.specs.declared.fault.ParseFault.{ParseFault}
 use Rattle.room_parser.specs.declared.fault.ParseFault.TheVariants as faults
 use Rattle.room_parser.specs.Classes.{model}

@@ -9,8 +9,8 @@ use Rattle.room_ast.specs.declared.actor.InterfaceItem.{InterfaceItem}
 use Rattle.room_ast.specs.declared.actor.InterfaceItem.TheVariants as interfaces
 use Rattle.room_ast.specs.declared.actor.StructureItem.{StructureItem}
 use Rattle.room_ast.specs.declared.actor.StructureItem.TheVariants as structures
-use Rattle.token_reading.specs.Reader.{Reader, ◌⊕◌, ◌▹◌, ◌◃◌, reads_as, optional, flag, all_while, to_end, rest_of}
-use Rattle.token_reading.specs.Single.{comes_word, mark, word, name_at, word_here, before_close, braces_at}
+use Rattle.room_tokens.specs.Reader.{Reader, ◌⊕◌, ◌▹◌, ◌◃◌, reads_as, optional, flag, all_while, to_end, rest_of}
+use Rattle.room_tokens.specs.Single.{comes_word, mark, word, name_at, word_here, before_close, braces_at}
 use Rattle.structure_parser.specs.value_parser.Names.{dotted_at, import_at}
 use Rattle.structure_parser.specs.value_parser.Values.{attribute_at, usercode_at}
 use Rattle.structure_parser.specs.value_parser.Protocols.{protocol_at, data_class_at}

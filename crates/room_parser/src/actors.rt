@@ -3,8 +3,8 @@ ghost use Rattle.std.specs.Prelude.{◌≡◌, option_map};
 ghost use Rattle.room_lexer.specs.declared.word.Word.TheVariants as words;
 ghost use Rattle.room_ast.specs.ChartTree.{graph_view};
 ghost use Rattle.room_ast.specs.Trees.{behavior_view, actor_view};
-ghost use Rattle.token_reading.specs.Reader.{Gives, optional};
-ghost use Rattle.token_reading.specs.Single.{left, comes_word as comes_word_at, before_close as before_close_at};
+ghost use Rattle.room_tokens.specs.Reader.{Gives, optional};
+ghost use Rattle.room_tokens.specs.Single.{left, comes_word as comes_word_at, before_close as before_close_at};
 ghost use Rattle.room_parser.specs.chart_parser.Graphs.{machine_at};
 ghost use Rattle.room_parser.specs.Classes.{interface_item_at, interface_at, structure_item_at, structure_at, behavior_at, extends_at, actor_at};
 
@@ -12,14 +12,14 @@ use crate::chart_parser::state_machine;
 use room_ast::{ActorClass, Behavior, InterfaceItem, Name, StateMachine, StructureItem};
 use room_kinds::Sequence;
 use room_lexer::{Mark, Word};
+use room_tokens::{
+    Part, ReadFault, Rest, before_close, braces, comes_word, place, take_mark, take_word,
+    word_here, word_if,
+};
 use std::alloc::Global;
 use structure_parser::{
     access, actor_ref, attribute, binding, external_port, implementation, layer, port, provision,
     usercode,
-};
-use token_reading::{
-    Part, ReadFault, Rest, before_close, braces, comes_word, place, take_mark, take_word,
-    word_here, word_if,
 };
 
 #[tactic(auto, unfolding(crate::specs::Classes::interface_item_at))]
@@ -59,7 +59,7 @@ impl Part for InterfaceItems {
 }
 
 /// `Interface` and items in braces, if they come
-#[tactic(auto, unfolding(crate::specs::Classes::interface_at, token_reading::specs::Reader::optional))]
+#[tactic(auto, unfolding(crate::specs::Classes::interface_at, room_tokens::specs::Reader::optional))]
 fn interface_if<'a>(
     alloc: Global,
     rest: Rest<'a>,
@@ -140,7 +140,7 @@ impl Part for StructureItems {
 }
 
 /// `Structure` and items in braces, if they come
-#[tactic(auto, unfolding(crate::specs::Classes::structure_at, token_reading::specs::Reader::optional))]
+#[tactic(auto, unfolding(crate::specs::Classes::structure_at, room_tokens::specs::Reader::optional))]
 fn structure_if<'a>(
     alloc: Global,
     rest: Rest<'a>,
@@ -157,7 +157,7 @@ fn structure_if<'a>(
 }
 
 /// The state machine of a behavior, if it comes.
-#[tactic(auto, unfolding(token_reading::specs::Reader::optional))]
+#[tactic(auto, unfolding(room_tokens::specs::Reader::optional))]
 fn machine_if<'a>(
     alloc: Global,
     rest: Rest<'a>,
@@ -185,7 +185,7 @@ fn behavior<'a>(alloc: Global, rest: Rest<'a>) -> Result<(Behavior, Rest<'a>), R
 }
 
 /// The behavior of a class, if it comes.
-#[tactic(auto, unfolding(token_reading::specs::Reader::optional))]
+#[tactic(auto, unfolding(room_tokens::specs::Reader::optional))]
 fn behavior_if<'a>(alloc: Global, rest: Rest<'a>) -> Result<(Option<Behavior>, Rest<'a>), ReadFault>
     ensures { Gives (λ x. (option_map behavior_view x.0, left x.1)) result
         (optional (comes_word_at words.Behavior) behavior_at (left rest.entry)) }
@@ -198,7 +198,7 @@ fn behavior_if<'a>(alloc: Global, rest: Rest<'a>) -> Result<(Option<Behavior>, R
 }
 
 /// `extends` and the name of the base, if they come
-#[tactic(auto, unfolding(crate::specs::Classes::extends_at, token_reading::specs::Reader::optional))]
+#[tactic(auto, unfolding(crate::specs::Classes::extends_at, room_tokens::specs::Reader::optional))]
 fn base_if<'a>(alloc: Global, rest: Rest<'a>) -> Result<(Option<Name>, Rest<'a>), ReadFault>
     ensures { Gives (λ x. (x.0, left x.1)) result
         (optional (comes_word_at words.Extends) extends_at (left rest.entry)) }
@@ -207,7 +207,7 @@ fn base_if<'a>(alloc: Global, rest: Rest<'a>) -> Result<(Option<Name>, Rest<'a>)
         return Ok((None, rest));
     }
     let rest = take_word(rest, Word::Extends)?;
-    let (base, rest) = token_reading::name(alloc, rest)?;
+    let (base, rest) = room_tokens::name(alloc, rest)?;
     Ok((Some(base), rest))
 }
 
@@ -219,7 +219,7 @@ pub fn actor_class<'a>(alloc: Global, rest: Rest<'a>) -> Result<(ActorClass, Res
 {
     let (event_driven, rest) = word_if(rest, Word::EventDriven)?;
     let rest = take_word(rest, Word::ActorClass)?;
-    let (name, rest) = token_reading::name(alloc, rest)?;
+    let (name, rest) = room_tokens::name(alloc, rest)?;
     let (base, rest) = base_if(alloc, rest)?;
     let rest = take_mark(rest, Mark::OpenBrace)?;
     let (interface, rest) = interface_if(alloc, rest)?;

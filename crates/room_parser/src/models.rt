@@ -1,19 +1,19 @@
 //! Classes and the whole model.
 ghost use Rattle.std.specs.Prelude.{◌≡◌};
 ghost use Rattle.room_ast.specs.Trees.{ClassTree, class_view, model_view};
-ghost use Rattle.token_reading.specs.Reader.{Gives};
-ghost use Rattle.token_reading.specs.Single.{left, values, before_close as before_close_at};
+ghost use Rattle.room_tokens.specs.Reader.{Gives};
+ghost use Rattle.room_tokens.specs.Single.{left, values, before_close as before_close_at};
 ghost use Rattle.room_parser.specs.Classes.{event_driven_at, class_at, model_at, model};
 
 use crate::actors::actor_class;
 use room_ast::{Class, Model};
 use room_lexer::{Mark, Token, Word};
-use std::alloc::Global;
-use structure_parser::{ImportPart, data_class, dotted, protocol_class, subsystem, system};
-use token_reading::{
+use room_tokens::{
     ReadFault, Rest, TreePart, before_close, each, each_tree, place, skip, take_mark, take_word,
     word_here,
 };
+use std::alloc::Global;
+use structure_parser::{ImportPart, data_class, dotted, protocol_class, subsystem, system};
 
 /// A class whose first word is `eventdriven`, which an actor class or a protocol class may have.
 fn event_driven<'a>(alloc: Global, rest: Rest<'a>) -> Result<(Class, Rest<'a>), ReadFault>

@@ -2,15 +2,15 @@
 ghost use Rattle.std.specs.Prelude.{◌≡◌, ◌+◌, ◌==◌, min, count_by, take};
 ghost use Rattle.room_ast.specs.Tokens.{model_tokens};
 ghost use Rattle.room_ast.specs.Trees.{ModelTree};
-ghost use Rattle.token_reading.specs.Single.{values};
+ghost use Rattle.room_tokens.specs.Single.{values};
 ghost use Rattle.room_parser.specs.Parsed.{IsParsed};
 
 use crate::fault::ParseFault;
 use crate::models::whole;
 use room_ast::Model;
 use room_lexer::Token;
+use room_tokens::ReadFault;
 use std::alloc::Global;
-use token_reading::ReadFault;
 
 /// The line of a byte, from 1: one more than the line feeds before it.
 fn line_of(bytes: &[u8], at: usize) -> u32

@@ -4,7 +4,7 @@ use Rattle.std.proofs.lemmas.Bool.{cases_order}
 use Rattle.room_outside.specs.Shown.{Shown}
 use Rattle.room_ast.specs.Trees.{ModelTree}
 use Rattle.room_lexer.specs.declared.token.Token.{Token}
-use Rattle.token_reading.specs.Single.{values}
+use Rattle.room_tokens.specs.Single.{values}
 use Rattle.room_parser.proofs.WhatParsingAnswers.{same_tokens_same_model}
 use Rattle.structure_check.specs.Rules.{Rule, first_broken, IsBroken, IsLowest}
 use Rattle.structure_check.specs.List.{all_rules}

@@ -18,8 +18,8 @@ use Rattle.journal_reader.specs.Answer.{IsTextOf}
 use Rattle.journal_reader.specs.journal_texts.InRange.{IsInRange}
 use Rattle.journal_reader.proofs.journal_texts.JournalsBack.{texts_differ}
 use Rattle.journal_reader.proofs.journal_texts.FormsApart.{tied_texts_differ, forms_differ}
-use Rattle.model_laws.proofs.settled_models.Wired.{wiring_consistent}
-use Rattle.model_laws.proofs.wiring_laws.chart_state_names.Models.{sound_well_named}
+use Rattle.law_models.proofs.settled_models.Wired.{wiring_consistent}
+use Rattle.law_models.proofs.wiring_laws.chart_state_names.Models.{sound_well_named}
 use Rattle.room_run.specs.Conversions.{ConversionsKeepJournals}
 use Rattle.room_run.specs.Models.{IsSound, IsSoundText}
 use Rattle.room_run.proofs.Names.{names_read}

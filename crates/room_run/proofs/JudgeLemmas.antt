@@ -14,21 +14,21 @@ use Rattle.room_inherit.specs.Rules.{lowest_broken}
 use Rattle.room_inherit.specs.declared.fault.InheritFault.{InheritFault}
 use Rattle.room_inherit.specs.declared.fault.InheritFault.TheVariants as bases
 use Rattle.room_inherit.proofs.NamesLaw.{names_stay}
-use Rattle.token_reading.specs.Single.{values}
-use Rattle.token_reading.specs.token_names.Names.{HasNames}
-use Rattle.token_reading.proofs.token_names.NamesLaw.{named as tokens_named}
+use Rattle.room_tokens.specs.Single.{values}
+use Rattle.room_tokens.specs.token_names.Names.{HasNames}
+use Rattle.room_tokens.proofs.token_names.NamesLaw.{named as tokens_named}
 use Rattle.room_ast.specs.Values.{TokenValue}
 use Rattle.room_parser.specs.Parsed.{HasNoModel, IsOnlyModel, IsParsed}
 use Rattle.room_parser.specs.declared.fault.ParseFault.{ParseFault}
 use Rattle.room_parser.specs.declared.fault.ParseFault.TheVariants as parsing
-use Rattle.named_runs.specs.Charts.{ShowCharts}
-use Rattle.model_laws.proofs.wiring_laws.wiring_order.Ordered.{model_depth_first}
-use Rattle.model_laws.proofs.wiring_laws.ports_numbered.Numbered.{checked_numbered}
+use Rattle.law_charts.specs.Charts.{ShowCharts}
+use Rattle.law_models.proofs.wiring_laws.wiring_order.Ordered.{model_depth_first}
+use Rattle.law_models.proofs.wiring_laws.ports_numbered.Numbered.{checked_numbered}
 use Rattle.chart_run.specs.declared.chart_tables.tables.Tables.{Tables as ChartTables}
 use Rattle.controller_actors.specs.PlantParts.{AreOfPlant}
-use Rattle.model_laws.proofs.settled_models.Models.{models_ranked}
-use Rattle.model_laws.proofs.settled_models.Wired.{wiring_consistent}
-use Rattle.model_laws.proofs.settled_models.Controllers.{controllers_few}
+use Rattle.law_models.proofs.settled_models.Models.{models_ranked}
+use Rattle.law_models.proofs.settled_models.Wired.{wiring_consistent}
+use Rattle.law_models.proofs.settled_models.Controllers.{controllers_few}
 use Rattle.room_run.proofs.model_plants.Tabled.{all_sound}
 use Rattle.room_run.proofs.settled.Compiled.{all_compiled}
 use Rattle.structure_check.specs.Rules.{first_broken, IsLowest}

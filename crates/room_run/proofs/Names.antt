@@ -4,9 +4,9 @@ use Rattle.room_ast.specs.Trees.{ModelTree}
 use Rattle.room_ast.specs.Tokens.{model_tokens}
 use Rattle.room_inherit.proofs.NamesLaw.{names_stay}
 use Rattle.room_lexer.specs.declared.token.Token.{Token}
-use Rattle.token_reading.specs.Single.{values}
-use Rattle.token_reading.specs.token_names.Names.{HasNames}
-use Rattle.token_reading.proofs.token_names.NamesLaw.{named as tokens_named}
+use Rattle.room_tokens.specs.Single.{values}
+use Rattle.room_tokens.specs.token_names.Names.{HasNames}
+use Rattle.room_tokens.proofs.token_names.NamesLaw.{named as tokens_named}
 use Rattle.room_run.specs.Models.{IsWritten, HasTree}
 
 -- as it is written

@@ -10,16 +10,16 @@ use Rattle.controller_actors.specs.declared.plant.Plant.{Plant}
 use Rattle.journal.specs.declared.entry.Journals.{Journals}
 use Rattle.chart_model.specs.Chart.{Chart}
 use Rattle.model_run.specs.run_ends.Runs.{IsRun}
-use Rattle.named_runs.specs.Charts.{IsRunByCharts}
-use Rattle.named_runs.proofs.ByCharts.{by_charts}
-use Rattle.run_promises.proofs.run_journals.InPlaceLaw.{in_place}
-use Rattle.run_promises.proofs.run_journals.TiedLaw.{tied}
-use Rattle.run_promises.proofs.PromisesLaw.{promises}
+use Rattle.law_charts.specs.Charts.{IsRunByCharts}
+use Rattle.law_charts.proofs.ByCharts.{by_charts}
+use Rattle.law_runs.proofs.run_journals.InPlaceLaw.{in_place}
+use Rattle.law_runs.proofs.run_journals.TiedLaw.{tied}
+use Rattle.law_runs.proofs.PromisesLaw.{promises}
 use Rattle.room_run.specs.Agreement.{AllAgree}
-use Rattle.run_promises.specs.run_texts.Texts.{TextTells}
+use Rattle.law_runs.specs.run_texts.Texts.{TextTells}
 use Rattle.room_run.proofs.settled.Fitting.{settles_of, in_place_of, fits_of}
 use Rattle.room_run.proofs.settled.Runs.{runs_agree}
-use Rattle.run_promises.specs.run_texts.Fetches.{FetchesFit}
+use Rattle.law_runs.specs.run_texts.Fetches.{FetchesFit}
 use Rattle.room_run.proofs.settled.Told.{text_tells, model_fetches_fit}
 use Rattle.made_model.specs.Summaries.{summary_text}
 use Rattle.made_model.specs.declared.summary.Summary.{Summary}

@@ -5,7 +5,7 @@ use Rattle.actor_merge.specs.World.{World}
 use Rattle.actor_world.specs.Agreed.{IsAgreed}
 use Rattle.actor_world.specs.Body.{Body}
 use Rattle.chart_behaviour.specs.ModelCharts.{Actor}
-use Rattle.world_agreement.specs.Settled.{LivesAgree}
+use Rattle.law_agreement.specs.Settled.{LivesAgree}
 
 pub record AllAgree (t : Tables) (w : World (Body Actor)) : Type 0 where
   pub lives : LivesAgree t w

@@ -9,7 +9,7 @@ use Rattle.room_lexer.specs.declared.piece.Cause.{Cause}
 use Rattle.room_lexer.specs.declared.token.Token.{Token}
 use Rattle.room_ast.specs.Trees.{ModelTree}
 use Rattle.room_ast.specs.Tokens.{model_tokens}
-use Rattle.token_reading.specs.Single.{values}
+use Rattle.room_tokens.specs.Single.{values}
 use Rattle.room_parser.specs.Parsed.{HasNoModel}
 use Rattle.room_inherit.specs.Flat.{flat}
 use Rattle.room_inherit.specs.Rules.{lowest_broken}
@@ -21,7 +21,7 @@ use Rattle.room_wiring.specs.declared.tables.Tables.{Tables}
 use Rattle.binding_expand.specs.Wirings.{IsWiringOf}
 use Rattle.binding_expand.specs.Faults.{HasNoFault, IsLowestFault, number as number_of}
 use Rattle.binding_expand.specs.declared.fault.WiringFault.{WiringFault}
-use Rattle.named_runs.specs.Charts.{ShowCharts}
+use Rattle.law_charts.specs.Charts.{ShowCharts}
 use Rattle.controller_actors.specs.declared.plant.Plant.{Plant}
 use Rattle.room_run.specs.declared.model_fault.ModelFault.{ModelFault}
 use Rattle.room_run.specs.declared.model_fault.ModelFault.TheVariants as faults

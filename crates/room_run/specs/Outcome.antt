@@ -17,17 +17,17 @@ use Rattle.inject_reader.specs.declared.inject_lines.accepted.Line.{Line}
 use Rattle.controller_actors.specs.declared.plant.Plant.{Plant}
 use Rattle.model_run.specs.run_ends.Runs.{IsRun}
 use Rattle.chart_model.specs.Chart.{Chart}
-use Rattle.named_runs.specs.Charts.{IsRunByCharts}
-use Rattle.run_promises.specs.Promises.{RunPromises}
-use Rattle.run_promises.specs.run_texts.Fetches.{FetchesFit}
-use Rattle.run_promises.specs.run_texts.Texts.{TextTells}
+use Rattle.law_charts.specs.Charts.{IsRunByCharts}
+use Rattle.law_runs.specs.Promises.{RunPromises}
+use Rattle.law_runs.specs.run_texts.Fetches.{FetchesFit}
+use Rattle.law_runs.specs.run_texts.Texts.{TextTells}
 use Rattle.room_run.specs.Agreement.{AllAgree}
 use Rattle.room_wiring.specs.declared.tables.Tables.{Tables}
 use Rattle.binding_expand.specs.tree_text.Text.{tree_text}
 use Rattle.made_model.specs.Summaries.{summary_of, summary_text}
 use Rattle.room_run.specs.Words.{Files, Record, Check, Tree, Run, Convert, Made, asked_by, usual_fuel}
 use Rattle.room_run.specs.MadeShelf.{made_files, made_shelf}
-use Rattle.run_promises.specs.run_journals.InPlace.{AreInPlace}
+use Rattle.law_runs.specs.run_journals.InPlace.{AreInPlace}
 use Rattle.tied_journals.specs.Tied.{Tied}
 use Rattle.tied_journals.specs.Text.{tied_text_of}
 use Rattle.room_run.specs.Models.{IsSound, IsSoundText}

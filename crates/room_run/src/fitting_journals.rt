@@ -7,8 +7,8 @@
 //! other's, and that ports of places that are joined, by the model or by name, have one protocol.
 ghost use Rattle.room_run.specs.fitting_journals.Fitting.{FittingRunsAreInPlace, FittingJournalsFit};
 
-use model_laws::joined_ports::{joined_ports_have_one_protocol, linked_ports_have_one_protocol};
-use model_laws::settled_models::wirings::{owners_are_there, partners_are_mutual};
+use law_models::joined_ports::{joined_ports_have_one_protocol, linked_ports_have_one_protocol};
+use law_models::settled_models::wirings::{owners_are_there, partners_are_mutual};
 
 /// The journals of every run of a plant that fits, over lines that name what its wiring has, are tied and in
 /// place; the environment's fits the wiring; what controllers post goes to controllers, from places of the

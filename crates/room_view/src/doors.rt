@@ -1,9 +1,9 @@
 //! Where messages from outside can come in.
-use journal_views::view_pages::Page;
-use journal_views::{incoming, is_end, place_count, type_name};
 use room_kinds::{ReferenceKind, SlotId};
 use room_wiring::{PortNames, SignalNames, Slot, Wiring};
 use std::alloc::AllocError;
+use view_journals::view_pages::Page;
+use view_journals::{incoming, is_end, place_count, type_name};
 
 /// The places of a port that has several: from which to which.
 fn tell_places(page: &mut Page, count: u32) -> Result<(), AllocError> {

@@ -1,8 +1,8 @@
 //! Whether a fault is gone from a text.
-use fault_places::Judge;
 use room_outside::MAX_TEXT;
 use room_run::{ModelFault, read_wiring};
 use std::alloc::{AllocError, Global};
+use view_faults::Judge;
 
 /// Where in the order of the faults a fault stands, and which of its kind it is.
 fn rank(fault: &ModelFault) -> (u8, u8) {

@@ -1,14 +1,14 @@
 //! Why a line of injections is refused, and what would be right there.
 use crate::texts::{Kind, read};
 use crate::why::tell_meaning;
-use fault_places::line_meaning;
 use inject_reader::{InjectFault, read_injections};
-use journal_views::view_pages::{Named, Page};
-use journal_views::{incoming, is_end, place_count, type_name};
 use room_kinds::{ReferenceKind, SlotId};
 use room_run::Status;
 use room_wiring::{ClassNames, SignalNames, Wiring};
 use std::alloc::{AllocError, Global};
+use view_faults::line_meaning;
+use view_journals::view_pages::{Named, Page};
+use view_journals::{incoming, is_end, place_count, type_name};
 
 /// The most names that are listed.
 const MOST_LISTED: usize = 30;

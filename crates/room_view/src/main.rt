@@ -29,8 +29,6 @@ use crate::runs::{tell_end_of, tell_story_of};
 use crate::texts::read_model;
 use crate::why::tell_model;
 use crate::words::{Asked, FORMS, Question, question_of};
-use journal_views::view_pages::{Named, Page};
-use model_lint::tell_findings;
 use room_outside::{OutSink, ReadText, write_whole};
 use room_run::{Status, stack_of};
 use room_wiring::Wiring;
@@ -39,6 +37,8 @@ use std::process::ExitCode;
 use std::rt::Env;
 use std::thread::Builder;
 use std::{env, io};
+use view_journals::view_pages::{Named, Page};
+use view_lint::tell_findings;
 
 /// The words behind the program's name; none at all where one of them is no text.
 fn words_of<R: Env + AllocGlobal>(rt: &R) -> io::Result<Vec<String>> {

@@ -4,13 +4,13 @@ use crate::lines::injections_of;
 use crate::runs::{journals_of, tell_unknown};
 use crate::words::{Message, MessageName};
 use controller_actors::Plant;
-use journal_views::view_pages::{Named, Page};
-use message_views::chart_replays::replays_of;
-use message_views::{Explained, tell_message};
 use room_kinds::{ControllerId, Stamp};
 use room_run::Status;
 use room_wiring::Wiring;
 use std::alloc::{AllocError, Global};
+use view_journals::view_pages::{Named, Page};
+use view_messages::chart_replays::replays_of;
+use view_messages::{Explained, tell_message};
 
 /// Who sent a message of this name; none where no controller has the number.
 fn sender_of(wiring: &Wiring, name: MessageName<'_>) -> Option<ControllerId> {

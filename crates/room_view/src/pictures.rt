@@ -2,16 +2,16 @@
 use crate::accepted::Accepted;
 use crate::runs::{journals_of, knows, wanted_of};
 use crate::words::Options;
-use journal_views::view_pages::Page;
-use model_pictures::{chart_picture, machine_of, run_picture, tell_machines, wiring_picture};
-use picture_formats::{
-    Diagram, Sequence, put_dot, put_mermaid, put_sequence_dot, put_sequence_mermaid,
-    put_sequence_svg, put_svg,
-};
 use room_ast::Model;
 use room_run::Status;
 use room_wiring::Wiring;
 use std::alloc::{AllocError, Global};
+use view_drawing::{
+    Diagram, Sequence, put_dot, put_mermaid, put_sequence_dot, put_sequence_mermaid,
+    put_sequence_svg, put_svg,
+};
+use view_journals::view_pages::Page;
+use view_pictures::{chart_picture, machine_of, run_picture, tell_machines, wiring_picture};
 
 /// The form of a picture.
 #[derive(Clone, Copy, Debug, PartialEq, Eq)]

@@ -4,12 +4,12 @@ use crate::why::tell_refused;
 use crate::words::Options;
 use journal::Journals;
 use journal_reader::{ReadFaultOf, read_journals};
-use journal_views::view_pages::{Named, Page};
-use journal_views::{Wanted, find_signal, tell_end, tell_story};
 use room_kinds::SlotId;
 use room_run::Status;
 use room_wiring::Wiring;
 use std::alloc::AllocError;
+use view_journals::view_pages::{Named, Page};
+use view_journals::{Wanted, find_signal, tell_end, tell_story};
 
 /// Whether a text has the last line of journals.
 fn ends_whole(text: &[u8]) -> bool {

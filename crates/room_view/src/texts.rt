@@ -2,10 +2,10 @@
 ghost use Rattle.std.specs.Prelude.{◌≤◌};
 
 use crate::why::tell_refused;
-use journal_views::view_pages::{Named, Page};
 use room_outside::{FileShelf, MAX_TEXT, ReadBefore, ReadRefused, ReadText, Shelf, read_limit};
 use room_run::Status;
 use std::alloc::{AllocError, Global};
+use view_journals::view_pages::{Named, Page};
 
 /// The most bytes of the text of journals.
 const MAX_JOURNALS: u64 = 268_435_456;

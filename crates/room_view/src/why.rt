@@ -3,12 +3,6 @@ ghost use Rattle.std.specs.Prelude.{◌≤◌, length};
 
 use crate::accepted::Accepted;
 use crate::judge::FaultOf;
-use chart_texts::{ChartFault, chart_cause};
-use fault_places::{
-    Item, Meaning, Unread, chart_meaning, could_stand, find_causes, head_of, named_by,
-    rule_meaning, wiring_meaning,
-};
-use journal_views::view_pages::{Named, Page};
 use room_ast::{Model, Scope};
 use room_inherit::{InheritFault, flatten};
 use room_lexer::{LexFault, Token, lex};
@@ -17,6 +11,12 @@ use room_parser::{ParseFault, parse};
 use room_run::{ModelFault, read_plant};
 use std::alloc::{AllocError, Global};
 use structure_check::{CheckFault, Checked, check};
+use view_charts::{ChartFault, chart_cause};
+use view_faults::{
+    Item, Meaning, Unread, chart_meaning, could_stand, find_causes, head_of, named_by,
+    rule_meaning, wiring_meaning,
+};
+use view_journals::view_pages::{Named, Page};
 
 /// What a fault is and how it is mended.
 pub(crate) fn tell_meaning(page: &mut Page, meaning: Meaning) -> Result<(), AllocError> {

@@ -9,12 +9,12 @@ use Rattle.check_classes.specs.class_rules.Ends.{has_known_protocols, has_own_po
 use Rattle.check_tables.specs.containment_rules.Circles.{data_is_finite, actors_are_finite}
 use Rattle.check_classes.specs.class_sizes.Rules.{has_small_classes}
 use Rattle.check_mappings.specs.count_rules.Counts.{has_few_parts}
-use Rattle.check_structure.specs.structure_rules.AnyPlaces.{any_places_at_end_ports}
-use Rattle.check_structure.specs.structure_rules.Imported.{imported_classes_have_end_ports}
-use Rattle.check_structure.specs.structure_rules.Replication.{replicates_in_range}
-use Rattle.check_structure.specs.structure_rules.Subsystems.{subsystem_references_are_plain}
-use Rattle.check_structure.specs.structure_rules.Threads.{threads_are_few}
-use Rattle.check_structure.specs.binding_rules.Rules.{any_places_bind_once, binding_sides_agree, binding_sides_exist, layers_are_known}
+use Rattle.check_bindings.specs.structure_rules.AnyPlaces.{any_places_at_end_ports}
+use Rattle.check_bindings.specs.structure_rules.Imported.{imported_classes_have_end_ports}
+use Rattle.check_bindings.specs.structure_rules.Replication.{replicates_in_range}
+use Rattle.check_bindings.specs.structure_rules.Subsystems.{subsystem_references_are_plain}
+use Rattle.check_bindings.specs.structure_rules.Threads.{threads_are_few}
+use Rattle.check_bindings.specs.binding_rules.Rules.{any_places_bind_once, binding_sides_agree, binding_sides_exist, layers_are_known}
 use Rattle.check_mappings.specs.mapping_rules.Rules.{mappings_are_allowed, mappings_are_distinct, mappings_are_known}
 
 -- The rules on names.

@@ -12,6 +12,11 @@ ghost use Rattle.structure_check.specs.Ranks.{ReferencesFall};
 
 use crate::checked_model::Checked;
 use crate::fault::CheckFault;
+use check_bindings::{
+    any_places_at_end_ports, any_places_bind_once, binding_sides_agree, binding_sides_exist,
+    imported_classes_have_end_ports, layers_are_known, replicates_in_range,
+    subsystem_references_are_plain, threads_are_few,
+};
 use check_classes::{
     has_class_names, has_field_names, has_fitting_values, has_known_actors, has_known_protocols,
     has_known_types, has_message_names, has_one_system, has_own_ports, has_part_names,
@@ -21,11 +26,6 @@ use check_mappings::{
     has_few_parts, mappings_are_allowed, mappings_are_distinct, mappings_are_known,
 };
 use check_scopes::{actor_classes, scopes_of};
-use check_structure::{
-    any_places_at_end_ports, any_places_bind_once, binding_sides_agree, binding_sides_exist,
-    imported_classes_have_end_ports, layers_are_known, replicates_in_range,
-    subsystem_references_are_plain, threads_are_few,
-};
 use check_tables::{Tables, actors_are_finite, data_is_finite, tables_of};
 use room_ast::Model;
 use std::alloc::{AllocError, Global};

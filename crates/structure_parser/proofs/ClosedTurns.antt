@@ -6,10 +6,10 @@ use Rattle.room_lexer.specs.declared.token.Mark.TheVariants as marks
 use Rattle.room_ast.specs.Values.{TokenValue}
 use Rattle.room_ast.specs.MappingTree.{MappingTree, MappingOf, no_braces}
 use Rattle.room_ast.specs.declared.system.MappingPath.{MappingPath}
-use Rattle.token_reading.specs.Reader.{Fails, rest_of}
-use Rattle.token_reading.specs.Single.{comes, before_close}
-use Rattle.token_reading.specs.declared.fault.ReadFault.{ReadFault}
-use Rattle.token_reading.specs.declared.fault.ReadFault.TheVariants as faults
+use Rattle.room_tokens.specs.Reader.{Fails, rest_of}
+use Rattle.room_tokens.specs.Single.{comes, before_close}
+use Rattle.room_tokens.specs.declared.fault.ReadFault.{ReadFault}
+use Rattle.room_tokens.specs.declared.fault.ReadFault.TheVariants as faults
 use Rattle.structure_parser.specs.declared.mapping.OpenMapping.{OpenMapping}
 use Rattle.structure_parser.specs.Mappings.{head_at, Frame, behind_head, filled, closed_in, closed_at, frame_view, frames_view}
 

@@ -8,11 +8,11 @@ use Rattle.room_ast.specs.Tokens.{each, maybe, segment, slash_if, slash_segment,
 use Rattle.room_ast.specs.MappingTree.{MappingTree, MappingOf, NestedTree, no_braces, in_braces, Mappings, no_mappings, mapping, mappings_of}
 use Rattle.room_ast.specs.declared.system.MappingPath.{MappingPath}
 use Rattle.room_ast.specs.declared.system.Segment.{Segment}
-use Rattle.token_reading.specs.Reader.{rest_of}
-use Rattle.token_reading.specs.Single.{comes, before_close}
-use Rattle.token_reading.proofs.Readers.{Anything}
-use Rattle.token_reading.proofs.Singles.{comes_is, comes_here}
-use Rattle.token_reading.proofs.Exact.{Exact, mark_exact, word_exact, name_exact, number_exact, Exact-then, Exact-⊕, Exact-behind, Exact-as, Exact-maybe, Exact-many, Exact-flag, Exact-where}
+use Rattle.room_tokens.specs.Reader.{rest_of}
+use Rattle.room_tokens.specs.Single.{comes, before_close}
+use Rattle.room_tokens.proofs.Readers.{Anything}
+use Rattle.room_tokens.proofs.Singles.{comes_is, comes_here}
+use Rattle.room_tokens.proofs.Exact.{Exact, mark_exact, word_exact, name_exact, number_exact, Exact-then, Exact-⊕, Exact-behind, Exact-as, Exact-maybe, Exact-many, Exact-flag, Exact-where}
 use Rattle.structure_parser.specs.Mappings.{segment_at, slash_segment_at, path_at, head_at, Frame, behind_head, filled, closed_in, closed_at, nested_from, nested_at, mapping_at}
 
 some_is : {A : Type 0} (x y : A) → Some x ≡ Some y → x ≡ y

@@ -6,9 +6,9 @@ use Rattle.room_ast.specs.Values.{TokenValue, ANumber, AMark}
 use Rattle.room_ast.specs.Tokens.{word_if, places_tokens, port, external_port, provision, access, implementation}
 use Rattle.room_ast.specs.declared.actor.Places.{Places}
 use Rattle.room_ast.specs.declared.actor.Places.TheVariants as places
-use Rattle.token_reading.specs.Single.{comes, comes_word}
-use Rattle.token_reading.proofs.Readers.{taken, Anything}
-use Rattle.token_reading.proofs.Exact.{Exact, mark_exact, word_exact, name_exact, Exact-then, Exact-⊕, Exact-behind, Exact-before, Exact-as, Exact-maybe, Exact-flag, Exact-out}
+use Rattle.room_tokens.specs.Single.{comes, comes_word}
+use Rattle.room_tokens.proofs.Readers.{taken, Anything}
+use Rattle.room_tokens.proofs.Exact.{Exact, mark_exact, word_exact, name_exact, Exact-then, Exact-⊕, Exact-behind, Exact-before, Exact-as, Exact-maybe, Exact-flag, Exact-out}
 use Rattle.structure_parser.specs.Ports.{place_count_at, places_at, port_at, external_port_at, provision_at, access_at, implementation_at}
 
 abbrev count_tokens : Places → List TokenValue

@@ -9,9 +9,9 @@ use Rattle.room_ast.specs.Values.{TokenValue, AWord, AName, AMark}
 use Rattle.room_ast.specs.Tokens.{maybe, ref_kind, in_brackets, actor_ref, side, binding, layer, thread}
 use Rattle.room_ast.specs.declared.actor.Side.{Side}
 use Rattle.room_ast.specs.declared.actor.Side.TheVariants as sides
-use Rattle.token_reading.specs.Single.{comes, word_here, comes_as}
-use Rattle.token_reading.proofs.Readers.{Anything}
-use Rattle.token_reading.proofs.Exact.{Exact, mark_exact, word_exact, name_exact, number_exact, Exact-then, Exact-⊕, Exact-behind, Exact-before, Exact-as, Exact-maybe, Exact-out, Exact-where, Exact-word, comes_as_here}
+use Rattle.room_tokens.specs.Single.{comes, word_here, comes_as}
+use Rattle.room_tokens.proofs.Readers.{Anything}
+use Rattle.room_tokens.proofs.Exact.{Exact, mark_exact, word_exact, name_exact, number_exact, Exact-then, Exact-⊕, Exact-behind, Exact-before, Exact-as, Exact-maybe, Exact-out, Exact-where, Exact-word, comes_as_here}
 use Rattle.structure_parser.specs.References.{kind_of, kind_at, count_at, actor_ref_at, side_from, side_at, binding_at, layer_at, thread_at}
 
 -- ---- actor references

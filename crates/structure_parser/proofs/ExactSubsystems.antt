@@ -9,10 +9,10 @@ use Rattle.room_ast.specs.Values.{TokenValue, AWord}
 use Rattle.room_ast.specs.MappingTree.{MappingTree, MappingOf}
 use Rattle.room_ast.specs.Tokens.{maybe, ref_kind, thread, mapping_tokens, subsystem_item, subsystem, subsystem_ref, system}
 use Rattle.room_ast.specs.Trees.{SubsystemItemTree, AReference, ABinding, ALayer, AThread, AMapping}
-use Rattle.token_reading.specs.Reader.{reads_as}
-use Rattle.token_reading.specs.Single.{comes, before_close, word_here}
-use Rattle.token_reading.proofs.Readers.{Anything}
-use Rattle.token_reading.proofs.Exact.{Exact, mark_exact, word_exact, name_exact, Exact-then, Exact-behind, Exact-as, Exact-braces, Exact-items, Begins, word_begins, case_takes, case_again}
+use Rattle.room_tokens.specs.Reader.{reads_as}
+use Rattle.room_tokens.specs.Single.{comes, before_close, word_here}
+use Rattle.room_tokens.proofs.Readers.{Anything}
+use Rattle.room_tokens.proofs.Exact.{Exact, mark_exact, word_exact, name_exact, Exact-then, Exact-behind, Exact-as, Exact-braces, Exact-items, Begins, word_begins, case_takes, case_again}
 use Rattle.structure_parser.specs.References.{actor_ref_at}
 use Rattle.structure_parser.specs.Mappings.{mapping_at, subsystem_item_from, subsystem_item_at, subsystem_at, subsystem_ref_at, system_at}
 use Rattle.structure_parser.proofs.ExactReferences.{actor_ref_exact, binding_exact, layer_exact, thread_exact}

@@ -13,8 +13,8 @@ use Rattle.room_ast.specs.declared.system.Segment.{Segment}
 use Rattle.room_ast.specs.declared.system.SubsystemRef.{SubsystemRef}
 use Rattle.room_ast.specs.declared.system.System.{System}
 use Rattle.structure_parser.specs.declared.mapping.OpenMapping.{OpenMapping}
-use Rattle.token_reading.specs.Reader.{Reader, ◌⊕◌, ◌▹◌, reads_as, optional, flag, all_while, rest_of}
-use Rattle.token_reading.specs.Single.{comes, mark, word, name_at, number_at, word_here, before_close, braces_at}
+use Rattle.room_tokens.specs.Reader.{Reader, ◌⊕◌, ◌▹◌, reads_as, optional, flag, all_while, rest_of}
+use Rattle.room_tokens.specs.Single.{comes, mark, word, name_at, number_at, word_here, before_close, braces_at}
 use Rattle.structure_parser.specs.References.{actor_ref_at, binding_at, layer_at, thread_at}
 
 -- name [ ":" NUMBER ]

@@ -10,8 +10,8 @@ use Rattle.room_ast.specs.declared.actor.Port.{Port}
 use Rattle.room_ast.specs.declared.actor.ServiceAccess.{ServiceAccess}
 use Rattle.room_ast.specs.declared.actor.ServiceImplementation.{ServiceImplementation}
 use Rattle.room_ast.specs.declared.actor.ServiceProvision.{ServiceProvision}
-use Rattle.token_reading.specs.Reader.{Reader, ◌⊕◌, ◌▹◌, ◌◃◌, reads_as, optional, flag}
-use Rattle.token_reading.specs.Single.{comes, comes_word, mark, word, name_at}
+use Rattle.room_tokens.specs.Reader.{Reader, ◌⊕◌, ◌▹◌, ◌◃◌, reads_as, optional, flag}
+use Rattle.room_tokens.specs.Single.{comes, comes_word, mark, word, name_at}
 
 -- NUMBER | "*"
 unfoldable pub place_count_at : Reader TokenValue Places

@@ -12,8 +12,8 @@ use Rattle.room_ast.specs.declared.actor.LayerConnection.{LayerConnection}
 use Rattle.room_ast.specs.declared.actor.Side.{Side}
 use Rattle.room_ast.specs.declared.actor.Side.TheVariants as sides
 use Rattle.room_ast.specs.declared.system.LogicalThread.{LogicalThread}
-use Rattle.token_reading.specs.Reader.{Reader, ◌⊕◌, ◌▹◌, ◌◃◌, reads_as, optional}
-use Rattle.token_reading.specs.Single.{comes, mark, word, name_at, number_at, word_as, comes_as}
+use Rattle.room_tokens.specs.Reader.{Reader, ◌⊕◌, ◌▹◌, ◌◃◌, reads_as, optional}
+use Rattle.room_tokens.specs.Single.{comes, mark, word, name_at, number_at, word_as, comes_as}
 
 -- the kind of reference that a word tells
 abbrev pub kind_of : Option Word → Option ReferenceKind

@@ -2,20 +2,20 @@
 ghost use Rattle.std.specs.Prelude.{◌≡◌, ◌++◌, ◌∷◌, [], IfOk};
 ghost use Rattle.room_lexer.specs.declared.token.Mark.TheVariants as marks;
 ghost use Rattle.room_ast.specs.MappingTree.{MappingOf, mapping_view, mapping_views};
-ghost use Rattle.token_reading.specs.Reader.{Gives, ◌▹◌, flag, optional};
-ghost use Rattle.token_reading.specs.Single.{left, comes as comes_at, mark, number_at};
+ghost use Rattle.room_tokens.specs.Reader.{Gives, ◌▹◌, flag, optional};
+ghost use Rattle.room_tokens.specs.Single.{left, comes as comes_at, mark, number_at};
 ghost use Rattle.structure_parser.specs.Mappings.{segment_at, slash_segment_at, path_at, head_at, closed_at, nested_view, nested_at, mapping_at};
 
 use room_ast::{Mapping, MappingPath, Name, Segment};
 use room_lexer::{Mark, Word};
-use std::alloc::{AllocError, Global};
-use token_reading::{
+use room_tokens::{
     Part, ReadFault, Rest, before_close, comes, each, name, number, place, skip, take_mark,
     take_word,
 };
+use std::alloc::{AllocError, Global};
 
 /// `:` number, if it comes
-#[tactic(auto, unfolding(token_reading::specs::Reader::optional))]
+#[tactic(auto, unfolding(room_tokens::specs::Reader::optional))]
 fn index_if<'a>(rest: Rest<'a>) -> Result<(Option<u64>, Rest<'a>), ReadFault>
     ensures { Gives (λ x. (x.0, left x.1)) result
         (optional (comes_at marks.Colon) (mark marks.Colon ▹ number_at) (left rest.entry)) }
@@ -32,7 +32,7 @@ fn index_if<'a>(rest: Rest<'a>) -> Result<(Option<u64>, Rest<'a>), ReadFault>
 fn segment<'a>(alloc: Global, rest: Rest<'a>) -> Result<(Segment, Rest<'a>), ReadFault>
     ensures { Gives (λ x. (x.0, left x.1)) result (segment_at (left rest.entry)) }
 {
-    let (name, rest) = token_reading::name(alloc, rest)?;
+    let (name, rest) = room_tokens::name(alloc, rest)?;
     let (index, rest) = index_if(rest)?;
     Ok((Segment { name, index }, rest))
 }
@@ -59,7 +59,7 @@ impl Part for SlashSegment {
 }
 
 /// Whether a slash comes, which is read then.
-#[tactic(auto, unfolding(token_reading::specs::Reader::flag))]
+#[tactic(auto, unfolding(room_tokens::specs::Reader::flag))]
 fn slash_if<'a>(rest: Rest<'a>) -> Result<(bool, Rest<'a>), ReadFault>
     ensures { Gives (λ x. (x.0, left x.1)) result
         (flag (comes_at marks.Slash) (mark marks.Slash) (left rest.entry)) }
@@ -176,7 +176,7 @@ fn with_mapping(
 }
 
 /// Nested mappings in braces, if they come.
-#[tactic(auto, unfolding(crate::specs::Mappings::nested_at, token_reading::specs::Reader::optional))]
+#[tactic(auto, unfolding(crate::specs::Mappings::nested_at, room_tokens::specs::Reader::optional))]
 fn nested_if<'a>(
     alloc: Global,
     rest: Rest<'a>,

@@ -1,16 +1,16 @@
 //! Ports and services.
 ghost use Rattle.std.specs.Prelude.{◌≡◌};
 ghost use Rattle.room_lexer.specs.declared.token.Mark.TheVariants as marks;
-ghost use Rattle.token_reading.specs.Reader.{Gives, optional};
-ghost use Rattle.token_reading.specs.Single.{left, comes as comes_at};
+ghost use Rattle.room_tokens.specs.Reader.{Gives, optional};
+ghost use Rattle.room_tokens.specs.Single.{left, comes as comes_at};
 ghost use Rattle.structure_parser.specs.Ports.{place_count_at, places_at, port_at, external_port_at, provision_at, access_at, implementation_at};
 
 use room_ast::{
     ExternalPort, Places, Port, ServiceAccess, ServiceImplementation, ServiceProvision,
 };
 use room_lexer::{Mark, TokenKind, Word};
+use room_tokens::{ReadFault, Rest, comes, next, place, take_mark, take_word, word_if};
 use std::alloc::Global;
-use token_reading::{ReadFault, Rest, comes, next, place, take_mark, take_word, word_if};
 
 /// A number, or `*`
 #[tactic(auto, unfolding(crate::specs::Ports::place_count_at))]
@@ -28,7 +28,7 @@ fn place_count<'a>(rest: Rest<'a>) -> Result<(Places, Rest<'a>), ReadFault>
 }
 
 /// How many places a port has, in brackets, if they come.
-#[tactic(auto, unfolding(crate::specs::Ports::places_at, token_reading::specs::Reader::optional))]
+#[tactic(auto, unfolding(crate::specs::Ports::places_at, room_tokens::specs::Reader::optional))]
 fn places_if<'a>(rest: Rest<'a>) -> Result<(Option<Places>, Rest<'a>), ReadFault>
     ensures { Gives (λ x. (x.0, left x.1)) result
         (optional (comes_at marks.OpenBracket) places_at (left rest.entry)) }
@@ -49,10 +49,10 @@ pub fn port<'a>(alloc: Global, rest: Rest<'a>) -> Result<(Port, Rest<'a>), ReadF
 {
     let (conjugated, rest) = word_if(rest, Word::Conjugated)?;
     let rest = take_word(rest, Word::Port)?;
-    let (name, rest) = token_reading::name(alloc, rest)?;
+    let (name, rest) = room_tokens::name(alloc, rest)?;
     let (places, rest) = places_if(rest)?;
     let rest = take_mark(rest, Mark::Colon)?;
-    let (protocol, rest) = token_reading::name(alloc, rest)?;
+    let (protocol, rest) = room_tokens::name(alloc, rest)?;
     Ok((
         Port {
             conjugated,
@@ -74,7 +74,7 @@ pub fn external_port<'a>(
 {
     let rest = take_word(rest, Word::External)?;
     let rest = take_word(rest, Word::Port)?;
-    let (name, rest) = token_reading::name(alloc, rest)?;
+    let (name, rest) = room_tokens::name(alloc, rest)?;
     Ok((ExternalPort { name }, rest))
 }
 
@@ -87,9 +87,9 @@ pub fn provision<'a>(
     ensures { Gives (λ x. (x.0, left x.1)) result (provision_at (left rest.entry)) }
 {
     let rest = take_word(rest, Word::Spp)?;
-    let (name, rest) = token_reading::name(alloc, rest)?;
+    let (name, rest) = room_tokens::name(alloc, rest)?;
     let rest = take_mark(rest, Mark::Colon)?;
-    let (protocol, rest) = token_reading::name(alloc, rest)?;
+    let (protocol, rest) = room_tokens::name(alloc, rest)?;
     Ok((ServiceProvision { name, protocol }, rest))
 }
 
@@ -99,9 +99,9 @@ pub fn access<'a>(alloc: Global, rest: Rest<'a>) -> Result<(ServiceAccess, Rest<
     ensures { Gives (λ x. (x.0, left x.1)) result (access_at (left rest.entry)) }
 {
     let rest = take_word(rest, Word::Sap)?;
-    let (name, rest) = token_reading::name(alloc, rest)?;
+    let (name, rest) = room_tokens::name(alloc, rest)?;
     let rest = take_mark(rest, Mark::Colon)?;
-    let (protocol, rest) = token_reading::name(alloc, rest)?;
+    let (protocol, rest) = room_tokens::name(alloc, rest)?;
     Ok((ServiceAccess { name, protocol }, rest))
 }
 
@@ -115,6 +115,6 @@ pub fn implementation<'a>(
 {
     let rest = take_word(rest, Word::ServiceImplementation)?;
     let rest = take_word(rest, Word::Of)?;
-    let (name, rest) = token_reading::name(alloc, rest)?;
+    let (name, rest) = room_tokens::name(alloc, rest)?;
     Ok((ServiceImplementation { name }, rest))
 }

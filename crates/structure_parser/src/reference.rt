@@ -1,15 +1,15 @@
 //! Actor references, bindings, layer connections and threads.
 ghost use Rattle.std.specs.Prelude.{◌≡◌};
 ghost use Rattle.room_lexer.specs.declared.token.Mark.TheVariants as marks;
-ghost use Rattle.token_reading.specs.Reader.{Gives, ◌▹◌, optional};
-ghost use Rattle.token_reading.specs.Single.{left, comes as comes_at, mark, name_at};
+ghost use Rattle.room_tokens.specs.Reader.{Gives, ◌▹◌, optional};
+ghost use Rattle.room_tokens.specs.Single.{left, comes as comes_at, mark, name_at};
 ghost use Rattle.structure_parser.specs.References.{kind_of, kind_at, count_at, actor_ref_at, side_at, binding_at, layer_at, thread_at};
 
 use room_ast::{ActorRef, Binding, LayerConnection, LogicalThread, Name, Side};
 use room_kinds::ReferenceKind;
 use room_lexer::{Mark, Word};
+use room_tokens::{ReadFault, Rest, comes, name, number, skip, take_mark, take_word, word_here};
 use std::alloc::Global;
-use token_reading::{ReadFault, Rest, comes, name, number, skip, take_mark, take_word, word_here};
 
 /// The kind of reference that a word tells.
 fn kind_of(word: Option<Word>) -> Option<ReferenceKind>
@@ -24,7 +24,7 @@ fn kind_of(word: Option<Word>) -> Option<ReferenceKind>
 }
 
 /// `fixed`, `optional` or `imported`, if one comes
-#[tactic(auto, unfolding(crate::specs::References::kind_at, token_reading::specs::Reader::optional, token_reading::specs::Single::word_as, token_reading::specs::Single::comes_as))]
+#[tactic(auto, unfolding(crate::specs::References::kind_at, room_tokens::specs::Reader::optional, room_tokens::specs::Single::word_as, room_tokens::specs::Single::comes_as))]
 fn kind_if<'a>(rest: Rest<'a>) -> Result<(Option<ReferenceKind>, Rest<'a>), ReadFault>
     ensures { Gives (λ x. (x.0, left x.1)) result (kind_at (left rest.entry)) }
 {
@@ -35,7 +35,7 @@ fn kind_if<'a>(rest: Rest<'a>) -> Result<(Option<ReferenceKind>, Rest<'a>), Read
 }
 
 /// `[` number `]`, if it comes
-#[tactic(auto, unfolding(crate::specs::References::count_at, token_reading::specs::Reader::optional))]
+#[tactic(auto, unfolding(crate::specs::References::count_at, room_tokens::specs::Reader::optional))]
 fn count_if<'a>(rest: Rest<'a>) -> Result<(Option<u64>, Rest<'a>), ReadFault>
     ensures { Gives (λ x. (x.0, left x.1)) result
         (optional (comes_at marks.OpenBracket) count_at (left rest.entry)) }
@@ -56,10 +56,10 @@ pub fn actor_ref<'a>(alloc: Global, rest: Rest<'a>) -> Result<(ActorRef, Rest<'a
 {
     let (kind, rest) = kind_if(rest)?;
     let rest = take_word(rest, Word::ActorRef)?;
-    let (name, rest) = token_reading::name(alloc, rest)?;
+    let (name, rest) = room_tokens::name(alloc, rest)?;
     let (count, rest) = count_if(rest)?;
     let rest = take_mark(rest, Mark::Colon)?;
-    let (class, rest) = token_reading::name(alloc, rest)?;
+    let (class, rest) = room_tokens::name(alloc, rest)?;
     Ok((
         ActorRef {
             kind,
@@ -72,7 +72,7 @@ pub fn actor_ref<'a>(alloc: Global, rest: Rest<'a>) -> Result<(ActorRef, Rest<'a
 }
 
 /// `.` name, if it comes
-#[tactic(auto, unfolding(token_reading::specs::Reader::optional))]
+#[tactic(auto, unfolding(room_tokens::specs::Reader::optional))]
 fn inner_if<'a>(alloc: Global, rest: Rest<'a>) -> Result<(Option<Name>, Rest<'a>), ReadFault>
     ensures { Gives (λ x. (x.0, left x.1)) result
         (optional (comes_at marks.Dot) (mark marks.Dot ▹ name_at) (left rest.entry)) }
@@ -144,6 +144,6 @@ pub fn thread<'a>(alloc: Global, rest: Rest<'a>) -> Result<(LogicalThread, Rest<
     ensures { Gives (λ x. (x.0, left x.1)) result (thread_at (left rest.entry)) }
 {
     let rest = take_word(rest, Word::LogicalThread)?;
-    let (name, rest) = token_reading::name(alloc, rest)?;
+    let (name, rest) = room_tokens::name(alloc, rest)?;
     Ok((LogicalThread { name }, rest))
 }

@@ -1,18 +1,18 @@
 //! Subsystem classes.
 ghost use Rattle.std.specs.Prelude.{◌≡◌};
 ghost use Rattle.room_ast.specs.Trees.{SubsystemItemTree, subsystem_item_view, subsystem_view};
-ghost use Rattle.token_reading.specs.Reader.{Gives};
-ghost use Rattle.token_reading.specs.Single.{left, before_close as before_close_at};
+ghost use Rattle.room_tokens.specs.Reader.{Gives};
+ghost use Rattle.room_tokens.specs.Single.{left, before_close as before_close_at};
 ghost use Rattle.structure_parser.specs.Mappings.{subsystem_item_at, subsystem_at};
 
 use crate::mapping::mapping;
 use crate::reference::{actor_ref, binding, layer, thread};
 use room_ast::{Subsystem, SubsystemItem};
 use room_lexer::{Mark, Word};
-use std::alloc::Global;
-use token_reading::{
+use room_tokens::{
     ReadFault, Rest, TreePart, before_close, each_tree, place, take_mark, take_word, word_here,
 };
+use std::alloc::Global;
 
 #[tactic(auto, unfolding(crate::specs::Mappings::subsystem_item_at))]
 fn subsystem_item<'a>(alloc: Global, rest: Rest<'a>) -> Result<(SubsystemItem, Rest<'a>), ReadFault>
@@ -73,7 +73,7 @@ pub fn subsystem<'a>(alloc: Global, rest: Rest<'a>) -> Result<(Subsystem, Rest<'
     ensures { Gives (λ x. (subsystem_view x.0, left x.1)) result (subsystem_at (left rest.entry)) }
 {
     let rest = take_word(rest, Word::SubSystemClass)?;
-    let (name, rest) = token_reading::name(alloc, rest)?;
+    let (name, rest) = room_tokens::name(alloc, rest)?;
     let rest = take_mark(rest, Mark::OpenBrace)?;
     let (items, rest) = each_tree::<SubsystemItems>(alloc, rest)?;
     let rest = take_mark(rest, Mark::CloseBrace)?;

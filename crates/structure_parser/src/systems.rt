@@ -1,13 +1,13 @@
 //! The logical system.
 ghost use Rattle.std.specs.Prelude.{◌≡◌};
-ghost use Rattle.token_reading.specs.Reader.{Gives};
-ghost use Rattle.token_reading.specs.Single.{left, before_close as before_close_at};
+ghost use Rattle.room_tokens.specs.Reader.{Gives};
+ghost use Rattle.room_tokens.specs.Single.{left, before_close as before_close_at};
 ghost use Rattle.structure_parser.specs.Mappings.{subsystem_ref_at, system_at};
 
 use room_ast::{SubsystemRef, System};
 use room_lexer::{Mark, Word};
+use room_tokens::{Part, ReadFault, Rest, before_close, braces, take_mark, take_word};
 use std::alloc::Global;
-use token_reading::{Part, ReadFault, Rest, before_close, braces, take_mark, take_word};
 
 /// `SubSystemRef` name `:` class
 #[tactic(auto, unfolding(crate::specs::Mappings::subsystem_ref_at))]
@@ -15,9 +15,9 @@ fn subsystem_ref<'a>(alloc: Global, rest: Rest<'a>) -> Result<(SubsystemRef, Res
     ensures { Gives (λ x. (x.0, left x.1)) result (subsystem_ref_at (left rest.entry)) }
 {
     let rest = take_word(rest, Word::SubSystemRef)?;
-    let (name, rest) = token_reading::name(alloc, rest)?;
+    let (name, rest) = room_tokens::name(alloc, rest)?;
     let rest = take_mark(rest, Mark::Colon)?;
-    let (class, rest) = token_reading::name(alloc, rest)?;
+    let (class, rest) = room_tokens::name(alloc, rest)?;
     Ok((SubsystemRef { name, class }, rest))
 }
 
@@ -46,7 +46,7 @@ pub fn system<'a>(alloc: Global, rest: Rest<'a>) -> Result<(System, Rest<'a>), R
     ensures { Gives (λ x. (x.0, left x.1)) result (system_at (left rest.entry)) }
 {
     let rest = take_word(rest, Word::LogicalSystem)?;
-    let (name, rest) = token_reading::name(alloc, rest)?;
+    let (name, rest) = room_tokens::name(alloc, rest)?;
     let (references, rest) = braces::<SubsystemRefs>(alloc, rest)?;
     Ok((System { name, references }, rest))
 }

@@ -1,7 +1,7 @@
 -- What is true of each value that a reader gives.
 use Rattle.std.proofs.Common.{◌≡◌, ℕ, zero, suc, Bool, true, false, cond, List, [], ◌∷◌, length, Option, Some, None, refl, subst}
 use Rattle.std.specs.Prelude.{option_map, option_and_then}
-use Rattle.token_reading.specs.Reader.{Reader, ◌⊕◌, reads_as, optional, many, all_while}
+use Rattle.room_tokens.specs.Reader.{Reader, ◌⊕◌, reads_as, optional, many, all_while}
 
 pub record Always {V A : Type 0} (p : Reader V A) (Good : A → Type 0) : Type 0 where
   pub holds : (ts : List V) (z : A × List V) → p ts ≡ Some z → Good z.0

@@ -4,11 +4,11 @@ use Rattle.std.specs.Prelude.{◌==◌, nat_le}
 use Rattle.std.proofs.lemmas.Bool.{ne_eqb, eq-eqb}
 use Rattle.room_lexer.specs.declared.token.Mark.TheVariants as marks
 use Rattle.room_ast.specs.Tokens.{maybe}
-use Rattle.token_reading.specs.Reader.{Reader, ◌⊕◌, reads_as, many, all_while}
-use Rattle.token_reading.proofs.Readers.{Reads, Reads-⊕, Reads-as, Reads-some, Reads-none, Reads-many, Anything}
-use Rattle.token_reading.specs.action_tokens.Values.{Value, AName, ANumber, AMark}
-use Rattle.token_reading.specs.action_tokens.Single.{comes, mark, name_at, number_at}
-use Rattle.token_reading.proofs.action_tokens.Singles.{comes_here, mark_reads, name_reads}
+use Rattle.room_tokens.specs.Reader.{Reader, ◌⊕◌, reads_as, many, all_while}
+use Rattle.room_tokens.proofs.Readers.{Reads, Reads-⊕, Reads-as, Reads-some, Reads-none, Reads-many, Anything}
+use Rattle.room_tokens.specs.action_tokens.Values.{Value, AName, ANumber, AMark}
+use Rattle.room_tokens.specs.action_tokens.Single.{comes, mark, name_at, number_at}
+use Rattle.room_tokens.proofs.action_tokens.Singles.{comes_here, mark_reads, name_reads}
 use Rattle.action_program.specs.Named.{ExprTree, a_number, the_true, the_false, a_datum, the_place, the_self, an_attribute, a_paren, a_unary, a_chain, Steps, no_step, a_step, steps_of}
 use Rattle.action_program.specs.declared.operator.UnaryOp.{UnaryOp}
 use Rattle.action_program.specs.declared.operator.UnaryOp.TheVariants as unary

@@ -5,12 +5,12 @@ use Rattle.std.proofs.lemmas.Bool.{eqb-true}
 use Rattle.room_lexer.specs.declared.token.Mark.{Mark}
 use Rattle.room_lexer.specs.declared.token.Mark.TheVariants as marks
 use Rattle.room_ast.specs.Tokens.{each, maybe}
-use Rattle.token_reading.specs.Reader.{Reader, ◌⊕◌, reads_as, all_while, rest_of}
-use Rattle.token_reading.proofs.Readers.{Sound, Sound-⊕, Sound-as, Sound-maybe, Sound-many, behind_takes, taken}
-use Rattle.token_reading.specs.action_tokens.Values.{Value, AWord, AName, ANumber, AMark}
-use Rattle.token_reading.specs.action_tokens.Single.{comes, mark, name_at, number_at}
-use Rattle.token_reading.specs.declared.action_tokens.word.ActionWord.TheVariants as words
-use Rattle.token_reading.proofs.action_tokens.Singles.{mark_sound, name_sound, number_sound}
+use Rattle.room_tokens.specs.Reader.{Reader, ◌⊕◌, reads_as, all_while, rest_of}
+use Rattle.room_tokens.proofs.Readers.{Sound, Sound-⊕, Sound-as, Sound-maybe, Sound-many, behind_takes, taken}
+use Rattle.room_tokens.specs.action_tokens.Values.{Value, AWord, AName, ANumber, AMark}
+use Rattle.room_tokens.specs.action_tokens.Single.{comes, mark, name_at, number_at}
+use Rattle.room_tokens.specs.declared.action_tokens.word.ActionWord.TheVariants as words
+use Rattle.room_tokens.proofs.action_tokens.Singles.{mark_sound, name_sound, number_sound}
 use Rattle.action_program.specs.Named.{ExprTree, a_number, the_true, the_false, a_datum, the_place, the_self, an_attribute, a_paren, a_unary, a_chain, steps_of}
 use Rattle.action_program.specs.declared.operator.UnaryOp.TheVariants as unary
 use Rattle.action_program.specs.declared.operator.BinaryOp.{BinaryOp}

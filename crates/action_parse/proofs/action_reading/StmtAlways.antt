@@ -1,10 +1,10 @@
 -- What is read of statements is well formed, and nests no deeper.
 use Rattle.std.proofs.Common.{◌≡◌, ℕ, zero, suc, ◌<◌, Bool, true, false, cond, List, [], ◌∷◌, Option, Some, None, arith}
 use Rattle.room_lexer.specs.declared.token.Mark.TheVariants as marks
-use Rattle.token_reading.specs.Reader.{Reader, ◌⊕◌, reads_as, rest_of}
-use Rattle.token_reading.specs.action_tokens.Values.{Value, AWord, AName, AMark}
-use Rattle.token_reading.specs.action_tokens.Single.{comes, comes_word, mark, word, name_at, number_at}
-use Rattle.token_reading.specs.declared.action_tokens.word.ActionWord.TheVariants as words
+use Rattle.room_tokens.specs.Reader.{Reader, ◌⊕◌, reads_as, rest_of}
+use Rattle.room_tokens.specs.action_tokens.Values.{Value, AWord, AName, AMark}
+use Rattle.room_tokens.specs.action_tokens.Single.{comes, comes_word, mark, word, name_at, number_at}
+use Rattle.room_tokens.specs.declared.action_tokens.word.ActionWord.TheVariants as words
 use Rattle.action_program.specs.Named.{ExprTree, StmtTree, empty, assign, choose, repeat, defer, recall, recall_all, frame, import_at, register, withdraw, Stmts, stmts_of, branches_of, Otherwise}
 use Rattle.action_program.specs.declared.operator.FrameVerb.{FrameVerb}
 use Rattle.action_program.specs.declared.operator.FrameVerb.TheVariants as verbs

@@ -1,7 +1,7 @@
 -- What is read of statements takes something.
 use Rattle.std.proofs.Common.{◌≡◌, ℕ, zero, suc, ◌<◌, ◌-◌, List, [], ◌∷◌, ◌++◌, length, Some, None, refl, ap, length-append, arith}
 use Rattle.room_lexer.specs.declared.token.Mark.TheVariants as marks
-use Rattle.token_reading.specs.action_tokens.Values.{Value, AMark}
+use Rattle.room_tokens.specs.action_tokens.Values.{Value, AMark}
 use Rattle.action_program.specs.Named.{ExprTree, StmtTree, empty, assign, choose, repeat, send, defer, recall, recall_all, frame, import_at, register, withdraw, Stmts, no_branch, a_branch}
 use Rattle.action_parse.specs.action_reading.Tokens.{path_tokens, expr_tokens, stmt_tokens}
 use Rattle.action_parse.specs.action_reading.ExprReading.{expression}

@@ -4,13 +4,13 @@ use Rattle.std.specs.Prelude.{option_map}
 use Rattle.room_kinds.specs.declared.numbers.Priority.{Priority}
 use Rattle.room_lexer.specs.declared.token.Mark.TheVariants as marks
 use Rattle.room_ast.specs.Tokens.{each, maybe}
-use Rattle.token_reading.specs.Reader.{Reader, ◌⊕◌, reads_as, all_while, rest_of}
-use Rattle.token_reading.proofs.Readers.{Sound, Sound-⊕, Sound-as, Sound-maybe, Sound-many, behind_takes, taken}
-use Rattle.token_reading.specs.action_tokens.Values.{Value, AWord, AName, ANumber, AMark}
-use Rattle.token_reading.specs.action_tokens.Single.{comes, comes_word, mark, word, name_at, number_at}
-use Rattle.token_reading.specs.declared.action_tokens.word.ActionWord.{ActionWord}
-use Rattle.token_reading.specs.declared.action_tokens.word.ActionWord.TheVariants as words
-use Rattle.token_reading.proofs.action_tokens.Singles.{mark_sound, word_sound, name_sound, number_sound}
+use Rattle.room_tokens.specs.Reader.{Reader, ◌⊕◌, reads_as, all_while, rest_of}
+use Rattle.room_tokens.proofs.Readers.{Sound, Sound-⊕, Sound-as, Sound-maybe, Sound-many, behind_takes, taken}
+use Rattle.room_tokens.specs.action_tokens.Values.{Value, AWord, AName, ANumber, AMark}
+use Rattle.room_tokens.specs.action_tokens.Single.{comes, comes_word, mark, word, name_at, number_at}
+use Rattle.room_tokens.specs.declared.action_tokens.word.ActionWord.{ActionWord}
+use Rattle.room_tokens.specs.declared.action_tokens.word.ActionWord.TheVariants as words
+use Rattle.room_tokens.proofs.action_tokens.Singles.{mark_sound, word_sound, name_sound, number_sound}
 use Rattle.action_program.specs.Named.{ExprTree, StmtTree, empty, assign, choose, repeat, send, defer, recall, recall_all, frame, import_at, register, withdraw, Stmts, stmts_of, branches_of, Otherwise}
 use Rattle.action_program.specs.declared.operator.FrameVerb.{FrameVerb}
 use Rattle.action_program.specs.declared.operator.FrameVerb.TheVariants as verbs

@@ -1,11 +1,11 @@
 -- Turns of the loops of expressions.
 use Rattle.std.proofs.Common.{◌≡◌, ℕ, zero, suc, ◌+◌, ◌-◌, ◌<◌, List, [], ◌∷◌, length, Option, Some, None, refl, sym, ap, ◌∙◌, arith, Bool}
 use Rattle.std.specs.Prelude.{option_map, option_and_then}
-use Rattle.token_reading.specs.Reader.{Reader, ◌⊕◌, reads_as, many, all_while, Fails}
-use Rattle.token_reading.specs.declared.fault.ReadFault.{ReadFault}
-use Rattle.token_reading.specs.declared.fault.ReadFault.TheVariants as faults
-use Rattle.token_reading.proofs.Loop.{with_front, starts}
-use Rattle.token_reading.specs.action_tokens.Values.{Value}
+use Rattle.room_tokens.specs.Reader.{Reader, ◌⊕◌, reads_as, many, all_while, Fails}
+use Rattle.room_tokens.specs.declared.fault.ReadFault.{ReadFault}
+use Rattle.room_tokens.specs.declared.fault.ReadFault.TheVariants as faults
+use Rattle.room_tokens.proofs.Loop.{with_front, starts}
+use Rattle.room_tokens.specs.action_tokens.Values.{Value}
 use Rattle.action_program.specs.Named.{ExprTree}
 use Rattle.action_program.specs.declared.operator.BinaryOp.{BinaryOp}
 use Rattle.action_parse.specs.action_reading.ExprReading.{level, op_comes, step_at, chain_of}

@@ -1,15 +1,15 @@
 -- What the reader of programs says of the trees that have the tokens.
 use Rattle.std.proofs.Common.{◌≡◌, ℕ, suc, ◌≤◌, max, false, List, [], ◌∷◌, ◌++◌, Option, Some, None, refl, sym, ap, ◌∙◌, append-nil, arith}
 use Rattle.std.specs.Prelude.{option_and_then}
-use Rattle.token_reading.specs.Reader.{Reader, to_end, if_last}
-use Rattle.token_reading.proofs.Readers.{last_takes}
-use Rattle.token_reading.specs.action_tokens.Values.{Value}
+use Rattle.room_tokens.specs.Reader.{Reader, to_end, if_last}
+use Rattle.room_tokens.proofs.Readers.{last_takes}
+use Rattle.room_tokens.specs.action_tokens.Values.{Value}
 use Rattle.action_program.specs.Named.{ExprTree, Stmts}
 use Rattle.action_parse.specs.action_reading.Tokens.{expr_tokens, stmts_tokens}
 use Rattle.action_parse.specs.action_reading.Written.{IsExpr, AreStmts, expr_nesting, nesting, IsProgramOf, IsConditionOf}
 use Rattle.action_parse.specs.action_reading.ExprReading.{op_at, expression}
 use Rattle.action_parse.specs.action_reading.StmtReading.{goes_on, stmts_at, statement}
-use Rattle.token_reading.specs.action_tokens.Single.{comes}
+use Rattle.room_tokens.specs.action_tokens.Single.{comes}
 use Rattle.action_parse.proofs.action_reading.ExprSound.{Fits}
 use Rattle.action_parse.proofs.action_reading.ExprAgain.{Follows, expr_back}
 use Rattle.action_parse.proofs.action_reading.StmtSound.{stmts_sound, statement_sound, expression_sound}

@@ -2,10 +2,10 @@
 use Rattle.std.specs.Prelude.{ℕ, zero, suc, List, [], ◌∷◌, Option, Some, None, is_some, Bool, false, option_and_then, ◌==◌, nat_le, if◌then◌else◌}
 use Rattle.room_lexer.specs.declared.token.Mark.{Mark}
 use Rattle.room_lexer.specs.declared.token.Mark.TheVariants as marks
-use Rattle.token_reading.specs.Reader.{Reader, ◌⊕◌, reads_as, optional, all_while, rest_of}
-use Rattle.token_reading.specs.action_tokens.Values.{Value, AWord, AName, ANumber, AMark}
-use Rattle.token_reading.specs.action_tokens.Single.{comes, mark, name_at, number_at}
-use Rattle.token_reading.specs.declared.action_tokens.word.ActionWord.TheVariants as words
+use Rattle.room_tokens.specs.Reader.{Reader, ◌⊕◌, reads_as, optional, all_while, rest_of}
+use Rattle.room_tokens.specs.action_tokens.Values.{Value, AWord, AName, ANumber, AMark}
+use Rattle.room_tokens.specs.action_tokens.Single.{comes, mark, name_at, number_at}
+use Rattle.room_tokens.specs.declared.action_tokens.word.ActionWord.TheVariants as words
 use Rattle.action_program.specs.Named.{ExprTree, a_number, the_true, the_false, a_datum, the_place, the_self, an_attribute, a_paren, a_unary, a_chain, steps_of}
 use Rattle.action_program.specs.declared.operator.UnaryOp.TheVariants as unary
 use Rattle.action_program.specs.declared.operator.BinaryOp.{BinaryOp}

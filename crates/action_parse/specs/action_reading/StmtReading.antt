@@ -2,11 +2,11 @@
 use Rattle.std.specs.Prelude.{ℕ, zero, suc, List, [], ◌∷◌, Option, Some, None, Bool, false, not, ◌&&◌, ◌||◌, option_map, option_and_then, if◌then◌else◌}
 use Rattle.room_kinds.specs.declared.numbers.Priority.{Priority}
 use Rattle.room_lexer.specs.declared.token.Mark.TheVariants as marks
-use Rattle.token_reading.specs.Reader.{Reader, ◌⊕◌, reads_as, optional, all_while, to_end, rest_of}
-use Rattle.token_reading.specs.action_tokens.Values.{Value, AWord, AName, AMark, action_values}
-use Rattle.token_reading.specs.action_tokens.Single.{comes, comes_word, mark, word, name_at, number_at}
-use Rattle.token_reading.specs.declared.action_tokens.word.ActionWord.{ActionWord}
-use Rattle.token_reading.specs.declared.action_tokens.word.ActionWord.TheVariants as words
+use Rattle.room_tokens.specs.Reader.{Reader, ◌⊕◌, reads_as, optional, all_while, to_end, rest_of}
+use Rattle.room_tokens.specs.action_tokens.Values.{Value, AWord, AName, AMark, action_values}
+use Rattle.room_tokens.specs.action_tokens.Single.{comes, comes_word, mark, word, name_at, number_at}
+use Rattle.room_tokens.specs.declared.action_tokens.word.ActionWord.{ActionWord}
+use Rattle.room_tokens.specs.declared.action_tokens.word.ActionWord.TheVariants as words
 use Rattle.action_program.specs.Named.{ExprTree, StmtTree, empty, assign, choose, repeat, send, defer, recall, recall_all, frame, import_at, register, withdraw, Stmts, stmts_of, branches_of, Otherwise, no_else, an_else}
 use Rattle.action_program.specs.declared.operator.FrameVerb.{FrameVerb}
 use Rattle.action_program.specs.declared.operator.FrameVerb.TheVariants as verbs

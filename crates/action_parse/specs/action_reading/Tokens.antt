@@ -4,9 +4,9 @@ use Rattle.room_lexer.specs.declared.token.Mark.{Mark}
 use Rattle.room_lexer.specs.declared.token.Mark.TheVariants as marks
 use Rattle.room_kinds.specs.declared.numbers.Priority.{Priority}
 use Rattle.room_ast.specs.Tokens.{each, maybe}
-use Rattle.token_reading.specs.action_tokens.Values.{Value, AWord, AName, ANumber, AMark}
-use Rattle.token_reading.specs.declared.action_tokens.word.ActionWord.{ActionWord}
-use Rattle.token_reading.specs.declared.action_tokens.word.ActionWord.TheVariants as words
+use Rattle.room_tokens.specs.action_tokens.Values.{Value, AWord, AName, ANumber, AMark}
+use Rattle.room_tokens.specs.declared.action_tokens.word.ActionWord.{ActionWord}
+use Rattle.room_tokens.specs.declared.action_tokens.word.ActionWord.TheVariants as words
 use Rattle.action_program.specs.Named.{ExprTree, a_number, the_true, the_false, a_datum, the_place, the_self, an_attribute, a_paren, a_unary, a_chain, Steps, no_step, a_step, SendTree, StmtTree, empty, assign, choose, repeat, send, defer, recall, recall_all, frame, import_at, register, withdraw, Stmts, no_stmt, a_stmt, Branches, no_branch, a_branch, Otherwise, no_else, an_else}
 use Rattle.action_program.specs.declared.operator.UnaryOp.{UnaryOp}
 use Rattle.action_program.specs.declared.operator.UnaryOp.TheVariants as unary

@@ -1,7 +1,7 @@
 -- Which trees are programs and conditions, which text is theirs, and how deep they nest.
 use Rattle.std.specs.Prelude.{◌≡◌, ℕ, suc, ◌-◌, ◌<◌, ◌≤◌, max, List, [], ◌∷◌, Option, Some, None, Bool, true, ◌&&◌, nat_le, nat_lt}
 use Rattle.room_kinds.specs.declared.numbers.Priority.{Priority}
-use Rattle.token_reading.specs.action_tokens.Values.{action_values}
+use Rattle.room_tokens.specs.action_tokens.Values.{action_values}
 use Rattle.action_program.specs.Named.{ExprTree, a_number, the_true, the_false, a_datum, the_place, the_self, an_attribute, a_paren, a_unary, a_chain, Steps, no_step, a_step, SendTree, StmtTree, empty, assign, choose, repeat, send, defer, recall, recall_all, frame, import_at, register, withdraw, Stmts, no_stmt, a_stmt, Branches, no_branch, a_branch, Otherwise, no_else, an_else}
 use Rattle.action_program.specs.declared.operator.BinaryOp.{BinaryOp}
 use Rattle.action_program.specs.declared.operator.BinaryOp.TheVariants as binary

@@ -1,8 +1,8 @@
 //! Expressions.
 ghost use Rattle.std.specs.Prelude.{◌≡◌, ◌≤◌, ◌∷◌, IfOk, map};
 ghost use Rattle.room_lexer.specs.declared.token.Mark.TheVariants as marks;
-ghost use Rattle.token_reading.specs.Reader.{Gives, ◌⊕◌, reads_as, all_while};
-ghost use Rattle.token_reading.specs.action_tokens.Single.{left, mark, name_at};
+ghost use Rattle.room_tokens.specs.Reader.{Gives, ◌⊕◌, reads_as, all_while};
+ghost use Rattle.room_tokens.specs.action_tokens.Single.{left, mark, name_at};
 ghost use Rattle.action_program.specs.Named.{expr_view, step_view, a_paren, a_unary};
 ghost use Rattle.action_parse.specs.action_reading.Written.{below as below_of};
 ghost use Rattle.action_parse.specs.action_reading.ExprReading.{operator_of, operator_comes, op_at, op_comes, step_at, chain_of, level, path_at, small_number_at, datum_at, under, operand};
@@ -10,9 +10,9 @@ ghost use Rattle.action_parse.specs.action_reading.ExprReading.{operator_of, ope
 use action_program::{BinaryOp, Expr, Step, UnaryOp};
 use room_ast::Name;
 use room_lexer::Mark;
+use room_tokens::action_tokens::{ActionWord, Kind, Rest};
+use room_tokens::{ReadFault, comes, name, next, number, place, skip, take_mark};
 use std::alloc::{AllocError, Global};
-use token_reading::action_tokens::{ActionWord, Kind, Rest};
-use token_reading::{ReadFault, comes, name, next, number, place, skip, take_mark};
 
 /// The level of whole expressions; level 0 is an operand alone.
 pub const WEAKEST: usize = 5;
@@ -135,7 +135,7 @@ fn small_number<'a>(rest: Rest<'a>) -> Result<(u8, Rest<'a>), ReadFault>
 }
 
 /// What stands behind `data`.
-#[tactic(auto, unfolding(crate::specs::action_reading::ExprReading::datum_at, token_reading::specs::Reader::optional))]
+#[tactic(auto, unfolding(crate::specs::action_reading::ExprReading::datum_at, room_tokens::specs::Reader::optional))]
 fn datum<'a>(rest: Rest<'a>) -> Result<(Option<u8>, Rest<'a>), ReadFault>
     ensures { Gives (λ x. (x.0, left x.1)) result (datum_at (left rest.entry)) }
 {
@@ -269,7 +269,7 @@ fn unary<'a>(
 
 /// An operand.
 #[cycle(expression)]
-#[tactic(auto, unfolding(crate::specs::action_reading::ExprReading::operand_with, token_reading::specs::action_tokens::Single::name_at))]
+#[tactic(auto, unfolding(crate::specs::action_reading::ExprReading::operand_with, room_tokens::specs::action_tokens::Single::name_at))]
 pub fn operand<'a>(
     alloc: Global,
     depth: usize,

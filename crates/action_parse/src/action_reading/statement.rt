@@ -1,7 +1,7 @@
 //! Statements.
 ghost use Rattle.std.specs.Prelude.{◌≡◌, map, option_map};
-ghost use Rattle.token_reading.specs.Reader.{Gives, ◌⊕◌, reads_as, all_while};
-ghost use Rattle.token_reading.specs.action_tokens.Single.{left, mark};
+ghost use Rattle.room_tokens.specs.Reader.{Gives, ◌⊕◌, reads_as, all_while};
+ghost use Rattle.room_tokens.specs.action_tokens.Single.{left, mark};
 ghost use Rattle.room_lexer.specs.declared.token.Mark.TheVariants as marks;
 ghost use Rattle.action_program.specs.Named.{expr_view, stmt_view, branch_view, else_view, stmts_of};
 ghost use Rattle.action_parse.specs.action_reading.ExprReading.{expression};
@@ -11,11 +11,11 @@ use crate::action_reading::expressions::{WEAKEST, level, path};
 use action_program::{Branch, Expr, FrameVerb, IfStmt, SendStmt, Stmt};
 use room_kinds::Priority;
 use room_lexer::Mark;
-use std::alloc::Global;
-use token_reading::action_tokens::{ActionWord, Kind, Rest};
-use token_reading::{
+use room_tokens::action_tokens::{ActionWord, Kind, Rest};
+use room_tokens::{
     ReadFault, comes, comes_word, name, next, number, place, skip, take_mark, take_word,
 };
+use std::alloc::Global;
 
 /// A whole expression.
 pub fn expression<'a>(
@@ -29,7 +29,7 @@ pub fn expression<'a>(
 }
 
 /// The place of a port or the index of a reference, if one comes.
-#[tactic(auto, unfolding(crate::specs::action_reading::StmtReading::index_at, token_reading::specs::Reader::optional))]
+#[tactic(auto, unfolding(crate::specs::action_reading::StmtReading::index_at, room_tokens::specs::Reader::optional))]
 fn index<'a>(
     alloc: Global,
     depth: usize,
@@ -124,7 +124,7 @@ fn prio_word<'a>(rest: Rest<'a>) -> Result<(Priority, Rest<'a>), ReadFault>
 }
 
 /// The priority of a send, if it names one.
-#[tactic(auto, unfolding(crate::specs::action_reading::StmtReading::prio_at, token_reading::specs::Reader::optional))]
+#[tactic(auto, unfolding(crate::specs::action_reading::StmtReading::prio_at, room_tokens::specs::Reader::optional))]
 pub fn prio<'a>(rest: Rest<'a>) -> Result<(Option<Priority>, Rest<'a>), ReadFault>
     ensures { Gives (λ x. (x.0, left x.1)) result (prio_at (left rest.entry)) }
 {
@@ -266,7 +266,7 @@ pub fn else_if_comes(rest: Rest) -> bool
 }
 
 /// Whether statements go on: neither a closing brace nor the end comes.
-#[tactic(auto, unfolding(crate::specs::action_reading::StmtReading::goes_on, token_reading::specs::action_tokens::Single::comes))]
+#[tactic(auto, unfolding(crate::specs::action_reading::StmtReading::goes_on, room_tokens::specs::action_tokens::Single::comes))]
 fn goes_on(rest: Rest) -> bool
     ensures { result ≡ goes_on (left rest.entry) }
 {
@@ -325,7 +325,7 @@ fn branches<'a>(
 
 /// The last block of a chain, if there is one.
 #[cycle(statement)]
-#[tactic(auto, unfolding(crate::specs::action_reading::StmtReading::else_at, token_reading::specs::Reader::optional))]
+#[tactic(auto, unfolding(crate::specs::action_reading::StmtReading::else_at, room_tokens::specs::Reader::optional))]
 fn otherwise<'a>(
     alloc: Global,
     depth: usize,

@@ -5,7 +5,7 @@ use Rattle.std.proofs.lemmas.List.{get_or_past}
 use Rattle.std.proofs.lemmas.List.Elements.{All-nil}
 use Rattle.room_ast.specs.Trees.{ModelTree}
 use Rattle.room_wiring.specs.declared.slot.Slot.{Slot}
-use Rattle.check_structure.specs.binding_rules.Rules.{layers_are_known}
+use Rattle.check_bindings.specs.binding_rules.Rules.{layers_are_known}
 use Rattle.check_classes.specs.class_rules.Ends.{has_known_actors}
 use Rattle.check_tables.specs.containment_rules.Circles.{actors_are_finite}
 use Rattle.check_mappings.specs.count_rules.Counts.{has_few_parts}

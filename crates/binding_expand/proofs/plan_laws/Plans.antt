@@ -12,8 +12,8 @@ use Rattle.room_ast.specs.model_parts.Classes.{actors, subsystems, systems, wire
 use Rattle.room_ast.specs.model_parts.Ports.{structure_of}
 use Rattle.check_tables.specs.class_tables.Containers.{tables_of, tables_with, class_names, actor_containers, actor_container, subsystem_container}
 use Rattle.check_tables.specs.declared.class_tables.container.Container.{Container}
-use Rattle.check_structure.specs.binding_rules.Layers.{layer_is_known}
-use Rattle.check_structure.specs.binding_rules.Rules.{actor_passes, subsystem_passes, layers_are_known}
+use Rattle.check_bindings.specs.binding_rules.Layers.{layer_is_known}
+use Rattle.check_bindings.specs.binding_rules.Rules.{actor_passes, subsystem_passes, layers_are_known}
 use Rattle.check_classes.specs.class_rules.Ends.{has_known_actors}
 use Rattle.check_tables.specs.containment_rules.Circles.{actors_are_finite}
 use Rattle.check_mappings.specs.count_rules.Counts.{has_few_parts}

@@ -18,9 +18,9 @@ use Rattle.room_ast.specs.model_parts.References.{is_replicated}
 use Rattle.room_ast.specs.declared.model_parts.entries.PortEntry.{PortEntry}
 use Rattle.room_ast.specs.declared.model_parts.entries.ReferenceEntry.{ReferenceEntry}
 use Rattle.check_tables.specs.declared.class_tables.container.Container.{Container}
-use Rattle.check_structure.specs.binding_rules.Parts.{port_named, reference_named, class_of, port_behind as port_behind_reference}
-use Rattle.check_structure.specs.binding_rules.Layers.{is_spp, is_connectable, provides, layer_is_known}
-use Rattle.check_structure.specs.binding_rules.Rules.{item_passes, subsystem_item_passes}
+use Rattle.check_bindings.specs.binding_rules.Parts.{port_named, reference_named, class_of, port_behind as port_behind_reference}
+use Rattle.check_bindings.specs.binding_rules.Layers.{is_spp, is_connectable, provides, layer_is_known}
+use Rattle.check_bindings.specs.binding_rules.Rules.{item_passes, subsystem_item_passes}
 use Rattle.room_kinds.specs.Structure.{is_imported}
 use Rattle.wiring_places.specs.place_rules.Parts.{class_plan}
 use Rattle.wiring_plan.specs.structure_plan.Parts.{number_of, port_plan, reference_plan, class_behind, port_behind, layer_to, layer_from, layer_plan}

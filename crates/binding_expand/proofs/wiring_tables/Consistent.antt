@@ -13,7 +13,7 @@ use Rattle.room_wiring.specs.declared.slot.Slot.{Slot}
 use Rattle.room_wiring.specs.declared.tables.PlaceSpan.{PlaceSpan}
 use Rattle.room_wiring.specs.declared.names.ClassNames.{ClassNames}
 use Rattle.check_classes.specs.class_rules.Ends.{has_known_actors}
-use Rattle.check_structure.specs.structure_rules.Threads.{threads_are_few}
+use Rattle.check_bindings.specs.structure_rules.Threads.{threads_are_few}
 use Rattle.wiring_plan.specs.structure_plan.Plans.{plan_of}
 use Rattle.wiring_plan.specs.declared.structure_plan.plan.ClassPlan.{ClassPlan}
 use Rattle.wiring_plan.specs.declared.structure_plan.plan.PortPlan.{PortPlan}

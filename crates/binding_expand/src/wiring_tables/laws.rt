@@ -4,7 +4,7 @@ ghost use Rattle.room_ast.specs.Trees.{ModelTree};
 ghost use Rattle.room_wiring.specs.Consistent.{IsConsistent};
 ghost use Rattle.room_wiring.specs.declared.slot.Partner.{Partner};
 ghost use Rattle.check_classes.specs.class_rules.Ends.{has_known_actors};
-ghost use Rattle.check_structure.specs.structure_rules.Threads.{threads_are_few};
+ghost use Rattle.check_bindings.specs.structure_rules.Threads.{threads_are_few};
 ghost use Rattle.wiring_places.specs.declared.place_rules.place.LayerJoin.{LayerJoin};
 ghost use Rattle.wiring_slots.specs.model_slots.Answers.{slots_in, wired};
 ghost use Rattle.binding_expand.specs.wiring_tables.Assembled.{assembled, AreComplete};

@@ -9,8 +9,8 @@ use Rattle.name_tables.specs.name_numbers.Names.{same}
 use Rattle.chart_model.specs.Chart.{Path, State, Graph, Chart}
 use Rattle.chart_model.specs.Named.{first, graph_at, same_path}
 use Rattle.chart_model.specs.States.{states_below, states_of}
-use Rattle.chart_reading.specs.chart_graphs.Views.{graph_view}
-use Rattle.chart_reading.specs.declared.chart_graphs.Graph.{Graph as CodeGraph}
+use Rattle.chart_trees.specs.chart_graphs.Views.{graph_view}
+use Rattle.chart_trees.specs.declared.chart_graphs.Graph.{Graph as CodeGraph}
 use Rattle.chart_reader.proofs.chart_nodes.KeyLaws.{same_codes}
 use Rattle.chart_reader.proofs.chart_nodes.Onward.{path_is}
 use Rattle.chart_reader.proofs.chart_nodes.GraphKeys.{first_passes, graph_is}

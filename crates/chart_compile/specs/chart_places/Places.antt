@@ -5,8 +5,8 @@ use Rattle.std.specs.List.{flat_map}
 use Rattle.std.specs.Option.{option_map_or}
 use Rattle.chart_model.specs.Chart.{Path, State, Graph, Chart}
 use Rattle.chart_model.specs.Named.{graph_at}
-use Rattle.chart_reading.specs.chart_graphs.Views.{graph_view, state_view}
-use Rattle.chart_reading.specs.declared.chart_graphs.Graph.{Graph as CodeGraph}
+use Rattle.chart_trees.specs.chart_graphs.Views.{graph_view, state_view}
+use Rattle.chart_trees.specs.declared.chart_graphs.Graph.{Graph as CodeGraph}
 use Rattle.chart_reader.specs.chart_nodes.Keys.{codes}
 use Rattle.chart_compile.specs.declared.chart_places.places.Place.{Place}
 

@@ -1,11 +1,11 @@
 //! Graphs by their keys.
 ghost use Rattle.std.specs.Prelude.{◌≡◌, map, option_and_then, option_map, position, slice_get, IfOk};
 ghost use Rattle.name_tables.specs.name_numbers.Names.{same};
-ghost use Rattle.chart_reading.specs.chart_graphs.Views.{graph_view};
+ghost use Rattle.chart_trees.specs.chart_graphs.Views.{graph_view};
 ghost use Rattle.chart_compile.specs.chart_places.Places.{keys_of};
 
 use chart_reader::plain_key;
-use chart_reading::{Chart, Graph};
+use chart_trees::{Chart, Graph};
 use name_tables::NameIndex;
 use room_kinds::Sequence;
 use std::alloc::{AllocError, Global};

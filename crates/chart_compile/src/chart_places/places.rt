@@ -1,12 +1,12 @@
 //! States in the order of their numbers.
 ghost use Rattle.std.specs.Prelude.{◌≡◌, ◌∷◌, ◌++◌, [], Some, map, IfOk, OnOk};
 ghost use Rattle.chart_model.specs.Named.{graph_at};
-ghost use Rattle.chart_reading.specs.chart_graphs.Views.{chart_view, graph_view, state_view};
+ghost use Rattle.chart_trees.specs.chart_graphs.Views.{chart_view, graph_view, state_view};
 ghost use Rattle.chart_compile.specs.chart_places.Places.{FoundAt, keys_of, place_of, place_view, places_below, places_of};
 
 use crate::chart_places::keys::find_graph;
 use chart_reader::{named_key, plain_key};
-use chart_reading::{Chart, Graph, State};
+use chart_trees::{Chart, Graph, State};
 use name_tables::NameIndex;
 use std::alloc::{AllocError, Global};
 

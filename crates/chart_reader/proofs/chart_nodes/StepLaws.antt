@@ -3,8 +3,8 @@ use Rattle.std.proofs.Common.{◌≡◌, ℕ, ◌+◌, ◌<◌, ◌≤◌, Bool,
 use Rattle.std.proofs.lemmas.List.{drop_all, drop_more, append-nil, get_or-map}
 use Rattle.name_tables.specs.name_numbers.Names.{is_among}
 use Rattle.chart_model.specs.Chart.{Graph}
-use Rattle.chart_reading.specs.chart_graphs.Views.{graph_view}
-use Rattle.chart_reading.specs.declared.chart_graphs.Graph.{Graph as CodeGraph}
+use Rattle.chart_trees.specs.chart_graphs.Views.{graph_view}
+use Rattle.chart_trees.specs.declared.chart_graphs.Graph.{Graph as CodeGraph}
 use Rattle.chart_reader.specs.chart_nodes.Keys.{codes}
 use Rattle.chart_reader.specs.chart_nodes.Steps.{StepTree, steps_in, steps_behind}
 

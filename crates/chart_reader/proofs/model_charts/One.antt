@@ -9,8 +9,8 @@ use Rattle.room_ast.specs.model_parts.Charts.{chart_of as machine_of}
 use Rattle.room_ast.specs.model_parts.Classes.{actors}
 use Rattle.check_scopes.specs.class_scopes.Views.{scope_view}
 use Rattle.chart_model.specs.Chart.{Name, Chart}
-use Rattle.chart_reading.specs.chart_codes.Progress.{Progress}
-use Rattle.chart_reading.specs.Reading.{chart_of, reading}
+use Rattle.chart_trees.specs.chart_codes.Progress.{Progress}
+use Rattle.chart_trees.specs.Reading.{chart_of, reading}
 use Rattle.chart_reader.specs.Faults.{number, names_fault}
 use Rattle.chart_reader.specs.Reads.{IsLowestFault}
 use Rattle.chart_reader.specs.declared.fault.ChartFault.{ChartFault}

@@ -7,10 +7,10 @@ use Rattle.room_ast.specs.declared.scope.Scope.{Scope}
 use Rattle.room_ast.specs.ChartTree.{GraphItems}
 use Rattle.room_ast.specs.Trees.{ModelTree, ActorTree}
 use Rattle.room_ast.specs.model_parts.Charts.{chart_of as machine_of, states_in}
-use Rattle.chart_reading.specs.declared.chart_graphs.Chart.{Chart as CodeChart}
-use Rattle.chart_reading.specs.chart_graphs.Views.{chart_view}
+use Rattle.chart_trees.specs.declared.chart_graphs.Chart.{Chart as CodeChart}
+use Rattle.chart_trees.specs.chart_graphs.Views.{chart_view}
 use Rattle.chart_model.specs.Chart.{Name, Chart}
-use Rattle.chart_reading.specs.Reading.{reading}
+use Rattle.chart_trees.specs.Reading.{reading}
 use Rattle.chart_reader.specs.Reads.{Reads}
 use Rattle.chart_reader.proofs.Lowest.{valid_told}
 use Rattle.chart_reader.proofs.NestedGraphs.{whole_told}

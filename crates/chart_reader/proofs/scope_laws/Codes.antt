@@ -18,9 +18,9 @@ use Rattle.action_lang.specs.action_check.Faults.{expr_fault, stmts_fault}
 use Rattle.action_lang.specs.action_check.Numbering.{numbered_expr, numbered_stmts, stmts_names}
 use Rattle.chart_model.specs.chart_plan.Plan.{Trigger}
 use Rattle.chart_model.specs.Chart.{Event}
-use Rattle.chart_reading.specs.chart_codes.Codes.{code_bytes, program_of, condition_of, bound_condition, condition_in, guard_of, guard_fits, bound_of, names_bound, action_of, names_after}
-use Rattle.chart_reading.specs.chart_codes.Events.{takes_messages, message_name, event_at, event_in, event_of, event_fits, no_event, events, trigger_of, triggers_of, trigger_list, events_fit, guards_fit}
-use Rattle.chart_reading.specs.chart_codes.Progress.{Progress, after_action, after_guard, after_triggers}
+use Rattle.chart_trees.specs.chart_codes.Codes.{code_bytes, program_of, condition_of, bound_condition, condition_in, guard_of, guard_fits, bound_of, names_bound, action_of, names_after}
+use Rattle.chart_trees.specs.chart_codes.Events.{takes_messages, message_name, event_at, event_in, event_of, event_fits, no_event, events, trigger_of, triggers_of, trigger_list, events_fit, guards_fit}
+use Rattle.chart_trees.specs.chart_codes.Progress.{Progress, after_action, after_guard, after_triggers}
 use Rattle.check_scopes.specs.class_scopes.Views.{PortView, signal_view, port_view, scope_view}
 use Rattle.chart_reader.proofs.scope_laws.Found.{seen, through, ports_alike, received_in, received_seen}
 use Rattle.chart_reader.proofs.scope_laws.Programs.{expr_same, expr_fault_same, stmts_same, stmts_fault_same}

@@ -9,11 +9,11 @@ use Rattle.room_ast.specs.ChartTree.{GraphItemTree, AState, AChoice, APoint, ATr
 use Rattle.action_program.specs.Numbered as numbered
 use Rattle.chart_model.specs.chart_plan.Plan.{Trigger}
 use Rattle.chart_model.specs.Chart.{Name, Path, Event, Source, Target, Transition, State}
-use Rattle.chart_reading.specs.chart_codes.Codes.{action_of}
-use Rattle.chart_reading.specs.chart_codes.Events.{trigger_list}
-use Rattle.chart_reading.specs.chart_codes.Progress.{Progress, after_action, after_guard, after_triggers}
-use Rattle.chart_reading.specs.Around.{Around, around, list_of}
-use Rattle.chart_reading.specs.Reading.{triggers_in, condition_in, action_in, before_action, after_transition, transition_of, Piece, begun, graphs_of, state_of, with_actions, with_transition, with_inner, with_item, with_state, with_body, with_subgraph, with_items, piece_of, at_first, reading, chart_of}
+use Rattle.chart_trees.specs.chart_codes.Codes.{action_of}
+use Rattle.chart_trees.specs.chart_codes.Events.{trigger_list}
+use Rattle.chart_trees.specs.chart_codes.Progress.{Progress, after_action, after_guard, after_triggers}
+use Rattle.chart_trees.specs.Around.{Around, around, list_of}
+use Rattle.chart_trees.specs.Reading.{triggers_in, condition_in, action_in, before_action, after_transition, transition_of, Piece, begun, graphs_of, state_of, with_actions, with_transition, with_inner, with_item, with_state, with_body, with_subgraph, with_items, piece_of, at_first, reading, chart_of}
 use Rattle.room_ast.specs.model_parts.Attributes.{ClassNumber}
 use Rattle.check_scopes.specs.class_scopes.Views.{ScopeView, attribute_view, scope_view}
 use Rattle.chart_reader.proofs.scope_laws.Codes.{guard_same, action_same, triggers_same, after_action_same, after_guard_same, after_triggers_same}

@@ -3,7 +3,7 @@ use Rattle.std.specs.Prelude.{ℕ, if◌then◌else◌, List, [], ◌∷◌, ◌
 use Rattle.name_tables.specs.name_numbers.Names.{is_among}
 use Rattle.chart_model.specs.Chart.{Path, Transition, Graph, Chart}
 use Rattle.chart_model.specs.Named.{Placed}
-use Rattle.chart_reading.specs.chart_graphs.Views.{transition_view}
+use Rattle.chart_trees.specs.chart_graphs.Views.{transition_view}
 use Rattle.chart_reader.specs.chart_nodes.Keys.{codes, origin_key, target_key}
 use Rattle.chart_reader.specs.declared.chart_nodes.steps.Step.{Step}
 

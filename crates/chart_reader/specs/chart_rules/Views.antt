@@ -1,7 +1,7 @@
 -- The graphs and the chart that tables stand for.
 use Rattle.std.specs.Prelude.{ℤ, List, map}
 use Rattle.chart_model.specs.Chart.{Graph, Chart}
-use Rattle.chart_reading.specs.chart_graphs.Views.{graph_view}
+use Rattle.chart_trees.specs.chart_graphs.Views.{graph_view}
 use Rattle.chart_reader.specs.declared.chart_rules.names.NamedGraph.{NamedGraph}
 
 abbrev pub named_view : NamedGraph → Graph

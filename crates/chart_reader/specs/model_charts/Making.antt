@@ -4,8 +4,8 @@ use Rattle.room_ast.specs.declared.scope.Scope.{Scope}
 use Rattle.room_ast.specs.ChartTree.{GraphItems}
 use Rattle.room_ast.specs.Trees.{ModelTree, ActorTree}
 use Rattle.room_ast.specs.model_parts.Classes.{actors}
-use Rattle.chart_reading.specs.declared.chart_graphs.Chart.{Chart as CodeChart}
-use Rattle.chart_reading.specs.chart_graphs.Views.{chart_view}
+use Rattle.chart_trees.specs.declared.chart_graphs.Chart.{Chart as CodeChart}
+use Rattle.chart_trees.specs.chart_graphs.Views.{chart_view}
 use Rattle.chart_model.specs.Chart.{Name, Chart}
 use Rattle.chart_reader.specs.Faults.{number}
 use Rattle.chart_reader.specs.declared.fault.ChartFault.{ChartFault}

@@ -2,8 +2,8 @@
 use Rattle.std.specs.Prelude.{map, option_map, Option, Result, Ok, Err}
 use Rattle.std.specs.Global.{Vec}
 use Rattle.room_ast.specs.Trees.{ModelTree}
-use Rattle.chart_reading.specs.declared.chart_graphs.Chart.{Chart as CodeChart}
-use Rattle.chart_reading.specs.chart_graphs.Views.{chart_view}
+use Rattle.chart_trees.specs.declared.chart_graphs.Chart.{Chart as CodeChart}
+use Rattle.chart_trees.specs.chart_graphs.Views.{chart_view}
 use Rattle.chart_reader.specs.declared.model_charts.fault.ChartsFault.{ChartsFault}
 use Rattle.chart_reader.specs.declared.model_charts.fault.ChartsFault.TheVariants as faults
 use Rattle.chart_reader.specs.model_charts.Charts.{HasCharts, HasFaultyChart}

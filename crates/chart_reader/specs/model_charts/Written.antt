@@ -8,7 +8,7 @@ use Rattle.room_ast.specs.model_parts.Classes.{actors}
 use Rattle.check_scopes.specs.class_scopes.Scopes.{scope_of}
 use Rattle.check_scopes.specs.class_scopes.Views.{scope_view}
 use Rattle.chart_model.specs.Chart.{Name, Chart}
-use Rattle.chart_reading.specs.Reading.{chart_of, reading}
+use Rattle.chart_trees.specs.Reading.{chart_of, reading}
 
 -- What a text writes: the chart, and whether each event and each code in it is the class's.
 pub record Written : Type 0 where

@@ -1,12 +1,12 @@
 //! Whether nodes lead in a circle.
 ghost use Rattle.std.specs.Prelude.{◌≡◌, ◌<◌, ◌++◌, ◌∷◌, [], length, map, slice_set, slice_index_or, replicate, IfOk, OnOk};
 ghost use Rattle.number_graphs.specs.class_containment.Walks.{Orders};
-ghost use Rattle.chart_reading.specs.chart_graphs.Views.{chart_view};
+ghost use Rattle.chart_trees.specs.chart_graphs.Views.{chart_view};
 ghost use Rattle.chart_reader.specs.chart_nodes.Steps.{step_view};
 ghost use Rattle.chart_reader.specs.chart_nodes.Circles.{HasCircle, linked_by, targets_of, parts_of};
 
 use crate::chart_nodes::steps::{Step, steps_of};
-use chart_reading::Chart;
+use chart_trees::Chart;
 use name_tables::NameIndex;
 use number_graphs::containment_order;
 use room_kinds::Sequence;

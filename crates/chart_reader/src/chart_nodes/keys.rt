@@ -1,9 +1,9 @@
 //! Keys of places and nodes.
 ghost use Rattle.std.specs.Prelude.{◌≡◌, ◌++◌, ◌∷◌, [], IfOk, OnOk};
-ghost use Rattle.chart_reading.specs.chart_graphs.Views.{source_view, target_view};
+ghost use Rattle.chart_trees.specs.chart_graphs.Views.{source_view, target_view};
 ghost use Rattle.chart_reader.specs.chart_nodes.Keys.{code, codes, origin_key, target_key};
 
-use chart_reading::{Source, Target};
+use chart_trees::{Source, Target};
 use room_ast::Name;
 use std::alloc::{AllocError, Global};
 

@@ -1,11 +1,11 @@
 //! The transitions of a chart, with keys.
 ghost use Rattle.std.specs.Prelude.{◌≡◌, ◌++◌, map, IfOk, OnOk};
-ghost use Rattle.chart_reading.specs.chart_graphs.Views.{chart_view, graph_view};
+ghost use Rattle.chart_trees.specs.chart_graphs.Views.{chart_view, graph_view};
 ghost use Rattle.chart_reader.specs.chart_nodes.Keys.{codes};
 ghost use Rattle.chart_reader.specs.chart_nodes.Steps.{steps_in, steps_of, step_view};
 
 use crate::chart_nodes::keys::{graph_key, origin_key, target_key};
-use chart_reading::{Chart, Graph, Transition};
+use chart_trees::{Chart, Graph, Transition};
 use name_tables::Numbers;
 use room_kinds::Sequence;
 use std::alloc::{AllocError, Global};

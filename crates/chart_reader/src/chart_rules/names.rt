@@ -1,13 +1,13 @@
 //! What a graph has, found without a search.
 ghost use Rattle.std.specs.Prelude.{◌≡◌, map, option_map, IfOk};
 ghost use Rattle.std.specs.List.{filter_map};
-ghost use Rattle.chart_reading.specs.chart_graphs.Views.{graph_view, kind_view, point_view};
+ghost use Rattle.chart_trees.specs.chart_graphs.Views.{graph_view, kind_view, point_view};
 ghost use Rattle.chart_model.specs.Chart.{a_transition_point, an_entry_point, an_exit_point};
 ghost use Rattle.chart_model.specs.Valid.{has_state, has_choice, has_point, is_kind, names_in};
 ghost use Rattle.chart_reader.specs.chart_rules.Index.{name_of_kind, name_of_state, point_names};
 ghost use Rattle.name_tables.specs.distinct_names.Distinct.{is_distinct};
 
-use chart_reading::{Graph, Point};
+use chart_trees::{Graph, Point};
 use check_tables::add_name;
 use name_tables::{NameIndex, are_distinct};
 use room_ast::{Name, PointKind};

@@ -1,7 +1,7 @@
 //! The rules, in the order of their numbers.
 ghost use Rattle.std.specs.Prelude.{◌≡◌, IfOk};
 ghost use Rattle.std.specs.List.{list_all};
-ghost use Rattle.chart_reading.specs.chart_graphs.Views.{graph_view, point_view};
+ghost use Rattle.chart_trees.specs.chart_graphs.Views.{graph_view, point_view};
 ghost use Rattle.chart_model.specs.Valid.{is_shallow, is_right_transition, goes_on_once};
 ghost use Rattle.chart_reader.specs.chart_rules.Rules.{nests_within, graph_has_right_names, has_right_names, has_one_initial_at_most, graph_begins_inside, has_initials, graph_has_defaults, has_defaults};
 ghost use Rattle.chart_reader.specs.chart_rules.Views.{named_view};
@@ -10,7 +10,7 @@ ghost use Rattle.chart_reader.specs.chart_rules.IndexView.{index_view};
 use crate::chart_rules::index::ChartIndex;
 use crate::chart_rules::names::{NamedGraph, has_distinct_names};
 use crate::chart_rules::terminals::{begins_inside, is_right_transition};
-use chart_reading::{Graph, Point};
+use chart_trees::{Graph, Point};
 use room_ast::{Name, PointKind};
 use std::alloc::{AllocError, Global};
 

@@ -1,9 +1,9 @@
 //! Where transitions begin.
 ghost use Rattle.std.specs.Prelude.{◌≡◌};
-ghost use Rattle.chart_reading.specs.chart_graphs.Views.{source_view};
+ghost use Rattle.chart_trees.specs.chart_graphs.Views.{source_view};
 ghost use Rattle.chart_model.specs.Valid.{is_triggered, is_branch};
 
-use chart_reading::Source;
+use chart_trees::Source;
 
 /// Whether a transition from here is triggered by messages.
 pub(crate) fn is_triggered(source: &Source) -> bool

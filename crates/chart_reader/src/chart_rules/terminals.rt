@@ -1,6 +1,6 @@
 //! What transitions of a graph begin at and lead to.
 ghost use Rattle.std.specs.Prelude.{◌≡◌, IfOk};
-ghost use Rattle.chart_reading.specs.chart_graphs.Views.{kind_view, source_view, target_view, transition_view};
+ghost use Rattle.chart_trees.specs.chart_graphs.Views.{kind_view, source_view, target_view, transition_view};
 ghost use Rattle.chart_model.specs.Valid.{has_point_of, source_is_there, target_is_there, has_right_parts, is_right_transition, begins_inside};
 ghost use Rattle.chart_reader.specs.chart_rules.Views.{named_view};
 ghost use Rattle.chart_reader.specs.chart_rules.IndexView.{index_view};
@@ -8,7 +8,7 @@ ghost use Rattle.chart_reader.specs.chart_rules.IndexView.{index_view};
 use crate::chart_rules::index::ChartIndex;
 use crate::chart_rules::names::NamedGraph;
 use crate::chart_rules::sources::{is_branch, is_triggered};
-use chart_reading::{Source, Target, Transition};
+use chart_trees::{Source, Target, Transition};
 use room_ast::{Name, PointKind};
 use std::alloc::{AllocError, Global};
 

@@ -4,7 +4,7 @@ ghost use Rattle.std.specs.Prelude.{◌≡◌, ◌<◌, [], ◌∷◌, ◌++◌,
 ghost use Rattle.room_ast.specs.ChartTree.{graph_view};
 ghost use Rattle.room_ast.specs.Trees.{model_view};
 ghost use Rattle.room_ast.specs.model_parts.Classes.{actors};
-ghost use Rattle.chart_reading.specs.chart_graphs.Views.{chart_view};
+ghost use Rattle.chart_trees.specs.chart_graphs.Views.{chart_view};
 ghost use Rattle.structure_check.specs.Classes.{HasClasses};
 ghost use Rattle.structure_check.specs.List.{all_rules};
 ghost use Rattle.structure_check.specs.Rules.{first_broken};
@@ -15,7 +15,7 @@ ghost use Rattle.chart_reader.specs.model_charts.Reads.{ReadsCharts};
 use crate::model_charts::fault::ChartsFault;
 use crate::{ChartFault, read_chart};
 use action_lang::action_check::ServiceNames;
-use chart_reading::Chart;
+use chart_trees::Chart;
 use room_ast::{Scope, StateMachine};
 use std::alloc::{AllocError, Global};
 use structure_check::Checked;

@@ -10,8 +10,10 @@ ghost use Rattle.controller_actors.specs.actor_slots.Occupants.{AreSound, actor_
 ghost use Rattle.controller_actors.specs.actor_slots.Slots.{SlotComesUp, SlotFits, SlotTurns, SlotBegins, Works};
 
 use crate::actor_slots::occupant::{Beginning, NO_STATE, Occupant, Reaction};
-use actor_commands::{DeferredMessages, Doing, Output, Recalled, Services, Speaker, apply_all};
 use chart_run::{Handling, Tables};
+use controller_commands::{
+    DeferredMessages, Doing, Output, Recalled, Services, Speaker, apply_all,
+};
 use controller_mail::TurnResult;
 use journal::Did;
 use room_kinds::{Commands, Incarnation, Msg, Note, Notes, Outbox};

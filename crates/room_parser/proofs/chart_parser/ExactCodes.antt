@@ -18,10 +18,10 @@ use Rattle.room_ast.specs.declared.chart.Source.TheVariants as sources
 use Rattle.room_ast.specs.declared.chart.Target.{Target}
 use Rattle.room_ast.specs.declared.chart.Target.TheVariants as targets
 use Rattle.room_ast.specs.declared.chart.TransitionBody.{TransitionBody}
-use Rattle.token_reading.specs.Reader.{Reader, ◌⊕◌, ◌▹◌, optional}
-use Rattle.token_reading.specs.Single.{comes, comes_word, comes_name, comes_string, before_close, word, name_at}
-use Rattle.token_reading.proofs.Readers.{taken, Anything}
-use Rattle.token_reading.proofs.Exact.{Exact, mark_exact, word_exact, name_exact, string_exact, block_exact, Exact-then, Exact-⊕, Exact-behind, Exact-before, Exact-as, Exact-maybe, Exact-many, Exact-braces, Exact-where, Exact-word, case_takes, case_again, either_takes}
+use Rattle.room_tokens.specs.Reader.{Reader, ◌⊕◌, ◌▹◌, optional}
+use Rattle.room_tokens.specs.Single.{comes, comes_word, comes_name, comes_string, before_close, word, name_at}
+use Rattle.room_tokens.proofs.Readers.{taken, Anything}
+use Rattle.room_tokens.proofs.Exact.{Exact, mark_exact, word_exact, name_exact, string_exact, block_exact, Exact-then, Exact-⊕, Exact-behind, Exact-before, Exact-as, Exact-maybe, Exact-many, Exact-braces, Exact-where, Exact-word, case_takes, case_again, either_takes}
 use Rattle.room_parser.specs.chart_parser.Codes.{code_text_at, code_at, word_code_at, event_message_at, event_at, bar_event_at, trigger_at, or_trigger_at, triggers_at, named_from, named_at, target_at, source_at, transition_body_at, transition_at, choice_point_at, point_kind_of, point_at}
 
 -- ---- code

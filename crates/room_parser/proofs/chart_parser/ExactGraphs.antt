@@ -10,11 +10,11 @@ use Rattle.room_ast.specs.declared.chart.Code.{Code}
 use Rattle.room_ast.specs.declared.chart.PointKind.{PointKind}
 use Rattle.room_ast.specs.declared.model.Dotted.{Dotted}
 use Rattle.room_ast.specs.declared.chart.PointKind.TheVariants as points
-use Rattle.token_reading.specs.Reader.{Reader, reads_as, optional, many, all_while}
-use Rattle.token_reading.specs.Single.{comes, comes_word, before_close, word_here}
-use Rattle.token_reading.proofs.Readers.{Sound, Reads, Sound-⊕, Reads-⊕, Sound-as, Reads-as, Sound-maybe, Reads-some, Reads-none, Sound-many, Anything}
-use Rattle.token_reading.proofs.Singles.{mark_sound, word_sound, name_sound, mark_reads, word_reads, name_reads, comes_is, comes_word_here}
-use Rattle.token_reading.proofs.Exact.{Exact, sound, reads, mark_exact, word_exact, Exact-behind, Exact-maybe, Sound-behind, Sound-before, Reads-behind, Reads-before, case_takes, case_again}
+use Rattle.room_tokens.specs.Reader.{Reader, reads_as, optional, many, all_while}
+use Rattle.room_tokens.specs.Single.{comes, comes_word, before_close, word_here}
+use Rattle.room_tokens.proofs.Readers.{Sound, Reads, Sound-⊕, Reads-⊕, Sound-as, Reads-as, Sound-maybe, Reads-some, Reads-none, Sound-many, Anything}
+use Rattle.room_tokens.proofs.Singles.{mark_sound, word_sound, name_sound, mark_reads, word_reads, name_reads, comes_is, comes_word_here}
+use Rattle.room_tokens.proofs.Exact.{Exact, sound, reads, mark_exact, word_exact, Exact-behind, Exact-maybe, Sound-behind, Sound-before, Reads-behind, Reads-before, case_takes, case_again}
 use Rattle.structure_parser.proofs.value_parser.ExactNames.{dotted_exact}
 use Rattle.room_parser.specs.chart_parser.Codes.{word_code_at, point_at}
 use Rattle.room_parser.specs.chart_parser.Graphs.{subgraph_from, subgraph_at, body_at, body_if_at, state_at, refined_state_at, refined_transition_at, item_from, item_with, closed_at, graph_below, item_to, graph_at, machine_at}

@@ -23,8 +23,8 @@ use Rattle.room_ast.specs.declared.chart.Transition.{Transition}
 use Rattle.room_ast.specs.declared.chart.TransitionBody.{TransitionBody}
 use Rattle.room_ast.specs.declared.chart.Trigger.{Trigger}
 use Rattle.room_ast.specs.declared.chart.Triggers.{Triggers}
-use Rattle.token_reading.specs.Reader.{Reader, ◌⊕◌, ◌▹◌, ◌◃◌, reads_as, optional, all_while}
-use Rattle.token_reading.specs.Single.{comes, comes_word, comes_name, comes_string, mark, word, name_at, string_at, block_at, word_as, braces_at}
+use Rattle.room_tokens.specs.Reader.{Reader, ◌⊕◌, ◌▹◌, ◌◃◌, reads_as, optional, all_while}
+use Rattle.room_tokens.specs.Single.{comes, comes_word, comes_name, comes_string, mark, word, name_at, string_at, block_at, word_as, braces_at}
 
 -- ---- code
 

@@ -7,8 +7,8 @@ use Rattle.room_lexer.specs.declared.word.Word.TheVariants as words
 use Rattle.room_ast.specs.Values.{TokenValue}
 use Rattle.room_ast.specs.ChartTree.{GraphItemTree, AState, AChoice, APoint, ATransition, ARefinement, OfState, OfTransition, StateTree, StateOf, BodyTree, BodyParts, body_of, SubgraphTree, no_subgraph, subgraph, GraphItems, items_of, graph_view}
 use Rattle.room_ast.specs.declared.chart.GraphItem.{GraphItem}
-use Rattle.token_reading.specs.Reader.{Reader, ◌⊕◌, ◌▹◌, ◌◃◌, reads_as, optional, all_while}
-use Rattle.token_reading.specs.Single.{comes, comes_word, mark, word, name_at, word_here, before_close}
+use Rattle.room_tokens.specs.Reader.{Reader, ◌⊕◌, ◌▹◌, ◌◃◌, reads_as, optional, all_while}
+use Rattle.room_tokens.specs.Single.{comes, comes_word, mark, word, name_at, word_here, before_close}
 use Rattle.structure_parser.specs.value_parser.Names.{dotted_at}
 use Rattle.room_parser.specs.chart_parser.Codes.{word_code_at, transition_at, choice_point_at, point_at}
 

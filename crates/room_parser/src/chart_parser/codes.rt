@@ -1,16 +1,16 @@
 //! Code as it is written.
 ghost use Rattle.std.specs.Prelude.{◌≡◌};
-ghost use Rattle.token_reading.specs.Reader.{Gives, optional};
-ghost use Rattle.token_reading.specs.Single.{left, comes_word as comes_word_at, before_close as before_close_at};
+ghost use Rattle.room_tokens.specs.Reader.{Gives, optional};
+ghost use Rattle.room_tokens.specs.Single.{left, comes_word as comes_word_at, before_close as before_close_at};
 ghost use Rattle.room_parser.specs.chart_parser.Codes.{code_text_at, code_at, word_code_at};
 
 use room_ast::{Code, CodeText};
 use room_lexer::{Mark, Word};
-use std::alloc::Global;
-use token_reading::{
+use room_tokens::{
     Part, ReadFault, Rest, before_close, block, braces, comes, comes_string, comes_word, string,
     take_word,
 };
+use std::alloc::Global;
 
 /// A STRING or a BLOCK.
 #[tactic(auto, unfolding(crate::specs::chart_parser::Codes::code_text_at))]
@@ -71,7 +71,7 @@ pub fn word_code<'a>(
 }
 
 /// A word and code, if the word comes.
-#[tactic(auto, unfolding(token_reading::specs::Reader::optional))]
+#[tactic(auto, unfolding(room_tokens::specs::Reader::optional))]
 pub fn code_if<'a>(
     alloc: Global,
     rest: Rest<'a>,

@@ -1,19 +1,19 @@
 //! States, graphs and refinements.
 ghost use Rattle.std.specs.Prelude.{◌≡◌};
 ghost use Rattle.room_ast.specs.ChartTree.{item_view, item_views, state_view, body_view, body_if_view, refinement_view, graph_view};
-ghost use Rattle.token_reading.specs.Reader.{Gives, all_while};
-ghost use Rattle.token_reading.specs.Single.{left, before_close as before_close_at};
+ghost use Rattle.room_tokens.specs.Reader.{Gives, all_while};
+ghost use Rattle.room_tokens.specs.Single.{left, before_close as before_close_at};
 ghost use Rattle.room_parser.specs.chart_parser.Graphs.{subgraph_view, subgraph_at, body_at, body_if_at, state_at, refined_state_at, refined_transition_at, graph_below, item_to, graph_at, machine_at};
 
 use crate::chart_parser::codes::{code_if, word_code};
 use crate::chart_parser::transitions::{choice_point, point, transition};
 use room_ast::{Change, GraphItem, Refinement, State, StateBody, StateMachine};
 use room_lexer::{Mark, Word};
-use std::alloc::Global;
-use structure_parser::dotted;
-use token_reading::{
+use room_tokens::{
     ReadFault, Rest, before_close, comes, comes_word, place, take_mark, take_word, word_here,
 };
+use std::alloc::Global;
+use structure_parser::dotted;
 
 /// Items of a graph up to a closing brace. Each takes a token at least, so there are no more
 /// turns than tokens.
@@ -43,7 +43,7 @@ fn items<'a>(
 
 /// `subgraph` and a graph in braces, if they come
 #[cycle(graph)]
-#[tactic(auto, unfolding(crate::specs::chart_parser::Graphs::subgraph_at, crate::specs::chart_parser::Graphs::closed_at, crate::specs::chart_parser::Graphs::graph_below, token_reading::specs::Reader::optional))]
+#[tactic(auto, unfolding(crate::specs::chart_parser::Graphs::subgraph_at, crate::specs::chart_parser::Graphs::closed_at, crate::specs::chart_parser::Graphs::graph_below, room_tokens::specs::Reader::optional))]
 fn subgraph_if<'a>(
     alloc: Global,
     depth: usize,
@@ -89,7 +89,7 @@ fn body<'a>(alloc: Global, depth: usize, rest: Rest<'a>) -> Result<(StateBody, R
 
 /// The body of a state, if it comes.
 #[cycle(graph)]
-#[tactic(auto, unfolding(crate::specs::chart_parser::Graphs::body_if_at, token_reading::specs::Reader::optional))]
+#[tactic(auto, unfolding(crate::specs::chart_parser::Graphs::body_if_at, room_tokens::specs::Reader::optional))]
 fn body_if<'a>(
     alloc: Global,
     depth: usize,
@@ -114,7 +114,7 @@ fn state<'a>(alloc: Global, depth: usize, rest: Rest<'a>) -> Result<(State, Rest
         (state_at (graph_below depth) (left rest.entry)) }
 {
     let rest = take_word(rest, Word::State)?;
-    let (name, rest) = token_reading::name(alloc, rest)?;
+    let (name, rest) = room_tokens::name(alloc, rest)?;
     let (body, rest) = body_if(alloc, depth, rest)?;
     Ok((State { name, body }, rest))
 }

@@ -2,22 +2,22 @@
 ghost use Rattle.std.specs.Prelude.{◌≡◌};
 ghost use Rattle.room_lexer.specs.declared.token.Mark.TheVariants as marks;
 ghost use Rattle.room_lexer.specs.declared.word.Word.TheVariants as words;
-ghost use Rattle.token_reading.specs.Reader.{Gives, ◌▹◌, optional};
-ghost use Rattle.token_reading.specs.Single.{left, comes as comes_at, comes_word as comes_word_at, comes_name as comes_name_at, word, name_at};
+ghost use Rattle.room_tokens.specs.Reader.{Gives, ◌▹◌, optional};
+ghost use Rattle.room_tokens.specs.Single.{left, comes as comes_at, comes_word as comes_word_at, comes_name as comes_name_at, word, name_at};
 ghost use Rattle.room_parser.specs.chart_parser.Codes.{named_at, target_at, source_at, transition_body_at, transition_at, choice_point_at, point_kind_of, point_at};
 
 use crate::chart_parser::codes::code_if;
 use crate::chart_parser::trigger_lists::triggers_if;
 use room_ast::{ChoicePoint, Name, Point, PointKind, Source, Target, Transition, TransitionBody};
 use room_lexer::{Mark, Word};
-use std::alloc::Global;
-use token_reading::{
+use room_tokens::{
     ReadFault, Rest, comes, comes_name, comes_word, name, place, skip, take_mark, take_word,
     word_here,
 };
+use std::alloc::Global;
 
 /// `of` state, if it comes
-#[tactic(auto, unfolding(token_reading::specs::Reader::optional))]
+#[tactic(auto, unfolding(room_tokens::specs::Reader::optional))]
 fn state_if<'a>(alloc: Global, rest: Rest<'a>) -> Result<(Option<Name>, Rest<'a>), ReadFault>
     ensures { Gives (λ x. (x.0, left x.1)) result
         (optional (comes_word_at words.Of) (word words.Of ▹ name_at) (left rest.entry)) }
@@ -104,7 +104,7 @@ fn transition_body<'a>(
 }
 
 /// The body of a transition, if it comes.
-#[tactic(auto, unfolding(token_reading::specs::Reader::optional))]
+#[tactic(auto, unfolding(room_tokens::specs::Reader::optional))]
 fn transition_body_if<'a>(
     alloc: Global,
     rest: Rest<'a>,
@@ -120,7 +120,7 @@ fn transition_body_if<'a>(
 }
 
 /// A name, if one comes.
-#[tactic(auto, unfolding(token_reading::specs::Reader::optional))]
+#[tactic(auto, unfolding(room_tokens::specs::Reader::optional))]
 fn name_if<'a>(alloc: Global, rest: Rest<'a>) -> Result<(Option<Name>, Rest<'a>), ReadFault>
     ensures { Gives (λ x. (x.0, left x.1)) result
         (optional comes_name_at name_at (left rest.entry)) }
@@ -161,7 +161,7 @@ pub fn choice_point<'a>(alloc: Global, rest: Rest<'a>) -> Result<(ChoicePoint, R
     ensures { Gives (λ x. (x.0, left x.1)) result (choice_point_at (left rest.entry)) }
 {
     let rest = take_word(rest, Word::ChoicePoint)?;
-    let (name, rest) = token_reading::name(alloc, rest)?;
+    let (name, rest) = room_tokens::name(alloc, rest)?;
     Ok((ChoicePoint { name }, rest))
 }
 
@@ -178,13 +178,13 @@ fn point_kind_of(word: Option<Word>) -> Option<PointKind>
 }
 
 /// A word for its kind, and a name
-#[tactic(auto, unfolding(crate::specs::chart_parser::Codes::point_at, token_reading::specs::Single::word_as))]
+#[tactic(auto, unfolding(crate::specs::chart_parser::Codes::point_at, room_tokens::specs::Single::word_as))]
 pub fn point<'a>(alloc: Global, rest: Rest<'a>) -> Result<(Point, Rest<'a>), ReadFault>
     ensures { Gives (λ x. (x.0, left x.1)) result (point_at (left rest.entry)) }
 {
     let Some(kind) = point_kind_of(word_here(rest)) else {
         return Err(ReadFault::Syntax(place(rest)));
     };
-    let (name, rest) = token_reading::name(alloc, skip(rest))?;
+    let (name, rest) = room_tokens::name(alloc, skip(rest))?;
     Ok((Point { kind, name }, rest))
 }

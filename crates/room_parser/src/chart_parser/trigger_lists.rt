@@ -2,17 +2,17 @@
 ghost use Rattle.std.specs.Prelude.{◌≡◌};
 ghost use Rattle.room_lexer.specs.declared.token.Mark.TheVariants as marks;
 ghost use Rattle.room_lexer.specs.declared.word.Word.TheVariants as words;
-ghost use Rattle.token_reading.specs.Reader.{Gives, optional};
-ghost use Rattle.token_reading.specs.Single.{left, comes as comes_at, comes_word as comes_word_at};
+ghost use Rattle.room_tokens.specs.Reader.{Gives, optional};
+ghost use Rattle.room_tokens.specs.Single.{left, comes as comes_at, comes_word as comes_word_at};
 ghost use Rattle.room_parser.specs.chart_parser.Codes.{event_message_at, event_at, bar_event_at, trigger_at, or_trigger_at, triggers_at};
 
 use crate::chart_parser::codes::code_if;
 use room_ast::{Event, EventMessage, Name, Trigger, Triggers};
 use room_lexer::{Mark, TokenKind, Word};
-use std::alloc::Global;
-use token_reading::{
+use room_tokens::{
     Part, ReadFault, Rest, comes, comes_word, each, name, next, place, take_mark, take_word, text,
 };
+use std::alloc::Global;
 
 /// A message's name, or `imported`
 #[tactic(auto, unfolding(crate::specs::chart_parser::Codes::event_message_at))]
@@ -119,7 +119,7 @@ fn triggers<'a>(alloc: Global, rest: Rest<'a>) -> Result<(Triggers, Rest<'a>), R
 }
 
 /// The triggers of a transition, if they come.
-#[tactic(auto, unfolding(token_reading::specs::Reader::optional))]
+#[tactic(auto, unfolding(room_tokens::specs::Reader::optional))]
 pub fn triggers_if<'a>(
     alloc: Global,
     rest: Rest<'a>,

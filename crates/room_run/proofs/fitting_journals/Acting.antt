@@ -29,7 +29,7 @@ use Rattle.actor_world.specs.Body.{Body, Doing, apply_all}
 use Rattle.actor_world.specs.Turns.{all_kinds, doing, treated, begun, all_begun, gone, all_gone, closing, with_frame, duty, system_done, handled_as, nobody_there, handled, dispatched, is_meant, dispatch, treat}
 use Rattle.actor_world.specs.Start.{lives_from_start, first_body, first_actors, Starting, started, all_started, starting, start_entries, first_state, plant_of}
 use Rattle.chart_behaviour.specs.chart_asks.Laws.{is_zero}
-use Rattle.named_runs.proofs.Doings.{apply_all_machines}
+use Rattle.law_charts.proofs.Doings.{apply_all_machines}
 use Rattle.room_run.specs.fitting_journals.Actors.{FitsActor, TellsOfActors}
 use Rattle.room_run.proofs.fitting_journals.Speaking.{Speaks, speaks_on, up_speaks, fits_both, said_zeros, AsksAt, all_applied}
 

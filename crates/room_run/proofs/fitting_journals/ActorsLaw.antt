@@ -45,14 +45,14 @@ use Rattle.chart_behaviour.specs.ModelCharts.{Actor, class_tables, tables_at, be
 use Rattle.chart_behaviour.specs.chart_asks.Laws.{is_zero}
 use Rattle.controller_actors.specs.Plants.{model_of}
 use Rattle.controller_actors.specs.declared.plant.Plant.{Plant}
-use Rattle.model_laws.proofs.settled_models.Wired.{wiring_consistent}
-use Rattle.model_laws.specs.class_laws.Commands.{goes_out, can_ask, can_send_at, can_register}
-use Rattle.model_laws.specs.class_laws.Programs.{going, first_going}
+use Rattle.law_models.proofs.settled_models.Wired.{wiring_consistent}
+use Rattle.law_models.specs.class_laws.Commands.{goes_out, can_ask, can_send_at, can_register}
+use Rattle.law_models.specs.class_laws.Programs.{going, first_going}
 use Rattle.model_run.specs.part_posts.Items.{items_of}
 use Rattle.model_run.specs.run_ends.Runs.{journal_of, IsRun}
-use Rattle.named_runs.specs.Charts.{ShowsChart, ShowCharts}
-use Rattle.run_promises.proofs.run_journals.InPlaceLaw.{journal_is}
-use Rattle.run_promises.specs.run_journals.InPlace.{OfControllers}
+use Rattle.law_charts.specs.Charts.{ShowsChart, ShowCharts}
+use Rattle.law_runs.proofs.run_journals.InPlaceLaw.{journal_is}
+use Rattle.law_runs.specs.run_journals.InPlace.{OfControllers}
 use Rattle.room_run.specs.fitting_plants.Plants.{PlantFits, IsFitting}
 use Rattle.room_run.specs.fitting_journals.Actors.{TellsOfActors}
 use Rattle.room_run.proofs.fitting_plants.Plants.{plants_fit}

@@ -22,17 +22,17 @@ use Rattle.controller_actors.specs.Plants.{model_of}
 use Rattle.controller_actors.specs.declared.plant.Plant.{Plant}
 use Rattle.model_run.specs.part_posts.Items.{items_of}
 use Rattle.model_run.specs.run_ends.Runs.{journal_of, IsRun}
-use Rattle.run_promises.specs.Mail.{posted}
-use Rattle.run_promises.proofs.Party.{fetched_is, posted_is}
-use Rattle.run_promises.proofs.PromisesLaw.{promises}
-use Rattle.run_promises.proofs.run_texts.Party.{did, nobody, outside}
-use Rattle.run_promises.specs.run_journals.InPlace.{IsFetchedBy, IsPostedBy, ComesFromParty, IsLeftInPlace}
-use Rattle.run_promises.specs.run_journals.Reaching.{NamesReceiver}
-use Rattle.run_promises.proofs.run_journals.Entries.{each_fetched}
-use Rattle.run_promises.proofs.run_journals.InPlaceLaw.{adds, journal_is, each_flat, each_map, each_append, below_end}
-use Rattle.run_promises.proofs.run_journals.OnePost.{none_in, as_first, as_later}
-use Rattle.run_promises.proofs.run_journals.OneRun.{queue}
-use Rattle.run_promises.proofs.run_journals.Waiting.{all_counted, each_behind, each_weaker}
+use Rattle.law_runs.specs.Mail.{posted}
+use Rattle.law_runs.proofs.Party.{fetched_is, posted_is}
+use Rattle.law_runs.proofs.PromisesLaw.{promises}
+use Rattle.law_runs.proofs.run_texts.Party.{did, nobody, outside}
+use Rattle.law_runs.specs.run_journals.InPlace.{IsFetchedBy, IsPostedBy, ComesFromParty, IsLeftInPlace}
+use Rattle.law_runs.specs.run_journals.Reaching.{NamesReceiver}
+use Rattle.law_runs.proofs.run_journals.Entries.{each_fetched}
+use Rattle.law_runs.proofs.run_journals.InPlaceLaw.{adds, journal_is, each_flat, each_map, each_append, below_end}
+use Rattle.law_runs.proofs.run_journals.OnePost.{none_in, as_first, as_later}
+use Rattle.law_runs.proofs.run_journals.OneRun.{queue}
+use Rattle.law_runs.proofs.run_journals.Waiting.{all_counted, each_behind, each_weaker}
 use Rattle.room_run.specs.fitting_plants.Lines.{LinesFit}
 use Rattle.room_run.specs.fitting_plants.Plants.{PlantFits}
 use Rattle.room_run.specs.fitting_journals.Fitting.{JournalsInPlace, FittingRunsAreInPlace, FittingJournalsFit}

@@ -7,21 +7,21 @@ use Rattle.inject_reader.specs.declared.inject_lines.accepted.Line.{Line}
 use Rattle.inject_reader.specs.declared.inject_lines.accepted.What.{What}
 use Rattle.inject_reader.specs.declared.inject_lines.accepted.What.TheVariants as whats
 use Rattle.actor_duties.specs.Words.{owner_of}
-use Rattle.bounded_sends.specs.Sends.{OwnersAreThere, is_ranked}
+use Rattle.law_sends.specs.Sends.{OwnersAreThere, is_ranked}
 use Rattle.chart_behaviour.specs.Asked.{ClassesAsk}
 use Rattle.chart_model.specs.Chart.{Chart}
 use Rattle.chart_run.specs.declared.chart_tables.tables.Tables.{Tables}
 use Rattle.chart_compile.specs.chart_parts.Compiled.{Compiles}
 use Rattle.controller_actors.specs.declared.plant.Plant.{Plant}
-use Rattle.model_laws.proofs.settled_models.Models.{models_ranked}
-use Rattle.model_laws.specs.joined_ports.Protocols.{ModelsJoinOneProtocol, ModelsLinkOneProtocol}
-use Rattle.model_laws.specs.settled_models.Wirings.{ModelsHaveOwners, ModelsAreMutual}
-use Rattle.named_runs.specs.Charts.{ShowsChart, ShowCharts}
-use Rattle.run_promises.specs.run_journals.Outside.{WhatNames, LinesName}
-use Rattle.run_promises.proofs.run_journals.InPlaceLaw.{in_place}
-use Rattle.run_promises.proofs.run_journals.OutsideLaw.{line_names, environment_fits}
-use Rattle.run_promises.proofs.run_journals.ReachingLaw.{reach}
-use Rattle.run_promises.proofs.run_journals.TiedLaw.{tied}
+use Rattle.law_models.proofs.settled_models.Models.{models_ranked}
+use Rattle.law_models.specs.joined_ports.Protocols.{ModelsJoinOneProtocol, ModelsLinkOneProtocol}
+use Rattle.law_models.specs.settled_models.Wirings.{ModelsHaveOwners, ModelsAreMutual}
+use Rattle.law_charts.specs.Charts.{ShowsChart, ShowCharts}
+use Rattle.law_runs.specs.run_journals.Outside.{WhatNames, LinesName}
+use Rattle.law_runs.proofs.run_journals.InPlaceLaw.{in_place}
+use Rattle.law_runs.proofs.run_journals.OutsideLaw.{line_names, environment_fits}
+use Rattle.law_runs.proofs.run_journals.ReachingLaw.{reach}
+use Rattle.law_runs.proofs.run_journals.TiedLaw.{tied}
 use Rattle.room_run.specs.fitting_plants.Lines.{WhatFits, LinesFit}
 use Rattle.room_run.specs.fitting_plants.Plants.{PlantFits}
 use Rattle.room_run.specs.fitting_journals.Fitting.{FittingRunsAreInPlace}

@@ -30,14 +30,14 @@ use Rattle.actor_world.specs.Journals.{lines_of}
 use Rattle.actor_world.specs.Start.{start_entries}
 use Rattle.controller_actors.specs.Plants.{model_of}
 use Rattle.controller_actors.specs.declared.plant.Plant.{Plant}
-use Rattle.model_laws.specs.joined_ports.Protocols.{HasOneProtocol, JoinsOneProtocol, LinksOneProtocol}
+use Rattle.law_models.specs.joined_ports.Protocols.{HasOneProtocol, JoinsOneProtocol, LinksOneProtocol}
 use Rattle.model_run.specs.part_posts.Items.{items_of}
 use Rattle.model_run.specs.run_ends.Runs.{journal_of, IsRun}
-use Rattle.run_promises.proofs.Starts.{AllStarts, start_entries_start}
-use Rattle.run_promises.proofs.run_journals.InPlaceLaw.{journal_is}
-use Rattle.run_promises.specs.run_journals.InPlace.{OfControllers}
-use Rattle.run_promises.specs.run_journals.Outside.{LinesName}
-use Rattle.world_agreement.specs.Mutual.{IsMutual, seen_as}
+use Rattle.law_runs.proofs.Starts.{AllStarts, start_entries_start}
+use Rattle.law_runs.proofs.run_journals.InPlaceLaw.{journal_is}
+use Rattle.law_runs.specs.run_journals.InPlace.{OfControllers}
+use Rattle.law_runs.specs.run_journals.Outside.{LinesName}
+use Rattle.law_agreement.specs.Mutual.{IsMutual, seen_as}
 use Rattle.room_run.specs.fitting_plants.Plants.{PlantFits}
 use Rattle.room_run.specs.fitting_journals.Places.{NamesItsPlaces}
 use Rattle.room_run.specs.fitting_journals.Signals.{NamesSignal}

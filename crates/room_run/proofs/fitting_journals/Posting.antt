@@ -40,7 +40,7 @@ use Rattle.actor_world.specs.Journals.{lines_from}
 use Rattle.actor_world.specs.Turns.{all_kinds, doing, treated, begun, all_begun, gone, all_gone, closing, with_frame, duty, system_done, handled_as, nobody_there, handled, dispatched, is_meant, dispatch, treat}
 use Rattle.actor_world.specs.Start.{first_body, first_actors, Starting, started, all_started, starting, plant_of}
 use Rattle.model_run.specs.part_posts.Items.{item_of, items_of}
-use Rattle.run_promises.specs.run_journals.Outside.{WhatNames, LinesName}
+use Rattle.law_runs.specs.run_journals.Outside.{WhatNames, LinesName}
 use Rattle.room_run.specs.fitting_journals.Places.{FitsNobody}
 use Rattle.room_run.proofs.fitting_journals.Acting.{AreThere, FrameThere, frame_duty_there}
 use Rattle.room_run.proofs.fitting_journals.Signals.{TiesBy, Ties, says_worded, says_tied}

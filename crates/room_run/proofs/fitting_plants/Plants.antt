@@ -14,16 +14,16 @@ use Rattle.chart_behaviour.proofs.chart_defers.Defers.{tell_defers}
 use Rattle.chart_behaviour.specs.Asked.{is_open}
 use Rattle.chart_behaviour.specs.chart_asks.Asking.{TablesAsk}
 use Rattle.chart_compile.specs.chart_parts.Compiled.{Compiles}
-use Rattle.model_laws.specs.class_laws.Commands.{AsksWhatItCan}
-use Rattle.model_laws.specs.class_laws.Laws.{HasLabelsOf}
-use Rattle.model_laws.specs.class_laws.Programs.{TablesName}
-use Rattle.model_laws.proofs.class_laws.Labels.{labelled}
-use Rattle.model_laws.proofs.class_laws.Models.{tables_name, actors_can, model_open}
-use Rattle.model_laws.proofs.wiring_laws.chart_state_names.Models.{sound_well_named}
-use Rattle.model_laws.proofs.wiring_laws.wiring_order.Ordered.{model_depth_first}
-use Rattle.model_laws.proofs.wiring_laws.ports_numbered.Numbered.{checked_numbered}
+use Rattle.law_models.specs.class_laws.Commands.{AsksWhatItCan}
+use Rattle.law_models.specs.class_laws.Laws.{HasLabelsOf}
+use Rattle.law_models.specs.class_laws.Programs.{TablesName}
+use Rattle.law_models.proofs.class_laws.Labels.{labelled}
+use Rattle.law_models.proofs.class_laws.Models.{tables_name, actors_can, model_open}
+use Rattle.law_models.proofs.wiring_laws.chart_state_names.Models.{sound_well_named}
+use Rattle.law_models.proofs.wiring_laws.wiring_order.Ordered.{model_depth_first}
+use Rattle.law_models.proofs.wiring_laws.ports_numbered.Numbered.{checked_numbered}
 use Rattle.controller_actors.specs.declared.plant.Plant.{Plant}
-use Rattle.named_runs.specs.Charts.{ShowsChart}
+use Rattle.law_charts.specs.Charts.{ShowsChart}
 use Rattle.room_run.specs.fitting_plants.Plants.{PlantFits, HasLabels, IsFitting, PlantsFit}
 use Rattle.room_run.proofs.fitting_plants.Tables.{ShownAt, shown_at}
 

@@ -3,7 +3,7 @@ use Rattle.std.proofs.Common.{◌≡◌, ℕ, zero, suc, List, [], ◌∷◌, Op
 use Rattle.std.proofs.lemmas.Option.{same_Some}
 use Rattle.chart_model.specs.Chart.{Chart}
 use Rattle.chart_run.specs.declared.chart_tables.tables.Tables.{Tables}
-use Rattle.named_runs.specs.Charts.{ShowsChart, ShowCharts}
+use Rattle.law_charts.specs.Charts.{ShowsChart, ShowCharts}
 
 -- the chart of a class, whose tables are these
 pub record ShownAt (charts : List (Option Chart)) (k : ℕ) (tables : Option Tables) : Type 0 where

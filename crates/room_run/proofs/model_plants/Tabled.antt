@@ -1,13 +1,13 @@
 -- Charts and their tables, class by class.
 use Rattle.std.proofs.Common.{◌≡◌, ℕ, zero, suc, ◌+◌, ◌<◌, List, [], ◌∷◌, ◌++◌, length, map, take, get_or, Option, Some, None, option_map, slice_get, sym, subst, arith}
 use Rattle.std.proofs.lemmas.Option.{same_Some}
-use Rattle.chart_reading.specs.chart_graphs.Views.{chart_view}
-use Rattle.chart_reading.specs.declared.chart_graphs.Chart.{Chart as CodeChart}
+use Rattle.chart_trees.specs.chart_graphs.Views.{chart_view}
+use Rattle.chart_trees.specs.declared.chart_graphs.Chart.{Chart as CodeChart}
 use Rattle.chart_model.specs.Chart.{Chart}
 use Rattle.chart_run.specs.chart_tables.Tables.{IsSound}
 use Rattle.chart_run.specs.declared.chart_tables.tables.Tables.{Tables}
 use Rattle.chart_reader.specs.model_charts.Charts.{AreValid}
-use Rattle.named_runs.specs.Charts.{ShowsChart, ShowCharts}
+use Rattle.law_charts.specs.Charts.{ShowsChart, ShowCharts}
 use Rattle.room_run.specs.model_plants.Shown.{IsValidIfAny}
 
 abbrev view : Option CodeChart → Option Chart

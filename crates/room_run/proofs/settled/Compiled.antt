@@ -4,8 +4,8 @@ use Rattle.std.proofs.lemmas.Option.{same_Some}
 use Rattle.chart_model.specs.Chart.{Chart}
 use Rattle.chart_run.specs.declared.chart_tables.tables.Tables.{Tables}
 use Rattle.chart_compile.specs.chart_parts.Compiled.{Compiles}
-use Rattle.named_runs.specs.Charts.{ShowsChart, ShowCharts}
-use Rattle.model_laws.specs.settled_models.Agreeing.{AreCompiled}
+use Rattle.law_charts.specs.Charts.{ShowsChart, ShowCharts}
+use Rattle.law_models.specs.settled_models.Agreeing.{AreCompiled}
 
 one_compiled : (o : Option Tables) (k : Option Chart) (v : Tables) → ShowsChart o k → o ≡ Some v → (chart : Chart) × (k ≡ Some chart) × Compiles v chart
 one_compiled None k v shows e = absurd cc

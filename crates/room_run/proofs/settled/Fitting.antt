@@ -7,7 +7,7 @@ use Rattle.journal.specs.declared.entry.Journals.{Journals}
 use Rattle.inject_reader.specs.declared.inject_lines.accepted.Line.{Line}
 use Rattle.controller_actors.specs.declared.plant.Plant.{Plant}
 use Rattle.model_run.specs.run_ends.Runs.{IsRun}
-use Rattle.named_runs.specs.Charts.{ShowCharts}
+use Rattle.law_charts.specs.Charts.{ShowCharts}
 use Rattle.journal.specs.Fits.{Fits}
 use Rattle.room_run.specs.fitting_journals.Fitting.{JournalsInPlace, FittingRunsAreInPlace}
 use Rattle.room_run.proofs.fitting_journals.FitsLaw.{journals_fit}

@@ -7,7 +7,7 @@ use Rattle.chart_model.specs.Chart.{Chart}
 use Rattle.chart_reader.specs.model_charts.Charts.{HasCharts}
 use Rattle.binding_expand.specs.Wirings.{IsWiringOf}
 use Rattle.binding_expand.specs.Faults.{HasNoFault}
-use Rattle.model_laws.proofs.wiring_laws.wiring_order.Ordered.{model_depth_first}
+use Rattle.law_models.proofs.wiring_laws.wiring_order.Ordered.{model_depth_first}
 use Rattle.journal.specs.declared.entry.Journals.{Journals}
 use Rattle.inject_reader.specs.declared.inject_lines.accepted.Line.{Line}
 use Rattle.inject_reader.specs.Fitting.{FitLines}
@@ -15,10 +15,10 @@ use Rattle.actor_world.specs.Journals.{lines_of}
 use Rattle.controller_actors.specs.declared.plant.Plant.{Plant}
 use Rattle.model_run.specs.part_posts.Items.{items_of}
 use Rattle.model_run.specs.run_ends.Runs.{journal_of, IsRun}
-use Rattle.named_runs.specs.Charts.{ShowCharts}
+use Rattle.law_charts.specs.Charts.{ShowCharts}
 use Rattle.room_run.specs.Agreement.{AllAgree}
-use Rattle.model_laws.proofs.settled_models.Runs.{model_agrees}
-use Rattle.model_laws.proofs.settled_models.Settled.{model_agreed}
+use Rattle.law_models.proofs.settled_models.Runs.{model_agrees}
+use Rattle.law_models.proofs.settled_models.Settled.{model_agreed}
 use Rattle.room_run.proofs.settled.Compiled.{all_compiled}
 use Rattle.room_run.proofs.fitting_plants.Lines.{lines_open, read_fit}
 

@@ -1,15 +1,15 @@
 -- The text of a run of a model tells the run.
 use Rattle.std.proofs.Common.{ℕ, List}
-use Rattle.model_laws.proofs.wiring_laws.chart_state_names.Models.{sound_well_named}
+use Rattle.law_models.proofs.wiring_laws.chart_state_names.Models.{sound_well_named}
 use Rattle.journal.specs.declared.entry.Journals.{Journals}
 use Rattle.inject_reader.specs.declared.inject_lines.accepted.Line.{Line}
 use Rattle.inject_reader.specs.Fitting.{FitLines}
 use Rattle.controller_actors.specs.declared.plant.Plant.{Plant}
 use Rattle.model_run.specs.run_ends.Runs.{IsRun}
-use Rattle.run_promises.specs.run_texts.Texts.{TextTells}
-use Rattle.run_promises.specs.run_texts.Fetches.{FetchesFit}
-use Rattle.run_promises.proofs.run_texts.TextsLaw.{texts_tell, fetches_fit}
-use Rattle.model_laws.proofs.settled_models.Wired.{wiring_consistent}
+use Rattle.law_runs.specs.run_texts.Texts.{TextTells}
+use Rattle.law_runs.specs.run_texts.Fetches.{FetchesFit}
+use Rattle.law_runs.proofs.run_texts.TextsLaw.{texts_tell, fetches_fit}
+use Rattle.law_models.proofs.settled_models.Wired.{wiring_consistent}
 use Rattle.room_run.specs.Models.{IsModel}
 use Rattle.room_run.proofs.Names.{names_read}
 

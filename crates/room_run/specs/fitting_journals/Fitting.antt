@@ -11,8 +11,8 @@ use Rattle.tied_journals.specs.Tied.{Tied}
 use Rattle.inject_reader.specs.declared.inject_lines.accepted.Line.{Line}
 use Rattle.controller_actors.specs.declared.plant.Plant.{Plant}
 use Rattle.model_run.specs.run_ends.Runs.{IsRun}
-use Rattle.run_promises.specs.run_journals.InPlace.{OfControllers, AreInPlace}
-use Rattle.run_promises.specs.run_journals.Reaching.{NamesReceiver}
+use Rattle.law_runs.specs.run_journals.InPlace.{OfControllers, AreInPlace}
+use Rattle.law_runs.specs.run_journals.Reaching.{NamesReceiver}
 use Rattle.room_run.specs.fitting_journals.Actors.{TellsOfActors}
 use Rattle.room_run.specs.fitting_journals.Places.{NamesItsPlaces}
 use Rattle.room_run.specs.fitting_journals.Signals.{NamesSignal}

@@ -8,7 +8,7 @@
 use Rattle.std.specs.Prelude.{◌≡◌, ℕ, List, [], Option, Some, None, map, slice_get}
 use Rattle.room_ast.specs.Tokens.{model_tokens}
 use Rattle.room_ast.specs.Trees.{ModelTree}
-use Rattle.token_reading.specs.token_names.Names.{HasNames}
+use Rattle.room_tokens.specs.token_names.Names.{HasNames}
 use Rattle.structure_check.specs.List.{all_rules}
 use Rattle.structure_check.specs.Rules.{first_broken}
 use Rattle.room_wiring.specs.WellNamed.{IsWellNamed}
@@ -26,11 +26,11 @@ use Rattle.frame_service.specs.frame_imports.Numbered.{ArePortsNumbered}
 use Rattle.actor_world.specs.Directories.{IsOpen}
 use Rattle.actor_world.specs.Life.{IsModest}
 use Rattle.actor_world.specs.world_laws.Whereabouts.{TellsDefers}
-use Rattle.model_laws.specs.class_laws.Commands.{AsksWhatItCan}
-use Rattle.model_laws.specs.class_laws.Programs.{TablesName}
+use Rattle.law_models.specs.class_laws.Commands.{AsksWhatItCan}
+use Rattle.law_models.specs.class_laws.Programs.{TablesName}
 use Rattle.controller_actors.specs.Plants.{model_of}
 use Rattle.controller_actors.specs.declared.plant.Plant.{Plant}
-use Rattle.named_runs.specs.Charts.{ShowCharts}
+use Rattle.law_charts.specs.Charts.{ShowCharts}
 
 -- the plant is that of some model that keeps all rules and has no fault
 pub record PlantFits (plant : Plant) : Type 0 where

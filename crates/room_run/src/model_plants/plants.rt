@@ -1,15 +1,15 @@
 //! Plants of wirings and charts.
 ghost use Rattle.std.specs.Prelude.{◌≡◌, List, Option, IfOk, map, option_map};
-ghost use Rattle.chart_reading.specs.chart_graphs.Views.{chart_view};
+ghost use Rattle.chart_trees.specs.chart_graphs.Views.{chart_view};
 ghost use Rattle.chart_reader.specs.model_charts.Charts.{AreValid};
 ghost use Rattle.chart_run.specs.declared.chart_tables.tables.Tables.{Tables as AnyTables};
 ghost use Rattle.controller_actors.specs.PlantParts.{AreOfPlant};
-ghost use Rattle.named_runs.specs.Charts.{ShowsChart, ShowCharts};
+ghost use Rattle.law_charts.specs.Charts.{ShowsChart, ShowCharts};
 ghost use Rattle.room_run.specs.model_plants.Shown.{IsValidIfAny};
 
 use chart_compile::compile;
-use chart_reading::Chart;
 use chart_run::Tables;
+use chart_trees::Chart;
 use controller_actors::{Plant, SlotRows};
 use room_wiring::Wiring;
 use service_messages::SlotRuns;

@@ -5,9 +5,9 @@ use Rattle.room_lexer.specs.declared.word.Word.TheVariants as words
 use Rattle.room_ast.specs.Values.{TokenValue, AMark}
 use Rattle.room_ast.specs.Tokens.{maybe, dot_name, dotted, all_if, word_if, import_source, import_tokens}
 use Rattle.room_ast.specs.declared.model.ImportSource.{ImportSource}
-use Rattle.token_reading.specs.Single.{comes, comes_word, comes_string}
-use Rattle.token_reading.proofs.Readers.{Anything}
-use Rattle.token_reading.proofs.Exact.{Exact, mark_exact, word_exact, name_exact, string_exact, Exact-then, Exact-⊕, Exact-behind, Exact-as, Exact-many, Exact-maybe, Exact-flag, Exact-where}
+use Rattle.room_tokens.specs.Single.{comes, comes_word, comes_string}
+use Rattle.room_tokens.proofs.Readers.{Anything}
+use Rattle.room_tokens.proofs.Exact.{Exact, mark_exact, word_exact, name_exact, string_exact, Exact-then, Exact-⊕, Exact-behind, Exact-as, Exact-many, Exact-maybe, Exact-flag, Exact-where}
 use Rattle.structure_parser.specs.value_parser.Names.{dot_name_at, dotted_at, goes_on_in_path, path_at, all_at, source_at, source_comes, import_at}
 
 pub dot_name_exact : Exact dot_name_at dot_name Anything

@@ -13,10 +13,10 @@ use Rattle.room_ast.specs.declared.protocol.Parameter.{Parameter}
 use Rattle.room_ast.specs.declared.protocol.Parameter.TheVariants as parameters
 use Rattle.room_ast.specs.declared.protocol.UsercodeSection.{UsercodeSection}
 use Rattle.room_ast.specs.declared.protocol.UsercodeSection.TheVariants as sections
-use Rattle.token_reading.specs.Reader.{reads_as}
-use Rattle.token_reading.specs.Single.{comes, comes_word, comes_name, before_close, word_here}
-use Rattle.token_reading.proofs.Readers.{Anything}
-use Rattle.token_reading.proofs.Exact.{Exact, mark_exact, word_exact, name_exact, Exact-then, Exact-⊕, Exact-behind, Exact-before, Exact-as, Exact-maybe, Exact-many, Exact-flag, Exact-braces, Exact-where, case_takes, case_again}
+use Rattle.room_tokens.specs.Reader.{reads_as}
+use Rattle.room_tokens.specs.Single.{comes, comes_word, comes_name, before_close, word_here}
+use Rattle.room_tokens.proofs.Readers.{Anything}
+use Rattle.room_tokens.proofs.Exact.{Exact, mark_exact, word_exact, name_exact, Exact-then, Exact-⊕, Exact-behind, Exact-before, Exact-as, Exact-maybe, Exact-many, Exact-flag, Exact-braces, Exact-where, case_takes, case_again}
 use Rattle.structure_parser.specs.value_parser.Values.{usercode_comes, usercode_at, attribute_at}
 use Rattle.structure_parser.specs.value_parser.Protocols.{typed_at, parameter_from, parameter_at, message_at, messages_at, protocol_at, data_item_from, data_item_at, data_class_at}
 use Rattle.structure_parser.proofs.value_parser.ExactValues.{attribute_exact, NoValue, usercode_exact, usercode_here}

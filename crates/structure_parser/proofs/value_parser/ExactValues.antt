@@ -12,13 +12,13 @@ use Rattle.room_ast.specs.declared.protocol.UsercodeSection.{UsercodeSection}
 use Rattle.room_ast.specs.declared.protocol.UsercodeSection.TheVariants as sections
 use Rattle.room_ast.specs.declared.protocol.Value.{Value}
 use Rattle.room_ast.specs.declared.protocol.Value.TheVariants as values
-use Rattle.token_reading.specs.Reader.{rest_of}
-use Rattle.token_reading.specs.Single.{comes, before_close, word_here, string_at}
-use Rattle.token_reading.proofs.Readers.{taken, Anything}
-use Rattle.token_reading.proofs.Singles.{word_here_is}
-use Rattle.token_reading.proofs.Exact.{Exact, mark_exact, word_exact, name_exact, number_exact, string_exact, Exact-then, Exact-behind, Exact-as, Exact-maybe, Exact-braces, Exact-where, case_again}
-use Rattle.token_reading.proofs.Readers.{behind_takes}
-use Rattle.token_reading.proofs.Singles.{number_sound}
+use Rattle.room_tokens.specs.Reader.{rest_of}
+use Rattle.room_tokens.specs.Single.{comes, before_close, word_here, string_at}
+use Rattle.room_tokens.proofs.Readers.{taken, Anything}
+use Rattle.room_tokens.proofs.Singles.{word_here_is}
+use Rattle.room_tokens.proofs.Exact.{Exact, mark_exact, word_exact, name_exact, number_exact, string_exact, Exact-then, Exact-behind, Exact-as, Exact-maybe, Exact-braces, Exact-where, case_again}
+use Rattle.room_tokens.proofs.Readers.{behind_takes}
+use Rattle.room_tokens.proofs.Singles.{number_sound}
 use Rattle.structure_parser.specs.value_parser.Values.{value_at, equals_value_at, attribute_at, section_of, section_at, usercode_comes, empty_if, empty_string_at, usercode_at}
 
 -- ---- values

@@ -6,8 +6,8 @@ use Rattle.room_ast.specs.Values.{TokenValue}
 use Rattle.room_ast.specs.declared.model.Dotted.{Dotted}
 use Rattle.room_ast.specs.declared.model.Import.{Import}
 use Rattle.room_ast.specs.declared.model.ImportSource.{ImportSource}
-use Rattle.token_reading.specs.Reader.{Reader, ◌⊕◌, ◌▹◌, reads_as, optional, flag, all_while, rest_of}
-use Rattle.token_reading.specs.Single.{comes, comes_word, comes_string, mark, word, name_at, string_at}
+use Rattle.room_tokens.specs.Reader.{Reader, ◌⊕◌, ◌▹◌, reads_as, optional, flag, all_while, rest_of}
+use Rattle.room_tokens.specs.Single.{comes, comes_word, comes_string, mark, word, name_at, string_at}
 
 -- "." name
 unfoldable pub dot_name_at : Reader TokenValue (List ℕ)

@@ -11,8 +11,8 @@ use Rattle.room_ast.specs.declared.protocol.Message.{Message}
 use Rattle.room_ast.specs.declared.protocol.Parameter.{Parameter}
 use Rattle.room_ast.specs.declared.protocol.Parameter.TheVariants as parameters
 use Rattle.room_ast.specs.declared.protocol.ProtocolClass.{ProtocolClass}
-use Rattle.token_reading.specs.Reader.{Reader, ◌⊕◌, ◌▹◌, ◌◃◌, reads_as, optional, flag, all_while}
-use Rattle.token_reading.specs.Single.{comes, comes_word, comes_name, mark, word, name_at, word_here, braces_at}
+use Rattle.room_tokens.specs.Reader.{Reader, ◌⊕◌, ◌▹◌, ◌◃◌, reads_as, optional, flag, all_while}
+use Rattle.room_tokens.specs.Single.{comes, comes_word, comes_name, mark, word, name_at, word_here, braces_at}
 use Rattle.structure_parser.specs.value_parser.Values.{attribute_at, usercode_comes, usercode_at}
 
 -- a type, or a label and a type

@@ -12,8 +12,8 @@ use Rattle.room_ast.specs.declared.protocol.UsercodeSection.{UsercodeSection}
 use Rattle.room_ast.specs.declared.protocol.UsercodeSection.TheVariants as sections
 use Rattle.room_ast.specs.declared.protocol.Value.{Value}
 use Rattle.room_ast.specs.declared.protocol.Value.TheVariants as values
-use Rattle.token_reading.specs.Reader.{Reader, ◌⊕◌, ◌▹◌, reads_as, optional, rest_of}
-use Rattle.token_reading.specs.Single.{comes, mark, word, name_at, number_at, string_at, word_here, braces_at}
+use Rattle.room_tokens.specs.Reader.{Reader, ◌⊕◌, ◌▹◌, reads_as, optional, rest_of}
+use Rattle.room_tokens.specs.Single.{comes, mark, word, name_at, number_at, string_at, word_here, braces_at}
 
 -- the value of a STRING that spells one
 abbrev pub value_of_string : TokenValue → Option Value

@@ -1,14 +1,14 @@
 //! Data classes.
 ghost use Rattle.std.specs.Prelude.{◌≡◌};
-ghost use Rattle.token_reading.specs.Reader.{Gives};
-ghost use Rattle.token_reading.specs.Single.{left, before_close as before_close_at};
+ghost use Rattle.room_tokens.specs.Reader.{Gives};
+ghost use Rattle.room_tokens.specs.Single.{left, before_close as before_close_at};
 ghost use Rattle.structure_parser.specs.value_parser.Protocols.{data_item_at, data_class_at};
 
 use crate::value_parser::value::{attribute, usercode};
 use room_ast::{DataClass, DataItem};
 use room_lexer::Word;
+use room_tokens::{Part, ReadFault, Rest, before_close, braces, place, take_word, word_here};
 use std::alloc::Global;
-use token_reading::{Part, ReadFault, Rest, before_close, braces, place, take_word, word_here};
 
 #[tactic(auto, unfolding(crate::specs::value_parser::Protocols::data_item_at))]
 fn data_item<'a>(alloc: Global, rest: Rest<'a>) -> Result<(DataItem, Rest<'a>), ReadFault>
@@ -52,7 +52,7 @@ pub fn data_class<'a>(alloc: Global, rest: Rest<'a>) -> Result<(DataClass, Rest<
     ensures { Gives (λ x. (x.0, left x.1)) result (data_class_at (left rest.entry)) }
 {
     let rest = take_word(rest, Word::DataClass)?;
-    let (name, rest) = token_reading::name(alloc, rest)?;
+    let (name, rest) = room_tokens::name(alloc, rest)?;
     let (items, rest) = braces::<DataItems>(alloc, rest)?;
     Ok((DataClass { name, items }, rest))
 }

@@ -2,17 +2,17 @@
 ghost use Rattle.std.specs.Prelude.{◌≡◌};
 ghost use Rattle.room_lexer.specs.declared.token.Mark.TheVariants as marks;
 ghost use Rattle.room_lexer.specs.declared.word.Word.TheVariants as words;
-ghost use Rattle.token_reading.specs.Reader.{Gives, optional};
-ghost use Rattle.token_reading.specs.Single.{left, comes as comes_at, comes_word as comes_word_at};
+ghost use Rattle.room_tokens.specs.Reader.{Gives, optional};
+ghost use Rattle.room_tokens.specs.Single.{left, comes as comes_at, comes_word as comes_word_at};
 ghost use Rattle.structure_parser.specs.value_parser.Names.{dot_name_at, dotted_at, goes_on_in_path, path_at, all_at, source_comes, source_at, import_at};
 
 use room_ast::{Dotted, Import, ImportSource, Name};
 use room_lexer::{Mark, Word};
-use std::alloc::Global;
-use token_reading::{
+use room_tokens::{
     Part, ReadFault, Rest, comes, comes_string, comes_word, each, name, skip, string, take_mark,
     take_word, word_if,
 };
+use std::alloc::Global;
 
 /// `.` name
 #[tactic(auto, unfolding(crate::specs::value_parser::Names::dot_name_at))]
@@ -83,7 +83,7 @@ fn path<'a>(alloc: Global, rest: Rest<'a>) -> Result<(Dotted, Rest<'a>), ReadFau
 }
 
 /// `.` `*`, if they come
-#[tactic(auto, unfolding(crate::specs::value_parser::Names::all_at, token_reading::specs::Reader::flag))]
+#[tactic(auto, unfolding(crate::specs::value_parser::Names::all_at, room_tokens::specs::Reader::flag))]
 fn all<'a>(rest: Rest<'a>) -> Result<(bool, Rest<'a>), ReadFault>
     ensures { Gives (λ x. (x.0, left x.1)) result (all_at (left rest.entry)) }
 {
@@ -113,7 +113,7 @@ fn source_comes(rest: Rest) -> bool
     comes_word(rest, Word::From) || comes_string(rest)
 }
 
-#[tactic(auto, unfolding(token_reading::specs::Reader::optional))]
+#[tactic(auto, unfolding(room_tokens::specs::Reader::optional))]
 fn source_if<'a>(
     alloc: Global,
     rest: Rest<'a>,

@@ -1,8 +1,8 @@
 //! Protocol classes.
 ghost use Rattle.std.specs.Prelude.{◌≡◌};
 ghost use Rattle.room_lexer.specs.declared.token.Mark.TheVariants as marks;
-ghost use Rattle.token_reading.specs.Reader.{Gives, ◌▹◌, optional};
-ghost use Rattle.token_reading.specs.Single.{left, comes as comes_at, comes_word as comes_word_at, before_close as before_close_at, mark, name_at};
+ghost use Rattle.room_tokens.specs.Reader.{Gives, ◌▹◌, optional};
+ghost use Rattle.room_tokens.specs.Single.{left, comes as comes_at, comes_word as comes_word_at, before_close as before_close_at, mark, name_at};
 ghost use Rattle.structure_parser.specs.value_parser.Values.{usercode_comes as usercode_comes_at, usercode_at};
 ghost use Rattle.structure_parser.specs.value_parser.Protocols.{parameter_at, message_at, messages_at, protocol_at};
 
@@ -10,14 +10,14 @@ use crate::value_parser::value::{usercode, usercode_comes};
 use room_ast::{Message, Name, Parameter, ProtocolClass, Usercode};
 use room_kinds::Sequence;
 use room_lexer::{Mark, Word};
-use std::alloc::Global;
-use token_reading::{
+use room_tokens::{
     Part, ReadFault, Rest, before_close, braces, comes, comes_name, comes_word, each, name,
     take_mark, take_word, word_if,
 };
+use std::alloc::Global;
 
 /// `:` name, if it comes
-#[tactic(auto, unfolding(token_reading::specs::Reader::optional))]
+#[tactic(auto, unfolding(room_tokens::specs::Reader::optional))]
 fn type_if<'a>(alloc: Global, rest: Rest<'a>) -> Result<(Option<Name>, Rest<'a>), ReadFault>
     ensures { Gives (λ x. (x.0, left x.1)) result
         (optional (comes_at marks.Colon) (mark marks.Colon ▹ name_at) (left rest.entry)) }
@@ -31,7 +31,7 @@ fn type_if<'a>(alloc: Global, rest: Rest<'a>) -> Result<(Option<Name>, Rest<'a>)
 }
 
 /// What a message carries, in parentheses, which may be missing.
-#[tactic(auto, unfolding(crate::specs::value_parser::Protocols::parameter_at, crate::specs::value_parser::Protocols::typed_at, token_reading::specs::Reader::optional))]
+#[tactic(auto, unfolding(crate::specs::value_parser::Protocols::parameter_at, crate::specs::value_parser::Protocols::typed_at, room_tokens::specs::Reader::optional))]
 fn parameter<'a>(alloc: Global, rest: Rest<'a>) -> Result<(Parameter, Rest<'a>), ReadFault>
     ensures { Gives (λ x. (x.0, left x.1)) result (parameter_at (left rest.entry)) }
 {
@@ -63,7 +63,7 @@ fn message<'a>(alloc: Global, rest: Rest<'a>) -> Result<(Message, Rest<'a>), Rea
     ensures { Gives (λ x. (x.0, left x.1)) result (message_at (left rest.entry)) }
 {
     let rest = take_word(rest, Word::Message)?;
-    let (name, rest) = token_reading::name(alloc, rest)?;
+    let (name, rest) = room_tokens::name(alloc, rest)?;
     let (parameter, rest) = self::parameter(alloc, rest)?;
     Ok((Message { name, parameter }, rest))
 }
@@ -88,7 +88,7 @@ impl Part for MessagePart {
 }
 
 /// A word and messages in braces, if the word comes.
-#[tactic(auto, unfolding(crate::specs::value_parser::Protocols::messages_at, token_reading::specs::Reader::optional))]
+#[tactic(auto, unfolding(crate::specs::value_parser::Protocols::messages_at, room_tokens::specs::Reader::optional))]
 fn messages_if<'a>(
     alloc: Global,
     rest: Rest<'a>,
@@ -134,7 +134,7 @@ pub fn protocol_class<'a>(
 {
     let (event_driven, rest) = word_if(rest, Word::EventDriven)?;
     let rest = take_word(rest, Word::ProtocolClass)?;
-    let (name, rest) = token_reading::name(alloc, rest)?;
+    let (name, rest) = room_tokens::name(alloc, rest)?;
     let rest = take_mark(rest, Mark::OpenBrace)?;
     let (usercodes, rest) = each::<UsercodePart>(alloc, rest)?;
     let (incoming, rest) = messages_if(alloc, rest, Word::Incoming)?;

@@ -1,17 +1,17 @@
 //! Initial values, attributes and usercode.
 ghost use Rattle.std.specs.Prelude.{◌≡◌};
-ghost use Rattle.token_reading.specs.Reader.{Gives, optional};
-ghost use Rattle.token_reading.specs.Single.{left, comes as comes_at, before_close as before_close_at, value_of};
+ghost use Rattle.room_tokens.specs.Reader.{Gives, optional};
+ghost use Rattle.room_tokens.specs.Single.{left, comes as comes_at, before_close as before_close_at, value_of};
 ghost use Rattle.room_lexer.specs.declared.token.Mark.TheVariants as marks;
 ghost use Rattle.structure_parser.specs.value_parser.Values.{value_of_string, value_at, equals_value_at, attribute_at, section_of, section_at, usercode_comes, empty_string_at, usercode_at};
 
 use room_ast::{Attribute, EmptyString, PlainValue, Usercode, UsercodeSection, Value};
 use room_lexer::{Mark, Token, TokenKind, Word};
-use std::alloc::Global;
-use token_reading::{
+use room_tokens::{
     Part, ReadFault, Rest, before_close, braces, comes, next, number, place, skip, spelled, string,
     string_contents, take_mark, take_word, text, word_here,
 };
+use std::alloc::Global;
 
 /// The value that a STRING spells. The string is at fault where it spells none.
 fn quoted(alloc: Global, bytes: &[u8], token: Token) -> Result<Value, ReadFault>
@@ -46,7 +46,7 @@ fn value<'a>(alloc: Global, rest: Rest<'a>) -> Result<(Value, Rest<'a>), ReadFau
 }
 
 /// `=` value, if it comes
-#[tactic(auto, unfolding(crate::specs::value_parser::Values::equals_value_at, token_reading::specs::Reader::optional))]
+#[tactic(auto, unfolding(crate::specs::value_parser::Values::equals_value_at, room_tokens::specs::Reader::optional))]
 fn value_if<'a>(alloc: Global, rest: Rest<'a>) -> Result<(Option<Value>, Rest<'a>), ReadFault>
     ensures { Gives (λ x. (x.0, left x.1)) result
         (optional (comes_at marks.Equals) equals_value_at (left rest.entry)) }
@@ -65,9 +65,9 @@ pub fn attribute<'a>(alloc: Global, rest: Rest<'a>) -> Result<(Attribute, Rest<'
     ensures { Gives (λ x. (x.0, left x.1)) result (attribute_at (left rest.entry)) }
 {
     let rest = take_word(rest, Word::Attribute)?;
-    let (name, rest) = token_reading::name(alloc, rest)?;
+    let (name, rest) = room_tokens::name(alloc, rest)?;
     let rest = take_mark(rest, Mark::Colon)?;
-    let (type_name, rest) = token_reading::name(alloc, rest)?;
+    let (type_name, rest) = room_tokens::name(alloc, rest)?;
     let (value, rest) = value_if(alloc, rest)?;
     Ok((
         Attribute {

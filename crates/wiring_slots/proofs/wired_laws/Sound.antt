@@ -27,7 +27,7 @@ use Rattle.wiring_plan.specs.declared.structure_plan.plan.ReferencePlan.{Referen
 use Rattle.wiring_slots.specs.slot_tree.Known.{NamesClasses, NamesKnown, IsKnownSlot}
 use Rattle.wiring_slots.specs.declared.slot_tree.names.MappingPlan.{MappingPlan}
 use Rattle.check_mappings.specs.mapping_rules.Rules.{thread_names}
-use Rattle.check_structure.specs.structure_rules.Threads.{are_few, has_few_threads, threads_are_few}
+use Rattle.check_bindings.specs.structure_rules.Threads.{are_few, has_few_threads, threads_are_few}
 use Rattle.wiring_plan.specs.wiring_classes.Labels.{label_of}
 use Rattle.wiring_plan.specs.wiring_classes.Classes.{class_names, classes_of}
 use Rattle.wiring_slots.proofs.slot_tree.KnownSlots.{slots_known}

@@ -1,6 +1,6 @@
 use Rattle.std.proofs.Common.{◌≡◌, List, Some, None, sym, map}
-use Rattle.token_reading.specs.Reader.{to_end}
-use Rattle.token_reading.specs.action_tokens.Values.{Value, token_value}
+use Rattle.room_tokens.specs.Reader.{to_end}
+use Rattle.room_tokens.specs.action_tokens.Values.{Value, token_value}
 use Rattle.action_program.specs.Named.{program_view}
 use Rattle.action_parse.specs.action_reading.StmtReading.{stmts_at, statement}
 use Rattle.action_parse.proofs.Judged.{found_program, refused_program}

@@ -1,6 +1,6 @@
 use Rattle.std.proofs.Common.{◌≡◌, ◌+◌, ◌*◌, ◌<◌, List, Some, length, sym, subst, arith}
 use Rattle.std.specs.Prelude.{reverse}
-use Rattle.token_reading.specs.action_tokens.Single.{left}
+use Rattle.room_tokens.specs.action_tokens.Single.{left}
 use Rattle.action_parse.specs.declared.goal.Goal.{Goal}
 use Rattle.action_parse.specs.Expected.{Accepted, expand}
 use Rattle.action_parse.proofs.Steps.{Same, turn, turn_short, accepts_end, is_empty, are_none}

@@ -1,6 +1,6 @@
 use Rattle.std.proofs.Common.{◌+◌, ◌*◌, length}
 use Rattle.std.specs.Prelude.{reverse}
-use Rattle.token_reading.specs.action_tokens.Single.{left}
+use Rattle.room_tokens.specs.action_tokens.Single.{left}
 use Rattle.action_parse.specs.Expected.{Accepted}
 use Rattle.action_parse.proofs.Steps.{Same}
 use Rattle.action_parse.proofs.recogniser.accepts.Given as goal

@@ -1,7 +1,7 @@
 use Rattle.std.proofs.Common.{List, ℕ, map, subst, sum, sym}
 use Rattle.chart_model.specs.chart_plan.Same.{Each}
 use Rattle.chart_model.specs.Named.{nodes_in}
-use Rattle.chart_reading.specs.chart_graphs.Views.{graph_view}
+use Rattle.chart_trees.specs.chart_graphs.Views.{graph_view}
 use Rattle.chart_reader.specs.chart_nodes.Steps.{step_view}
 use Rattle.chart_compile.specs.chart_places.Places.{place_view}
 use Rattle.chart_compile.specs.chart_parts.Parts.{IsShared}

@@ -1,6 +1,6 @@
 use Rattle.std.proofs.Common.{arith, map, sum}
 use Rattle.chart_model.specs.Named.{nodes_in}
-use Rattle.chart_reading.specs.chart_graphs.Views.{graph_view}
+use Rattle.chart_trees.specs.chart_graphs.Views.{graph_view}
 use Rattle.chart_reader.specs.chart_nodes.Steps.{step_view}
 use Rattle.chart_compile.proofs.Making.{are_made, made_size}
 use Rattle.chart_compile.proofs.assemble.node_rows.Goals as goal

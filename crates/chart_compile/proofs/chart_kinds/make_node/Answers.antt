@@ -2,8 +2,8 @@ use Rattle.std.proofs.Common.{◌∷◌, ap, arith, length, map, subst, sym}
 use Rattle.chart_model.specs.chart_plan.Same.{SameKind}
 use Rattle.chart_model.specs.Chart.{Path}
 use Rattle.chart_model.specs.Named.{node_of}
-use Rattle.chart_reading.specs.chart_graphs.Views.{target_view}
-use Rattle.chart_reading.specs.declared.chart_graphs.Target.{Target}
+use Rattle.chart_trees.specs.chart_graphs.Views.{target_view}
+use Rattle.chart_trees.specs.declared.chart_graphs.Target.{Target}
 use Rattle.chart_run.specs.chart_tables.Tables.{kind}
 use Rattle.chart_reader.specs.chart_nodes.Steps.{step_view}
 use Rattle.chart_compile.specs.chart_places.Groups.{picked}

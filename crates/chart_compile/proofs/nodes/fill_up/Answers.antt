@@ -1,7 +1,7 @@
 use Rattle.std.proofs.Common.{◌∙◌, ap, arith, map, sum}
 use Rattle.chart_model.specs.Named.{nodes_in}
-use Rattle.chart_reading.specs.chart_graphs.Views.{graph_view}
-use Rattle.chart_reading.specs.declared.chart_graphs.Graph.{Graph as CodeGraph}
+use Rattle.chart_trees.specs.chart_graphs.Views.{graph_view}
+use Rattle.chart_trees.specs.declared.chart_graphs.Graph.{Graph as CodeGraph}
 use Rattle.std.specs.Prelude.{List}
 use Rattle.chart_compile.proofs.Making.{nodes_more}
 use Rattle.chart_compile.proofs.chart_rows.Listing.{taken_all}

@@ -1,6 +1,6 @@
 use Rattle.std.proofs.Common.{◌≡◌, ◌+◌, ◌-◌, length, map, sum, take}
 use Rattle.chart_model.specs.Named.{nodes_in}
-use Rattle.chart_reading.specs.chart_graphs.Views.{graph_view}
+use Rattle.chart_trees.specs.chart_graphs.Views.{graph_view}
 use Rattle.chart_compile.specs.Joined.{SameNodes}
 use Rattle.chart_compile.proofs.nodes.fill_up.Given as goal
 

@@ -1,7 +1,7 @@
 use Rattle.std.proofs.Common.{List, ◌≡◌, ◌≤◌, ◌∙◌, ap, arith, length, map, sum, sym}
 use Rattle.chart_model.specs.Named.{nodes_in}
-use Rattle.chart_reading.specs.chart_graphs.Views.{chart_view, graph_view}
-use Rattle.chart_reading.specs.declared.chart_graphs.Graph.{Graph as CodeGraph}
+use Rattle.chart_trees.specs.chart_graphs.Views.{chart_view, graph_view}
+use Rattle.chart_trees.specs.declared.chart_graphs.Graph.{Graph as CodeGraph}
 use Rattle.chart_reader.specs.chart_nodes.Steps.{step_view}
 use Rattle.chart_compile.specs.chart_places.Places.{keys_of, place_view, places_of}
 use Rattle.chart_compile.specs.declared.chart_places.places.Place.{Place}

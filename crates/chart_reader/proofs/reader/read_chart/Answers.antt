@@ -1,4 +1,4 @@
-use Rattle.chart_reading.specs.chart_graphs.Views.{chart_view}
+use Rattle.chart_trees.specs.chart_graphs.Views.{chart_view}
 use Rattle.chart_reader.proofs.Lowest.{valid_when}
 use Rattle.chart_reader.proofs.reader.read_chart.Goals as goal
 

@@ -1,4 +1,4 @@
-use Rattle.token_reading.specs.Single.{values}
+use Rattle.room_tokens.specs.Single.{values}
 use Rattle.room_parser.proofs.WhatParsingAnswers.{found, refused}
 use Rattle.room_parser.proofs.parsing.parse.Goals as goal
 

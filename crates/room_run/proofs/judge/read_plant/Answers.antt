@@ -1,6 +1,6 @@
 use Rattle.std.proofs.Common.{map, option_map, subst}
-use Rattle.chart_reading.specs.chart_graphs.Views.{chart_view}
-use Rattle.named_runs.specs.Charts.{ShowCharts}
+use Rattle.chart_trees.specs.chart_graphs.Views.{chart_view}
+use Rattle.law_charts.specs.Charts.{ShowCharts}
 use Rattle.room_run.specs.Models.{no_memory}
 use Rattle.room_run.proofs.JudgeLemmas.{plant_parts}
 use Rattle.room_run.proofs.settled.Fitting.{text_fits}

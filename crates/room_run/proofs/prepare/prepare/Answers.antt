@@ -1,5 +1,5 @@
 use Rattle.std.proofs.Common.{◌≡◌, Some, refl, sym, ap, ◌∙◌}
-use Rattle.run_promises.proofs.run_journals.TiedLaw.{tied}
+use Rattle.law_runs.proofs.run_journals.TiedLaw.{tied}
 use Rattle.room_run.specs.Words.{asked_view, files_view, record_view}
 use Rattle.room_run.specs.Causes.{of_check, of_tree, of_run, of_convert, of_made}
 use Rattle.room_run.specs.Outcome.{says_ok, says_tree, says_run, says_converted}

@@ -1,5 +1,5 @@
 use Rattle.std.proofs.Common.{subst, ℕ, List, map, option_map}
-use Rattle.chart_reading.specs.chart_graphs.Views.{chart_view}
+use Rattle.chart_trees.specs.chart_graphs.Views.{chart_view}
 use Rattle.room_run.specs.Models.{SoundCauses}
 use Rattle.room_run.specs.Causes.{no_text}
 use Rattle.room_run.proofs.CauseLemmas.{cause_found}

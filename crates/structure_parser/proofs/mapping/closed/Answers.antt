@@ -2,7 +2,7 @@ use Rattle.std.proofs.Common.{◌≡◌, ℕ, List, take, append-nil, ◌∷◌,
 use Rattle.std.proofs.lemmas.Result.{err_from_is_err_and}
 use Rattle.std.proofs.lemmas.List.{length-map}
 use Rattle.room_ast.specs.MappingTree.{mapping_views}
-use Rattle.token_reading.specs.Single.{left}
+use Rattle.room_tokens.specs.Single.{left}
 use Rattle.structure_parser.specs.Mappings.{Frame, closed_in, frames_view, frame_view}
 use Rattle.structure_parser.proofs.ClosedTurns.{starts, frames_push, frames_pop, opens, plain, fails, closes, done, exhausted}
 use Rattle.structure_parser.proofs.mapping.closed.Goals as goal

@@ -1,6 +1,6 @@
 use Rattle.std.proofs.Common.{◌≡◌}
 use Rattle.room_ast.specs.MappingTree.{mapping_views}
-use Rattle.token_reading.specs.Single.{left}
+use Rattle.room_tokens.specs.Single.{left}
 use Rattle.structure_parser.specs.Mappings.{closed_in, closed_at, frames_view}
 use Rattle.structure_parser.proofs.mapping.closed.Given as goal
 

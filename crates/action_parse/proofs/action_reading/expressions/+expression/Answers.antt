@@ -1,8 +1,8 @@
 use Rattle.std.proofs.Common.{arith, ◌≡◌, ◌-◌, ◌<◌, ◌++◌, ◌∷◌, [], length, map, sym, ◌∙◌}
 use Rattle.std.proofs.lemmas.Result.{err_from_is_err_and}
 use Rattle.std.proofs.lemmas.List.{map_push}
-use Rattle.token_reading.proofs.Loop.{starts, goes, ends, is_done}
-use Rattle.token_reading.specs.action_tokens.Single.{left}
+use Rattle.room_tokens.proofs.Loop.{starts, goes, ends, is_done}
+use Rattle.room_tokens.specs.action_tokens.Single.{left}
 use Rattle.action_program.specs.Named.{expr_view, step_view}
 use Rattle.action_parse.specs.action_reading.ExprReading.{op_comes, step_at, level, operand}
 use Rattle.action_parse.proofs.action_reading.Turns.{level_base, level_fails, others_fail, level_made}

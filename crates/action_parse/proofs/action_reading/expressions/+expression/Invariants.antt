@@ -1,7 +1,7 @@
 use Rattle.std.proofs.Common.{◌≡◌, ℕ, ◌+◌, ◌*◌, ◌≤◌, length, map}
-use Rattle.token_reading.specs.Reader.{many, all_while}
-use Rattle.token_reading.proofs.Loop.{with_front}
-use Rattle.token_reading.specs.action_tokens.Single.{left}
+use Rattle.room_tokens.specs.Reader.{many, all_while}
+use Rattle.room_tokens.proofs.Loop.{with_front}
+use Rattle.room_tokens.specs.action_tokens.Single.{left}
 use Rattle.action_program.specs.Named.{step_view}
 use Rattle.action_parse.specs.action_reading.ExprReading.{op_comes, step_at, level, operand}
 use Rattle.action_parse.proofs.action_reading.expressions.+expression.Given as goal

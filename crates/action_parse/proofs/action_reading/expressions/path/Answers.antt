@@ -2,10 +2,10 @@ use Rattle.std.proofs.Common.{arith, ◌-◌, ◌<◌, length, sym, ◌∙◌}
 use Rattle.std.proofs.lemmas.Result.{err_from_is_err_and}
 use Rattle.std.specs.Prelude.{List, ℕ}
 use Rattle.room_lexer.specs.declared.token.Mark.TheVariants as marks
-use Rattle.token_reading.specs.Reader.{◌⊕◌, reads_as, Reader}
-use Rattle.token_reading.proofs.Loop.{goes, ends, is_done}
-use Rattle.token_reading.specs.action_tokens.Values.{Value}
-use Rattle.token_reading.specs.action_tokens.Single.{left, comes, mark, name_at}
+use Rattle.room_tokens.specs.Reader.{◌⊕◌, reads_as, Reader}
+use Rattle.room_tokens.proofs.Loop.{goes, ends, is_done}
+use Rattle.room_tokens.specs.action_tokens.Values.{Value}
+use Rattle.room_tokens.specs.action_tokens.Single.{left, comes, mark, name_at}
 use Rattle.action_parse.specs.action_reading.ExprReading.{path_at}
 use Rattle.action_parse.proofs.action_reading.Turns.{starts_behind}
 use Rattle.action_parse.proofs.action_reading.ExprSound.{part_shorter}

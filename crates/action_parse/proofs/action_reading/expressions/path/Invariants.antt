@@ -1,8 +1,8 @@
 use Rattle.std.proofs.Common.{◌≡◌, ℕ, ◌+◌, ◌≤◌, length}
 use Rattle.room_lexer.specs.declared.token.Mark.TheVariants as marks
-use Rattle.token_reading.specs.Reader.{◌⊕◌, reads_as, many}
-use Rattle.token_reading.proofs.Loop.{with_front}
-use Rattle.token_reading.specs.action_tokens.Single.{left, comes, mark, name_at}
+use Rattle.room_tokens.specs.Reader.{◌⊕◌, reads_as, many}
+use Rattle.room_tokens.proofs.Loop.{with_front}
+use Rattle.room_tokens.specs.action_tokens.Single.{left, comes, mark, name_at}
 use Rattle.action_parse.specs.action_reading.ExprReading.{path_at}
 use Rattle.action_parse.proofs.action_reading.expressions.path.Given as goal
 

@@ -1,7 +1,7 @@
 use Rattle.std.proofs.Common.{◌≡◌, ℕ, ◌+◌, ◌*◌, ◌≤◌, length, map}
-use Rattle.token_reading.specs.Reader.{many, all_while}
-use Rattle.token_reading.proofs.Loop.{with_front}
-use Rattle.token_reading.specs.action_tokens.Single.{left}
+use Rattle.room_tokens.specs.Reader.{many, all_while}
+use Rattle.room_tokens.proofs.Loop.{with_front}
+use Rattle.room_tokens.specs.action_tokens.Single.{left}
 use Rattle.action_program.specs.Named.{stmt_view, branch_view}
 use Rattle.action_parse.specs.action_reading.ExprReading.{expression}
 use Rattle.action_parse.specs.action_reading.StmtReading.{else_if_comes, else_if_at, branches_at, goes_on, statement, block_below}

@@ -2,8 +2,8 @@ use Rattle.std.proofs.Common.{arith, ◌≡◌, ◌-◌, ◌<◌, ◌++◌, ◌�
 use Rattle.std.proofs.lemmas.Result.{err_from_is_err_and}
 use Rattle.std.proofs.lemmas.List.{map_push}
 use Rattle.room_lexer.specs.declared.token.Mark.TheVariants as marks
-use Rattle.token_reading.proofs.Loop.{goes, ends, is_done}
-use Rattle.token_reading.specs.action_tokens.Single.{left, comes}
+use Rattle.room_tokens.proofs.Loop.{goes, ends, is_done}
+use Rattle.room_tokens.specs.action_tokens.Single.{left, comes}
 use Rattle.action_program.specs.Named.{expr_view}
 use Rattle.action_parse.specs.action_reading.ExprReading.{expression}
 use Rattle.action_parse.specs.action_reading.StmtReading.{argument_at, some_arguments_at}

@@ -1,8 +1,8 @@
 use Rattle.std.proofs.Common.{◌≡◌, ℕ, ◌+◌, ◌≤◌, length, map}
 use Rattle.room_lexer.specs.declared.token.Mark.TheVariants as marks
-use Rattle.token_reading.specs.Reader.{many}
-use Rattle.token_reading.proofs.Loop.{with_front}
-use Rattle.token_reading.specs.action_tokens.Single.{left, comes}
+use Rattle.room_tokens.specs.Reader.{many}
+use Rattle.room_tokens.proofs.Loop.{with_front}
+use Rattle.room_tokens.specs.action_tokens.Single.{left, comes}
 use Rattle.action_program.specs.Named.{expr_view}
 use Rattle.action_parse.specs.action_reading.ExprReading.{expression}
 use Rattle.action_parse.specs.action_reading.StmtReading.{argument_at, some_arguments_at}

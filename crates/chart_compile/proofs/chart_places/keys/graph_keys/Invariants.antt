@@ -1,5 +1,5 @@
 use Rattle.std.proofs.Common.{◌≡◌, map, take}
-use Rattle.chart_reading.specs.chart_graphs.Views.{graph_view}
+use Rattle.chart_trees.specs.chart_graphs.Views.{graph_view}
 use Rattle.chart_compile.specs.chart_places.Places.{keys_of}
 use Rattle.chart_compile.proofs.chart_places.keys.graph_keys.Given as goal
 

@@ -1,8 +1,8 @@
 use Rattle.std.proofs.Common.{◌≤◌, ◌-◌, Bor, List, Option, length, ◌∙◌, ◌∷◌, ◌++◌, ap, map, refl, subst, sym}
 use Rattle.std.proofs.lemmas.List.{append-nil}
-use Rattle.chart_reading.specs.chart_graphs.Views.{chart_view, graph_view, state_view}
-use Rattle.chart_reading.specs.declared.chart_graphs.Graph.{Graph as CodeGraph}
-use Rattle.chart_reading.specs.declared.chart_graphs.State.{State as CodeState}
+use Rattle.chart_trees.specs.chart_graphs.Views.{chart_view, graph_view, state_view}
+use Rattle.chart_trees.specs.declared.chart_graphs.Graph.{Graph as CodeGraph}
+use Rattle.chart_trees.specs.declared.chart_graphs.State.{State as CodeState}
 use Rattle.chart_model.specs.Chart.{State}
 use Rattle.chart_compile.specs.chart_places.Places.{FoundAt, place_of, place_view, places_below}
 use Rattle.chart_compile.proofs.chart_places.PlaceLaws.{below_some, below_zero, parts_done, pushed_place, state_none, state_some}

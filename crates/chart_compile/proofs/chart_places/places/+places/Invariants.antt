@@ -1,6 +1,6 @@
 use Rattle.std.proofs.Common.{◌≡◌, ◌+◌, ◌*◌, ◌-◌, ◌++◌, ◌∷◌, map, drop}
 use Rattle.std.specs.List.{flat_map}
-use Rattle.chart_reading.specs.chart_graphs.Views.{chart_view, state_view}
+use Rattle.chart_trees.specs.chart_graphs.Views.{chart_view, state_view}
 use Rattle.chart_model.specs.Chart.{State}
 use Rattle.chart_compile.specs.chart_places.Places.{place_of, place_view, places_below}
 use Rattle.chart_compile.proofs.chart_places.places.+places.Given as goal

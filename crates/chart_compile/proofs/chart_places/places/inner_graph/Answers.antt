@@ -1,5 +1,5 @@
 use Rattle.std.proofs.Common.{◌∙◌, ◌∷◌, ap, refl}
-use Rattle.chart_reading.specs.chart_graphs.Views.{chart_view}
+use Rattle.chart_trees.specs.chart_graphs.Views.{chart_view}
 use Rattle.chart_reader.specs.chart_nodes.Keys.{codes}
 use Rattle.chart_compile.proofs.chart_places.PlaceLaws.{found_at}
 use Rattle.chart_compile.proofs.chart_places.places.inner_graph.Goals as goal

@@ -1,6 +1,6 @@
 use Rattle.std.proofs.Common.{◌∙◌, Bor, Option, [], ap, length, map, subst, sym}
-use Rattle.chart_reading.specs.chart_graphs.Views.{chart_view}
-use Rattle.chart_reading.specs.declared.chart_graphs.Graph.{Graph as CodeGraph}
+use Rattle.chart_trees.specs.chart_graphs.Views.{chart_view}
+use Rattle.chart_trees.specs.declared.chart_graphs.Graph.{Graph as CodeGraph}
 use Rattle.chart_compile.specs.chart_places.Places.{FoundAt, place_view}
 use Rattle.chart_compile.proofs.chart_places.PlaceLaws.{below_none}
 use Rattle.chart_compile.proofs.chart_places.places.places_of.Goals as goal

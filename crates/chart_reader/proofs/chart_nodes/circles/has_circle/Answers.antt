@@ -1,5 +1,5 @@
 use Rattle.std.proofs.Common.{List, map, subst}
-use Rattle.chart_reading.specs.chart_graphs.Views.{chart_view}
+use Rattle.chart_trees.specs.chart_graphs.Views.{chart_view}
 use Rattle.number_graphs.specs.class_containment.Walks.{Orders}
 use Rattle.chart_reader.specs.chart_nodes.Circles.{parts_of}
 use Rattle.chart_reader.specs.chart_nodes.Steps.{step_view}

@@ -1,5 +1,5 @@
 use Rattle.std.proofs.Common.{◌≡◌, ◌++◌, map, drop}
-use Rattle.chart_reading.specs.chart_graphs.Views.{transition_view}
+use Rattle.chart_trees.specs.chart_graphs.Views.{transition_view}
 use Rattle.chart_reader.specs.chart_nodes.Steps.{step_of, step_view}
 use Rattle.chart_reader.proofs.chart_nodes.steps.add_steps.Given as goal
 

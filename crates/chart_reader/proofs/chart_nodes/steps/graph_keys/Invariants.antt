@@ -1,5 +1,5 @@
 use Rattle.std.proofs.Common.{◌≡◌, map, take}
-use Rattle.chart_reading.specs.declared.chart_graphs.Graph.{Graph}
+use Rattle.chart_trees.specs.declared.chart_graphs.Graph.{Graph}
 use Rattle.chart_reader.specs.chart_nodes.Keys.{codes}
 use Rattle.chart_reader.proofs.chart_nodes.steps.graph_keys.Given as goal
 

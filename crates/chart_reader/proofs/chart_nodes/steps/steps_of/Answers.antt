@@ -1,5 +1,5 @@
 use Rattle.std.proofs.Common.{◌≡◌, ◌++◌, ◌<◌, ◌∙◌, [], ap, arith, cond, get_or, length, map}
-use Rattle.chart_reading.specs.chart_graphs.Views.{graph_view}
+use Rattle.chart_trees.specs.chart_graphs.Views.{graph_view}
 use Rattle.chart_reader.specs.chart_nodes.Steps.{steps_in, step_view}
 use Rattle.chart_reader.proofs.chart_nodes.StepLaws.{graphs_done, graphs_more, key_at, were_added, were_not}
 use Rattle.chart_reader.proofs.chart_nodes.steps.steps_of.Goals as goal

@@ -1,6 +1,6 @@
 use Rattle.std.proofs.Common.{◌≡◌, ◌++◌, map, take}
 use Rattle.name_tables.specs.name_numbers.Names.{names_of}
-use Rattle.chart_reading.specs.chart_graphs.Views.{state_view, point_view}
+use Rattle.chart_trees.specs.chart_graphs.Views.{state_view, point_view}
 use Rattle.chart_reader.proofs.chart_rules.names.has_distinct_names.Given as goal
 
 abbrev pub invariant-loop-state : goal.invariant-loop-state

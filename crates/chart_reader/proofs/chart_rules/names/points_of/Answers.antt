@@ -1,5 +1,5 @@
-use Rattle.chart_reading.specs.chart_graphs.Views.{kind_view, point_view}
-use Rattle.chart_reading.proofs.Lists.{picked_next}
+use Rattle.chart_trees.specs.chart_graphs.Views.{kind_view, point_view}
+use Rattle.chart_trees.proofs.Lists.{picked_next}
 use Rattle.chart_reader.specs.chart_rules.Index.{name_of_kind}
 use Rattle.chart_reader.proofs.chart_rules.names.points_of.Goals as goal
 

@@ -1,7 +1,7 @@
 use Rattle.std.proofs.Common.{◌≡◌, map, take}
 use Rattle.std.specs.List.{filter_map}
 use Rattle.name_tables.specs.name_numbers.Names.{names_of}
-use Rattle.chart_reading.specs.chart_graphs.Views.{kind_view, point_view}
+use Rattle.chart_trees.specs.chart_graphs.Views.{kind_view, point_view}
 use Rattle.chart_reader.specs.chart_rules.Index.{name_of_kind}
 use Rattle.chart_reader.proofs.chart_rules.names.points_of.Given as goal
 

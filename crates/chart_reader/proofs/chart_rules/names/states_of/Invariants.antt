@@ -1,6 +1,6 @@
 use Rattle.std.proofs.Common.{◌≡◌, map, take}
 use Rattle.name_tables.specs.name_numbers.Names.{names_of}
-use Rattle.chart_reading.specs.chart_graphs.Views.{state_view}
+use Rattle.chart_trees.specs.chart_graphs.Views.{state_view}
 use Rattle.chart_reader.specs.chart_rules.Index.{name_of_state}
 use Rattle.chart_reader.proofs.chart_rules.names.states_of.Given as goal
 

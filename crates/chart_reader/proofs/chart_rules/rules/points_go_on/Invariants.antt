@@ -1,6 +1,6 @@
 use Rattle.std.proofs.Common.{◌≡◌, map, drop}
 use Rattle.std.specs.List.{list_all}
-use Rattle.chart_reading.specs.chart_graphs.Views.{point_view}
+use Rattle.chart_trees.specs.chart_graphs.Views.{point_view}
 use Rattle.chart_model.specs.Valid.{goes_on_once}
 use Rattle.chart_reader.specs.chart_rules.IndexView.{index_view}
 use Rattle.chart_reader.proofs.chart_rules.rules.points_go_on.Given as goal

@@ -1,6 +1,6 @@
 use Rattle.std.proofs.Common.{◌≡◌, map, drop}
 use Rattle.std.specs.List.{list_all}
-use Rattle.chart_reading.specs.chart_graphs.Views.{transition_view}
+use Rattle.chart_trees.specs.chart_graphs.Views.{transition_view}
 use Rattle.chart_model.specs.Valid.{is_right_transition}
 use Rattle.chart_reader.specs.chart_rules.Views.{named_view}
 use Rattle.chart_reader.specs.chart_rules.IndexView.{index_view}

@@ -4,7 +4,7 @@ use Rattle.std.proofs.lemmas.List.{map-append, length-map}
 use Rattle.room_ast.specs.Trees.{model_view}
 use Rattle.room_ast.specs.model_parts.Classes.{actors}
 use Rattle.check_scopes.specs.class_scopes.Scopes.{scope_of}
-use Rattle.chart_reading.specs.chart_graphs.Views.{chart_view}
+use Rattle.chart_trees.specs.chart_graphs.Views.{chart_view}
 use Rattle.chart_reader.specs.model_charts.Written.{written_from}
 use Rattle.chart_reader.specs.model_charts.Charts.{IsFirstFaulty}
 use Rattle.chart_reader.specs.model_charts.Making.{IsRead}

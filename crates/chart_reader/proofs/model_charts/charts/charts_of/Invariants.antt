@@ -2,7 +2,7 @@ use Rattle.std.proofs.Common.{◌≡◌, [], length, drop, map}
 use Rattle.std.specs.Prelude.{option_map}
 use Rattle.room_ast.specs.Trees.{model_view}
 use Rattle.room_ast.specs.model_parts.Classes.{actors}
-use Rattle.chart_reading.specs.chart_graphs.Views.{chart_view}
+use Rattle.chart_trees.specs.chart_graphs.Views.{chart_view}
 use Rattle.chart_reader.specs.model_charts.Written.{written_from}
 use Rattle.chart_reader.specs.model_charts.Making.{IsRead}
 use Rattle.chart_reader.proofs.model_charts.charts.charts_of.Given as goal

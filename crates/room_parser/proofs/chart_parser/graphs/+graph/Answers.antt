@@ -2,8 +2,8 @@ use Rattle.std.proofs.Common.{◌≡◌, ◌∷◌, [], ◌++◌, ◌+◌, ◌-�
 use Rattle.std.proofs.lemmas.Result.{err_from_is_err_and}
 use Rattle.std.proofs.lemmas.List.{length-map, map_push}
 use Rattle.room_ast.specs.ChartTree.{item_view, item_views}
-use Rattle.token_reading.specs.Single.{left, before_close}
-use Rattle.token_reading.proofs.Loop.{starts, goes, ends, exhausted, is_done}
+use Rattle.room_tokens.specs.Single.{left, before_close}
+use Rattle.room_tokens.proofs.Loop.{starts, goes, ends, exhausted, is_done}
 use Rattle.room_parser.specs.chart_parser.Graphs.{item_to}
 use Rattle.room_parser.proofs.chart_parser.graphs.+graph.Goals as goal
 

@@ -1,8 +1,8 @@
 use Rattle.std.proofs.Common.{◌≡◌, ◌+◌, ◌*◌}
 use Rattle.room_ast.specs.ChartTree.{item_views}
-use Rattle.token_reading.specs.Reader.{many, all_while}
-use Rattle.token_reading.specs.Single.{left, before_close}
-use Rattle.token_reading.proofs.Loop.{with_front}
+use Rattle.room_tokens.specs.Reader.{many, all_while}
+use Rattle.room_tokens.specs.Single.{left, before_close}
+use Rattle.room_tokens.proofs.Loop.{with_front}
 use Rattle.room_parser.specs.chart_parser.Graphs.{item_to}
 use Rattle.room_parser.proofs.chart_parser.graphs.+graph.Given as goal
 

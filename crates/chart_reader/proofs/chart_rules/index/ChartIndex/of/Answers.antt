@@ -1,6 +1,6 @@
 use Rattle.std.proofs.Common.{◌≡◌, ◌∙◌, ℕ, ℤ, List, [], ap, map, sym, subst}
 use Rattle.chart_model.specs.Chart.{Graph, Chart}
-use Rattle.chart_reading.specs.chart_graphs.Views.{graph_view}
+use Rattle.chart_trees.specs.chart_graphs.Views.{graph_view}
 use Rattle.chart_reader.specs.chart_nodes.Steps.{StepTree, steps_behind}
 use Rattle.chart_reader.specs.chart_rules.Index.{beginning, beginning_plainly, border_keys, count_in}
 use Rattle.chart_reader.proofs.chart_rules.index.ChartIndex.of.Goals as goal

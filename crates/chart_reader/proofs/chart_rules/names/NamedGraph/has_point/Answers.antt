@@ -1,7 +1,7 @@
 use Rattle.std.proofs.Common.{◌∙◌, ap}
 use Rattle.name_tables.specs.name_numbers.Names.{is_among}
 use Rattle.chart_model.specs.Chart.{Name}
-use Rattle.chart_reading.specs.chart_graphs.Views.{graph_view, kind_view}
+use Rattle.chart_trees.specs.chart_graphs.Views.{graph_view, kind_view}
 use Rattle.chart_reader.proofs.chart_rules.NamesFound.{point_found}
 use Rattle.chart_reader.proofs.chart_rules.names.NamedGraph.has_point.Goals as goal
 

@@ -1,8 +1,8 @@
 use Rattle.std.proofs.Common.{List, map, ap, ◌∙◌}
 use Rattle.std.specs.List.{filter_map}
 use Rattle.chart_model.specs.Chart.{a_transition_point, an_entry_point, an_exit_point}
-use Rattle.chart_reading.specs.chart_graphs.Views.{point_view}
-use Rattle.chart_reading.specs.declared.chart_graphs.Point.{Point}
+use Rattle.chart_trees.specs.chart_graphs.Views.{point_view}
+use Rattle.chart_trees.specs.declared.chart_graphs.Point.{Point}
 use Rattle.chart_reader.specs.chart_rules.Index.{name_of_kind}
 use Rattle.chart_reader.proofs.chart_rules.names.NamedGraph.of.Goals as goal
 

@@ -1,6 +1,6 @@
 use Rattle.std.proofs.Common.{◌∙◌, ap, sym}
 use Rattle.room_ast.specs.declared.chart.PointKind.{PointKind}
-use Rattle.chart_reading.specs.chart_graphs.Views.{graph_view, kind_view}
+use Rattle.chart_trees.specs.chart_graphs.Views.{graph_view, kind_view}
 use Rattle.chart_reader.specs.chart_rules.Index.{point_names}
 use Rattle.chart_reader.proofs.chart_rules.names.NamedGraph.points_with.Goals as goal
 

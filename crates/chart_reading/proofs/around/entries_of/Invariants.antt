@@ -1,9 +1,0 @@
-use Rattle.std.proofs.Common.{◌≡◌, take, map}
-use Rattle.std.specs.List.{filter_map}
-use Rattle.name_tables.specs.name_numbers.Names.{names_of}
-use Rattle.room_ast.specs.ChartTree.{item_view}
-use Rattle.chart_reading.specs.Around.{state_name, entry_name, inner_entries}
-use Rattle.chart_reading.proofs.around.entries_of.Given as goal
-
-abbrev pub invariant-loop-item : goal.invariant-loop-item
-invariant-loop-item l = names_of l.names.items ≡ filter_map entry_name (map item_view (take l.item-index l.items))

@@ -1,5 +1,0 @@
-use Rattle.model_laws.proofs.joined_ports.Points.{models_link_one_protocol}
-use Rattle.model_laws.proofs.joined_ports.linked_ports_have_one_protocol.Goals as goal
-
-pub returns : goal.returns
-returns c = models_link_one_protocol

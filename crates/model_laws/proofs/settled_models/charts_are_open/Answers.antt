@@ -1,5 +1,0 @@
-use Rattle.model_laws.proofs.settled_models.Models.{models_open}
-use Rattle.model_laws.proofs.settled_models.charts_are_open.Goals as goal
-
-pub returns : goal.returns
-returns c = models_open

@@ -1,5 +1,0 @@
-use Rattle.model_laws.proofs.settled_models.Models.{models_worded}
-use Rattle.model_laws.proofs.settled_models.charts_send_worded.Goals as goal
-
-pub returns : goal.returns
-returns c = models_worded

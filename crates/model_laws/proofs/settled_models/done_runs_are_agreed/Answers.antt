@@ -1,5 +1,0 @@
-use Rattle.model_laws.proofs.settled_models.Settled.{model_agreed}
-use Rattle.model_laws.proofs.settled_models.done_runs_are_agreed.Goals as goal
-
-pub returns : goal.returns
-returns c = model_agreed

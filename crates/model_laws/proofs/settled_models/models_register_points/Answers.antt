@@ -1,5 +1,0 @@
-use Rattle.model_laws.proofs.settled_models.Settled.{models_register}
-use Rattle.model_laws.proofs.settled_models.models_register_points.Goals as goal
-
-pub returns : goal.returns
-returns c = models_register

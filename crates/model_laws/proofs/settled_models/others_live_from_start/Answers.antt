@@ -1,5 +1,0 @@
-use Rattle.model_laws.proofs.settled_models.Kept.{model_others_live}
-use Rattle.model_laws.proofs.settled_models.others_live_from_start.Goals as goal
-
-pub returns : goal.returns
-returns c = model_others_live

@@ -1,5 +1,0 @@
-use Rattle.model_laws.proofs.settled_models.Owners.{owners_there}
-use Rattle.model_laws.proofs.settled_models.wirings.owners_are_there.Goals as goal
-
-pub returns : goal.returns
-returns c = owners_there

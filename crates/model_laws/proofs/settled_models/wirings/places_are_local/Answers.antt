@@ -1,5 +1,0 @@
-use Rattle.model_laws.proofs.settled_models.Owners.{places_local}
-use Rattle.model_laws.proofs.settled_models.wirings.places_are_local.Goals as goal
-
-pub returns : goal.returns
-returns c = places_local

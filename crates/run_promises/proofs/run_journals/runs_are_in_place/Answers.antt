@@ -1,5 +1,0 @@
-use Rattle.run_promises.proofs.run_journals.InPlaceLaw.{in_place}
-use Rattle.run_promises.proofs.run_journals.runs_are_in_place.Goals as goal
-
-pub returns : goal.returns
-returns c = in_place

@@ -1,5 +1,0 @@
-use Rattle.run_promises.proofs.run_journals.ReachingLaw.{reach}
-use Rattle.run_promises.proofs.run_journals.runs_reach_controllers.Goals as goal
-
-pub returns : goal.returns
-returns c = reach

@@ -1,5 +1,0 @@
-use Rattle.run_promises.proofs.run_texts.TextsLaw.{fetches_fit}
-use Rattle.run_promises.proofs.run_texts.runs_fetch_what_fits.Goals as goal
-
-pub returns : goal.returns
-returns c = fetches_fit

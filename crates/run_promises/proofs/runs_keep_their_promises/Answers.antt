@@ -1,5 +1,0 @@
-use Rattle.run_promises.proofs.PromisesLaw.{promises}
-use Rattle.run_promises.proofs.runs_keep_their_promises.Goals as goal
-
-pub returns : goal.returns
-returns c = λ plant lines fuel j run. promises plant lines fuel j run

@@ -1,6 +1,0 @@
-use Rattle.std.proofs.Common.{◌≡◌, ◌++◌, drop, false}
-use Rattle.token_reading.specs.Contents.{unescaped}
-use Rattle.token_reading.proofs.contents.unescaped.Given as goal
-
-abbrev pub invariant-loop-b : goal.invariant-loop-b
-invariant-loop-b l = l.contents.items ++ unescaped l.taken (drop l.b-index l.bytes) ≡ unescaped false l.bytes

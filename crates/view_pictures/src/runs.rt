@@ -1,0 +1,259 @@
+//! The picture of a run: who took part, and what became of the messages.
+use crate::choice::{Choice, Happening};
+use crate::drawing::Drawing;
+use crate::run_texts::{end_text, gap_text, plain_label, undrawn_text};
+use journal::{Entry, Journals};
+use room_wiring::Wiring;
+use std::alloc::{AllocError, Global};
+use view_drawing::Sequence;
+use view_journals::{Start, Told, Turn, Wanted, starts_of, turns_of};
+
+/// A run, and its starts and turns.
+#[derive(Clone, Copy)]
+struct Run<'a, 'b> {
+    told: &'b Told<'a>,
+    starts: &'b [Start<'a>],
+    turns: &'b [Turn<'a>],
+}
+
+/// The stamps with which the environment went on when all was quiet: those that aren't one above the one before.
+fn settled_of(alloc: Global, journals: &Journals) -> Result<Vec<u64>, AllocError> {
+    let mut settled = Vec::new(alloc);
+    let mut last = 0u64;
+    for entry in journals.environment.as_slice() {
+        if let Entry::Post { stamp, .. } = entry {
+            if stamp.0 > last.saturating_add(1) {
+                settled.push(stamp.0)?;
+            }
+            last = stamp.0;
+        }
+    }
+    Ok(settled)
+}
+
+/// How far a run is drawn.
+#[derive(Drop)]
+struct Progress {
+    /// The stamps with which the environment went on behind a `settle`.
+    settled: Vec<u64>,
+    /// How many of them are passed.
+    passed: usize,
+    /// The first turn behind those that are drawn or passed over.
+    next_turn: usize,
+}
+
+impl Progress {
+    /// Nothing is drawn yet of a run.
+    fn none(alloc: Global, journals: &Journals) -> Result<Progress, AllocError> {
+        Ok(Progress {
+            settled: settled_of(alloc, journals)?,
+            passed: 0,
+            next_turn: 0,
+        })
+    }
+
+    /// Whether all was quiet since the last time, up to a stamp.
+    fn settles(&mut self, stamp: u64) -> bool {
+        let rest = self.settled.as_slice().get(self.passed..).unwrap_or(&[]);
+        let count = rest.iter().take_while(|settled| **settled <= stamp).count();
+        self.passed = self.passed.saturating_add(count);
+        count > 0
+    }
+
+    /// How many turns are passed over up to one that is drawn.
+    fn gap_before(&mut self, turn: usize) -> usize {
+        let gap = turn.saturating_sub(self.next_turn);
+        self.next_turn = turn.saturating_add(1);
+        gap
+    }
+}
+
+/// Draws that turns are passed over.
+fn add_gap(drawing: &mut Drawing<'_, '_>, turns: usize) -> Result<(), AllocError> {
+    if turns == 0 {
+        return Ok(());
+    }
+    let text = gap_text(drawing.alloc(), turns)?;
+    drawing.add_divider(text)
+}
+
+fn add_settle(
+    drawing: &mut Drawing<'_, '_>,
+    progress: &mut Progress,
+    stamp: u64,
+) -> Result<(), AllocError> {
+    if !progress.settles(stamp) {
+        return Ok(());
+    }
+    let text = plain_label(drawing.alloc(), b"settle")?;
+    drawing.add_divider(text)
+}
+
+/// Draws a message that is posted.
+fn draw_post(
+    drawing: &mut Drawing<'_, '_>,
+    progress: &mut Progress,
+    number: usize,
+) -> Result<(), AllocError> {
+    if let Some(stamp) = drawing.stamp_of(number) {
+        add_settle(drawing, progress, stamp)?;
+    }
+    drawing.add_post(number)
+}
+
+/// Draws a turn, and what lies before it.
+fn draw_turn<'a>(
+    drawing: &mut Drawing<'a, '_>,
+    progress: &mut Progress,
+    number: usize,
+    turn: &Turn<'a>,
+) -> Result<(), AllocError> {
+    add_gap(drawing, progress.gap_before(number))?;
+    add_settle(drawing, progress, turn.stamp.0)?;
+    drawing.add_turn(turn)
+}
+
+/// Draws what happened.
+fn add_happening<'a>(
+    drawing: &mut Drawing<'a, '_>,
+    progress: &mut Progress,
+    turns: &[Turn<'a>],
+    happening: Happening,
+) -> Result<(), AllocError> {
+    match happening {
+        Happening::Post(number) => draw_post(drawing, progress, number),
+        Happening::Turn(number) => match turns.get(number) {
+            Some(turn) => draw_turn(drawing, progress, number, turn),
+            None => Ok(()),
+        },
+    }
+}
+
+/// Draws what happened, as far as there is room.
+fn add_happenings<'a>(
+    drawing: &mut Drawing<'a, '_>,
+    progress: &mut Progress,
+    turns: &[Turn<'a>],
+    happenings: &[Happening],
+) -> Result<(), AllocError> {
+    for happening in happenings {
+        if drawing.is_full() {
+            break;
+        }
+        add_happening(drawing, progress, turns, *happening)?;
+    }
+    Ok(())
+}
+
+/// Chooses the starts that are wanted.
+fn choose_starts<'a>(choice: &mut Choice<'a>, run: Run<'a, '_>) -> Result<(), AllocError> {
+    for start in run.starts {
+        if run.told.wants_start(start) {
+            choice.add_start(run.told, start)?;
+        }
+    }
+    Ok(())
+}
+
+/// Chooses the turns that are wanted.
+fn choose_turns<'a>(choice: &mut Choice<'a>, run: Run<'a, '_>) -> Result<(), AllocError> {
+    for (number, turn) in run.turns.iter().enumerate() {
+        if run.told.wants_turn(turn) {
+            choice.add_turn(run.told, number, turn)?;
+        }
+    }
+    Ok(())
+}
+
+/// Chooses the messages that are wanted of those that were left.
+fn choose_left<'a>(choice: &mut Choice<'a>, told: &Told<'a>) -> Result<(), AllocError> {
+    for left in told.journals.left.as_slice() {
+        if told.wants_left(left) {
+            choice.add_message(&left.msg)?;
+        }
+    }
+    Ok(())
+}
+
+fn choose<'a>(choice: &mut Choice<'a>, run: Run<'a, '_>) -> Result<(), AllocError> {
+    choose_starts(choice, run)?;
+    choose_turns(choice, run)?;
+    choose_left(choice, run.told)
+}
+
+/// What of a run is wanted.
+fn choice_of<'a>(alloc: Global, run: Run<'a, '_>) -> Result<Choice<'a>, AllocError> {
+    let mut choice = Choice::nothing(alloc, run.told)?;
+    choose(&mut choice, run)?;
+    Ok(choice)
+}
+
+/// Draws how a run ended, and what isn't drawn.
+fn add_end(drawing: &mut Drawing<'_, '_>, gap: usize, undrawn: usize) -> Result<(), AllocError> {
+    drawing.open_ways();
+    add_gap(drawing, gap)?;
+    if undrawn > 0 {
+        let text = undrawn_text(drawing.alloc(), undrawn)?;
+        drawing.add_divider(text)?;
+    }
+    if drawing.told.wanted.wants_end() {
+        let text = end_text(drawing.alloc(), drawing.told.journals)?;
+        drawing.add_divider(text)?;
+    }
+    Ok(())
+}
+
+/// Draws a run from its starts to its end; of messages and turns these happenings.
+fn draw<'a>(
+    drawing: &mut Drawing<'a, '_>,
+    run: Run<'a, '_>,
+    happenings: &[Happening],
+    undrawn: usize,
+) -> Result<(), AllocError> {
+    let mut progress = Progress::none(drawing.alloc(), run.told.journals)?;
+    drawing.add_starts(run.starts)?;
+    add_happenings(drawing, &mut progress, run.turns, happenings)?;
+    add_end(drawing, progress.gap_before(run.turns.len()), undrawn)
+}
+
+/// The picture of what was chosen of a run.
+fn picture_of_choice<'a, 'b>(
+    alloc: Global,
+    run: Run<'a, 'b>,
+    choice: &'b Choice<'a>,
+    happenings: &[Happening],
+) -> Result<Sequence, AllocError> {
+    let mut drawing = Drawing::of(alloc, run.told, choice)?;
+    draw(&mut drawing, run, happenings, choice.undrawn)?;
+    Ok(drawing.into_sequence())
+}
+
+/// The picture of what is wanted of a run.
+fn picture_of_run(alloc: Global, run: Run<'_, '_>) -> Result<Sequence, AllocError> {
+    let mut choice = choice_of(alloc, run)?;
+    let happenings = choice.in_order(alloc)?;
+    picture_of_choice(alloc, run, &choice, happenings.as_slice())
+}
+
+fn picture_of_told(alloc: Global, told: &Told<'_>) -> Result<Sequence, AllocError> {
+    let starts = starts_of(alloc, told.journals)?;
+    let turns = turns_of(alloc, told.journals)?;
+    let run = Run {
+        told,
+        starts: starts.as_slice(),
+        turns: turns.as_slice(),
+    };
+    picture_of_run(alloc, run)
+}
+
+/// The picture of what is wanted of a run. No more than some 4,000 rows and 100 lifelines are drawn; where something
+/// is cut, the picture says so.
+pub fn run_picture(
+    alloc: Global,
+    wiring: &Wiring,
+    journals: &Journals,
+    wanted: Wanted<'_>,
+) -> Result<Sequence, AllocError> {
+    let told = Told::of(alloc, wiring, journals, wanted)?;
+    picture_of_told(alloc, &told)
+}

@@ -1,0 +1,134 @@
+//! The labels of transitions: `event: port [guard] / action`.
+use crate::orders::message_of;
+use itoa::Buffer;
+use room_ast::{
+    Code, CodeText, Event, Source, Target, Transition, TransitionBody, Trigger, Triggers,
+};
+use std::alloc::{AllocError, Global};
+use view_drawing::{Label, add_plain};
+
+fn add_code_text(text: &mut Vec<u8>, part: &CodeText) -> Result<(), AllocError> {
+    if let Some(last) = text.as_slice().last()
+        && *last != b' '
+        && *last != b'['
+    {
+        text.push(b' ')?;
+    }
+    match part {
+        CodeText::Str(part) | CodeText::Block(part) => add_plain(text, part.as_bytes()),
+    }
+}
+
+/// Adds a code as it is written, in one line.
+pub fn add_code(text: &mut Vec<u8>, code: &Code) -> Result<(), AllocError> {
+    match code {
+        Code::Texts(parts) => {
+            for part in parts.as_slice() {
+                add_code_text(text, part)?;
+            }
+        }
+        Code::Single(part) => add_code_text(text, part)?,
+    }
+    Ok(())
+}
+
+fn add_event(text: &mut Vec<u8>, event: &Event) -> Result<(), AllocError> {
+    add_plain(text, message_of(event))?;
+    text.extend_from_slice(b": ")?;
+    text.extend_from_slice(event.port.as_bytes())
+}
+
+fn add_trigger(text: &mut Vec<u8>, trigger: &Trigger) -> Result<(), AllocError> {
+    add_event(text, &trigger.first)?;
+    for event in trigger.others.as_slice() {
+        text.extend_from_slice(b" | ")?;
+        add_event(text, event)?;
+    }
+    if let Some(guard) = &trigger.guard {
+        text.extend_from_slice(b" [")?;
+        add_code(text, guard)?;
+        text.extend_from_slice(b"]")?;
+    }
+    Ok(())
+}
+
+fn add_triggers(text: &mut Vec<u8>, triggers: &Triggers) -> Result<(), AllocError> {
+    add_trigger(text, &triggers.first)?;
+    for trigger in triggers.others.as_slice() {
+        text.extend_from_slice(b" or ")?;
+        add_trigger(text, trigger)?;
+    }
+    Ok(())
+}
+
+/// Whether a transition may be the branch of a choice point that is taken where no condition holds.
+fn may_be_else(transition: &Transition) -> bool {
+    match &transition.source {
+        Source::At(Target::Bare(_) | Target::Choice(_)) => match &transition.body {
+            Some(body) => body.triggers.is_none() && body.condition.is_none(),
+            None => true,
+        },
+        _ => false,
+    }
+}
+
+fn add_body(text: &mut Vec<u8>, body: &TransitionBody) -> Result<(), AllocError> {
+    if let Some(triggers) = &body.triggers {
+        add_triggers(text, triggers)?;
+    }
+    if let Some(condition) = &body.condition {
+        text.extend_from_slice(b"[")?;
+        add_code(text, condition)?;
+        text.extend_from_slice(b"]")?;
+    }
+    Ok(())
+}
+
+fn add_action(text: &mut Vec<u8>, body: &TransitionBody) -> Result<(), AllocError> {
+    if let Some(action) = &body.action {
+        text.extend_from_slice(if text.is_empty() { b"/ " } else { b" / " })?;
+        add_code(text, action)?;
+    }
+    Ok(())
+}
+
+fn add_order(text: &mut Vec<u8>, order: Option<usize>) -> Result<(), AllocError> {
+    if let Some(order) = order {
+        let mut buffer = Buffer::new();
+        text.extend_from_slice(buffer.format(order as u64).as_bytes())?;
+        text.extend_from_slice(b". ")?;
+    }
+    Ok(())
+}
+
+/// Adds what a transition waits for, and what it does.
+fn add_shown(text: &mut Vec<u8>, transition: &Transition) -> Result<(), AllocError> {
+    if may_be_else(transition) {
+        text.extend_from_slice(b"[else]")?;
+    }
+    if let Some(body) = &transition.body {
+        add_body(text, body)?;
+        add_action(text, body)?;
+    }
+    Ok(())
+}
+
+/// The name of a transition; empty where it has none.
+fn name_of(transition: &Transition) -> &[u8] {
+    match &transition.name {
+        Some(name) => name.as_bytes(),
+        None => b"",
+    }
+}
+
+/// The label of a transition. It begins with its number, where it has one; its whole text with its name.
+pub fn label_of(
+    alloc: Global,
+    transition: &Transition,
+    order: Option<usize>,
+) -> Result<Label, AllocError> {
+    let mut text = Vec::new(alloc);
+    add_order(&mut text, order)?;
+    add_shown(&mut text, transition)?;
+    Label::named(alloc, name_of(transition), text.as_slice())
+}

@@ -1,5 +1,0 @@
-use Rattle.world_agreement.proofs.Mutual.{peers_mutual}
-use Rattle.world_agreement.proofs.peers_agree.Goals as goal
-
-pub returns : goal.returns
-returns g c = λ t w wired owners near orderly directories imports links. peers_mutual t w wired owners near orderly directories imports links
