@@ -1,7 +1,7 @@
 -- The kinds of system messages: each has its number and its name.
-use Rattle.std.proofs.Common.{inl, inr, ◌≡◌, ℕ, Bool, true, false, cond, List, [], ◌∷◌, ◌<◌, ◌≤◌, length, refl, sym, ap, ◌∙◌, subst}
-use Rattle.std.specs.Prelude.{Option, Some, None, IsNone, IfSome, ◌↔◌, find, slice_get, nat_eq}
-use Rattle.std.proofs.lemmas.Option.{slice_get_past, slice_get_within}
+use Rattle.std.proofs.Common.{◌≡◌, ℕ, Bool, true, false, cond, List, [], ◌∷◌, ◌≤◌, refl, subst}
+use Rattle.std.specs.Prelude.{Option, Some, None, find, slice_get, nat_eq}
+use Rattle.std.proofs.lemmas.Option.{slice_get_past}
 use lib.Pointwise.{pointwise, bytes_decides}
 use Rattle.room_kinds.specs.declared.system.SysKind.{SysKind}
 use Rattle.room_kinds.specs.declared.system.SysKind.TheVariants as kinds

@@ -1,5 +1,6 @@
 //! Messages between actors.
-ghost use Rattle.std.specs.Prelude.{◌≡◌, IfOk};
+ghost use Rattle.std.specs.Prelude.{◌≡◌, ◌↔◌, IfOk, IsTrue};
+ghost use Rattle.room_kinds.specs.Messages.{SameSending, SameContent};
 
 use crate::numbers::{ControllerId, Endpoint, Priority, Stamp};
 use crate::payload::Payload;
@@ -36,6 +37,33 @@ impl Msg {
             signal: self.signal,
             payload,
         })
+    }
+
+    /// Whether this message and another one are the same in all that they say.
+    pub fn is_same(&self, other: &Msg) -> bool
+        ensures { IsTrue result ↔ (self.now ≡ other.now) }
+    {
+        self.is_same_sending(other) && self.is_same_content(other)
+    }
+
+    /// Whether both were sent by the same party to the same one, as urgent, at the same time.
+    fn is_same_sending(&self, other: &Msg) -> bool
+        ensures { IsTrue result ↔ SameSending self.now other.now }
+    {
+        self.from == other.from
+            && self.to == other.to
+            && self.prio == other.prio
+            && self.stamp == other.stamp
+    }
+
+    /// Whether both say the same from the same place to the same one.
+    fn is_same_content(&self, other: &Msg) -> bool
+        ensures { IsTrue result ↔ SameContent self.now other.now }
+    {
+        self.source == other.source
+            && self.target == other.target
+            && self.signal == other.signal
+            && self.payload.is_same(&other.payload)
     }
 }
 

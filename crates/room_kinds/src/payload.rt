@@ -1,5 +1,5 @@
 //! The numbers that a message carries.
-ghost use Rattle.std.specs.Prelude.{◌≡◌, ◌≤◌, ◌<◌, ◌++◌, ◌∷◌, [], length, take, IfOk, OnOk, OnErr};
+ghost use Rattle.std.specs.Prelude.{◌≡◌, ◌↔◌, ◌≤◌, ◌<◌, ◌++◌, ◌∷◌, [], length, take, IfOk, OnOk, OnErr, IsTrue};
 
 use std::alloc::{AllocError, Global};
 use std::marker::Model;
@@ -105,4 +105,17 @@ impl Payload {
     {
         Payload::from_slice(alloc, self.numbers())
     }
+
+    /// Whether both have the same numbers, wherever they stand.
+    pub fn is_same(&self, other: &Payload) -> bool
+        ensures { IsTrue result ↔ (self.now ≡ other.now) }
+    {
+        is_same_numbers(self.numbers(), other.numbers())
+    }
+}
+
+fn is_same_numbers(a: &[i64], b: &[i64]) -> bool
+    ensures { IsTrue result ↔ (a.now ≡ b.now) }
+{
+    a == b
 }

@@ -3,8 +3,6 @@ ghost use Rattle.std.specs.Prelude.{◌≡◌};
 ghost use Rattle.room_lexer.specs.declared.fault.LexFault.TheVariants.{Memory};
 
 use std::alloc::{AllocError, AllocFailed};
-use std::error::Error;
-use std::fmt;
 
 /// Why a text has no tokens. Each fault but `Memory` names the place of the first byte of the
 /// first offender, counted from 0.
@@ -21,20 +19,6 @@ pub enum LexFault {
     /// Memory ran out.
     Memory,
 }
-
-impl fmt::Display for LexFault {
-    fn fmt<W: fmt::Write>(&self, f: &mut fmt::Formatter<W>) -> fmt::Result {
-        match self {
-            LexFault::BadByte(at) => write!(f, "no token begins at byte {at}"),
-            LexFault::OpenString(at) => write!(f, "the text opened at byte {at} is not closed"),
-            LexFault::OpenComment(at) => write!(f, "the comment at byte {at} is not closed"),
-            LexFault::NumberTooLarge(at) => write!(f, "the number at byte {at} is too large"),
-            LexFault::Memory => write!(f, "out of memory"),
-        }
-    }
-}
-
-impl Error for LexFault {}
 
 impl From<AllocError> for LexFault {
     ghost from_gives = { λ _ e. e ≡ Memory };

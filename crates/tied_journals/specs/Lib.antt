@@ -3,4 +3,3 @@ pub mod Text
 pub mod Untied
 pub mod PostTables
 pub mod Writing
-pub mod Messages

@@ -5,7 +5,6 @@
 #![tactic(auto)]
 
 mod fetches;
-mod messages;
 mod tables;
 mod text;
 mod untied;

@@ -7,7 +7,6 @@ ghost use Rattle.tied_journals.specs.Tied.{Follows, IsPosted, fetched_at, IsTied
 ghost use Rattle.tied_journals.specs.PostTables.{ArePostsOf};
 ghost use Rattle.tied_journals.specs.Untied.{IsUntied, IsFirstUntiedIn, party_number, IsFirstUntied};
 
-use crate::messages::is_same;
 use crate::tables::Posts;
 use journal::{Entry, Journals};
 use room_kinds::{ControllerId, Msg, Stamp};
@@ -28,7 +27,7 @@ fn is_posted(posts: &Posts<'_>, msg: &Msg) -> bool
     ensures { (j : Journals) → ArePostsOf posts.now j → IsTrue result ↔ IsPosted j msg.now }
 {
     match posts.only(msg.from, msg.stamp) {
-        Some(post) => is_same(post, msg),
+        Some(post) => post.is_same(msg),
         None => false,
     }
 }
