@@ -182,4 +182,11 @@ impl Machine {
     {
         self.leaf
     }
+
+    /// The numbers of the attributes, in order of declaration. It takes no memory.
+    pub fn attributes(&self) -> &[i64]
+        ensures { result.now ≡ self.now.mind.vars }
+    {
+        self.mind.vars.numbers()
+    }
 }
