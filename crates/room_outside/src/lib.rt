@@ -20,7 +20,7 @@ mod sure;
 mod system;
 
 pub use gate::{ControllerNo, Gate, OpenGate};
-pub use line_text::{LineBuffer, Part, write_line};
+pub use line_text::{LineBuffer, Part, write_line, write_only_line};
 pub use meet::MeetGate;
 pub use mem_shelf::MemShelf;
 pub use mem_sink::MemSink;
