@@ -21,7 +21,7 @@ mod system;
 
 pub use files::TextFile;
 pub use gate::{ControllerNo, Gate, OpenGate};
-pub use line_text::{LineBuffer, Part, write_line};
+pub use line_text::{LineBuffer, Part, write_line, write_only_line};
 pub use meet::MeetGate;
 pub use mem_shelf::MemShelf;
 pub use mem_sink::MemSink;
