@@ -1,7 +1,7 @@
 -- Lines that name what a wiring has: each message goes to a place of whoever stands in a slot that isn't imported,
 -- its signal comes in there with as many numbers, and its priority is 1 to 5. Two answers to which places: those
 -- that an injection text can name (`FitLines`), and all end places (`LinesFit`), where timeouts go, too.
-use Rattle.std.specs.Prelude.{◌≡◌, ℕ, ℤ, ◌+◌, ◌<◌, ◌≤◌, Bool, true, false, List, IsTrue, Some, length, slice_get, option_and_then}
+use Rattle.std.specs.Prelude.{◌≡◌, ℕ, ℤ, ◌+◌, ◌<◌, ◌≤◌, ⊥, Bool, true, false, List, IsTrue, Some, length, slice_get, option_and_then}
 use Rattle.std.specs.List.{AllByRecursion}
 use Rattle.room_kinds.specs.declared.numbers.Endpoint.{Endpoint}
 use Rattle.room_kinds.specs.Structure.{is_end}
@@ -57,6 +57,16 @@ FitsWhat t (whats.Message target signal payload prio) = FitsMessage t target sig
 -- each line names what an injection text can name
 abbrev pub FitLines : Tables → List Line → Type 0
 FitLines t lines = AllByRecursion (λ (l : Line). FitsWhat t l.what) lines
+
+-- a line that doesn't move virtual time on
+abbrev pub StandsStill : What → Type 0
+StandsStill whats.Settle = Unit {0}
+StandsStill (whats.Advance time) = ⊥
+StandsStill (whats.Message target signal payload prio) = Unit {0}
+
+-- no line moves virtual time on
+abbrev pub AreUntimed : List Line → Type 0
+AreUntimed lines = AllByRecursion (λ (l : Line). StandsStill l.what) lines
 
 -- ---- end places of each kind
 

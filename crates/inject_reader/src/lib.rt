@@ -12,7 +12,7 @@ mod meaning;
 mod parts;
 mod reader;
 
-pub use crate::inject_lines::{Line, What};
+pub use crate::inject_lines::{Advances, Line, What};
 pub use fault::InjectFault;
 pub use fitting::read_lines_fit;
-pub use reader::read_injections;
+pub use reader::{read_injections, read_untimed};

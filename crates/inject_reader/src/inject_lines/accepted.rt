@@ -18,6 +18,13 @@ pub enum What {
     },
 }
 
+/// Whether lines that move virtual time on are accepted.
+#[derive(Clone, Copy, Debug, PartialEq, Eq)]
+pub enum Advances {
+    Taken,
+    Refused,
+}
+
 /// A line with its number in the text, from 1.
 #[derive(Drop, Debug)]
 pub struct Line {
