@@ -5,6 +5,7 @@
 
 mod directory;
 mod fault;
+mod fitting;
 pub mod inject_lines;
 mod lines;
 mod meaning;
@@ -13,4 +14,5 @@ mod reader;
 
 pub use crate::inject_lines::{Line, What};
 pub use fault::InjectFault;
+pub use fitting::read_lines_fit;
 pub use reader::read_injections;
