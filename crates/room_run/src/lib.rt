@@ -25,13 +25,13 @@ mod top;
 
 pub use answers::{accepted_calls_end, conversions_keep_journals, one_answer};
 pub use fitting_journals::{fitting_journals_fit, fitting_runs_journals};
-pub use fitting_plants::{fitting_runs_settle, plants_fit, read_lines_fit};
+pub use fitting_plants::{fitting_runs_settle, plants_fit};
 pub use judge::{read_plant, read_wiring};
 pub use model_fault::ModelFault;
 pub use model_plants::plant_of;
 pub use model_run::{run_local, run_model};
 pub use named::{NamedFiles, named_files};
-pub use refusal::Refusal;
+pub use refusal::{Refusal, told_code};
 pub use stack::stack_of;
 pub use status::Status;
 pub use top::room_top;
