@@ -137,7 +137,7 @@ fn the_first_untied_fetch_is_told(rt: HostRuntime) -> Result<(), Fail> {
 }
 
 /// Whether so much of the text in form 2 is written as a sink takes that has this room, and of
-/// which these calls fail.
+/// which these calls fail, and the fault tells how much that is.
 fn breaks_off(
     alloc: Global,
     wiring: &Wiring,
@@ -149,7 +149,11 @@ fn breaks_off(
         Some(journals) => {
             let mut sink = MemSink::new(alloc, room, fail.to_vec(alloc)?)?;
             let written = tied_journals::lines_to(&journals, wiring, &mut sink);
-            Ok(written.is_err() && sink.faults() == 1 && text.starts_with(sink.bytes()))
+            let told = match written {
+                Ok(()) => false,
+                Err(fault) => fault.taken == sink.bytes().len(),
+            };
+            Ok(told && sink.faults() == 1 && text.starts_with(sink.bytes()))
         }
         None => Ok(false),
     }
