@@ -3,7 +3,7 @@ ghost use Rattle.std.specs.Prelude.{◌≡◌, ◌+◌, ◌<◌, ◌==◌, ◌�
 ghost use Rattle.std.specs.List.{list_any};
 ghost use Rattle.controller_mail.specs.MailState.{HasPriority, has_messages, messages_in};
 ghost use Rattle.controller_mail.specs.Steps.{Fetches, Posts};
-ghost use Rattle.controller_mail.specs.Within.{IsAnswerable};
+ghost use Rattle.controller_mail.specs.Within.{IsAnswerable, IsFor};
 ghost use Rattle.mail_core.specs.Tied.{IsTied, StaysTied};
 ghost use Rattle.controller.specs.Controllers.{IsOf, Begins};
 ghost use Rattle.controller.specs.Calls.{PostsAll, Polls, FetchesLeft, Turns};
@@ -184,6 +184,7 @@ impl Controller {
     /// reply, come from controllers.
     pub fn fetch_left(&mut self, plant: &Plant, left: Vec<Msg>) -> Result<(), AllocError>
         requires of { IsOf plant.now self.old }
+        requires to { All (IsFor self.old.me.0) left.items }
         requires prio { All HasPriority left.items }
         requires answerable { All (IsAnswerable (length plant.now.wiring.controllers)) left.items }
         ensures ok { OnOk result (FetchesLeft plant.now self.old self.new left.items) }
