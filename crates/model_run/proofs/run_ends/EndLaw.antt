@@ -206,8 +206,8 @@ ends_there t done rest (from_settle l lines h) = subst (λ (z : Item). EndsPart 
 pub journals_told : (count : ℕ) (ks : List Controller) (js : List (List Entry)) (ls : List Left) → AreTold count ks [] js ls → js ≡ journals_in ks
 journals_told count ks js ls t = sym (append-nil js) ∙ t.journals_are
 
-left_is : (count : ℕ) (ks : List Controller) (js : List (List Entry)) (ls : List Left) → AreTold count ks [] js ls → ls ≡ left_from 0 ks
-left_is count ks js ls t = sym (append-nil ls) ∙ t.left_is
+lefts_told : (count : ℕ) (ks : List Controller) (js : List (List Entry)) (ls : List Left) → AreTold count ks [] js ls → ls ≡ left_from 0 ks
+lefts_told count ks js ls t = sym (append-nil ls) ∙ t.left_is
 
 six_told : (count : ℕ) (ks : List Controller) (js : List (List Entry)) (ls : List Left) → AreTold count ks [] js ls → WaitInSix ks
 six_told count ks js ls t c k e = six_lists (left c true) k.mail.pending (six_at ks c k (t.six tt) e)
@@ -220,5 +220,5 @@ ran_told plant given rest fuel ks env done count js ls a t may =
     let items = items_of plant.wiring rest in
     let none : done ≡ true → items ≡ [] = λ e. ap (λ (z : List Line). items_of plant.wiring z) (none_left_over rest (subst (λ (z : Bool). MayBeLeft z rest) e may)) in
     subst (λ (z : List ℕ). IsRun plant (given ++ rest) fuel (record { controllers = js; environment = env.journal; left = ls; unposted = z; done = done })) (map_numbers plant.wiring rest)
-    (is_run plant (items_of plant.wiring given) items fuel ks env done js ls a (journals_told count ks js ls t) (left_is count ks js ls t) (six_told count ks js ls t) none (ends_there plant.wiring done rest may)
+    (is_run plant (items_of plant.wiring given) items fuel ks env done js ls a (journals_told count ks js ls t) (lefts_told count ks js ls t) (six_told count ks js ls t) none (ends_there plant.wiring done rest may)
     (given ++ rest) (map-append (λ (l : Line). item_of plant.wiring l.number l.what) given rest))

@@ -5,7 +5,7 @@ use Rattle.controller_mail.specs.MailState.{EnvironmentState}
 use Rattle.controller.specs.Controllers.{state_at}
 use Rattle.controller.specs.View.{Controller}
 use Rattle.model_run.specs.part_posts.Items.{items_of}
-use Rattle.model_run.specs.part_source.Calls.{Seen, seen, StoodQuiet, MayAsk, asked}
+use Rattle.model_run.specs.part_source.Calls.{seen, StoodQuiet, MayAsk, asked}
 use Rattle.model_run.specs.part_source.Parts.{NextPart}
 use Rattle.model_run.specs.run_ends.Ends.{waits, IsAtEnd}
 use Rattle.model_run.proofs.part_source.CallsLaw.{grew_none, grew_same, asks_none}
