@@ -118,6 +118,8 @@ impl Point {
     fn place_from(&self, place: u64) -> usize
         ensures { first_from place self.now.linked ≡ slice_get self.now.linked result }
     {
+        // A look at the links, which stand in order of place.
+        let _links = self.linked.as_slice();
         match self.search(place) {
             Ok(index) => index,
             Err(index) => index,
