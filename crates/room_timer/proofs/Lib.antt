@@ -1,0 +1,5 @@
+pub mod Lists
+pub mod Computing
+pub mod Later
+pub mod Fits
+pub mod Once

@@ -1,0 +1,23 @@
+use Rattle.std.proofs.Common.{refl, true, false, List, [], ◌∷◌, ◌++◌, pos}
+use Rattle.journal.specs.declared.entry.Did.TheVariants as did
+use Rattle.journal.specs.declared.entry.Entry.TheVariants as entry
+use Rattle.room_kinds.specs.declared.note.Note.TheVariants as notes
+use Rattle.actor_merge.specs.World.{Placed}
+use Rattle.actor_duties.specs.Words.{incarnation}
+use Rattle.room_timer.specs.Expansion.{Point, beginning, settle, Advances, over, more, last, Expands, nothing, settled, advanced, cut_off}
+use Rattle.room_timer.specs.Examples.{tables, advance, start_timer, kill_timer, timeout, posted, fetched, turned, unhandled, handled, arming, journals, timeout_under, heard, heard_twice, stopped, disarming, ending}
+use Rattle.room_timer.proofs.Computing.{computing, inside, outside, timer_due, point, one_controller}
+use Rattle.room_timer.proofs.examples.disarmed_in_time.Goals as goal
+
+abbrev merge : List Placed
+merge = inside (posted (start_timer 1 (pos 5))) ∷ inside (posted (kill_timer 2)) ∷ []
+
+pub returns : goal.returns
+unfolding computing
+returns c =
+    let first : Advances tables 1 10 (beginning merge) (settle 1 ∷ []) (point 10 [] [] 0) true = over (beginning merge) refl in
+    record {
+      merge = merge;
+      is = one_controller tables disarming merge refl refl refl refl refl;
+      expands = advanced (beginning merge) (point 10 [] [] 0) (advance 1 10) 10 [] (settle 1 ∷ []) [] [] refl first (nothing (point 10 [] [] 0));
+    }
