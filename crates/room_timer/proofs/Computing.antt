@@ -68,7 +68,7 @@ pub one_controller : (t : Tables) (j : Journals) (merge : List Placed) → lengt
     → list_all (λ (x : Placed). nat_lt x.party 2) merge ≡ true
     → entries_of 0 merge ≡ filter is_event (slice_index_or j.controllers 0 []) → entries_of 1 merge ≡ filter is_event j.environment
     → IsMerge (events_of t j) merge
-one_controller t j merge one up near controller outside = record { ordered = in_order merge up; whole = λ p. whole p (cases_eq p 0) (cases_eq p 1) }
+one_controller t j merge one up near controller environment = record { ordered = in_order merge up; whole = λ p. whole p (cases_eq p 0) (cases_eq p 1) }
   where
     inside_is : (p : ℕ) → p ≡ 0 → filter is_event (slice_index_or j.controllers 0 []) ≡ events_of t j p
     inside_is p e = rw (one, e) refl
@@ -77,11 +77,11 @@ one_controller t j merge one up near controller outside = record { ordered = in_
     outside_is p e = rw (one, e) refl
 
     beyond_is : (p : ℕ) → 2 ≤ p → [] ≡ events_of t j p
-    beyond_is p far = rw (one, le-ltb 1 p (omega (arith, far)), ne_eqb p 1 (λ e. omega (arith, e, far))) refl
+    beyond_is p far = rw (one, le-ltb p 1 (omega (arith, far)), ne_eqb p 1 (λ e. omega (arith, e, far))) refl
 
     whole : (p : ℕ) → (p ≡ 0) ⊎ (p ≡ 0 → ⊥) → (p ≡ 1) ⊎ (p ≡ 1 → ⊥) → entries_of p merge ≡ events_of t j p
     whole p (inl e) other = ap (λ (q : ℕ). entries_of q merge) e ∙ controller ∙ inside_is p e
-    whole p (inr n) (inl e) = ap (λ (q : ℕ). entries_of q merge) e ∙ outside ∙ outside_is p e
+    whole p (inr n) (inl e) = ap (λ (q : ℕ). entries_of q merge) e ∙ environment ∙ outside_is p e
     whole p (inr n) (inr m) =
         let far : 2 ≤ p = omega (arith, n, m) in
         none_beyond p far merge near ∙ beyond_is p far

@@ -1,6 +1,6 @@
 -- Timeouts come in where they go.
 use Rattle.std.proofs.Common.{◌≡◌, ℕ, zero, suc, ◌+◌, ◌<◌, ◌≤◌, ◌==◌, nat_lt, nat_le, Bool, true, false, not, ◌&&◌, if◌then◌else◌, List, [], ◌∷◌, map, length, Option, Some, None, refl, sym, ap, ◌∙◌, subst, ltb-true, eqb-true, arith}
-use Rattle.std.specs.Prelude.{filter, option_map, codes}
+use Rattle.std.specs.Prelude.{filter, option_map, slice_get, codes}
 use Rattle.std.specs.List.{AllByRecursion}
 use Rattle.std.specs.Option.{option_map_or}
 use Rattle.std.proofs.lemmas.Bool.{and_parts}
@@ -50,8 +50,8 @@ timeout_comes port h =
     record {
       place = 0;
       names = answer.0;
-      names_is = rw (side, answer.1) refl;
-      number = rw (side, two) refl;
+      names_is = ap (λ (b : Bool). slice_get (if b then port.outgoing else port.incoming) 0) side ∙ ap (λ (xs : List SignalNames). slice_get xs 0) answer.1;
+      number = sym (ap (λ (k : ℕ). k + 0) (ap (λ (b : Bool). if b then length port.incoming else 0) side ∙ two));
       carries = sym answer.2;
     }
 

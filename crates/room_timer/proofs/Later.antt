@@ -125,7 +125,7 @@ some_least x (Some other) e = cc
 -- the least due time is that of none later
 all_after : (xs : List Timer) (time : ℕ) → earliest xs ≡ Some time → AllByRecursion (λ (x : Timer). time ≤ x.due) xs
 all_after [] time h = tt
-all_after (x ∷ xs) time h = go (earliest xs) refl h
+all_after (x ∷ xs) time h = go (earliest xs) refl h (λ other some. all_after xs other some)
   where
     weaker : (a b : ℕ) → a ≤ b → (ys : List Timer) → AllByRecursion (λ (y : Timer). b ≤ y.due) ys → AllByRecursion (λ (y : Timer). a ≤ y.due) ys
     weaker a b l [] k = tt
@@ -135,11 +135,13 @@ all_after (x ∷ xs) time h = go (earliest xs) refl h
     empty [] k = tt
     empty (y ∷ ys) k = absurd (some_least y (earliest ys) k)
 
-    go : (o : Option ℕ) → earliest xs ≡ o → sooner (Some x.due) o ≡ Some time → AllByRecursion (λ (y : Timer). time ≤ y.due) (x ∷ xs)
-    go None none e = let same : x.due ≡ time = cc in (omega (arith, same), empty xs none)
-    go (Some other) some e =
+    go : (o : Option ℕ) → earliest xs ≡ o → sooner (Some x.due) o ≡ Some time
+        → ((other : ℕ) → earliest xs ≡ Some other → AllByRecursion (λ (y : Timer). other ≤ y.due) xs)
+        → AllByRecursion (λ (y : Timer). time ≤ y.due) (x ∷ xs)
+    go None none e again = let same : x.due ≡ time = cc in (omega (arith, same), empty xs none)
+    go (Some other) some e again =
         let same : min x.due other ≡ time = cc in
-        (omega (arith, same), weaker time other (omega (arith, same)) xs (all_after xs other some))
+        (omega (arith, same), weaker time other (omega (arith, same)) xs (again other some))
 
 -- the least due time by another one is the least, and by that one
 due_then : (until : ℕ) (xs : List Timer) (time : ℕ) → due_by until xs ≡ Some time → earliest xs ≡ Some time

@@ -1,8 +1,9 @@
 -- Lists of timers: one that goes, and one that comes behind all others; the least due time, step by step.
-use Rattle.std.proofs.Common.{◌≡◌, ℕ, zero, suc, ◌<◌, min, List, [], ◌∷◌, ◌++◌, Option, Some, None, refl, sym, ap, ◌∙◌, arith}
+use Rattle.std.proofs.Common.{◌≡◌, ℕ, zero, suc, ◌<◌, ◌==◌, true, min, List, [], ◌∷◌, ◌++◌, Option, Some, None, refl, ap, eqb-true, arith}
 use Rattle.std.specs.Prelude.{IfSome, length, filter}
 use Rattle.std.specs.List.{remove}
 use Rattle.std.specs.Option.{option_map_or}
+use Rattle.room_kinds.specs.declared.note.Note.{Note}
 use Rattle.room_timer.specs.declared.timer.Timer.{Timer}
 use Rattle.room_timer.specs.Timers.{outlives, sooner}
 
@@ -18,9 +19,13 @@ removed_before xs x None h = refl
 removed_before xs x (Some i) h = removed xs x i h
 
 -- without notes nothing ends
-pub all_outlive : (xs : List Timer) → filter (outlives []) xs ≡ xs
+all_outlive : (xs : List Timer) → filter (outlives []) xs ≡ xs
 all_outlive [] = refl
 all_outlive (x ∷ xs) = ap (λ (zs : List Timer). x ∷ zs) (all_outlive xs)
+
+pub none_ends : (ns : List Note) (xs : List Timer) → (length ns == 0) ≡ true → filter (outlives ns) xs ≡ xs
+none_ends [] xs h = all_outlive xs
+none_ends (n ∷ ns) xs h = absurd (omega (arith, eqb-true (length (n ∷ ns)) 0 h))
 
 least_of_three : (a b c : ℕ) → min (min a b) c ≡ min a (min b c)
 least_of_three a b c = omega arith

@@ -13,7 +13,7 @@ use Rattle.room_timer.specs.Laws.{IsPlain}
 one_moment : (number until : ℕ) (ts : Timers) (ms ns : List Line) (next other : Timers)
     → moment number ts until ≡ Some (ms, next) → moment number ts until ≡ Some (ns, other) → (ms ≡ ns) × (next ≡ other)
 one_moment number until ts ms ns next other h k =
-    let both : Some (ms, next) ≡ Some (ns, other) = sym h ∙ k in
+    let both : ◌≡◌ {A = Option (List Line × Timers)} (Some (ms, next)) (Some (ns, other)) = sym h ∙ k in
     let p : List Line × Timers = (ms, next) in
     let q : List Line × Timers = (ns, other) in
     let same : p ≡ q = cc in

@@ -1,5 +1,6 @@
 //! Where the timing service of a model is, and where its timeouts come in.
-ghost use Rattle.std.specs.Prelude.{◌≡◌, ◌<◌, length};
+ghost use Rattle.std.specs.Prelude.{◌≡◌, option_map};
+ghost use Rattle.actor_duties.specs.Words.{is_fixed, container_of};
 ghost use Rattle.actor_world.specs.Start.{is_fixed_up, lives_from_start};
 ghost use Rattle.room_timer.specs.Services.{is_int32, is_spp, carries_int32, are_requests, are_answers, speaks_of_time, is_timer, is_timing, is_timed, hears_timeout};
 ghost use Rattle.inject_reader.specs.Fitting.{has_end_places};
@@ -101,27 +102,50 @@ fn is_timed(port: &PortNames) -> bool
     has_end_places(port.kind) && port.conjugated && speaks_of_time(port)
 }
 
+/// Whether a slot lives exactly where its container does.
+#[tactic(auto, unfolding(actor_duties::specs::Words::is_fixed))]
+fn is_fixed(wiring: &Wiring, s: SlotId) -> bool
+    ensures { result ≡ is_fixed wiring.now s.0 }
+{
+    match wiring.get_slot(s) {
+        Some(slot) => match slot.kind {
+            ReferenceKind::Fixed => true,
+            ReferenceKind::Optional | ReferenceKind::Imported => false,
+        },
+        None => false,
+    }
+}
+
+/// The container of a slot; none at the top, and where there is no such slot.
+#[tactic(auto, unfolding(actor_duties::specs::Words::container_of))]
+fn container_of(wiring: &Wiring, s: SlotId) -> Option<SlotId>
+    ensures { option_map (λ c. c.0) result ≡ container_of wiring.now s.0 }
+{
+    match wiring.get_slot(s) {
+        Some(slot) => slot.parent,
+        None => None,
+    }
+}
+
 /// Whether a slot is fixed and, so many containers up, in fixed slots alone.
+#[tactic(auto, using(crate::proofs::Places::fixed_above))]
 fn is_fixed_up(wiring: &Wiring, up: u32, s: SlotId) -> bool
     ensures { result ≡ is_fixed_up wiring.now up s.0 }
 {
-    let Some(slot) = wiring.get_slot(s) else {
+    if !is_fixed(wiring, s) {
         return false;
-    };
-    match slot.kind {
-        ReferenceKind::Fixed => {}
-        ReferenceKind::Optional | ReferenceKind::Imported => return false,
     }
     if up == 0 {
         return true;
     }
-    match slot.parent {
+    match container_of(wiring, s) {
         Some(container) => is_fixed_up(wiring, up - 1, container),
         None => true,
     }
 }
 
 /// Whether a slot lives from the start: it is fixed and not below an optional one.
+#[tactic(auto, unfolding(actor_world::specs::Start::lives_from_start))]
 fn lives_from_start(wiring: &Wiring, s: SlotId) -> bool
     ensures { result ≡ lives_from_start wiring.now s.0 }
 {
@@ -129,6 +153,7 @@ fn lives_from_start(wiring: &Wiring, s: SlotId) -> bool
 }
 
 /// Whether an endpoint is at the `timer` of a timing service.
+#[tactic(auto, unfolding(crate::specs::Services::is_timing))]
 pub fn is_timing(wiring: &Wiring, e: Endpoint) -> bool
     ensures { result ≡ is_timing wiring.now e }
 {
@@ -142,6 +167,7 @@ pub fn is_timing(wiring: &Wiring, e: Endpoint) -> bool
 }
 
 /// Whether timeouts come in at an endpoint.
+#[tactic(auto, using(crate::proofs::Places::slot_there), unfolding(crate::specs::Services::hears_timeout))]
 pub fn hears_timeout(wiring: &Wiring, e: Endpoint) -> bool
     ensures { result ≡ hears_timeout wiring.now e }
 {

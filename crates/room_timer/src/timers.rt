@@ -1,6 +1,6 @@
 //! The timers that are armed.
 ghost use Rattle.std.specs.Prelude.{◌≡◌, ◌≤◌, ◌<◌, map, filter, not, length, position, Some, None, IfOk, IfSome, OnOk, OnErr, MatchOption};
-ghost use Rattle.std.specs.List.{remove};
+ghost use Rattle.std.specs.List.{list_any, remove};
 ghost use Rattle.std.specs.Option.{option_map_or};
 ghost use Rattle.actor_duties.specs.Words.{is_endpoint};
 ghost use Rattle.room_timer.specs.Timers.{no_timers, delay_of, is_at, disarmed, armed_at, asked, sent_at, is_down, outlives, saw, earliest, due_by, is_due, timeout_line, moment};
@@ -62,11 +62,18 @@ fn is_down(at: Endpoint, note: &Note) -> bool
     }
 }
 
-/// Whether a timer's actor didn't go down by these notes.
-fn outlives(notes: &[Note], timer: Timer) -> bool
-    ensures { result ≡ outlives notes.now timer }
+/// Whether one of these notes tells that the actor of a place went down.
+fn went_down(notes: &[Note], at: Endpoint) -> bool
+    ensures { result ≡ list_any (is_down at) notes.now }
 {
-    !notes.iter().any(|note| is_down(timer.at, note))
+    notes.iter().any(|note| is_down(at, note))
+}
+
+/// Whether a timer's actor didn't go down by these notes.
+fn outlives(notes: &[Note], timer: &Timer) -> bool
+    ensures { result ≡ outlives notes.now timer.now }
+{
+    !went_down(notes, timer.at)
 }
 
 /// The time that a delay takes, 1 at least.
@@ -97,7 +104,7 @@ fn place_of(armed: &[Timer], at: Endpoint) -> Option<usize>
 fn earliest(armed: &[Timer]) -> Option<u64>
     ensures { result ≡ earliest armed.now }
 {
-    let mut least = None;
+    let mut least: Option<u64> = None;
     for timer in armed {
         least = match least {
             Some(time) => Some(time.min(timer.due)),
@@ -160,7 +167,7 @@ fn timeout_lines(
 fn keep_outliving(armed: &mut Vec<Timer>, notes: &[Note])
     ensures { armed.new.items ≡ filter (outlives notes.now) armed.old.items }
 {
-    armed.retain(|timer| outlives(notes, *timer));
+    armed.retain(|timer| outlives(notes, timer));
 }
 
 /// Timers that are due at a time go.
@@ -269,13 +276,12 @@ impl TimerTable {
     }
 
     /// Timers end with the actors that went down by these notes. Most turns have no notes.
-    #[tactic(auto, using(crate::proofs::Lists::all_outlive))]
+    #[tactic(auto, using(crate::proofs::Lists::none_ends))]
     fn end_timers(&mut self, notes: &[Note])
         ensures { self.new ≡ record self.old { armed = filter (outlives notes.now) self.old.armed } }
     {
-        match notes {
-            [] => {}
-            _ => keep_outliving(&mut self.armed, notes),
+        if !notes.is_empty() {
+            keep_outliving(&mut self.armed, notes);
         }
     }
 
