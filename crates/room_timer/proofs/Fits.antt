@@ -1,5 +1,5 @@
 -- Timeouts come in where they go.
-use Rattle.std.proofs.Common.{◌≡◌, ℕ, zero, suc, ◌+◌, ◌<◌, ◌≤◌, ◌==◌, nat_lt, nat_le, Bool, true, false, not, ◌&&◌, if◌then◌else◌, List, [], ◌∷◌, map, length, Option, Some, None, refl, sym, ap, ◌∙◌, subst, ltb-true, eqb-true, arith}
+use Rattle.std.proofs.Common.{◌≡◌, ℕ, ◌+◌, ◌==◌, nat_lt, Bool, true, false, not, ◌&&◌, if◌then◌else◌, List, [], ◌∷◌, map, length, Option, Some, None, refl, sym, ap, ◌∙◌, subst, ltb-true, eqb-true, arith}
 use Rattle.std.specs.Prelude.{filter, option_map, slice_get, codes}
 use Rattle.std.specs.List.{AllByRecursion}
 use Rattle.std.specs.Option.{option_map_or}
@@ -13,10 +13,10 @@ use Rattle.room_wiring.specs.declared.tables.Tables.{Tables}
 use Rattle.room_wiring.specs.Slots.{slot_at, port_at}
 use Rattle.room_wiring.specs.Places.{place_count}
 use Rattle.inject_reader.specs.declared.inject_lines.accepted.Line.{Line}
-use Rattle.inject_reader.specs.Fitting.{has_end_places, ComesIn, IsEndPlace, MessageFits, LinesFit}
-use Rattle.inject_reader.specs.Meaning.{is_own, coming, first_coming}
+use Rattle.inject_reader.specs.Fitting.{has_end_places, ComesIn, MessageFits, LinesFit}
+use Rattle.inject_reader.specs.Meaning.{is_own}
 use Rattle.room_timer.specs.declared.timer.Timer.{Timer}
-use Rattle.room_timer.specs.Services.{is_named, carries_int32, are_requests, are_answers, speaks_of_time, is_timed, hears_timeout}
+use Rattle.room_timer.specs.Services.{is_named, are_requests, are_answers, speaks_of_time, is_timed, hears_timeout}
 use Rattle.room_timer.specs.Timers.{Timers, saw, due_by, is_due, timeout_line, expired, moment}
 use Rattle.room_timer.specs.Laws.{AllHear}
 use Rattle.room_timer.proofs.Later.{seen, all_filtered}

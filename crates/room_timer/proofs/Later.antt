@@ -1,10 +1,9 @@
 -- What holds of each armed timer, and stays so.
-use Rattle.std.proofs.Common.{◌≡◌, ℕ, zero, suc, ◌+◌, ◌<◌, ◌≤◌, ◌==◌, nat_lt, nat_le, min, Bool, true, false, not, ◌&&◌, if◌then◌else◌, List, [], ◌∷◌, ◌++◌, map, Option, Some, None, refl, sym, ap, ◌∙◌, subst, arith}
-use Rattle.std.specs.Prelude.{ℤ, pos, negsuc, filter, position, slice_index_or, unsigned_abs, int_lt, option_map, option_and_then}
+use Rattle.std.proofs.Common.{◌≡◌, ℕ, zero, suc, ◌+◌, ◌<◌, ◌≤◌, ◌==◌, nat_lt, nat_le, min, Bool, true, false, not, ◌&&◌, if◌then◌else◌, List, [], ◌∷◌, ◌++◌, Option, Some, None, refl, ap, subst, arith}
+use Rattle.std.specs.Prelude.{ℤ, pos, negsuc, filter, position, slice_index_or, int_lt, option_map, option_and_then}
 use Rattle.std.specs.List.{AllByRecursion, remove}
 use Rattle.std.specs.Option.{option_map_or}
 use Rattle.std.proofs.lemmas.Bool.{and_parts, eqb-false, leb-false}
-use Rattle.room_kinds.specs.declared.message.Msg.{Msg}
 use Rattle.room_kinds.specs.declared.numbers.Endpoint.{Endpoint}
 use Rattle.journal.specs.declared.entry.Entry.{Entry}
 use Rattle.journal.specs.declared.entry.Entry.TheVariants as entry
@@ -13,7 +12,7 @@ use Rattle.inject_reader.specs.declared.inject_lines.accepted.Line.{Line}
 use Rattle.room_timer.specs.declared.timer.Timer.{Timer}
 use Rattle.room_timer.specs.Services.{is_timing, hears_timeout, start_timer, kill_timer}
 use Rattle.room_timer.specs.Timers.{Timers, delay_of, is_at, disarmed, armed_at, asked, is_request, sent_at, outlives, saw, sooner, earliest, due_by, is_due, expired, moment}
-use Rattle.room_timer.specs.Laws.{AreLater, AllHear}
+use Rattle.room_timer.specs.Laws.{AreLater}
 
 -- ---- lists
 

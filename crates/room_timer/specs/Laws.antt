@@ -1,10 +1,9 @@
 -- Laws of timers and expansions.
-use Rattle.std.specs.Prelude.{◌≡◌, ℕ, ◌<◌, ◌≤◌, Bool, true, List, Some, None}
+use Rattle.std.specs.Prelude.{◌≡◌, ℕ, ◌<◌, Bool, true, List, Some, None}
 use Rattle.std.specs.List.{AllByRecursion}
 use Rattle.journal.specs.declared.entry.Entry.{Entry}
 use Rattle.room_wiring.specs.declared.tables.Tables.{Tables}
 use Rattle.inject_reader.specs.declared.inject_lines.accepted.Line.{Line}
-use Rattle.inject_reader.specs.declared.inject_lines.accepted.What.{What}
 use Rattle.inject_reader.specs.declared.inject_lines.accepted.What.TheVariants as whats
 use Rattle.inject_reader.specs.Fitting.{LinesFit}
 use Rattle.room_timer.specs.declared.timer.Timer.{Timer}

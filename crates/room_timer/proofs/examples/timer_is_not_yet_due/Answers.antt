@@ -1,12 +1,8 @@
-use Rattle.std.proofs.Common.{refl, true, false, List, [], ◌∷◌, ◌++◌, pos}
-use Rattle.journal.specs.declared.entry.Did.TheVariants as did
-use Rattle.journal.specs.declared.entry.Entry.TheVariants as entry
-use Rattle.room_kinds.specs.declared.note.Note.TheVariants as notes
+use Rattle.std.proofs.Common.{refl, true, List, [], ◌∷◌, pos}
 use Rattle.actor_merge.specs.World.{Placed}
-use Rattle.actor_duties.specs.Words.{incarnation}
-use Rattle.room_timer.specs.Expansion.{Point, beginning, settle, Advances, over, more, last, Expands, nothing, settled, advanced, cut_off}
-use Rattle.room_timer.specs.Examples.{tables, advance, start_timer, kill_timer, timeout, posted, fetched, turned, unhandled, handled, arming, journals, timeout_under, heard, heard_twice, stopped, disarming, ending}
-use Rattle.room_timer.proofs.Computing.{computing, inside, outside, timer_due, point, one_controller}
+use Rattle.room_timer.specs.Expansion.{beginning, settle, Advances, over, nothing, advanced}
+use Rattle.room_timer.specs.Examples.{tables, advance, start_timer, posted, fetched, turned, unhandled, arming, journals}
+use Rattle.room_timer.proofs.Computing.{computing, inside, timer_due, point, one_controller}
 use Rattle.room_timer.proofs.examples.timer_is_not_yet_due.Goals as goal
 
 abbrev merge : List Placed
