@@ -1,7 +1,7 @@
 -- Lines that name what a wiring has: each message goes to a place of whoever stands in a slot that isn't imported,
 -- its signal comes in there with as many numbers, and its priority is 1 to 5. Two answers to which places: those
 -- that an injection text can name (`FitLines`), and all end places (`LinesFit`), where timeouts go, too.
-use Rattle.std.specs.Prelude.{◌≡◌, ℕ, ℤ, ◌+◌, ◌<◌, ◌≤◌, ⊥, Bool, true, false, List, IsTrue, Some, length, slice_get, option_and_then}
+use Rattle.std.specs.Prelude.{◌≡◌, ℕ, ℤ, ◌+◌, ◌<◌, ◌≤◌, Bool, true, false, List, IsTrue, Some, length, slice_get, option_and_then}
 use Rattle.std.specs.List.{AllByRecursion}
 use Rattle.room_kinds.specs.declared.numbers.Endpoint.{Endpoint}
 use Rattle.room_kinds.specs.Structure.{is_end}

@@ -55,7 +55,8 @@ fn read_lines(
     bytes: &[u8],
 ) -> Result<Vec<Line>, InjectFault>
     requires { length (lines bytes.now) ≤ 10000 }
-    ensures { Gives (λ v. v.items) result (entries_from advances directory.now 1 (lines bytes.now)) }
+    ensures { Gives (λ v. v.items) result
+        (entries_from advances directory.now 1 (lines bytes.now)) }
 {
     let mut found = Vec::new(alloc);
     let mut number = 1;
@@ -110,12 +111,8 @@ pub fn read_injections(
     read(alloc, Advances::Taken, bytes, wiring)
 }
 
-/// The same for a reader that knows no virtual time: a line `advance <time>` is refused with code 7.
-pub fn read_untimed(
-    alloc: Global,
-    bytes: &[u8],
-    wiring: &Wiring,
-) -> Result<Vec<Line>, InjectFault>
+/// The same for who knows no virtual time: a line `advance <time>` is refused with code 7.
+pub fn read_untimed(alloc: Global, bytes: &[u8], wiring: &Wiring) -> Result<Vec<Line>, InjectFault>
     // The lines, or the fault, are those of the definition, unless memory runs out.
     ensures exact { Gives (λ v. v.items) result (answer Refused wiring.now bytes.now) }
     // Each line names what the wiring has.

@@ -10,6 +10,7 @@ use Rattle.room_wiring.specs.declared.tables.Tables.{Tables}
 use Rattle.room_run.specs.Models.{IsModel, IsSound, SoundCauses, most_bytes}
 use Rattle.inject_reader.specs.declared.inject_lines.accepted.Line.{Line}
 use Rattle.inject_reader.specs.Answer.{answer}
+use Rattle.inject_reader.specs.declared.inject_lines.accepted.Advances.TheVariants.{Refused}
 use Rattle.inject_reader.specs.Gives.{Fails}
 use Rattle.inject_reader.specs.declared.fault.InjectFault.{InjectFault}
 use Rattle.inject_reader.specs.declared.fault.InjectFault.TheVariants as inject_faults
@@ -51,7 +52,7 @@ lines_cause before after name bytes w (Err why) is h =
     injections_refused (found_fact (λ text. LinesCauses w text why) (before.text name) bytes is h)
 
 -- a line is faulty
-pub line_told : (w : Tables) (bytes : List ℕ) (e : InjectFault) → length bytes ≤ most_bytes → Fails e (answer w bytes) → LinesCauses w bytes (refusal_of_lines e)
+pub line_told : (w : Tables) (bytes : List ℕ) (e : InjectFault) → length bytes ≤ most_bytes → Fails e (answer Refused w bytes) → LinesCauses w bytes (refusal_of_lines e)
 line_told w bytes (inject_faults.Code n code) short h = faulty_line n code (record { short = short; faulty = h })
 line_told w bytes inject_faults.Memory short h = no_memory_for_lines
 

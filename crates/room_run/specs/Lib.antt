@@ -1,6 +1,7 @@
 pub mod Words
 pub mod Statuses
 pub mod Models
+pub mod Named
 pub mod Reading
 pub mod Conversions
 pub mod Causes

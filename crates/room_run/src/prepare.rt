@@ -3,7 +3,7 @@ ghost use Rattle.std.specs.Prelude.{◌≡◌, ◌≤◌, ℕ, List, map, length
 ghost use Rattle.std.specs.String.{string_bytes};
 ghost use Rattle.room_outside.specs.Shown.{Keeps};
 ghost use Rattle.controller_actors.specs.declared.plant.Plant.{Plant as RunPlant};
-ghost use Rattle.inject_reader.specs.Fitting.{FitLines};
+ghost use Rattle.inject_reader.specs.Fitting.{FitLines, LinesFit};
 ghost use Rattle.inject_reader.specs.declared.inject_lines.accepted.Line.{Line as InjectedLine};
 ghost use Rattle.room_run.specs.Words.{files_view};
 ghost use Rattle.room_run.specs.Models.{IsSound, IsModel};
@@ -17,7 +17,7 @@ use crate::convert::convert;
 use crate::fitting_journals::fitting_runs_journals;
 use crate::judge::{read_plant, sound_model};
 use crate::made::run_made;
-use crate::refusal::Refusal;
+use crate::refusal::{Refusal, told_code};
 use controller::Plant;
 use inject_reader::InjectFault;
 use inject_reader::inject_lines::Line;
@@ -115,7 +115,10 @@ fn refusal_of_lines(fault: InjectFault) -> Refusal
     ensures { result ≡ refusal_of_lines fault }
 {
     match fault {
-        InjectFault::Code { line, code } => Refusal::InjectionsLine { line, code },
+        InjectFault::Code { line, code } => Refusal::InjectionsLine {
+            line,
+            code: told_code(code),
+        },
         InjectFault::Memory => Refusal::Memory,
     }
 }
@@ -127,7 +130,7 @@ pub(crate) fn judge_lines(alloc: Global, text: &[u8], wiring: &Wiring) -> Result
     ensures fit { IfOk result (λ lines. FitLines wiring.now lines.items) }
     ensures err { IfErr result (λ why. LinesCauses wiring.now text.now why) }
 {
-    match inject_reader::read_injections(alloc, text, wiring) {
+    match inject_reader::read_untimed(alloc, text, wiring) {
         Ok(lines) => Ok(lines),
         Err(fault) => Err(refusal_of_lines(fault)),
     }
@@ -165,7 +168,9 @@ fn run<G: Gate + Sync, R: Threads + Sync>(
     fuel: u64,
     gate: &G,
 ) -> Result<Recorded, AllocError>
-    requires { FitLines plant.wiring lines.now }
+    requires least { 1 ≤ fuel }
+    requires most { fuel ≤ 100000 }
+    requires fits { LinesFit plant.wiring lines.now }
     ensures { IfOk result (λ f. Finishes plant lines.now fuel f) }
 {
     let journals = run_model::<MailLanes, G, R>(rt, alloc, &plant, lines, fuel, gate)?;
@@ -184,6 +189,8 @@ fn run_files<S: Shelf, G: Gate + Sync, R: Threads + Sync>(
     fuel: u64,
     gate: &G,
 ) -> Result<Recorded, Refusal>
+    requires least { 1 ≤ fuel }
+    requires most { fuel ≤ 100000 }
     ensures ok { IfOk result (λ f.
         (plant : RunPlant)
         × (lines : List InjectedLine)

@@ -13,7 +13,7 @@ use Rattle.room_run.specs.fitting_journals.Fitting.{JournalsInPlace, FittingRuns
 use Rattle.room_run.proofs.fitting_journals.FitsLaw.{journals_fit}
 use Rattle.room_run.specs.fitting_plants.Plants.{PlantFits}
 use Rattle.room_run.specs.fitting_plants.Runs.{Settles}
-use Rattle.room_run.proofs.fitting_plants.Lines.{read_fit}
+use Rattle.inject_reader.proofs.EndPlaces.{read_fit}
 use Rattle.room_run.proofs.fitting_plants.Runs.{runs_settle}
 use Rattle.room_run.specs.Models.{IsSoundText, IsModel}
 use Rattle.room_run.specs.Causes.{IsInjections}

@@ -3,7 +3,7 @@ use Rattle.std.proofs.Common.{ℕ, List}
 use Rattle.law_models.proofs.wiring_laws.chart_state_names.Models.{sound_well_named}
 use Rattle.journal.specs.declared.entry.Journals.{Journals}
 use Rattle.inject_reader.specs.declared.inject_lines.accepted.Line.{Line}
-use Rattle.inject_reader.specs.Fitting.{FitLines}
+use Rattle.inject_reader.specs.Fitting.{LinesFit}
 use Rattle.controller_actors.specs.declared.plant.Plant.{Plant}
 use Rattle.model_run.specs.run_ends.Runs.{IsRun}
 use Rattle.law_runs.specs.run_texts.Texts.{TextTells}
@@ -14,7 +14,7 @@ use Rattle.room_run.specs.Models.{IsModel}
 use Rattle.room_run.proofs.Names.{names_read}
 
 pub text_tells : (text : List ℕ) (plant : Plant) (lines : List Line) (fuel : ℕ) (j : Journals) → IsModel text plant
-    → FitLines plant.wiring lines → IsRun plant lines fuel j
+    → LinesFit plant.wiring lines → IsRun plant lines fuel j
     → TextTells plant lines j
 text_tells text plant lines fuel j model fit run =
     let tree = model.is.tree in
@@ -25,6 +25,6 @@ text_tells text plant lines fuel j model fit run =
 
 -- what a run of a model fetches fits
 pub model_fetches_fit : (text : List ℕ) (plant : Plant) (lines : List Line) (fuel : ℕ) (j : Journals) → IsModel text plant
-    → FitLines plant.wiring lines → IsRun plant lines fuel j
+    → LinesFit plant.wiring lines → IsRun plant lines fuel j
     → FetchesFit plant j
 model_fetches_fit text plant lines fuel j model fit run = fetches_fit plant lines fit fuel j run
