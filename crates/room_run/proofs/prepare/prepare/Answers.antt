@@ -35,7 +35,7 @@ returns-in-Ok-run_files-clause-ok g c =
     let journals = c.in-Ok-run_files.finished.journals in
     let is : c.in-Some-Run.field-0 ≡ code.Run c.in-Some-Run.files c.in-Some-Run.fuel = cc in
     says_run (files_view c.in-Some-Run.files) c.in-Some-Run.fuel x.0 x.1 journals (sym c.in-Some-Run.ensures ∙ ap (λ (a : Asked). Some (asked_view a)) is)
-    (run_of c.fitting_runs_journals.ensures (g.S.Shelf.shown c.args.shelf.now) (files_view c.in-Some-Run.files) c.in-Some-Run.fuel x.0 x.1 journals x.2 x.3.run)
+    (run_of c.fitting_runs_journals.ensures (g.S.Shelf.shown c.args.shelf.now) (files_view c.in-Some-Run.files) c.in-Some-Run.fuel x.0 x.1 journals x.2 x.3.plant_fits x.3.lines_fit x.3.run)
     (text_is x.0 x.1 c.in-Some-Run.fuel c.in-Ok-run_files.finished x.3) refl
 
 pub returns-in-Err-run_files-clause-err : goal.returns-in-Err-run_files-clause-err
