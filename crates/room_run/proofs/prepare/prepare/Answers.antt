@@ -6,6 +6,7 @@ use Rattle.room_run.specs.Outcome.{says_ok, says_tree, says_run, says_converted}
 use Rattle.room_run.specs.declared.asked.Asked.{Asked}
 use Rattle.room_run.specs.declared.asked.Asked.TheVariants as code
 use Rattle.room_run.proofs.CauseLemmas.{model_sound}
+use Rattle.room_run.proofs.Fuel.{fuel_asked}
 use Rattle.room_run.proofs.OutcomeLemmas.{text_is, run_of, sum_answers}
 use Rattle.room_run.proofs.prepare.prepare.Goals as goal
 
@@ -28,6 +29,16 @@ pub returns-in-Err-read_wiring-clause-err : goal.returns-in-Err-read_wiring-clau
 returns-in-Err-read_wiring-clause-err g c =
     let is : c.in-Some-Tree.field-0 ≡ code.Tree c.in-Some-Tree.name = cc in
     of_tree c.in-Some-Tree.name.now (sym c.in-Some-Tree.ensures ∙ ap (λ (a : Asked). Some (asked_view a)) is) c.in-Err-read_wiring.ensures.err
+
+pub run_files-requires-clause-least : goal.run_files-requires-clause-least
+run_files-requires-clause-least g c =
+    let is : c.in-Some-Run.field-0 ≡ code.Run c.in-Some-Run.files c.in-Some-Run.fuel = cc in
+    (fuel_asked _ (files_view c.in-Some-Run.files) c.in-Some-Run.fuel (sym c.in-Some-Run.ensures ∙ ap (λ (a : Asked). Some (asked_view a)) is)).0
+
+pub run_files-requires-clause-most : goal.run_files-requires-clause-most
+run_files-requires-clause-most g c =
+    let is : c.in-Some-Run.field-0 ≡ code.Run c.in-Some-Run.files c.in-Some-Run.fuel = cc in
+    (fuel_asked _ (files_view c.in-Some-Run.files) c.in-Some-Run.fuel (sym c.in-Some-Run.ensures ∙ ap (λ (a : Asked). Some (asked_view a)) is)).1
 
 pub returns-in-Ok-run_files-clause-ok : goal.returns-in-Ok-run_files-clause-ok
 returns-in-Ok-run_files-clause-ok g c =
