@@ -16,7 +16,7 @@ use Rattle.derived_classes.specs.Views.{IsGrouped, code_views, refining_view, re
 use Rattle.derived_classes.specs.declared.refining.grouped.Group.{Group}
 use Rattle.derived_classes.specs.declared.refining.grouped.Grouped.{Grouped}
 use Rattle.derived_classes.specs.declared.refining.paths.Pending.{Pending}
-use Rattle.derived_classes.proofs.Lists.{none_some, some_same, got_within, none_past, mapped_length}
+use Rattle.derived_classes.proofs.Lists.{none_some, some_same, mapped_length}
 use Rattle.derived_classes.proofs.Seen.{same_is, same_own}
 
 -- ---- what the code does to groups
