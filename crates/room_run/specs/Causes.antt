@@ -84,7 +84,7 @@ pub data LinesCauses (wiring : Tables) (text : List ℕ) : Refusal → Type 0 wh
 pub data InjectionsCauses (before after : Shown) (name : List ℕ) (wiring : Tables) (why : Refusal) : Type 0 where
   injections_unread : RoseAt before after name → why ≡ refusals.ReadFault → InjectionsCauses before after name wiring why
   injections_long : TextIs before name (λ text. most_bytes < length text) → why ≡ refusals.InjectionsTooLong → InjectionsCauses before after name wiring why
-  injections_refused : TextIs before name (λ text. LinesCauses wiring text why) → InjectionsCauses before after name wiring why
+  bad_line : (number code : ℕ) → TextIs before name (λ text. HasBadLine wiring text number code) → why ≡ refusals.InjectionsLine number (told_code code) → InjectionsCauses before after name wiring why
   injections_no_memory : why ≡ refusals.Memory → InjectionsCauses before after name wiring why
 
 -- Why the run of two files may be refused. The order is: reading the model, the model, reading the
@@ -109,7 +109,8 @@ pub data RecordedCauses (wiring : Tables) (text : List ℕ) : Refusal → Type 0
 pub data JournalsCauses (before after : Shown) (name : List ℕ) (wiring : Tables) (why : Refusal) : Type 0 where
   journals_unread : RoseAt before after name → why ≡ refusals.ReadFault → JournalsCauses before after name wiring why
   journals_long : TextIs before name (λ text. most_journal_bytes < length text) → why ≡ refusals.JournalsTooLong → JournalsCauses before after name wiring why
-  journals_refused : TextIs before name (λ text. RecordedCauses wiring text why) → JournalsCauses before after name wiring why
+  journals_malformed : (offset : ℕ) → TextIs before name (λ text. HasNoJournals wiring text) → why ≡ refusals.JournalsMalformed offset → JournalsCauses before after name wiring why
+  journals_untied : (controller : ControllerId) (stamp : Stamp) → TextIs before name (λ text. HasUntiedJournals wiring text controller stamp) → why ≡ refusals.JournalsUntied controller stamp → JournalsCauses before after name wiring why
   journals_no_memory : why ≡ refusals.Memory → JournalsCauses before after name wiring why
 
 -- Why journals of a model may not be written in form 2. The order is: reading the model, the model, reading the

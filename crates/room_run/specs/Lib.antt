@@ -5,7 +5,6 @@ pub mod Named
 pub mod Reading
 pub mod Conversions
 pub mod Causes
-pub mod Fitting
 pub mod Outcome
 pub mod OneAnswer
 pub mod Finished
