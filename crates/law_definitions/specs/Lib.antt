@@ -3,4 +3,3 @@ pub mod Imported
 pub mod Owners
 pub mod Places
 pub mod message_forms
-pub mod worked_examples

@@ -1,9 +1,8 @@
 //! Laws that say definitions which go along a list or a tree again, in the words of their subject: which
 //! program a text has, which places a binding pairs, who owns what stands at the end of a way, and which ports an
-//! imported slot has. `message_forms` says which forms system messages have on their way; `worked_examples` has
-//! the definitions of charts and worlds computed on small models.
+//! imported slot has. `message_forms` says which forms system messages have on their way.
 //!
-//! No code: the laws, and the examples.
+//! No code: the laws alone.
 #![tactic(auto)]
 
 ghost use Rattle.law_definitions.specs.Codes.{CodesHaveOneProgram};
@@ -12,7 +11,6 @@ ghost use Rattle.law_definitions.specs.Owners.{OwnersHaveTheLongestMapping, Slot
 ghost use Rattle.law_definitions.specs.Places.{BindingsTakeFreePlaces};
 
 pub mod message_forms;
-pub mod worked_examples;
 
 /// The program of a code is the one whose tokens are those of its text, within the limits of the language; there
 /// is none exactly where the text has none. So it is of conditions.

@@ -1,7 +1,0 @@
-use Rattle.std.proofs.Common.{refl}
-use Rattle.law_definitions.proofs.worked_examples.worlds.Computing.{computing}
-use Rattle.law_definitions.proofs.worked_examples.worlds.world_rows.no_lines.Goals as goal
-
-pub returns : goal.returns
-unfolding computing
-returns c = record { begins = refl; run = refl }
