@@ -1,0 +1,5 @@
+pub mod Parties
+pub mod One
+pub mod Rise
+pub mod Bounds
+pub mod Cuts
