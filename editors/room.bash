@@ -5,7 +5,7 @@
 _room_fits() {
     case "$1" in
     FORM) [[ "$2" =~ ^--(svg|dot|mermaid)$ ]] ;;
-    [A-Z]*) return 0 ;;
+    [[:upper:]]*) return 0 ;;
     *) [ "$1" = "$2" ] ;;
     esac
 }
@@ -39,7 +39,7 @@ _room_offers() {
     FORM) compgen -W '--svg --dot --mermaid' -- "$2" ;;
     OPTION) compgen -W "$options" -- "$2" ;;
     CLASS) compgen -W "$(sed -n 's/^.*ActorClass  *\([A-Za-z_0-9]*\).*/\1/p' "${words[1]}" 2>/dev/null)" -- "$2" ;;
-    [A-Z]*) ;;
+    [[:upper:]]*) ;;
     *) compgen -W "$1" -- "$2" ;;
     esac
 }
