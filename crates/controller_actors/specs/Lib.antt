@@ -5,5 +5,4 @@ pub mod Served
 pub mod Rows
 pub mod Bodies
 pub mod Steps
-pub mod Seen
 pub mod actor_slots

@@ -11,7 +11,6 @@ pub mod actor_slots;
 mod actors;
 mod changes;
 mod duties;
-mod looks;
 mod plant;
 mod services;
 mod slot_rows;

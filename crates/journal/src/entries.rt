@@ -14,7 +14,7 @@ use crate::lines::{
 use crate::naming;
 use crate::speaker::speaker_after;
 use room_kinds::{ControllerId, Incarnation, Msg, Note, SlotId, Stamp};
-use room_outside::{Failed, LineBuffer, Part, Sink, write_line};
+use room_outside::{LineBuffer, Part, Sink, WriteFault, write_line};
 use room_wiring::Wiring;
 
 fn write_note<K: Sink>(
@@ -23,9 +23,8 @@ fn write_note<K: Sink>(
     wiring: &Wiring,
     speaker: Option<SlotId>,
     note: &Note,
-) -> Result<(), Failed>
-    ensures { Puts result
-        (at_rest (K.written sink.old) out.old) (at_rest (K.written sink.new) out.new)
+) -> Result<(), WriteFault>
+    ensures { Puts result (at_rest (K.written sink.old)) (at_rest (K.written sink.new))
         (note_line wiring.now speaker note.now) }
 {
     match note {
@@ -68,9 +67,8 @@ fn write_notes<K: Sink>(
     duty: bool,
     speaker: Option<SlotId>,
     notes: &[Note],
-) -> Result<(), Failed>
-    ensures { Puts result
-        (at_rest (K.written sink.old) out.old) (at_rest (K.written sink.new) out.new)
+) -> Result<(), WriteFault>
+    ensures { Puts result (at_rest (K.written sink.old)) (at_rest (K.written sink.new))
         (note_lines wiring.now duty speaker notes.now) }
 {
     let mut speaking = speaker;
@@ -95,7 +93,7 @@ fn put_turn_head<K: Sink>(
     sink: &mut K,
     wiring: &Wiring,
     head: TurnHead,
-) -> Result<(), Failed>
+) -> Result<(), WriteFault>
     ensures { Puts result
         (record { written = K.written sink.old; held = out.old })
         (record { written = K.written sink.new; held = out.new })
@@ -116,10 +114,10 @@ fn end_turn_line<K: Sink>(
     sink: &mut K,
     wiring: &Wiring,
     did: Did,
-) -> Result<(), Failed>
+) -> Result<(), WriteFault>
     ensures { Puts result
         (record { written = K.written sink.old; held = out.old })
-        (at_rest (K.written sink.new) out.new)
+        (at_rest (K.written sink.new))
         (line (did_parts wiring.now did)) }
 {
     match did {
@@ -144,9 +142,8 @@ fn write_turn<K: Sink>(
     wiring: &Wiring,
     head: TurnHead,
     did: Did,
-) -> Result<(), Failed>
-    ensures { Puts result
-        (at_rest (K.written sink.old) out.old) (at_rest (K.written sink.new) out.new)
+) -> Result<(), WriteFault>
+    ensures { Puts result (at_rest (K.written sink.old)) (at_rest (K.written sink.new))
         (turn_line wiring.now head.stamp.0 head.from.0 head.sent.0 did) }
 {
     out.clear();
@@ -160,9 +157,8 @@ fn write_fetch<K: Sink>(
     wiring: &Wiring,
     stamp: Stamp,
     msg: &Msg,
-) -> Result<(), Failed>
-    ensures { Puts result
-        (at_rest (K.written sink.old) out.old) (at_rest (K.written sink.new) out.new)
+) -> Result<(), WriteFault>
+    ensures { Puts result (at_rest (K.written sink.old)) (at_rest (K.written sink.new))
         (fetch_line wiring.now stamp.0 msg.now) }
 {
     let head = [
@@ -182,9 +178,8 @@ fn write_post<K: Sink>(
     wiring: &Wiring,
     stamp: Stamp,
     msg: &Msg,
-) -> Result<(), Failed>
-    ensures { Puts result
-        (at_rest (K.written sink.old) out.old) (at_rest (K.written sink.new) out.new)
+) -> Result<(), WriteFault>
+    ensures { Puts result (at_rest (K.written sink.old)) (at_rest (K.written sink.new))
         (post_line wiring.now stamp.0 msg.now) }
 {
     out.clear();
@@ -206,9 +201,8 @@ fn write_start<K: Sink>(
     who: Incarnation,
     state: u16,
     notes: &[Note],
-) -> Result<(), Failed>
-    ensures { Puts result
-        (at_rest (K.written sink.old) out.old) (at_rest (K.written sink.new) out.new)
+) -> Result<(), WriteFault>
+    ensures { Puts result (at_rest (K.written sink.old)) (at_rest (K.written sink.new))
         (start_line wiring.now who state ++ note_lines wiring.now false (Some who.slot) notes.now) }
 {
     write_standing_line(out, sink, wiring, &[Part::Text(b"start ")], who, state)?;
@@ -223,9 +217,8 @@ fn write_turn_and_notes<K: Sink>(
     head: TurnHead,
     did: Did,
     notes: &[Note],
-) -> Result<(), Failed>
-    ensures { Puts result
-        (at_rest (K.written sink.old) out.old) (at_rest (K.written sink.new) out.new)
+) -> Result<(), WriteFault>
+    ensures { Puts result (at_rest (K.written sink.old)) (at_rest (K.written sink.new))
         (turn_line wiring.now head.stamp.0 head.from.0 head.sent.0 did
         ++ note_lines wiring.now (is_duty did) (speaker_of did) notes.now) }
 {
@@ -241,9 +234,8 @@ fn write_notes_of<K: Sink>(
     wiring: &Wiring,
     did: Did,
     notes: &[Note],
-) -> Result<(), Failed>
-    ensures { Puts result
-        (at_rest (K.written sink.old) out.old) (at_rest (K.written sink.new) out.new)
+) -> Result<(), WriteFault>
+    ensures { Puts result (at_rest (K.written sink.old)) (at_rest (K.written sink.new))
         (note_lines wiring.now (is_duty did) (speaker_of did) notes.now) }
 {
     match notes {
@@ -258,9 +250,8 @@ pub fn write_entry<K: Sink>(
     sink: &mut K,
     wiring: &Wiring,
     entry: &Entry,
-) -> Result<(), Failed>
-    ensures { Puts result
-        (at_rest (K.written sink.old) out.old) (at_rest (K.written sink.new) out.new)
+) -> Result<(), WriteFault>
+    ensures { Puts result (at_rest (K.written sink.old)) (at_rest (K.written sink.new))
         (entry_text wiring.now entry.now) }
 {
     match entry {
@@ -293,9 +284,8 @@ pub fn write_journal<K: Sink>(
     sink: &mut K,
     wiring: &Wiring,
     entries: &[Entry],
-) -> Result<(), Failed>
-    ensures { Puts result
-        (at_rest (K.written sink.old) out.old) (at_rest (K.written sink.new) out.new)
+) -> Result<(), WriteFault>
+    ensures { Puts result (at_rest (K.written sink.old)) (at_rest (K.written sink.new))
         (journal_text wiring.now entries.now) }
 {
     for entry in entries {
@@ -312,9 +302,8 @@ fn write_controller<K: Sink>(
     wiring: &Wiring,
     c: usize,
     journal: &Journal,
-) -> Result<(), Failed>
-    ensures { Puts result
-        (at_rest (K.written sink.old) out.old) (at_rest (K.written sink.new) out.new)
+) -> Result<(), WriteFault>
+    ensures { Puts result (at_rest (K.written sink.old)) (at_rest (K.written sink.new))
         (controller_text wiring.now c journal.now) }
 {
     write_title(out, sink, wiring, c)?;
@@ -327,9 +316,8 @@ pub fn write_title<K: Sink>(
     sink: &mut K,
     wiring: &Wiring,
     c: usize,
-) -> Result<(), Failed>
-    ensures { Puts result
-        (at_rest (K.written sink.old) out.old) (at_rest (K.written sink.new) out.new)
+) -> Result<(), WriteFault>
+    ensures { Puts result (at_rest (K.written sink.old)) (at_rest (K.written sink.new))
         (title_of wiring.now c) }
 {
     let parts = [
@@ -346,9 +334,8 @@ fn write_controllers<K: Sink>(
     sink: &mut K,
     wiring: &Wiring,
     journals: &[Journal],
-) -> Result<(), Failed>
-    ensures { Puts result
-        (at_rest (K.written sink.old) out.old) (at_rest (K.written sink.new) out.new)
+) -> Result<(), WriteFault>
+    ensures { Puts result (at_rest (K.written sink.old)) (at_rest (K.written sink.new))
         (controllers_text wiring.now 0 journals.now) }
 {
     for (c, journal) in journals.iter().enumerate() {
@@ -362,9 +349,8 @@ fn write_left_line<K: Sink>(
     sink: &mut K,
     wiring: &Wiring,
     left: &Left,
-) -> Result<(), Failed>
-    ensures { Puts result
-        (at_rest (K.written sink.old) out.old) (at_rest (K.written sink.new) out.new)
+) -> Result<(), WriteFault>
+    ensures { Puts result (at_rest (K.written sink.old)) (at_rest (K.written sink.new))
         (left_line wiring.now left.now) }
 {
     let place = where_word(left.pending);
@@ -393,9 +379,8 @@ pub fn write_left<K: Sink>(
     sink: &mut K,
     wiring: &Wiring,
     left: &[Left],
-) -> Result<(), Failed>
-    ensures { Puts result
-        (at_rest (K.written sink.old) out.old) (at_rest (K.written sink.new) out.new)
+) -> Result<(), WriteFault>
+    ensures { Puts result (at_rest (K.written sink.old)) (at_rest (K.written sink.new))
         (left_text wiring.now left.now) }
 {
     for one in left {
@@ -408,9 +393,8 @@ fn write_unposted_line<K: Sink>(
     out: &mut LineBuffer,
     sink: &mut K,
     number: u32,
-) -> Result<(), Failed>
-    ensures { Puts result
-        (at_rest (K.written sink.old) out.old) (at_rest (K.written sink.new) out.new)
+) -> Result<(), WriteFault>
+    ensures { Puts result (at_rest (K.written sink.old)) (at_rest (K.written sink.new))
         (unposted_line number) }
 {
     write_line(
@@ -426,9 +410,8 @@ pub fn write_unposted<K: Sink>(
     out: &mut LineBuffer,
     sink: &mut K,
     numbers: &[u32],
-) -> Result<(), Failed>
-    ensures { Puts result
-        (at_rest (K.written sink.old) out.old) (at_rest (K.written sink.new) out.new)
+) -> Result<(), WriteFault>
+    ensures { Puts result (at_rest (K.written sink.old)) (at_rest (K.written sink.new))
         (unposted_text numbers.now) }
 {
     for number in numbers {
@@ -438,9 +421,8 @@ pub fn write_unposted<K: Sink>(
 }
 
 /// Writes the last line: `done` or `spent`.
-pub fn write_end<K: Sink>(out: &mut LineBuffer, sink: &mut K, done: bool) -> Result<(), Failed>
-    ensures { Puts result
-        (at_rest (K.written sink.old) out.old) (at_rest (K.written sink.new) out.new)
+pub fn write_end<K: Sink>(out: &mut LineBuffer, sink: &mut K, done: bool) -> Result<(), WriteFault>
+    ensures { Puts result (at_rest (K.written sink.old)) (at_rest (K.written sink.new))
         (end_line done) }
 {
     if done {
@@ -457,9 +439,8 @@ pub fn write_text<K: Sink>(
     sink: &mut K,
     wiring: &Wiring,
     journals: &Journals,
-) -> Result<(), Failed>
-    ensures { Puts result
-        (at_rest (K.written sink.old) out.old) (at_rest (K.written sink.new) out.new)
+) -> Result<(), WriteFault>
+    ensures { Puts result (at_rest (K.written sink.old)) (at_rest (K.written sink.new))
         (text_of wiring.now journals.now) }
 {
     write_line(out, sink, &[Part::Text(b"room-journal 1")])?;

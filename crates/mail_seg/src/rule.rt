@@ -40,15 +40,16 @@ impl Split<PassView> for NextParty {
     ghost right = { λ v. poster v.next };
 }
 
-/// The next party keeps the pass. What is split off posts for nobody and takes nothing.
+/// The next party keeps the pass, and the party after it gets one.
 pub struct KeepNext;
 
 impl Split<PassView> for KeepNext {
-    ghost use Rattle.mail_seg.specs.Rule.{keeping_next, spent};
+    ghost use Rattle.std.specs.Prelude.{◌+◌};
+    ghost use Rattle.mail_seg.specs.Rule.{keeping_next, poster};
 
     ghost left = { keeping_next };
 
-    ghost right = { λ v. spent };
+    ghost right = { λ v. poster (v.next + 1) };
 }
 
 /// A pass takes in another's posts.

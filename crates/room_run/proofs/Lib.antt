@@ -1,5 +1,4 @@
 pub mod Names
-pub mod Fuel
 pub mod OneCut
 pub mod JournalLaws
 pub mod AnswerLaws

@@ -1,2 +1,0 @@
-mod Dispatched
-pub mod Worlds
