@@ -12,7 +12,7 @@ use Rattle.mail_seg.specs.Sides.{Side, from_sender}
 use Rattle.mail_seg.specs.Wires.{Wire, IsWire, IsWired, wiring, wire_of, wire_at, no_wire, poster_count}
 use Rattle.mail_seg.specs.Ends.{no_side, side_at, sides_of, wiring_of, first_list, posted_at, taken_at, log_of, AreTied}
 use Rattle.mail_seg.specs.Rows.{row_at, new_side, RowsTo, IsEnd, EndsTo}
-use Rattle.mail_seg.proofs.PosterLemmas.{posters-some, controller-posts}
+use Rattle.mail_seg.proofs.PosterLemmas.{posters-some, posters-none, controller-posts}
 use Rattle.mail_seg.proofs.EndLemmas.{posted_at-within, posted_at-beyond, taken_at-within, taken_at-beyond}
 
 -- a new pass is to its box, and carries nothing
@@ -22,8 +22,8 @@ new_side-is n r p s q inside = elim (cases_eq s r) [
       let posts : s < poster_count n p = controller-posts n p s (omega (arith, same, inside)) in
       rw (eq-eqb s r same) (record { to = refl; prio = refl; parties = ap (λ x. x ∷ []) (sym same) ∙ sym (posters-some n p s posts); own = λ _. (refl, refl) }, refl, refl, refl)
   | inr other ↦ elim (cases_lt s (poster_count n p)) [
-    | inl posts ↦ rw (ne_eqb s r other, lt-ltb s (poster_count n p) posts) (record { to = refl; prio = refl; parties = refl; own = λ e. absurd (other e) }, refl, refl, refl)
-    | inr past ↦ rw (ne_eqb s r other, le-ltb s (poster_count n p) past) (record { to = refl; prio = refl; parties = refl; own = λ e. absurd (other e) }, refl, refl, refl)
+    | inl posts ↦ rw (ne_eqb s r other, lt-ltb s (poster_count n p) posts) (record { to = refl; prio = refl; parties = sym (posters-some n p s posts); own = λ e. absurd (other e) }, refl, refl, refl)
+    | inr past ↦ rw (ne_eqb s r other, le-ltb s (poster_count n p) past) (record { to = refl; prio = refl; parties = sym (posters-none n p s past); own = λ e. absurd (other e) }, refl, refl, refl)
   ]
 ]
 

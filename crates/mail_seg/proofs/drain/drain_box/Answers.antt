@@ -12,7 +12,8 @@ drain-requires-clause-lists g c =
     let f = pass_at (queues_of c.args.rows.now.items) 0 in
     let most : (f c.args.receiver).next ≤ n = next-most n c.args.receiver f c.requires.is_box c.requires.receiver in
     let own : (side c.whole-own.result).next ≡ (f c.args.receiver).next = ap (λ (a : Side). a.next) c.whole-own.ensures.pass in
-    let count : length c.in_ok-lists.lists.items ≡ n = sym (length-map c.in_ok-lists.lists.items (λ v. v.items)) ∙ ap length c.in_ok-lists.ensures ∙ length-replicate n [] in
+    let listed : length (lists_of c.in_ok-lists.lists.items) ≡ n = ap length c.in_ok-lists.ensures ∙ length-replicate n [] in
+    let count : length c.in_ok-lists.lists.items ≡ n = sym (length-map c.in_ok-lists.lists.items (λ v. v.items)) ∙ listed in
     omega (arith, own, most, count)
 
 pub returns-clause-settled : goal.returns-clause-settled

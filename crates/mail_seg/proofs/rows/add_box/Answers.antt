@@ -21,7 +21,7 @@ returns c =
     let rows3 = rows_of c.give_idle.new.rows.items in
     let posters = λ (x : Side). poster_side x.to x.prio x.queue in
     let one : side c.deal.new.own ≡ record (first_side r p q) { next = r } = c.in_ok-deal.ensures.own ∙ ap (λ (x : Side). record x { next = r }) c.in_ok-own.ensures in
-    let two : side c.keep_next-idle.new.self ≡ keeping_side (record (first_side r p q) { next = r }) = c.in_ok-idle.ensures.kept ∙ ap keeping_side one in
+    let two : side c.keep_next.new.self ≡ keeping_side (record (first_side r p q) { next = r }) = c.in_ok-idle.ensures.kept ∙ ap keeping_side one in
     let idle : side c.in_ok-idle.idle ≡ idle_side r p q = c.in_ok-idle.ensures.split ∙ ap (λ (x : Side). idle_side x.to x.prio x.queue) one in
     let three : side c.deal-2.new.own ≡ reader_side n r p q =
     c.in_ok-deal-2.ensures.own ∙ ap (λ (x : Side). record x { next = c.poster_count.result }) two ∙ ap (λ (k : _). record (keeping_side (record (first_side r p q) { next = r })) { next = k }) c.poster_count.ensures in
