@@ -1,5 +1,6 @@
-//! Virtual time: the timers that are armed, as the entries of journals tell them, and what the lines
-//! of an injection text come to once `advance` is replaced by the timeouts that are due on the way.
+//! Virtual time: the timers that are armed, as the entries of journals tell them, and what the
+//! lines of an injection text come to once `advance` is replaced by the timeouts that are due on
+//! the way.
 //!
 //! The timing service is an actor class that a model writes itself (`TimingService`, with the
 //! protocol `PTimer`); its messages, the virtual time and the least delay of 1 are this project's

@@ -23,8 +23,8 @@ const TIMEOUT: u16 = 2;
 
 const GENERAL: u8 = 3;
 
-/// The virtual time, and the timers that are armed, in order of arming. Each call takes time in
-/// proportion to these at most.
+/// The virtual time, and the timers that are armed, in order of arming. A call takes time in
+/// proportion to these timers at most, and most entries that are seen take a few look-ups.
 #[derive(Drop, Debug)]
 pub struct TimerTable {
     time: u64,
@@ -152,7 +152,8 @@ fn timeout_lines(
     number: u32,
     time: u64,
 ) -> Result<Vec<Line>, AllocError>
-    ensures { IfOk result (λ ls. ls.items ≡ map (timeout_line number) (filter (is_due time) armed.now)) }
+    ensures { IfOk result (λ ls. ls.items
+        ≡ map (timeout_line number) (filter (is_due time) armed.now)) }
 {
     let mut lines = Vec::new(alloc);
     for timer in armed {
@@ -278,7 +279,9 @@ impl TimerTable {
     /// Timers end with the actors that went down by these notes. Most turns have no notes.
     #[tactic(auto, using(crate::proofs::Lists::none_ends))]
     fn end_timers(&mut self, notes: &[Note])
-        ensures { self.new ≡ record self.old { armed = filter (outlives notes.now) self.old.armed } }
+        ensures { self.new ≡ record self.old {
+          armed = filter (outlives notes.now) self.old.armed;
+        } }
     {
         if !notes.is_empty() {
             keep_outliving(&mut self.armed, notes);
@@ -315,7 +318,10 @@ impl TimerTable {
     /// This time has come; the timers that are due then go.
     fn expire(&mut self, time: u64)
         requires { time ≤ 4611686018427387904 }
-        ensures { self.new ≡ record { time = time; armed = filter (λ x. not (is_due time x)) self.old.armed } }
+        ensures { self.new ≡ record {
+          time = time;
+          armed = filter (λ x. not (is_due time x)) self.old.armed;
+        } }
     {
         self.time = time;
         remove_due(&mut self.armed, time);
