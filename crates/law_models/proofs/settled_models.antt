@@ -2,7 +2,7 @@ mod Types
 mod Paths
 mod Trails
 mod Mapped
-mod Kept
+pub mod Kept
 mod Programs
 pub mod Charts
 mod Plans
@@ -12,10 +12,10 @@ pub mod Wired
 pub mod Runs
 mod Chains
 mod Located
-mod Owners
+pub mod Owners
 pub mod Joins
 pub mod Ports
-mod Mutual
-mod Registers
+pub mod Mutual
+pub mod Registers
 pub mod Settled
 pub mod Controllers

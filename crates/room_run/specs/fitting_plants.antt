@@ -1,3 +1,3 @@
-pub mod Lines
 pub mod Plants
 pub mod Runs
+pub mod Worlds

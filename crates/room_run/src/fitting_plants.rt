@@ -3,9 +3,9 @@
 //!
 //! No code: the laws.
 
-ghost use Rattle.room_run.specs.fitting_plants.Lines.{ReadLinesFit};
 ghost use Rattle.room_run.specs.fitting_plants.Plants.{PlantsFit};
 ghost use Rattle.room_run.specs.fitting_plants.Runs.{FittingRunsSettle};
+ghost use Rattle.room_run.specs.fitting_plants.Worlds.{FittingWorldsStand, QuietFittingWorldsAgree};
 
 /// Of every plant that fits: its wiring is well named and numbered depth first, its ports have numbers of 16
 /// bits; its tables are sound, what they run names what their class has, and the labels of a class's states are
@@ -15,14 +15,18 @@ pub fn plants_fit()
     ensures { PlantsFit }
 {}
 
-/// The lines that an injection text is read as name what the wiring has.
-pub fn read_lines_fit()
-    ensures { ReadLinesFit }
-{}
-
 /// Of every run of a plant that fits, over lines that name what its wiring has: each controller's journal tells
 /// how its lives stand, a directory tells only what was created, a fetched message is in one place alone, and a
 /// note `down` tells how many messages were lost.
 pub fn fitting_runs_settle()
     ensures { FittingRunsSettle }
+{}
+
+/// Of every world that a run of a plant that fits leads to, over lines that fit, in the middle of it too. `stand`:
+/// journals tell how lives stand, each turn dispatched its message to whom it was for, who lived then, directories
+/// tell what was created, and a fetched message is in one place alone. `quiet`: where it is quiet, all controllers
+/// agree on who lives, on imports, on who is linked by name, and on peers.
+pub fn fitting_worlds_agree()
+    ensures stand { FittingWorldsStand }
+    ensures quiet { QuietFittingWorldsAgree }
 {}

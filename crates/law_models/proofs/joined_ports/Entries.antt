@@ -1,5 +1,5 @@
 -- The ports of a class: as the rules see them, by the plan, and by their names.
-use Rattle.std.proofs.Common.{◌≡◌, ◌∙◌, ℕ, zero, suc, false, cond, List, [], ◌∷◌, ◌++◌, map, Option, Some, None, option_map, option_and_then, unwrap_or, slice_get, slice_index_or, refl, sym, ap}
+use Rattle.std.proofs.Common.{◌≡◌, ◌∙◌, ℕ, zero, suc, false, cond, List, [], ◌∷◌, ◌++◌, map, Option, Some, option_and_then, unwrap_or, slice_get, slice_index_or, refl, sym, ap}
 use Rattle.std.proofs.lemmas.Option.{same_Some, slice_get-map}
 use Rattle.room_ast.specs.Trees.{ModelTree, ActorTree}
 use Rattle.room_ast.specs.declared.model_parts.entries.PortEntry.{PortEntry}

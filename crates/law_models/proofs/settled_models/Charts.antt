@@ -1,5 +1,5 @@
 -- The programs of a chart that a text writes send at priorities 1 to 5 alone.
-use Rattle.std.proofs.Common.{List, [], ◌∷◌, ◌++◌, Option, None}
+use Rattle.std.proofs.Common.{List, [], ◌∷◌, Option, None}
 use Rattle.std.specs.List.{AllByRecursion as Each}
 use Rattle.room_ast.specs.declared.chart.Code.{Code}
 use Rattle.room_ast.specs.declared.chart.Transition.{Transition as TransitionTree}

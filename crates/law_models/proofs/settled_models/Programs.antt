@@ -1,6 +1,6 @@
 -- The programs of codes send at priorities 1 to 5 alone.
-use Rattle.std.proofs.Common.{◌≡◌, nat_le, ◌&&◌, Bool, true, false, cond, List, Option, Some, None, ℕ, refl, subst, arith, le-leb}
-use Rattle.std.specs.Prelude.{option_and_then, is_none}
+use Rattle.std.proofs.Common.{◌≡◌, nat_le, ◌&&◌, Bool, true, false, cond, List, Option, Some, None, ℕ, refl, arith, le-leb}
+use Rattle.std.specs.Prelude.{is_none}
 use Rattle.std.specs.Option.{option_map_or}
 use Rattle.std.proofs.lemmas.Bool.{and_from}
 use Rattle.room_kinds.specs.declared.numbers.Priority.{Priority}

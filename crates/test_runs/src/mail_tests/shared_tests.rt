@@ -27,7 +27,7 @@ fn what_is_posted_is_taken_once(rt: HostRuntime) -> Result<(), Fail> {
 fn what_is_left_stands_in_the_order_of_a_poll(rt: HostRuntime) -> Result<(), Fail> {
     let alloc = rt.alloc();
     let mut ends = MailSeg::set_up(alloc, 3)?;
-    post_at(&rt, &mut ends, message(alloc, 2, 0, 0, 1))?;
+    post_at(&rt, &mut ends, message(alloc, 1, 0, 0, 1))?;
     post_at(&rt, &mut ends, message(alloc, 0, 0, 5, 2))?;
     post_at(&rt, &mut ends, message(alloc, 1, 0, 5, 3))?;
     post_at(&rt, &mut ends, message(alloc, 2, 0, 5, 4))?;

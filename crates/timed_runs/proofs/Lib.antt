@@ -1,0 +1,14 @@
+pub mod Earliest
+pub mod Moments
+pub mod Points
+pub mod Seeing
+pub mod Passing
+pub mod Walking
+pub mod Runs
+pub mod Fronts
+pub mod Fitting
+pub mod Ending
+pub mod Path
+pub mod Sourcing
+pub mod Whole
+pub mod Later
