@@ -13,7 +13,7 @@ use Rattle.actor_world.specs.Journals.{fetches_since}
 use Rattle.controller_mail.specs.MailState.{state_of}
 use Rattle.controller_mail.specs.Within.{AreWithin}
 use Rattle.controller_mail.specs.controller_moves.Moves.{FetchesEach, PostsFrom, PollsInto, count_at}
-use Rattle.controller_mail.proofs.controller_moves.Looked.{Took-boxes}
+use Rattle.controller_mail.proofs.controller_moves.Looked.{Took, Took-boxes}
 use Rattle.controller_mail.proofs.controller_moves.Prompt.{count_at-cons}
 use Rattle.controller_mail.proofs.controller_moves.Replayed.{posted_as, fetched_at, fetch_entries, PostsEach-journal, PostsEach-replays, posted-given, posts-take_nothing, posting_all-same, FetchesEach-journal, FetchesEach-replays, FetchesEach-turns, FetchesEach-outbox, taken-of, fetches-give_nothing}
 use Rattle.controller_actors.specs.Bodies.{body_of}
@@ -64,16 +64,18 @@ end_posts c log log' ms e =
       took = λ s p. ap (λ f. f s p) same.2 ∙ sym (append-nil (log.taken s p)) ∙ ap (λ z. log.taken s p ++ z) (sym (posts-take_nothing c s p ms));
     })
 
+-- an end that took these messages
+pub end_took : (c clock : ℕ) (log log' : EndLog) (ms : List Msg) → Took log log' ms → EndGoes c log log' (fetch_entries clock ms)
+end_took c clock log log' ms took = record {
+  party = took.party;
+  parties = took.parties;
+  posted = λ r p. ap (λ f. f r p) took.posted ∙ sym (append-nil (log.posted r p)) ∙ ap (λ z. log.posted r p ++ z) (sym (fetches-give_nothing c r p clock ms));
+  took = λ s p. took.taken s p ∙ ap (λ z. log.taken s p ++ z) (sym (taken-of c s p clock ms));
+}
+
 -- an end whose boxes gave these messages
-end_takes : (c clock k : ℕ) (in_box : ℕ → ℕ → ℕ → ℕ → Type 0) (log log' : EndLog) (ms : List Msg) → PollsBoxes in_box k log log' ms → EndGoes c log log' (fetch_entries clock ms)
-end_takes c clock k in_box log log' ms looks =
-    let took = Took-boxes in_box k log log' ms looks in
-    record {
-      party = took.party;
-      parties = took.parties;
-      posted = λ r p. ap (λ f. f r p) took.posted ∙ sym (append-nil (log.posted r p)) ∙ ap (λ z. log.posted r p ++ z) (sym (fetches-give_nothing c r p clock ms));
-      took = λ s p. took.taken s p ∙ ap (λ z. log.taken s p ++ z) (sym (taken-of c s p clock ms));
-    }
+pub end_takes : (c clock k : ℕ) (in_box : ℕ → ℕ → ℕ → ℕ → Type 0) (log log' : EndLog) (ms : List Msg) → PollsBoxes in_box k log log' ms → EndGoes c log log' (fetch_entries clock ms)
+end_takes c clock k in_box log log' ms looks = end_took c clock log log' ms (Took-boxes in_box k log log' ms looks)
 
 -- the entries of posts that go to controllers do
 posts_within : (n : ℕ) (ms : List Msg) → AreWithin n ms → PostsWithin n (map posted_as ms)

@@ -1,5 +1,6 @@
 pub mod Going
 pub mod Doing
+pub mod Polling
 pub mod Making
 pub mod Waits
 pub mod Standing

@@ -2,7 +2,7 @@
 -- All of the outbox was posted; a poll's messages were fetched, promptly; messages that were left
 -- were fetched, in order; one turn was taken, or none where nothing waits for its turn; the
 -- environment posted a message. After want of memory a controller gives no other answer.
-use Rattle.std.specs.Prelude.{◌≡◌, ℕ, ◌+◌, ◌<◌, ◌≤◌, ◌⊎◌, Bool, true, false, List, [], ◌∷◌, length, All, None}
+use Rattle.std.specs.Prelude.{◌≡◌, ℕ, ◌+◌, ◌<◌, ◌≤◌, ◌⊎◌, Bool, true, false, List, [], ◌∷◌, ◌++◌, length, All, None}
 use Rattle.room_kinds.specs.declared.message.Msg.{Msg}
 use Rattle.journal.specs.declared.entry.Entry.{Entry}
 use Rattle.journal.specs.declared.entry.Entry.TheVariants as entry
@@ -70,6 +70,14 @@ pub record Polls (plant : Plant) (in_box : ℕ → ℕ → ℕ → ℕ → Type 
   pub prompt : (p : ℕ) → p < 6 → (log'.posted old.me.0 p ≡ log'.taken old.me.0 p) ⊎ (64 ≤ fetches_since p 0 entries)
   pub outbox : new.mail.outbox ≡ old.mail.outbox
   pub turns : new.mail.turns ≡ old.mail.turns
+
+-- a poll that was refused: what the end took was fetched, but for at most the message that it took last
+pub record IsCutOff (old new : Controller) (log log' : EndLog) : Type 0 where
+  pub entries : List Entry
+  pub unfetched : List Entry
+  pub few : length unfetched ≤ 1
+  pub journal : new.mail.journal ≡ old.mail.journal ++ entries
+  pub end : EndGoes old.me.0 log log' (entries ++ unfetched)
 
 -- these messages were fetched, in order
 pub record FetchesLeft (plant : Plant) (old new : Controller) (left : List Msg) : Type 0 where

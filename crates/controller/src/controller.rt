@@ -1,12 +1,12 @@
 //! A controller.
-ghost use Rattle.std.specs.Prelude.{◌≡◌, ◌+◌, ◌<◌, ◌==◌, ◌↔◌, ◌≤◌, [], not, length, All, false, true, IsErr, IsTrue, IfOk, OnOk, OnErr, MatchOption};
+ghost use Rattle.std.specs.Prelude.{◌≡◌, ◌+◌, ◌<◌, ◌==◌, ◌↔◌, ◌≤◌, [], not, length, slice_get, option_copied, All, false, true, IsErr, IsTrue, IfOk, OnOk, OnErr, MatchOption};
 ghost use Rattle.std.specs.List.{list_any};
 ghost use Rattle.controller_mail.specs.MailState.{HasPriority, has_messages, messages_in};
 ghost use Rattle.controller_mail.specs.Steps.{Fetches, Posts};
-ghost use Rattle.controller_mail.specs.Within.{IsAnswerable};
+ghost use Rattle.controller_mail.specs.Within.{IsAnswerable, IsFor};
 ghost use Rattle.mail_core.specs.Tied.{IsTied, StaysTied};
 ghost use Rattle.controller.specs.Controllers.{IsOf, Begins};
-ghost use Rattle.controller.specs.Calls.{PostsAll, Polls, FetchesLeft, Turns};
+ghost use Rattle.controller.specs.Calls.{PostsAll, Polls, IsCutOff, FetchesLeft, Turns};
 
 use crate::controller_state::ControllerState;
 use crate::moves::{fetch_all, poll_boxes, post_outbox};
@@ -21,7 +21,6 @@ use std::marker::Model;
 /// keeps the entries that the state gives. After a refusal for want of memory it gives no other answer.
 #[derive(Drop)]
 pub struct Controller {
-    alloc: Global,
     fuel: u64,
     failed: bool,
     state: ControllerState,
@@ -59,12 +58,20 @@ impl Controller {
     {
         let begun = ControllerState::start(alloc, plant, me)?;
         Ok(Controller {
-            alloc,
             fuel,
             failed: false,
             state: begun.state,
             journal: begun.entries.into_vec(),
         })
+    }
+
+    /// Takes the memory for the next message that is fetched, whichever it is: for its place, its entry and a
+    /// copy of it.
+    pub(crate) fn make_room(&mut self) -> Result<(), AllocError>
+        ensures { self.new ≡ self.old }
+    {
+        self.journal.reserve(1)?;
+        self.state.make_room()
     }
 
     /// Fetches a message, and keeps the entry. After want of memory nothing has changed.
@@ -115,10 +122,6 @@ impl Controller {
         Ok(())
     }
 
-    fn allocator(&self) -> Global {
-        self.alloc
-    }
-
     /// Posts all that the outbox holds.
     pub fn post_all<M: Mail>(
         &mut self,
@@ -149,7 +152,8 @@ impl Controller {
     }
 
     /// Looks at every mailbox once, in the order of a poll, and fetches from each until it gives nothing or
-    /// has given 64. It answers how many messages were fetched.
+    /// has given 64. It answers how many messages were fetched. Before it takes a message it takes the memory
+    /// for its entry, for its place and for a copy of 64 numbers.
     pub fn poll<M: Mail>(
         &mut self,
         plant: &Plant,
@@ -166,12 +170,12 @@ impl Controller {
         ensures of { IsOf plant.now self.new }
         ensures failed { self.old.failed ≡ true → IsErr result }
         ensures err { OnErr result (self.new.failed ≡ true) }
+        ensures cut_off { OnErr result (IsCutOff self.old self.new (M.log end.old) (M.log end.new)) }
         ensures tied { StaysTied M.tied (M.log end.old).party office.old office.new end.old
             end.new }
     {
         self.refuse_if_failed()?;
-        let alloc = self.allocator();
-        match poll_boxes(alloc, self, office, end) {
+        match poll_boxes(self, office, end) {
             Ok(count) => Ok(count),
             Err(refused) => {
                 self.fail();
@@ -180,10 +184,11 @@ impl Controller {
         }
     }
 
-    /// Fetches messages that were left in the mail, in order. Those of the system level, to which services
-    /// reply, come from controllers.
+    /// Fetches messages that were left in the mail for this controller, in order. Those of the system level,
+    /// to which services reply, come from controllers.
     pub fn fetch_left(&mut self, plant: &Plant, left: Vec<Msg>) -> Result<(), AllocError>
         requires of { IsOf plant.now self.old }
+        requires to { All (IsFor self.old.me.0) left.items }
         requires prio { All HasPriority left.items }
         requires answerable { All (IsAnswerable (length plant.now.wiring.controllers)) left.items }
         ensures ok { OnOk result (FetchesLeft plant.now self.old self.new left.items) }
@@ -239,6 +244,13 @@ impl Controller {
         Ok(true)
     }
 
+    /// The controller's number. It takes no memory.
+    pub fn me(&self) -> ControllerId
+        ensures { result ≡ self.now.me }
+    {
+        self.state.me
+    }
+
     /// The number of turns taken. It takes no memory.
     pub fn turns(&self) -> u64
         ensures { result ≡ self.now.mail.turns }
@@ -282,13 +294,22 @@ impl Controller {
         self.journal.as_slice()
     }
 
+    /// One of the entries of the journal so far, by how many are older. It takes no memory.
+    pub fn entry(&self, k: usize) -> Option<&Entry>
+        ensures { option_copied result ≡ slice_get self.now.mail.journal k }
+    {
+        self.journal.as_slice().get(k)
+    }
+
     /// The journal, and the messages that wait for their turn: those of lower priorities first, and of one
     /// priority the oldest first. There are six priorities. After a refusal both are given up.
     pub fn finish(self) -> Result<(Journal, Vec<Msg>), AllocError>
         ensures journal { IfOk result (λ parts. parts.0 ≡ self.mail.journal) }
         ensures pending { IfOk result (λ parts. parts.1.items ≡ messages_in self.mail.pending) }
         ensures six { IfOk result (λ parts. length self.mail.pending ≡ 6) }
+        ensures failed { self.failed ≡ true → IsErr result }
     {
+        self.refuse_if_failed()?;
         let pending = self.state.into_pending()?;
         Ok((Sequence::from(self.journal), pending))
     }

@@ -58,6 +58,14 @@ impl ControllerState {
         })
     }
 
+    /// Takes the memory for the next message that is fetched, whichever it is: for its place, and for the copy
+    /// of its numbers in the entry.
+    pub fn make_room(&mut self) -> Result<(), AllocError>
+        ensures { self.new ≡ self.old }
+    {
+        self.mail.make_room()
+    }
+
     /// Fetches a message. After want of memory nothing has changed.
     pub fn fetch(&mut self, m: Msg) -> Result<Entry, AllocError>
         requires { m.prio.0 < 6 }
@@ -114,6 +122,27 @@ impl ControllerState {
             return Ok(None);
         };
         Ok(Some(posted))
+    }
+
+    /// The controller's number. It takes no memory.
+    pub fn me(&self) -> ControllerId
+        ensures { result ≡ self.now.me }
+    {
+        self.me
+    }
+
+    /// What waits in its mail, its clock and its number of turns. It takes no memory.
+    pub fn mail(&self) -> &MailQueues
+        ensures { result.now ≡ self.now.mail }
+    {
+        &self.mail
+    }
+
+    /// Its actors. It takes no memory.
+    pub fn actors(&self) -> &Actors
+        ensures { result.now ≡ self.now.actors }
+    {
+        &self.actors
     }
 
     /// The messages that wait for their turn: those of lower priorities first, and of one priority the oldest

@@ -1,5 +1,5 @@
 //! The environment of a run.
-ghost use Rattle.std.specs.Prelude.{◌≡◌, ◌+◌, ◌<◌, [], length, OnOk, OnErr};
+ghost use Rattle.std.specs.Prelude.{◌≡◌, ◌+◌, ◌<◌, ◌≤◌, [], length, OnOk, OnErr};
 ghost use Rattle.actor_merge.specs.World.{latest};
 ghost use Rattle.mail_core.specs.Tied.{IsTied, StaysTied};
 ghost use Rattle.controller_actors.specs.declared.plant.Plant.{Plant as Stands};
@@ -51,7 +51,7 @@ impl Environment {
         }
     }
 
-    /// Posts a message, stamped with the clock and one more. After want of memory the journal, the clock and
+    /// Posts a message of a priority from 1 to 5, stamped with the clock and one more. After want of memory the journal, the clock and
     /// the end are as they were.
     pub fn post<M: Mail>(
         &mut self,
@@ -63,7 +63,8 @@ impl Environment {
         requires party { (M.log end.old).party ≡ length plant.now.wiring.controllers }
         requires parties { (M.log end.old).parties ≡ length plant.now.wiring.controllers + 1 }
         requires to { m.to.0 < length plant.now.wiring.controllers }
-        requires prio { m.prio.0 < 6 }
+        requires least { 1 ≤ m.prio.0 }
+        requires most { m.prio.0 ≤ 5 }
         requires tied { IsTied M.tied (M.log end.old).party office.old end.old }
         ensures ok { OnOk result (PostsLine (length plant.now.wiring.controllers) self.old self.new
             (M.log end.old) (M.log end.new) m) }

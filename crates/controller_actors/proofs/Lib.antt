@@ -8,4 +8,5 @@ pub mod Finishing
 pub mod Naming
 pub mod Beginnings
 pub mod SlotReads
+pub mod Seeing
 pub mod Occupants

@@ -5,4 +5,5 @@ pub mod Served
 pub mod Rows
 pub mod Bodies
 pub mod Steps
+pub mod Seen
 pub mod actor_slots

@@ -11,6 +11,7 @@ pub mod actor_slots;
 mod actors;
 mod changes;
 mod duties;
+mod looks;
 mod plant;
 mod services;
 mod slot_rows;

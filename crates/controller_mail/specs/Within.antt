@@ -14,6 +14,10 @@ IsWithin controllers m = (m.to.0 < controllers) × (m.prio.0 < 6)
 abbrev pub AreWithin : ℕ → List Msg → Type 0
 AreWithin controllers ms = AllByRecursion (IsWithin controllers) ms
 
+-- a message goes to this controller
+abbrev pub IsFor : ℕ → Msg → Type 0
+IsFor controller m = m.to.0 ≡ controller
+
 -- a message comes from one of so many controllers
 abbrev pub IsFrom : ℕ → Msg → Type 0
 IsFrom controllers m = m.from.0 < controllers

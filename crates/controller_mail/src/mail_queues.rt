@@ -1,5 +1,5 @@
 //! A controller's mail without its journal.
-ghost use Rattle.std.specs.Prelude.{◌≡◌, ◌<◌, ◌≤◌, ◌==◌, ◌↔◌, [], not, length, replicate, option_map, IsTrue, IfOk, OnErr, IfNone, IfSome, MatchOption, All, None};
+ghost use Rattle.std.specs.Prelude.{◌≡◌, ◌<◌, ◌≤◌, ◌==◌, ◌↔◌, [], not, length, replicate, slice_get, option_copied, option_map, IsTrue, IfOk, OnErr, IfNone, IfSome, MatchOption, All, None};
 ghost use Rattle.std.specs.List.{list_any};
 ghost use Rattle.journal.specs.declared.entry.Entry.TheVariants as entry;
 ghost use Rattle.actor_merge.specs.Parties.{next_of, fetch, post};
@@ -10,7 +10,7 @@ use crate::clock::{later, stamped};
 use crate::pending::Pending;
 use crate::queue::Queue;
 use journal::{Did, Entry};
-use room_kinds::{ControllerId, Msg, Notes, Outbox, Sequence, Stamp};
+use room_kinds::{ControllerId, Msg, Notes, Outbox, Payload, Sequence, Stamp};
 use std::alloc::{AllocError, Global};
 use std::marker::Model;
 
@@ -43,6 +43,8 @@ pub struct MailQueues {
     turns: u64,
     pending: Pending,
     outbox: Queue,
+    /// Memory for the numbers of a message, which is given back where a copy has none.
+    spare: Vec<i64>,
 }
 
 impl Model for MailQueues {
@@ -55,6 +57,19 @@ impl Model for MailQueues {
         record { clock = q.clock; turns = q.turns; pending = q.pending; outbox = q.outbox } };
 
     ghost invariant = { λ q. q.turns ≤ q.clock };
+}
+
+/// A copy of a message. Where there is no memory for it, it has what was kept for it.
+fn copy_of(alloc: Global, m: &Msg, spare: &mut Vec<i64>) -> Result<Msg, AllocError>
+    ensures { IfOk result (λ copy. copy ≡ m.now) }
+{
+    match m.copy(alloc) {
+        Ok(copy) => Ok(copy),
+        Err(_refused) => {
+            *spare = Vec::new(alloc);
+            m.copy(alloc)
+        }
+    }
 }
 
 impl MailQueues {
@@ -71,7 +86,17 @@ impl MailQueues {
             turns: 0,
             pending,
             outbox: Queue::of(sent.into_vec()),
+            spare: Vec::new(alloc),
         })
+    }
+
+    /// Takes the memory for the next message that is fetched, whichever it is: for its place in a pending
+    /// list, and for the copy of its numbers in the entry.
+    pub fn make_room(&mut self) -> Result<(), AllocError>
+        ensures { self.new ≡ self.old }
+    {
+        self.spare.reserve(Payload::MAX_LEN)?;
+        self.pending.make_room()
     }
 
     /// Fetches a message: it goes to the back of the pending list of its priority. It is stamped one
@@ -82,7 +107,7 @@ impl MailQueues {
         ensures err { OnErr result (self.new ≡ self.old) }
     {
         let stamp = later(self.clock.max(m.stamp.0))?;
-        let msg = m.copy(self.alloc)?;
+        let msg = copy_of(self.alloc, &m, &mut self.spare)?;
         self.pending.add(m)?;
         self.clock = stamp;
         Ok(Entry::Fetch {
@@ -185,6 +210,21 @@ impl MailQueues {
         ensures six { length self.now.pending ≡ 6 }
     {
         self.pending.has_messages()
+    }
+
+    /// One of the messages that wait for their turn at a priority, by how many of that priority are older;
+    /// none waits at a priority that isn't there. It takes no memory.
+    pub fn waiting(&self, prio: u8, i: usize) -> Option<&Msg>
+        ensures { option_copied result ≡ slice_get (pending_of self.now.pending prio) i }
+    {
+        self.pending.get(prio, i)
+    }
+
+    /// One of the messages that wait to be posted, by how many go before it. It takes no memory.
+    pub fn outgoing(&self, i: usize) -> Option<&Msg>
+        ensures { option_copied result ≡ slice_get self.now.outbox i }
+    {
+        self.outbox.get(i)
     }
 
     /// Whether a message waits to be posted. It takes no memory.

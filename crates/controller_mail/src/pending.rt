@@ -1,5 +1,5 @@
 //! The messages that wait for their turn, by priority.
-ghost use Rattle.std.specs.Prelude.{◌≡◌, ◌<◌, ◌∷◌, ◌++◌, [], length, replicate, OnOk, OnErr, IfOk, MatchOption, All, None, position};
+ghost use Rattle.std.specs.Prelude.{◌≡◌, ◌<◌, ◌∷◌, ◌++◌, [], length, replicate, slice_get, option_copied, OnOk, OnErr, IfOk, MatchOption, All, None, position};
 ghost use Rattle.room_kinds.specs.declared.message.Msg.{Msg};
 ghost use Rattle.std.specs.List.{list_any};
 ghost use Rattle.actor_merge.specs.Parties.{put, put_back, next_of};
@@ -39,6 +39,16 @@ fn empty_lists(alloc: Global) -> Result<Vec<Queue>, AllocError>
     Ok(lists)
 }
 
+/// Takes the memory for one message more in each of some lists.
+fn make_room_in_each(lists: &mut Vec<Queue>) -> Result<(), AllocError>
+    ensures { lists.new.items ≡ lists.old.items }
+{
+    for i in 0..lists.len() {
+        lists[i].make_room()?;
+    }
+    Ok(())
+}
+
 impl Pending {
     /// No messages.
     #[tactic(auto, using(crate::proofs::Pendings::pending_steps))]
@@ -47,6 +57,13 @@ impl Pending {
     {
         let lists = empty_lists(alloc)?;
         Ok(Pending { lists })
+    }
+
+    /// Takes the memory for one message more at each priority.
+    pub(crate) fn make_room(&mut self) -> Result<(), AllocError>
+        ensures { self.new ≡ self.old }
+    {
+        make_room_in_each(&mut self.lists)
     }
 
     /// Adds a message behind those of its priority.
@@ -95,6 +112,16 @@ impl Pending {
         ensures six { length self.now ≡ 6 }
     {
         self.lists.iter().any(|list| !list.is_empty())
+    }
+
+    /// One of the messages of a priority, by how many of that priority are older.
+    pub(crate) fn get(&self, prio: u8, i: usize) -> Option<&Msg>
+        ensures { option_copied result ≡ slice_get (pending_of self.now prio) i }
+    {
+        match self.lists.as_slice().get(usize::from(prio)) {
+            Some(list) => list.get(i),
+            None => None,
+        }
     }
 
     /// Takes out the message whose turn it is: the front of the lowest list that has messages.

@@ -1,5 +1,5 @@
 //! Messages that wait.
-ghost use Rattle.std.specs.Prelude.{◌≡◌, ◌==◌, ◌∷◌, ◌++◌, [], length, OnOk, OnErr, MatchOption};
+ghost use Rattle.std.specs.Prelude.{◌≡◌, ◌==◌, ◌∷◌, ◌++◌, [], length, slice_get, option_copied, OnOk, OnErr, MatchOption};
 
 use room_kinds::Msg;
 use std::alloc::{AllocError, Global};
@@ -54,6 +54,20 @@ impl Queue {
         ensures first { IfSome result (λ m. m.now ≡ slice_index_or self.now 0 m.now) }
     {
         self.messages.front()
+    }
+
+    /// One of the messages, by how many are older.
+    pub(crate) fn get(&self, i: usize) -> Option<&Msg>
+        ensures { option_copied result ≡ slice_get self.now i }
+    {
+        self.messages.get(i)
+    }
+
+    /// Takes the memory for one message more.
+    pub(crate) fn make_room(&mut self) -> Result<(), AllocError>
+        ensures { self.new ≡ self.old }
+    {
+        self.messages.reserve(1)
     }
 
     pub(crate) fn push_back(&mut self, m: Msg) -> Result<(), AllocError>

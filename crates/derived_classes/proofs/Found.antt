@@ -2,17 +2,17 @@
 use Rattle.std.proofs.Common.{◌≡◌, ◌⊎◌, inl, inr, ℕ, zero, suc, ◌+◌, ◌<◌, ◌≤◌, Bool, true, false, cond, not, nat_eq, nat_lt, List, [], ◌∷◌, ◌++◌, length, map, get_or, Option, Some, None, Bor, refl, sym, ap, ◌∙◌, subst, arith}
 use Rattle.std.specs.Prelude.{◌&&◌, ◌||◌, position, option_map, slice_get, slice_set, if◌then◌else◌}
 use Rattle.std.specs.Global.{Vec}
-use Rattle.std.specs.List.{list_all, cons_option, position_or_len}
+use Rattle.std.specs.List.{position_or_len}
 use Rattle.std.specs.Option.{option_and_then, option_map_or}
 use Rattle.std.proofs.lemmas.Bool.Decides.{nat_tests}
 use Rattle.std.proofs.lemmas.List.{map-append}
 use Rattle.std.proofs.lemmas.List.Folds.{list_all-append}
 use Rattle.name_tables.specs.name_numbers.Names.{same, is_among}
-use Rattle.room_ast.specs.ChartTree.{GraphItemTree, AState, AChoice, APoint, ATransition, ARefinement, ChangeTree, OfState, OfTransition, StateTree, StateOf, GraphItems, no_items, item, state_view, graph_view}
+use Rattle.room_ast.specs.ChartTree.{AState, AChoice, APoint, ATransition, ARefinement, ChangeTree, OfState, OfTransition, StateTree, StateOf, GraphItems, no_items, item, state_view, graph_view}
 use Rattle.room_ast.specs.declared.chart.GraphItem.{GraphItem}
 use Rattle.room_ast.specs.declared.chart.State.{State}
-use Rattle.derived_classes.specs.Refining.{Refining, as_state, first_state, found_or, graph_in, is_called, is_named, transitions_named, with_name}
-use Rattle.derived_classes.specs.Searching.{any_state, states_in, name_of, NamesTree, note, note_item, note_items, no_names, stands_once, SearchTree, are_named, all_succeed, inside, sought_at, sought_in, passed, all_passed, searched, further, next_of, names_sought, effort, toil}
+use Rattle.derived_classes.specs.Refining.{Refining, first_state, found_or, graph_in, is_named, transitions_named, with_name}
+use Rattle.derived_classes.specs.Searching.{states_in, name_of, NamesTree, note, note_item, note_items, no_names, stands_once, SearchTree, are_named, all_succeed, inside, sought_at, sought_in, passed, all_passed, searched, next_of, names_sought, effort, toil}
 use Rattle.derived_classes.specs.Views.{refining_view, refining_views, search_view, search_views}
 use Rattle.derived_classes.specs.declared.refining.paths.Pending.{Pending}
 use Rattle.derived_classes.specs.declared.rules.search.Search.{Search}

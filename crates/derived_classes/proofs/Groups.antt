@@ -4,18 +4,19 @@ use Rattle.std.specs.Prelude.{◌||◌, is_some, position, option_map, slice_get
 use Rattle.std.specs.List.{cons_option, slice_index_or}
 use Rattle.std.specs.Option.{option_and_then, option_map_or, option_to_list}
 use Rattle.std.proofs.lemmas.List.{append-nil, map_push, map_more}
+use Rattle.std.proofs.lemmas.List.Elements.{filter_map-append}
 use Rattle.std.proofs.lemmas.List.Quantifiers.{position-Some}
 use Rattle.name_tables.specs.name_numbers.Names.{same, is_among, names_of}
 use Rattle.name_tables.proofs.name_index.Lists.{some_place}
-use Rattle.room_ast.specs.ChartTree.{ChangeTree, OfState, OfTransition}
+use Rattle.room_ast.specs.ChartTree.{ChangeTree}
 use Rattle.room_ast.specs.declared.chart.Code.{Code}
-use Rattle.derived_classes.specs.Grouping.{GroupTree, no_group, first_of, first_names, code_of, gathered, gathered_at, gather, gather_all, group_of, inside_of, action_of}
-use Rattle.derived_classes.specs.Refining.{Refining, found_or, step_into, below, action_or, added_action}
-use Rattle.derived_classes.specs.Views.{IsGrouped, refining_view, refining_views, group_view, group_views}
+use Rattle.derived_classes.specs.Grouping.{GroupTree, no_group, first_of, first_names, gathered, gathered_at, gather, gather_all, group_of, inside_of, actions_of}
+use Rattle.derived_classes.specs.Refining.{Refining, step_into, below, code_of, codes_of, added_actions}
+use Rattle.derived_classes.specs.Views.{IsGrouped, code_views, refining_view, refining_views, group_view, group_views}
 use Rattle.derived_classes.specs.declared.refining.grouped.Group.{Group}
 use Rattle.derived_classes.specs.declared.refining.grouped.Grouped.{Grouped}
 use Rattle.derived_classes.specs.declared.refining.paths.Pending.{Pending}
-use Rattle.derived_classes.proofs.Lists.{none_some, some_same, got_within, none_past, mapped_length}
+use Rattle.derived_classes.proofs.Lists.{none_some, some_same, mapped_length}
 use Rattle.derived_classes.proofs.Seen.{same_is, same_own}
 
 -- ---- what the code does to groups
@@ -88,19 +89,6 @@ module _ (names : List (List ℕ)) (gs : List GroupTree) (n : List ℕ) (k : ℕ
           ap (λ o. option_map_or (λ (g : GroupTree). g.inside) (option_map (λ g. gathered g r) o) []) here ∙ sym (ap (λ o. option_map_or (λ (g : GroupTree). g.inside) o [] ++ r ∷ []) here)
       go false e = sym (append-nil (inside_of names gs name))
 
-  action_with : (name : List ℕ) → action_of names (gathered_at gs k r) name ≡ found_or (action_of names gs name) (if same n name then code_of r.path r.change else None)
-  action_with name = ap (option_and_then (λ (g : GroupTree). g.action)) (group_then name) ∙ go (same n name) refl
-    where
-      or_none : (o : Option Code) → o ≡ found_or o None
-      or_none None = refl
-      or_none (Some c) = refl
-
-      go : (t : Bool) → same n name ≡ t → option_and_then (λ (g : GroupTree). g.action) (if t then option_map (λ g. gathered g r) (group_of names gs name) else group_of names gs name) ≡ found_or (action_of names gs name) (if t then code_of r.path r.change else None)
-      go true e =
-          let here : group_of names gs name ≡ Some (there gs k within).0 = ap (option_and_then (slice_get gs)) (subst (λ x. position (same x) names ≡ Some k) (same_is n name e) at) ∙ (there gs k within).1 in
-          ap (λ o. option_and_then (λ (g : GroupTree). g.action) (option_map (λ g. gathered g r) o)) here ∙ sym (ap (λ o. found_or (option_and_then (λ (g : GroupTree). g.action) o) (code_of r.path r.change)) here)
-      go false e = or_none (action_of names gs name)
-
 -- ---- all of them
 
 -- The first names of refinements are among these.
@@ -157,21 +145,6 @@ one_inside names (n ∷ ns) change gs name sized is =
     let within : at.0 < length names = (position-Some (same n) names at.0 [] at.1).0 in
     ap (λ hs. inside_of names hs name) (gathered_is names n ns change gs at.0 at.1) ∙ inside_with names gs n at.0 (record { path = ns; change = change }) at.1 (omega (arith, sized, within)) name
 
-abbrev code_for : List ℕ → List (List ℕ) → ChangeTree → Option Code
-code_for name [] change = None
-code_for name (n ∷ ns) change = if same n name then code_of ns change else None
-
-one_action : (names path : List (List ℕ)) (change : ChangeTree) (gs : List GroupTree) (name : List ℕ) → length gs ≡ length names → IsAmong names path → action_of names (gather names path change gs) name ≡ found_or (action_of names gs name) (code_for name path change)
-one_action names [] change gs name sized is = go (action_of names gs name)
-  where
-    go : (o : Option Code) → o ≡ found_or o None
-    go None = refl
-    go (Some c) = refl
-one_action names (n ∷ ns) change gs name sized is =
-    let at = placed names n is in
-    let within : at.0 < length names = (position-Some (same n) names at.0 [] at.1).0 in
-    ap (λ hs. action_of names hs name) (gathered_is names n ns change gs at.0 at.1) ∙ action_with names gs n at.0 (record { path = ns; change = change }) at.1 (omega (arith, sized, within)) name
-
 one_before : {A : Type 0} (xs ys : List A) (o : Option A) → (xs ++ option_to_list o) ++ ys ≡ xs ++ cons_option o ys
 one_before xs ys None = ap (λ zs. zs ++ ys) (append-nil xs)
 one_before xs ys (Some x) = append_assoc xs (x ∷ []) ys
@@ -182,46 +155,12 @@ all_inside names (r ∷ rs) gs name sized (is, are) =
     all_inside names rs (gather names r.path r.change gs) name (one_sized names r.path r.change gs ∙ sized) are
     ∙ ap (λ xs. xs ++ below name rs) (one_inside names r.path r.change gs name sized is) ∙ one_before (inside_of names gs name) (below name rs) (step_into name r.path r.change)
 
-acted : (name : List ℕ) (path : List (List ℕ)) (change : ChangeTree) (o other : Option Code) → found_or (found_or o (code_for name path change)) other ≡ found_or o (action_or name path change other)
-acted name path change (Some c) other = refl
-acted name [] change None other = refl
-acted name (n ∷ []) (OfTransition c) None other = go (same n name)
-  where
-    go : (t : Bool) → found_or (if t then Some c else None) other ≡ (if t then Some c else other)
-    go true = refl
-    go false = refl
-acted name (n ∷ []) (OfState entry exit sub) None other = go (same n name)
-  where
-    go : (t : Bool) → found_or (if t then None else None) other ≡ other
-    go true = refl
-    go false = refl
-acted name (n ∷ m ∷ ns) change None other = go (same n name)
-  where
-    go : (t : Bool) → found_or (if t then None else None) other ≡ other
-    go true = refl
-    go false = refl
-
-all_actions : (names : List (List ℕ)) (rs : List Refining) (gs : List GroupTree) (name : List ℕ) → length gs ≡ length names → AreAmong names rs → action_of names (gather_all names rs gs) name ≡ found_or (action_of names gs name) (added_action name rs)
-all_actions names [] gs name sized are = go (action_of names gs name)
-  where
-    go : (o : Option Code) → o ≡ found_or o None
-    go None = refl
-    go (Some c) = refl
-all_actions names (r ∷ rs) gs name sized (is, are) =
-    all_actions names rs (gather names r.path r.change gs) name (one_sized names r.path r.change gs ∙ sized) are
-    ∙ ap (λ o. found_or o (added_action name rs)) (one_action names r.path r.change gs name sized is) ∙ acted name r.path r.change (action_of names gs name) (added_action name rs)
-
 -- ---- groups that had nothing in them
 
 none_in : (names : List (List ℕ)) (k : ℕ) → option_map_or (λ (g : GroupTree). g.inside) (slice_get (map (λ n. no_group) names) k) [] ≡ []
 none_in [] k = refl
 none_in (n ∷ ns) zero = refl
 none_in (n ∷ ns) (suc k) = none_in ns k
-
-no_action : (names : List (List ℕ)) (k : ℕ) → option_and_then (λ (g : GroupTree). g.action) (slice_get (map (λ n. no_group) names) k) ≡ None
-no_action [] k = refl
-no_action (n ∷ ns) zero = refl
-no_action (n ∷ ns) (suc k) = no_action ns k
 
 pub inside_told : (names : List (List ℕ)) (rs : List Refining) (gs : List GroupTree) → names ≡ first_names rs → gs ≡ gather_all names rs (map (λ n. no_group) names) → (name : List ℕ) → inside_of names gs name ≡ below name rs
 inside_told names rs gs are made name =
@@ -232,14 +171,56 @@ inside_told names rs gs are made name =
     go None = refl
     go (Some k) = none_in names k
 
-pub actions_told : (names : List (List ℕ)) (rs : List Refining) (gs : List GroupTree) → names ≡ first_names rs → gs ≡ gather_all names rs (map (λ n. no_group) names) → (name : List ℕ) → action_of names gs name ≡ added_action name rs
-actions_told names rs gs are made name =
-    ap (λ hs. action_of names hs name) made ∙ all_actions names rs (map (λ n. no_group) names) name (mapped_length (λ n. no_group) names) (subst (λ ns. AreAmong ns rs) (sym are) (their_names rs))
-    ∙ ap (λ o. found_or o (added_action name rs)) (go (position (same name) names))
+-- ---- what is added to transitions
+
+-- Each group has what those of its refinements add that have no names left.
+abbrev HaveCodes : List GroupTree → Type 0
+HaveCodes [] = Unit {0}
+HaveCodes (g ∷ gs) = (g.actions ≡ codes_of g.inside) × HaveCodes gs
+
+one_code_more : (rs : List Refining) (r : Refining) → codes_of (rs ++ r ∷ []) ≡ codes_of rs ++ option_to_list (code_of r.path r.change)
+one_code_more rs r = filter_map-append (λ (q : Refining). code_of q.path q.change) rs (r ∷ []) ∙ ap (λ cs. codes_of rs ++ cs) (go (code_of r.path r.change))
   where
-    go : (o : Option ℕ) → option_and_then (λ (g : GroupTree). g.action) (option_and_then (slice_get (map (λ n. no_group) names)) o) ≡ None
+    go : (o : Option Code) → cons_option o [] ≡ option_to_list o
     go None = refl
-    go (Some k) = no_action names k
+    go (Some c) = refl
+
+codes_at : (gs : List GroupTree) (k : ℕ) (r : Refining) → HaveCodes gs → HaveCodes (gathered_at gs k r)
+codes_at [] k r have = tt
+codes_at (g ∷ gs) zero r (its, have) = (ap (λ cs. cs ++ option_to_list (code_of r.path r.change)) its ∙ sym (one_code_more g.inside r), have)
+codes_at (g ∷ gs) (suc k) r (its, have) = (its, codes_at gs k r have)
+
+codes_gathered : (names path : List (List ℕ)) (change : ChangeTree) (gs : List GroupTree) → HaveCodes gs → HaveCodes (gather names path change gs)
+codes_gathered names [] change gs have = have
+codes_gathered names (n ∷ ns) change gs have = go (position (same n) names)
+  where
+    go : (o : Option ℕ) → HaveCodes (option_map_or (λ k. gathered_at gs k (record { path = ns; change = change })) o gs)
+    go None = have
+    go (Some k) = codes_at gs k (record { path = ns; change = change }) have
+
+all_codes : (names : List (List ℕ)) (rs : List Refining) (gs : List GroupTree) → HaveCodes gs → HaveCodes (gather_all names rs gs)
+all_codes names [] gs have = have
+all_codes names (r ∷ rs) gs have = all_codes names rs (gather names r.path r.change gs) (codes_gathered names r.path r.change gs have)
+
+no_codes : (names : List (List ℕ)) → HaveCodes (map (λ n. no_group) names)
+no_codes [] = tt
+no_codes (n ∷ ns) = (refl, no_codes ns)
+
+codes_found : (gs : List GroupTree) (k : ℕ) → HaveCodes gs → option_map_or (λ (g : GroupTree). g.actions) (slice_get gs k) [] ≡ codes_of (option_map_or (λ (g : GroupTree). g.inside) (slice_get gs k) [])
+codes_found [] k have = refl
+codes_found (g ∷ gs) zero (its, have) = its
+codes_found (g ∷ gs) (suc k) (its, have) = codes_found gs k have
+
+actions_inside : (names : List (List ℕ)) (gs : List GroupTree) (name : List ℕ) → HaveCodes gs → actions_of names gs name ≡ codes_of (inside_of names gs name)
+actions_inside names gs name have = go (position (same name) names)
+  where
+    go : (o : Option ℕ) → option_map_or (λ (g : GroupTree). g.actions) (option_and_then (slice_get gs) o) [] ≡ codes_of (option_map_or (λ (g : GroupTree). g.inside) (option_and_then (slice_get gs) o) [])
+    go None = refl
+    go (Some k) = codes_found gs k have
+
+pub actions_told : (names : List (List ℕ)) (rs : List Refining) (gs : List GroupTree) → names ≡ first_names rs → gs ≡ gather_all names rs (map (λ n. no_group) names) → (name : List ℕ) → actions_of names gs name ≡ added_actions name rs
+actions_told names rs gs are made name =
+    actions_inside names gs name (subst HaveCodes (sym made) (all_codes names rs (map (λ n. no_group) names) (no_codes names))) ∙ ap codes_of (inside_told names rs gs are made name)
 
 -- ---- groups that are found
 
@@ -281,17 +262,17 @@ inside_found g name at k groups group seen grouped are place is told within same
 
 -- ---- groups that are made
 
-abbrev group_with : List Refining → Option (Bor Code) → GroupTree
-group_with rs c = record { inside = rs; action = option_map (λ (x : Bor Code). x.now) c }
+abbrev group_with : List Refining → List (Bor Code) → GroupTree
+group_with rs cs = record { inside = rs; actions = code_views cs }
 
-empty_group : (g : Group) → g.inside.items ≡ [] → g.action ≡ None → group_view g ≡ no_group
-empty_group g none nothing = ap (λ (ps : List Pending). group_with (refining_views ps) g.action) none ∙ ap (λ (c : Option (Bor Code)). group_with [] c) nothing
+empty_group : (g : Group) → g.inside.items ≡ [] → g.actions.items ≡ [] → group_view g ≡ no_group
+empty_group g none nothing = ap (λ (ps : List Pending). group_with (refining_views ps) g.actions.items) none ∙ ap (λ (cs : List (Bor Code)). group_with [] cs) nothing
 
 one_group_more : {A : Type 0} (names : List A) (d : A) (i : ℕ) (gs hs : List Group) (g : Group) → i < length names → group_views gs ≡ map (λ n. no_group) (take i names) → hs ≡ gs ++ g ∷ [] → group_view g ≡ no_group → group_views hs ≡ map (λ n. no_group) (take (i + 1) names)
 one_group_more names d i gs hs g lt before pushed none =
     ap group_views pushed ∙ map_push group_view gs g ∙ ap (λ vs. vs ++ group_view g ∷ []) before ∙ ap (λ v. map (λ n. no_group) (take i names) ++ v ∷ []) none ∙ sym (map_more (λ n. no_group) names i d lt)
 
-pub one_empty_more : {A : Type 0} (names : List A) (d : A) (i : ℕ) (gs hs : List Group) (g : Group) → i < length names → group_views gs ≡ map (λ n. no_group) (take i names) → hs ≡ gs ++ g ∷ [] → g.inside.items ≡ [] → g.action ≡ None → group_views hs ≡ map (λ n. no_group) (take (i + 1) names)
+pub one_empty_more : {A : Type 0} (names : List A) (d : A) (i : ℕ) (gs hs : List Group) (g : Group) → i < length names → group_views gs ≡ map (λ n. no_group) (take i names) → hs ≡ gs ++ g ∷ [] → g.inside.items ≡ [] → g.actions.items ≡ [] → group_views hs ≡ map (λ n. no_group) (take (i + 1) names)
 one_empty_more names d i gs hs g lt before pushed none nothing = one_group_more names d i gs hs g lt before pushed (empty_group g none nothing)
 
 none_of_refs : (refs : List (Bor (List ℕ))) → map (λ n. no_group) refs ≡ map (λ n. no_group) (names_of refs)
@@ -299,7 +280,7 @@ none_of_refs [] = refl
 none_of_refs (r ∷ rs) = ap (λ gs. no_group ∷ gs) (none_of_refs rs)
 
 pub all_grouped : (refs seen : List (Bor (List ℕ))) (names : List (List ℕ)) (rs : List Refining) (starts gs : List GroupTree) → names ≡ names_of refs → names_of refs ≡ first_names rs → seen ≡ refs → starts ≡ map (λ n. no_group) seen → gs ≡ gather_all names rs starts
-    → ((name : List ℕ) → inside_of names gs name ≡ below name rs) × ((name : List ℕ) → action_of names gs name ≡ added_action name rs)
+    → ((name : List ℕ) → inside_of names gs name ≡ below name rs) × ((name : List ℕ) → actions_of names gs name ≡ added_actions name rs)
 all_grouped refs seen names rs starts gs are firsts same_refs none made = (inside_told names rs gs (are ∙ firsts) all, actions_told names rs gs (are ∙ firsts) all)
   where
     all : gs ≡ gather_all names rs (map (λ n. no_group) names)

@@ -7,7 +7,7 @@ use Rattle.room_ast.specs.declared.chart.State.{State, out-State}
 use Rattle.room_ast.specs.declared.chart.Change.TheFolds.{fold_out-State}
 use Rattle.room_ast.specs.declared.chart.Transition.{Transition}
 use Rattle.room_ast.specs.declared.chart.TransitionBody.{TransitionBody}
-use Rattle.derived_classes.specs.Refining.{Refining, meant_for, with_state, refined, refined_items, refined_item, refined_state, refined_body, refined_subgraph, refined_transition, acting_also, action_for}
+use Rattle.derived_classes.specs.Refining.{Refining, meant_for, with_state, refined, refined_items, refined_item, refined_state, refined_body, refined_subgraph, refined_transition, all_acting, actions_for}
 use Rattle.derived_classes.specs.Views.{refining_views}
 use Rattle.derived_classes.specs.declared.refining.paths.Pending.{Pending}
 
@@ -27,7 +27,7 @@ none_meant earlier name = go (is_among earlier name)
 same_transition : (t : Transition) → refined_transition [] t ≡ t
 same_transition t = ap (λ b. record t { body = b }) (go t.name t.body)
   where
-    go : (name : Option (List ℕ)) (b : Option TransitionBody) → acting_also (action_for name []) b ≡ b
+    go : (name : Option (List ℕ)) (b : Option TransitionBody) → all_acting (actions_for name []) b ≡ b
     go None b = refl
     go (Some n) b = refl
 

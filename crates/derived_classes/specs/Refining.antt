@@ -75,28 +75,28 @@ GivesTheSame rs these those = (name : List ℕ) → meant_for these name rs ≡ 
 abbrev pub with_name : List ℕ → List (List ℕ) → List (List ℕ)
 with_name name earlier = if is_among earlier name then earlier else earlier ++ name ∷ []
 
--- The first refinement, if it is of the state itself, or else this other one.
-abbrev pub own_or : List (List ℕ) → ChangeTree → Option ChangeTree → Option ChangeTree
-own_or [] (OfState entry exit sub) other = Some (OfState entry exit sub)
-own_or [] (OfTransition c) other = other
-own_or (name ∷ names) change other = other
+-- A refinement that a state sees, if it is of the state itself.
+abbrev pub change_of_state : List (List ℕ) → ChangeTree → Option ChangeTree
+change_of_state [] (OfState entry exit sub) = Some (OfState entry exit sub)
+change_of_state [] (OfTransition c) = None
+change_of_state (name ∷ names) change = None
 
--- The refinement of a state itself, if there is one: no class refines a state twice, so that the first is the only one.
-abbrev pub own_change : List Refining → Option ChangeTree
-own_change [] = None
-own_change (r ∷ rs) = own_or r.path r.change (own_change rs)
+-- The refinements of a state itself, in their order.
+abbrev pub own_changes : List Refining → List ChangeTree
+own_changes rs = filter_map (λ (r : Refining). change_of_state r.path r.change) rs
 
--- What the first refinement adds to the action of a transition of this name, or else this other code.
-abbrev pub action_or : List ℕ → List (List ℕ) → ChangeTree → Option Code → Option Code
-action_or name [] change other = other
-action_or name (first ∷ []) (OfTransition c) other = if same first name then Some c else other
-action_or name (first ∷ []) (OfState entry exit sub) other = other
-action_or name (first ∷ second ∷ others) change other = other
+-- What a refinement without names left adds to a transition.
+abbrev pub code_of : List (List ℕ) → ChangeTree → Option Code
+code_of [] (OfTransition c) = Some c
+code_of [] (OfState entry exit sub) = None
+code_of (name ∷ names) change = None
 
--- What is added to the action of a transition of this name, if anything is.
-abbrev pub added_action : List ℕ → List Refining → Option Code
-added_action name [] = None
-added_action name (r ∷ rs) = action_or name r.path r.change (added_action name rs)
+abbrev pub codes_of : List Refining → List Code
+codes_of rs = filter_map (λ (r : Refining). code_of r.path r.change) rs
+
+-- What is added to the action of a transition of this name, in the order of the refinements.
+abbrev pub added_actions : List ℕ → List Refining → List Code
+added_actions name rs = codes_of (below name rs)
 
 -- ---- what a state and a transition become
 
@@ -114,24 +114,32 @@ new_body None (Some x) sub = body None (Some x) sub
 new_body (Some e) exit sub = body (Some e) exit sub
 
 -- A state's body once it is refined: the base's entry texts and then the refinement's, the refinement's exit texts and then the base's, the base's items and then the refinement's.
-abbrev pub widened : Option ChangeTree → BodyTree → BodyTree
-widened None b = b
-widened (Some (OfTransition c)) b = b
-widened (Some (OfState entry exit sub)) no_body = new_body entry exit sub
-widened (Some (OfState entry exit sub)) (body e x s) = body (joined_if e entry) (joined_if exit x) (joined_subgraph s sub)
+abbrev pub widened : ChangeTree → BodyTree → BodyTree
+widened (OfTransition c) b = b
+widened (OfState entry exit sub) no_body = new_body entry exit sub
+widened (OfState entry exit sub) (body e x s) = body (joined_if e entry) (joined_if exit x) (joined_subgraph s sub)
+
+-- A state's body once it is refined by each of these, one after the other.
+abbrev pub all_widened : List ChangeTree → BodyTree → BodyTree
+all_widened [] b = b
+all_widened (c ∷ cs) b = all_widened cs (widened c b)
 
 -- A transition's body once it is refined: the base's action texts and then the refinement's.
-abbrev pub acting_also : Option Code → Option TransitionBody → Option TransitionBody
-acting_also None b = b
-acting_also (Some c) None = Some (record { triggers = None; condition = None; action = Some c })
-acting_also (Some c) (Some b) = Some (record b { action = joined_if b.action (Some c) })
+abbrev pub acting_also : Code → Option TransitionBody → Option TransitionBody
+acting_also c None = Some (record { triggers = None; condition = None; action = Some c })
+acting_also c (Some b) = Some (record b { action = joined_if b.action (Some c) })
 
-abbrev pub action_for : Option (List ℕ) → List Refining → Option Code
-action_for None rs = None
-action_for (Some name) rs = added_action name rs
+-- The same of each of these codes, one after the other.
+abbrev pub all_acting : List Code → Option TransitionBody → Option TransitionBody
+all_acting [] b = b
+all_acting (c ∷ cs) b = all_acting cs (acting_also c b)
+
+abbrev pub actions_for : Option (List ℕ) → List Refining → List Code
+actions_for None rs = []
+actions_for (Some name) rs = added_actions name rs
 
 abbrev pub refined_transition : List Refining → Transition → Transition
-refined_transition rs t = record t { body = acting_also (action_for t.name rs) t.body }
+refined_transition rs t = record t { body = all_acting (actions_for t.name rs) t.body }
 
 -- The names of the states before an item's place and its own, if it is a state.
 abbrev pub with_state : GraphItemTree → List (List ℕ) → List (List ℕ)
@@ -158,8 +166,8 @@ abbrev mutual
   refined_state (StateOf name b) earlier rs = StateOf name (refined_body b (meant_for earlier name rs))
 
   pub refined_body : BodyTree → List Refining → BodyTree
-  refined_body no_body rs = widened (own_change rs) no_body
-  refined_body (body e x s) rs = widened (own_change rs) (body e x (refined_subgraph s rs))
+  refined_body no_body rs = all_widened (own_changes rs) no_body
+  refined_body (body e x s) rs = all_widened (own_changes rs) (body e x (refined_subgraph s rs))
 
   pub refined_subgraph : SubgraphTree → List Refining → SubgraphTree
   refined_subgraph no_subgraph rs = no_subgraph

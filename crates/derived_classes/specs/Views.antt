@@ -1,6 +1,5 @@
 -- What the code's refinements stand for.
 use Rattle.std.specs.Prelude.{◌≡◌, ℕ, List, [], ◌∷◌, map, Option, Some, None}
-use Rattle.std.specs.Prelude.{option_map}
 use Rattle.std.specs.Borrow.{Bor}
 use Rattle.std.specs.Global.{Vec}
 use Rattle.room_ast.specs.ChartTree.{GraphItemTree, StateTree, BodyParts, ChangeTree, OfState, SubgraphTree, no_subgraph, subgraph, GraphItems, graph_view, item_step, state_step, body_step, refinement_step, change_step}
@@ -9,8 +8,8 @@ use Rattle.room_ast.specs.declared.chart.Code.{Code}
 use Rattle.room_ast.specs.declared.chart.GraphItem.{GraphItem}
 use Rattle.room_ast.specs.declared.chart.StateMachine.{StateMachine}
 use Rattle.room_ast.specs.declared.chart.Change.TheFolds.{fold-Change}
-use Rattle.derived_classes.specs.Grouping.{GroupTree, inside_of, action_of}
-use Rattle.derived_classes.specs.Refining.{Refining, below, added_action}
+use Rattle.derived_classes.specs.Grouping.{GroupTree, inside_of, actions_of}
+use Rattle.derived_classes.specs.Refining.{Refining, below, added_actions}
 use Rattle.derived_classes.specs.Searching.{NamesTree, SearchTree}
 use Rattle.derived_classes.specs.declared.refining.grouped.Group.{Group}
 use Rattle.derived_classes.specs.declared.refining.grouped.Grouped.{Grouped}
@@ -36,16 +35,24 @@ refining_view p = record { path = path_from p.next p.others.now; change = change
 abbrev pub refining_views : List Pending → List Refining
 refining_views ps = map refining_view ps
 
+abbrev pub code_views : List (Bor Code) → List Code
+code_views cs = map (λ (c : Bor Code). c.now) cs
+
 abbrev pub group_view : Group → GroupTree
-group_view g = record { inside = refining_views g.inside.items; action = option_map (λ (c : Bor Code). c.now) g.action }
+group_view g = record { inside = refining_views g.inside.items; actions = code_views g.actions.items }
 
 abbrev pub group_views : List Group → List GroupTree
 group_views gs = map group_view gs
 
+-- What a group adds to transitions, if there is one.
+abbrev pub actions_if : Option (Bor Group) → List Code
+actions_if None = []
+actions_if (Some g) = code_views g.now.actions.items
+
 -- Whether each group has the refinements that begin with its name.
 pub record IsGrouped (g : Grouped) : Type 0 where
   pub inside : (name : List ℕ) → inside_of g.names (group_views g.groups.items) name ≡ below name (refining_views g.pending.now)
-  pub action : (name : List ℕ) → action_of g.names (group_views g.groups.items) name ≡ added_action name (refining_views g.pending.now)
+  pub actions : (name : List ℕ) → actions_of g.names (group_views g.groups.items) name ≡ added_actions name (refining_views g.pending.now)
 
 abbrev pub subgraph_tree : Option (Vec GraphItem) → SubgraphTree
 subgraph_tree None = no_subgraph

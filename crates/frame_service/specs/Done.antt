@@ -2,10 +2,12 @@
 use Rattle.std.specs.Prelude.{◌≡◌, ℕ, List, [], ◌++◌, Option, None}
 use Rattle.room_kinds.specs.declared.message.Msg.{Msg}
 use Rattle.room_kinds.specs.declared.numbers.Incarnation.{Incarnation}
+use Rattle.room_kinds.specs.declared.numbers.Endpoint.{Endpoint}
+use Rattle.room_kinds.specs.declared.system.SysKind.{SysKind}
 use Rattle.room_wiring.specs.declared.tables.Tables.{Tables}
 use Rattle.actor_duties.specs.State as rows
 use Rattle.actor_duties.specs.State.{Frame}
-use Rattle.actor_duties.specs.Frame.{FrameDone, part_end}
+use Rattle.actor_duties.specs.Frame.{FrameDone, frame_duty_of, part_end}
 use Rattle.frame_lives.specs.declared.done.DutyDone.{DutyDone}
 use Rattle.frame_service.specs.frame_endings.Ends.{left_of}
 use Rattle.frame_service.specs.declared.state.FrameState.{FrameState}
@@ -36,6 +38,10 @@ pub record IsDone (t : Tables) (old new : FrameState) (r : FrameDone) (before ou
   pub frame : frame_in new ≡ r.frame
   pub sent : out ≡ before ++ r.sent
   pub done : d ≡ left_of r
+
+-- what came of a message of a kind, from a source to a target
+abbrev pub IsHeard : Tables → FrameState → FrameState → Msg → SysKind → Endpoint → Endpoint → List Msg → List Msg → DutyDone → Type 0
+IsHeard t old new m kind x y before out d = IsDone t old new (frame_duty_of t old.me.0 (frame_in old) m kind x y) before out d
 
 -- what came of a command
 pub record IsRequested (t : Tables) (old new : FrameState) (r : rows.Done Frame) (before out : List Msg) : Type 0 where

@@ -2,8 +2,8 @@
 -- The calls of the frame service are equations between what it keeps and the definitions of
 -- `actor_duties`, with the messages appended in their order: `start` is `first_frame`, and `duty`,
 -- `request` and `peer` are `frame_duty`, `frame_request` and `frame_peer` on the state that
--- `frame_in` reads from its tables. `IsFrameOf`: a state has a row for each slot of its wiring;
--- each call keeps that.
+-- `frame_in` reads from its tables; `place` is `shown_place` of it. `IsFrameOf`: a state has a row
+-- for each slot of its wiring; each call keeps that.
 use Rattle.std.specs.Prelude.{◌≡◌, ◌<◌, length}
 use Rattle.room_wiring.specs.declared.tables.Tables.{Tables}
 use Rattle.actor_duties.specs.State.{Frame}

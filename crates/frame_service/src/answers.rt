@@ -1,10 +1,9 @@
 //! The duties on the answers to requests for the life of actors.
 ghost use Rattle.std.specs.Prelude.{◌≡◌, true, IfOk};
 ghost use Rattle.room_kinds.specs.declared.system.SysKind.{SysKind};
-ghost use Rattle.actor_duties.specs.Frame.{frame_duty_of};
-ghost use Rattle.frame_service.specs.State.{frame_in, IsFrameOf};
+ghost use Rattle.frame_service.specs.State.{IsFrameOf};
 ghost use Rattle.frame_service.specs.Forms.{has_form};
-ghost use Rattle.frame_service.specs.Done.{IsDone};
+ghost use Rattle.frame_service.specs.Done.{IsHeard};
 
 use crate::duties::nothing;
 use crate::forms::{first_number, one_of};
@@ -28,10 +27,7 @@ impl FrameState {
         requires form { has_form wiring.now self.old.me.0 SysKind.CreateDone m.now.payload new
             container ≡ true }
         ensures { IfOk result (λ d.
-            IsDone wiring.now self.old self.new
-            (frame_duty_of wiring.now self.old.me.0 (frame_in self.old) m.now SysKind.CreateDone new
-            container)
-            out.old out.new d) }
+            IsHeard wiring.now self.old self.new m.now SysKind.CreateDone new container out.old out.new d) }
     {
         create_done(self.alloc, wiring, self.me, new, container, out)?;
         Ok(nothing(self.alloc))
@@ -50,10 +46,7 @@ impl FrameState {
         requires form { has_form wiring.now self.old.me.0 SysKind.CreateRefused m.now.payload slot
             container ≡ true }
         ensures { IfOk result (λ d.
-            IsDone wiring.now self.old self.new
-            (frame_duty_of wiring.now self.old.me.0 (frame_in self.old) m.now SysKind.CreateRefused
-            slot container)
-            out.old out.new d) }
+            IsHeard wiring.now self.old self.new m.now SysKind.CreateRefused slot container out.old out.new d) }
     {
         let code = first_number(m);
         create_refused(self.alloc, wiring, self.me, slot, container, code, out)?;
@@ -73,10 +66,7 @@ impl FrameState {
         requires form { has_form wiring.now self.old.me.0 SysKind.DestroyDone m.now.payload gone
             container ≡ true }
         ensures { IfOk result (λ d.
-            IsDone wiring.now self.old self.new
-            (frame_duty_of wiring.now self.old.me.0 (frame_in self.old) m.now SysKind.DestroyDone
-            gone container)
-            out.old out.new d) }
+            IsHeard wiring.now self.old self.new m.now SysKind.DestroyDone gone container out.old out.new d) }
     {
         // 0: an actor has ended, 3: nothing was there.
         let Some(code) = one_of(first_number(m), 0, 3) else {

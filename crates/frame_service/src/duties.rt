@@ -2,11 +2,11 @@
 ghost use Rattle.std.specs.Prelude.{◌≡◌, ◌<◌, ◌≤◌, ℕ, true, IfOk, OnOk};
 ghost use Rattle.room_kinds.specs.Kinds.{number_of};
 ghost use Rattle.room_kinds.specs.declared.system.SysKind.{SysKind};
-ghost use Rattle.actor_duties.specs.Frame.{frame_duty_of, frame_duty, nothing};
+ghost use Rattle.actor_duties.specs.Frame.{frame_duty, nothing};
 ghost use Rattle.frame_service.specs.frame_imports.Numbered.{ArePortsNumbered};
 ghost use Rattle.frame_service.specs.State.{frame_in, IsFrameOf};
 ghost use Rattle.frame_service.specs.Forms.{has_form};
-ghost use Rattle.frame_service.specs.Done.{nothing_left, IsDone};
+ghost use Rattle.frame_service.specs.Done.{nothing_left, IsDone, IsHeard};
 
 use crate::forms::has_form;
 use crate::state::FrameState;
@@ -41,9 +41,7 @@ impl FrameState {
         requires ports { ArePortsNumbered wiring.now }
         requires form { has_form wiring.now self.old.me.0 kind m.now.payload source target ≡ true }
         ensures { IfOk result (λ d.
-            IsDone wiring.now self.old self.new
-            (frame_duty_of wiring.now self.old.me.0 (frame_in self.old) m.now kind source target)
-            out.old out.new d) }
+            IsHeard wiring.now self.old self.new m.now kind source target out.old out.new d) }
     {
         match kind {
             SysKind::Create => self.hear_create(wiring, m, source, target, out),
@@ -79,10 +77,7 @@ impl FrameState {
         requires fits { IsFrameOf wiring.now self.old }
         requires ports { ArePortsNumbered wiring.now }
         ensures { IfOk result (λ d.
-            IsDone wiring.now self.old self.new
-            (frame_duty_of wiring.now self.old.me.0 (frame_in self.old) m.now kind source
-            m.now.target)
-            out.old out.new d) }
+            IsHeard wiring.now self.old self.new m.now kind source m.now.target out.old out.new d) }
     {
         let target = m.target;
         let numbers = m.payload.numbers();

@@ -1,10 +1,9 @@
 //! The duties on imports.
 ghost use Rattle.std.specs.Prelude.{◌≡◌, true, IfOk};
 ghost use Rattle.room_kinds.specs.declared.system.SysKind.{SysKind};
-ghost use Rattle.actor_duties.specs.Frame.{frame_duty_of};
-ghost use Rattle.frame_service.specs.State.{frame_in, IsFrameOf};
+ghost use Rattle.frame_service.specs.State.{IsFrameOf};
 ghost use Rattle.frame_service.specs.Forms.{has_form};
-ghost use Rattle.frame_service.specs.Done.{IsDone};
+ghost use Rattle.frame_service.specs.Done.{IsHeard};
 ghost use Rattle.frame_service.specs.frame_imports.Numbered.{ArePortsNumbered};
 
 use crate::duties::nothing;
@@ -31,10 +30,7 @@ impl FrameState {
         requires form { has_form wiring.now self.old.me.0 SysKind.Import m.now.payload place home
             ≡ true }
         ensures { IfOk result (λ d.
-            IsDone wiring.now self.old self.new
-            (frame_duty_of wiring.now self.old.me.0 (frame_in self.old) m.now SysKind.Import place
-            home)
-            out.old out.new d) }
+            IsHeard wiring.now self.old self.new m.now SysKind.Import place home out.old out.new d) }
     {
         import(
             &mut self.imports,
@@ -63,10 +59,7 @@ impl FrameState {
         requires form { has_form wiring.now self.old.me.0 SysKind.ImportDone m.now.payload home
             place ≡ true }
         ensures { IfOk result (λ d.
-            IsDone wiring.now self.old self.new
-            (frame_duty_of wiring.now self.old.me.0 (frame_in self.old) m.now SysKind.ImportDone
-            home place)
-            out.old out.new d) }
+            IsHeard wiring.now self.old self.new m.now SysKind.ImportDone home place out.old out.new d) }
     {
         let what = What::Lent;
         let answer = Answer { home, place, what };
@@ -95,10 +88,7 @@ impl FrameState {
         requires form { has_form wiring.now self.old.me.0 SysKind.ImportRefused m.now.payload home
             place ≡ true }
         ensures { IfOk result (λ d.
-            IsDone wiring.now self.old self.new
-            (frame_duty_of wiring.now self.old.me.0 (frame_in self.old) m.now SysKind.ImportRefused
-            home place)
-            out.old out.new d) }
+            IsHeard wiring.now self.old self.new m.now SysKind.ImportRefused home place out.old out.new d) }
     {
         let code = first_number(m);
         let what = What::Refused(code);
@@ -128,10 +118,7 @@ impl FrameState {
         requires form { has_form wiring.now self.old.me.0 SysKind.ImportEnded m.now.payload home
             place ≡ true }
         ensures { IfOk result (λ d.
-            IsDone wiring.now self.old self.new
-            (frame_duty_of wiring.now self.old.me.0 (frame_in self.old) m.now SysKind.ImportEnded
-            home place)
-            out.old out.new d) }
+            IsHeard wiring.now self.old self.new m.now SysKind.ImportEnded home place out.old out.new d) }
     {
         let what = What::Ended;
         let answer = Answer { home, place, what };
@@ -160,10 +147,7 @@ impl FrameState {
         requires form { has_form wiring.now self.old.me.0 SysKind.Deport m.now.payload place home
             ≡ true }
         ensures { IfOk result (λ d.
-            IsDone wiring.now self.old self.new
-            (frame_duty_of wiring.now self.old.me.0 (frame_in self.old) m.now SysKind.Deport place
-            home)
-            out.old out.new d) }
+            IsHeard wiring.now self.old self.new m.now SysKind.Deport place home out.old out.new d) }
     {
         deport(
             &mut self.imports,
@@ -191,10 +175,7 @@ impl FrameState {
         requires form { has_form wiring.now self.old.me.0 SysKind.DeportDone m.now.payload home
             place ≡ true }
         ensures { IfOk result (λ d.
-            IsDone wiring.now self.old self.new
-            (frame_duty_of wiring.now self.old.me.0 (frame_in self.old) m.now SysKind.DeportDone
-            home place)
-            out.old out.new d) }
+            IsHeard wiring.now self.old self.new m.now SysKind.DeportDone home place out.old out.new d) }
     {
         let what = What::Back;
         let answer = Answer { home, place, what };

@@ -1,10 +1,9 @@
 //! The duties on the lives of actors.
 ghost use Rattle.std.specs.Prelude.{◌≡◌, ◌<◌, ℕ, true, IfOk};
 ghost use Rattle.room_kinds.specs.declared.system.SysKind.{SysKind};
-ghost use Rattle.actor_duties.specs.Frame.{frame_duty_of};
-ghost use Rattle.frame_service.specs.State.{frame_in, IsFrameOf};
+ghost use Rattle.frame_service.specs.State.{IsFrameOf};
 ghost use Rattle.frame_service.specs.Forms.{has_form};
-ghost use Rattle.frame_service.specs.Done.{IsDone};
+ghost use Rattle.frame_service.specs.Done.{IsHeard};
 
 use crate::duties::nothing;
 use crate::forms::{first_number, one_of};
@@ -29,10 +28,7 @@ impl FrameState {
         requires form { has_form wiring.now self.old.me.0 SysKind.Create m.now.payload from slot
             ≡ true }
         ensures { IfOk result (λ d.
-            IsDone wiring.now self.old self.new
-            (frame_duty_of wiring.now self.old.me.0 (frame_in self.old) m.now SysKind.Create from
-            slot)
-            out.old out.new d) }
+            IsHeard wiring.now self.old self.new m.now SysKind.Create from slot out.old out.new d) }
     {
         let done = self.lives.create(
             self.alloc, wiring, &self.runs, self.me, m, slot.slot, from, out,
@@ -53,10 +49,7 @@ impl FrameState {
         requires form { has_form wiring.now self.old.me.0 SysKind.PartMake m.now.payload actor again
             ≡ true }
         ensures { IfOk result (λ d.
-            IsDone wiring.now self.old self.new
-            (frame_duty_of wiring.now self.old.me.0 (frame_in self.old) m.now SysKind.PartMake actor
-            again)
-            out.old out.new d) }
+            IsHeard wiring.now self.old self.new m.now SysKind.PartMake actor again out.old out.new d) }
     {
         let done = self
             .lives
@@ -77,10 +70,7 @@ impl FrameState {
         requires form { has_form wiring.now self.old.me.0 SysKind.Announce m.now.payload actor again
             ≡ true }
         ensures { IfOk result (λ d.
-            IsDone wiring.now self.old self.new
-            (frame_duty_of wiring.now self.old.me.0 (frame_in self.old) m.now SysKind.Announce actor
-            again)
-            out.old out.new d) }
+            IsHeard wiring.now self.old self.new m.now SysKind.Announce actor again out.old out.new d) }
     {
         // A look at the wiring: its tables have a row for each slot.
         let _slots = wiring.slot_count();

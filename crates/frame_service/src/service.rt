@@ -6,13 +6,14 @@ ghost use Rattle.actor_world.specs.Start.{first_frame};
 ghost use Rattle.service_messages.specs.slot_runs.Runs.{IsDepthFirst, AreRunEnds};
 ghost use Rattle.frame_lives.specs.Known.{live_in, some_generation};
 ghost use Rattle.frame_service.specs.State.{frame_in, IsFrameOf};
+ghost use Rattle.frame_service.specs.Places.{shown_place};
 
 use crate::frame_imports::Imports;
 use crate::frame_start::first_lives;
 use crate::state::FrameState;
-use room_kinds::{ControllerId, Endpoint, Generation, Incarnation, SlotId};
+use room_kinds::{ControllerId, Endpoint, Generation, Incarnation, PlaceState, SlotId};
 use room_wiring::Wiring;
-use service_messages::SlotRuns;
+use service_messages::{SlotRuns, container_of};
 use std::alloc::{AllocError, Global};
 
 impl FrameState {
@@ -78,5 +79,20 @@ impl FrameState {
             ≡ some_generation (known wiring.now self.now.me.0 (frame_in self.now) slot.0) }
     {
         self.lives.known(wiring, self.me, slot)
+    }
+
+    /// What the import place of an imported slot holds, with its container's generation; none
+    /// exactly where its container doesn't live at this controller. It takes no memory.
+    #[tactic(auto, unfolding(crate::specs::State::frame_in))]
+    pub fn place(&self, wiring: &Wiring, slot: SlotId) -> Option<PlaceState>
+        ensures { result ≡ shown_place wiring.now (frame_in self.now) slot.0 }
+    {
+        let Some(container) = container_of(wiring, slot) else {
+            return None;
+        };
+        if !self.lives.lives(container) {
+            return None;
+        }
+        Some(self.imports.place(slot).shown())
     }
 }

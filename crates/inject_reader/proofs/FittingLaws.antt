@@ -1,6 +1,7 @@
 -- What is read names what the wiring has.
 use Rattle.std.proofs.Common.{◌≡◌, ℕ, suc, ◌+◌, ◌<◌, ◌≤◌, Bool, true, false, cond, List, [], ◌∷◌, ◌++◌, length, refl, sym, ap, ◌∙◌, subst, arith, Option, Some, None, Result, Ok, Err, ℤ, codes, nat_lt, nat_le}
 use Rattle.std.specs.Prelude.{◌&&◌, ◌==◌, IsTrue, slice_get, position, option_map, option_and_then}
+use Rattle.std.specs.List.{AllByRecursion}
 use Rattle.std.specs.Option.{option_map_or}
 use Rattle.std.proofs.lemmas.Bool.{and_parts}
 use Rattle.std.proofs.lemmas.Bool.Decides.{nat_tests}
@@ -15,19 +16,21 @@ use Rattle.room_wiring.specs.declared.names.SignalNames.{SignalNames}
 use Rattle.room_wiring.specs.Slots.{slot_at, class_of, slot_named}
 use Rattle.room_wiring.specs.Places.{place_count}
 use Rattle.room_wiring.specs.wiring_names.Lookup.{port_of}
+use Rattle.inject_reader.specs.declared.inject_lines.accepted.Advances.{Advances}
+use Rattle.inject_reader.specs.declared.inject_lines.accepted.Advances.TheVariants.{Taken, Refused}
 use Rattle.inject_reader.specs.declared.inject_lines.accepted.What.{What}
 use Rattle.inject_reader.specs.declared.inject_lines.accepted.What.TheVariants as whats
 use Rattle.inject_reader.specs.declared.inject_lines.accepted.Line.{Line}
 use Rattle.text_reading.specs.Numerals.{value_of, number_in}
-use Rattle.inject_reader.specs.inject_lines.Forms.{LoadForm, MessageForm, LineForm, Settle, Message, loaded, with_number, priority_in, priority_of, load_in, target_in, form_of, form_in}
+use Rattle.inject_reader.specs.inject_lines.Forms.{LoadForm, MessageForm, LineForm, Settle, Advance, Message, loaded, with_number, priority_in, priority_of, load_in, target_in, time_in, advance_in, message_in, longer_in, form_of, form_in}
 use Rattle.inject_reader.specs.inject_lines.Fields.{fields}
-use Rattle.inject_reader.specs.Meaning.{Fault, ◌>>=◌, coded, is_own, own_slot, slot_meant, end_place, port_named, port_in_class, port_meant, coming, first_coming, coming_at, signal_meant, reduced_all, payload_meant, whoever, message_meant, form_meant, line_meant}
+use Rattle.inject_reader.specs.Meaning.{Fault, ◌>>=◌, coded, is_own, own_slot, slot_meant, end_place, port_named, port_in_class, port_meant, coming, first_coming, coming_at, signal_meant, reduced_all, payload_meant, whoever, message_meant, advance_meant, form_meant, line_meant}
 use Rattle.inject_reader.specs.Answer.{is_passed_over, numbered, entry_at, entries_from, answer}
 use Rattle.inject_reader.specs.declared.fault.InjectFault.{InjectFault}
 use Rattle.inject_reader.specs.Gives.{Gives}
 use Rattle.std.specs.Str.Lines.{lines}
 use Rattle.std.specs.Result.{IfOk}
-use Rattle.inject_reader.specs.Fitting.{IsOwnSlot, ComesIn, FitsWhat, FitLines}
+use Rattle.inject_reader.specs.Fitting.{IsOwnSlot, ComesIn, FitsWhat, FitLines, StandsStill, AreUntimed}
 
 bind_ok : {A B : Type 0} (r : Result A Fault) (f : A → Result B Fault) (y : B) → (r >>= f) ≡ Ok y → (x : A) × (r ≡ Ok x) × (f x ≡ Ok y)
 bind_ok (Ok x) f y h = (x, refl, h)
@@ -158,22 +161,37 @@ load_range (w ∷ ws) l h = by_test (same w (codes "at")) (λ k e. load_range ws
 
 abbrev PrioritySound : LineForm → Type 0
 PrioritySound Settle = Unit {0}
+PrioritySound (Advance time) = Unit {0}
 PrioritySound (Message m) = InRange m.load.prio
 
 chosen_form : {A : Type 0} (t : Bool) (o : Option A) (y : A) → cond t o None ≡ Some y → o ≡ Some y
 chosen_form true o y h = h
 chosen_form false o y h = absurd cc
 
+message_range : (w v : List ℕ) (ws : List (List ℕ)) (f : LineForm) → message_in w v ws ≡ Some f → PrioritySound f
+message_range w v ws f h =
+    let whole = chosen_form (is_ident v) (option_and_then (λ t. option_map (λ l. Message (record { target = t; signal = v; load = l })) (load_in ws)) (target_in w)) f h in
+    let target = then_some (λ t. option_map (λ l. Message (record { target = t; signal = v; load = l })) (load_in ws)) (target_in w) f whole in
+    let load = map_some (λ l. Message (record { target = target.0; signal = v; load = l })) (load_in ws) f target.2 in
+    subst PrioritySound load.2 (load_range ws load.0 load.1)
+
+advance_range : (v : List ℕ) (ws : List (List ℕ)) (f : LineForm) → advance_in v ws ≡ Some f → PrioritySound f
+advance_range v [] f h = let time = map_some Advance (time_in v) f h in subst PrioritySound time.2 tt
+advance_range v (w ∷ ws) f h = absurd cc
+
+longer_range : (w v : List ℕ) (ws : List (List ℕ)) (f : LineForm) → longer_in w v ws ≡ Some f → PrioritySound f
+longer_range w v ws f = by_test (same w (codes "advance"))
+  where
+    by_test : (t : Bool) → cond t (advance_in v ws) (message_in w v ws) ≡ Some f → PrioritySound f
+    by_test true h = advance_range v ws f h
+    by_test false h = message_range w v ws f h
+
 form_range : (ws : List (List ℕ)) (f : LineForm) → form_of ws ≡ Some f → PrioritySound f
 form_range [] f h = absurd cc
 form_range (w ∷ []) f h =
     let is = chosen (same w (codes "settle")) Settle f h in
     subst PrioritySound is.1 tt
-form_range (w ∷ v ∷ ws) f h =
-    let whole = chosen_form (is_ident v) (option_and_then (λ t. option_map (λ l. Message (record { target = t; signal = v; load = l })) (load_in ws)) (target_in w)) f h in
-    let target = then_some (λ t. option_map (λ l. Message (record { target = t; signal = v; load = l })) (load_in ws)) (target_in w) f whole in
-    let load = map_some (λ l. Message (record { target = target.0; signal = v; load = l })) (load_in ws) f target.2 in
-    subst PrioritySound load.2 (load_range ws load.0 load.1)
+form_range (w ∷ v ∷ ws) f h = longer_range w v ws f h
 
 -- ---- a line, and all lines
 
@@ -198,48 +216,89 @@ message_fits t line m w range h =
     } in
     subst (FitsWhat t) what fits
 
-form_fits : (t : Tables) (line : ℕ) (f : LineForm) (w : What) → PrioritySound f → form_meant t line f ≡ Ok w → FitsWhat t w
-form_fits t line Settle w s h = let what : whats.Settle ≡ w = cc in subst (FitsWhat t) what tt
-form_fits t line (Message m) w s h = message_fits t line m w s h
+advance_fits : (advances : Advances) (t : Tables) (line time : ℕ) (w : What) → advance_meant advances line time ≡ Ok w → FitsWhat t w
+advance_fits Taken t line time w h = let what : whats.Advance time ≡ w = cc in subst (FitsWhat t) what tt
+advance_fits Refused t line time w h = absurd cc
 
-line_fits : (t : Tables) (line : ℕ) (text : List ℕ) (w : What) → line_meant t line text ≡ Ok w → FitsWhat t w
+form_fits : (advances : Advances) (t : Tables) (line : ℕ) (f : LineForm) (w : What) → PrioritySound f → form_meant advances t line f ≡ Ok w → FitsWhat t w
+form_fits advances t line Settle w s h = let what : whats.Settle ≡ w = cc in subst (FitsWhat t) what tt
+form_fits advances t line (Advance time) w s h = advance_fits advances t line time w h
+form_fits advances t line (Message m) w s h = message_fits t line m w s h
+
+line_fits : (advances : Advances) (t : Tables) (line : ℕ) (text : List ℕ) (w : What) → line_meant advances t line text ≡ Ok w → FitsWhat t w
 unfolding line_meant form_in
-line_fits t line text w h =
-    let form = bind_ok (coded line 1 (form_in text)) (form_meant t line) w h in
-    form_fits t line form.0 w (form_range (fields text) form.0 (coded_ok line 1 _ form.0 form.1)) form.2
+line_fits advances t line text w h =
+    let form = bind_ok (coded line 1 (form_in text)) (form_meant advances t line) w h in
+    form_fits advances t line form.0 w (form_range (fields text) form.0 (coded_ok line 1 _ form.0 form.1)) form.2
 
-entry_fits : (t : Tables) (n : ℕ) (text : List ℕ) (ls : List Line) → entry_at t n text ≡ Ok ls → FitLines t ls
-unfolding entry_at
-entry_fits t n text ls = by_test (is_passed_over text)
-  where
-    by_test : (p : Bool) → cond p (Ok []) (line_meant t n text >>= λ what. Ok (numbered n what)) ≡ Ok ls → FitLines t ls
-    by_test true h = let none : [] ≡ ls = cc in subst (FitLines t) none tt
-    by_test false h =
-        let what = bind_ok (line_meant t n text) (λ what. Ok (numbered n what)) ls h in
-        let one : numbered n what.0 ≡ ls = cc in
-        subst (FitLines t) one (line_fits t n text what.0 what.1, tt)
+-- ---- no line moves time on where that is refused
 
-both_fit : (t : Tables) (xs ys : List Line) → FitLines t xs → FitLines t ys → FitLines t (xs ++ ys)
-both_fit t [] ys h k = k
-both_fit t (x ∷ xs) ys h k = (h.0, both_fit t xs ys h.1 k)
+message_still : (t : Tables) (line : ℕ) (m : MessageForm) (w : What) → message_meant t line m ≡ Ok w → StandsStill w
+unfolding message_meant
+message_still t line m w h =
+    let place = value_of m.target.place in
+    let a = bind_ok (coded line 2 (slot_meant t m.target.path)) _ w h in
+    let b = bind_ok (coded line 3 (port_meant t a.0 m.target.port place)) _ w a.2 in
+    let c = bind_ok (coded line 4 (signal_meant b.0.1 m.signal)) _ w b.2 in
+    let d = bind_ok (coded line 5 (payload_meant c.0.1.numbers m.load.numbers)) _ w c.2 in
+    let what : whats.Message (whoever a.0 b.0.0 place) c.0.0 d.0 (record { 0 = m.load.prio }) ≡ w = cc in
+    subst StandsStill what tt
 
-entries_fit : (t : Tables) (n : ℕ) (texts : List (List ℕ)) (ls : List Line) → entries_from t n texts ≡ Ok ls → FitLines t ls
-entries_fit t n [] ls h = let none : [] ≡ ls = cc in subst (FitLines t) none tt
-entries_fit t n (text ∷ more) ls h =
-    let front = bind_ok (entry_at t n text) (λ front. entries_from t (n + 1) more >>= λ back. Ok (front ++ back)) ls h in
-    let back = bind_ok (entries_from t (n + 1) more) (λ back. Ok (front.0 ++ back)) ls front.2 in
-    let whole : front.0 ++ back.0 ≡ ls = cc in
-    subst (FitLines t) whole (both_fit t front.0 back.0 (entry_fits t n text front.0 front.1) (entries_fit t (n + 1) more back.0 back.1))
+form_still : (t : Tables) (line : ℕ) (f : LineForm) (w : What) → form_meant Refused t line f ≡ Ok w → StandsStill w
+form_still t line Settle w h = let what : whats.Settle ≡ w = cc in subst StandsStill what tt
+form_still t line (Advance time) w h = absurd cc
+form_still t line (Message m) w h = message_still t line m w h
 
-answer_fits : (t : Tables) (bytes : List ℕ) (ls : List Line) → answer t bytes ≡ Ok ls → FitLines t ls
-unfolding answer
-answer_fits t bytes ls = by_test (nat_lt 10000 (length (lines bytes)))
-  where
-    by_test : (b : Bool) → cond b (Err (10001, 6)) (entries_from t 1 (lines bytes)) ≡ Ok ls → FitLines t ls
-    by_test true h = absurd cc
-    by_test false h = entries_fit t 1 (lines bytes) ls h
+line_still : (t : Tables) (line : ℕ) (text : List ℕ) (w : What) → line_meant Refused t line text ≡ Ok w → StandsStill w
+unfolding line_meant
+line_still t line text w h =
+    let form = bind_ok (coded line 1 (form_in text)) (form_meant Refused t line) w h in
+    form_still t line form.0 w form.2
 
--- the same of a reader's answer
-pub given_fit : {V : Type 0} (items : V → List Line) (t : Tables) (bytes : List ℕ) (r : Result V InjectFault) → Gives items r (answer t bytes) → IfOk r (λ v. FitLines t (items v))
-given_fit items t bytes (Ok v) h = answer_fits t bytes (items v) h
-given_fit items t bytes (Err e) h = tt
+-- ---- what is so of each accepted line is so of all
+
+abbrev AllAsk : (What → Type 0) → List Line → Type 0
+AllAsk P ls = AllByRecursion (λ (l : Line). P l.what) ls
+
+both_ask : (P : What → Type 0) (xs ys : List Line) → AllAsk P xs → AllAsk P ys → AllAsk P (xs ++ ys)
+both_ask P [] ys h k = k
+both_ask P (x ∷ xs) ys h k = (h.0, both_ask P xs ys h.1 k)
+
+module _ (P : What → Type 0) (advances : Advances) (t : Tables) (each : (n : ℕ) (text : List ℕ) (w : What) → line_meant advances t n text ≡ Ok w → P w) where
+  entry_asks : (n : ℕ) (text : List ℕ) (ls : List Line) → entry_at advances t n text ≡ Ok ls → AllAsk P ls
+  unfolding entry_at
+  entry_asks n text ls = by_test (is_passed_over text)
+    where
+      by_test : (p : Bool) → cond p (Ok []) (line_meant advances t n text >>= λ what. Ok (numbered n what)) ≡ Ok ls → AllAsk P ls
+      by_test true h = let none : [] ≡ ls = cc in subst (AllAsk P) none tt
+      by_test false h =
+          let what = bind_ok (line_meant advances t n text) (λ what. Ok (numbered n what)) ls h in
+          let one : numbered n what.0 ≡ ls = cc in
+          subst (AllAsk P) one (each n text what.0 what.1, tt)
+
+  entries_ask : (n : ℕ) (texts : List (List ℕ)) (ls : List Line) → entries_from advances t n texts ≡ Ok ls → AllAsk P ls
+  entries_ask n [] ls h = let none : [] ≡ ls = cc in subst (AllAsk P) none tt
+  entries_ask n (text ∷ more) ls h =
+      let front = bind_ok (entry_at advances t n text) (λ front. entries_from advances t (n + 1) more >>= λ back. Ok (front ++ back)) ls h in
+      let back = bind_ok (entries_from advances t (n + 1) more) (λ back. Ok (front.0 ++ back)) ls front.2 in
+      let whole : front.0 ++ back.0 ≡ ls = cc in
+      subst (AllAsk P) whole (both_ask P front.0 back.0 (entry_asks n text front.0 front.1) (entries_ask (n + 1) more back.0 back.1))
+
+  answer_asks : (bytes : List ℕ) (ls : List Line) → answer advances t bytes ≡ Ok ls → AllAsk P ls
+  unfolding answer
+  answer_asks bytes ls = by_test (nat_lt 10000 (length (lines bytes)))
+    where
+      by_test : (b : Bool) → cond b (Err (10001, 6)) (entries_from advances t 1 (lines bytes)) ≡ Ok ls → AllAsk P ls
+      by_test true h = absurd cc
+      by_test false h = entries_ask 1 (lines bytes) ls h
+
+  -- the same of a reader's answer
+  given_asks : {V : Type 0} (items : V → List Line) (bytes : List ℕ) (r : Result V InjectFault) → Gives items r (answer advances t bytes) → IfOk r (λ v. AllAsk P (items v))
+  given_asks items bytes (Ok v) h = answer_asks bytes (items v) h
+  given_asks items bytes (Err e) h = tt
+
+pub given_fit : {V : Type 0} (advances : Advances) (items : V → List Line) (t : Tables) (bytes : List ℕ) (r : Result V InjectFault) → Gives items r (answer advances t bytes) → IfOk r (λ v. FitLines t (items v))
+given_fit advances items t bytes r h = given_asks (FitsWhat t) advances t (line_fits advances t) items bytes r h
+
+pub given_untimed : {V : Type 0} (items : V → List Line) (t : Tables) (bytes : List ℕ) (r : Result V InjectFault) → Gives items r (answer Refused t bytes) → IfOk r (λ v. AreUntimed (items v))
+given_untimed items t bytes r h = given_asks StandsStill Refused t (line_still t) items bytes r h

@@ -15,10 +15,12 @@ use Rattle.room_wiring.specs.declared.names.PortNames.{PortNames}
 use Rattle.room_wiring.specs.declared.names.SignalNames.{SignalNames}
 use Rattle.room_wiring.specs.Slots.{slot_at, class_of, slot_named}
 use Rattle.room_wiring.specs.Places.{place_count}
+use Rattle.inject_reader.specs.declared.inject_lines.accepted.Advances.{Advances}
+use Rattle.inject_reader.specs.declared.inject_lines.accepted.Advances.TheVariants.{Taken, Refused}
 use Rattle.inject_reader.specs.declared.inject_lines.accepted.What.{What}
 use Rattle.inject_reader.specs.declared.inject_lines.accepted.What.TheVariants as whats
 use Rattle.text_reading.specs.Numerals.{value_of}
-use Rattle.inject_reader.specs.inject_lines.Forms.{MessageForm, LineForm, Settle, Message, form_in}
+use Rattle.inject_reader.specs.inject_lines.Forms.{MessageForm, LineForm, Settle, Advance, Message, form_in}
 
 -- the number of a faulty line, and its code
 abbrev pub Fault : Type 0
@@ -113,10 +115,18 @@ message_meant t line m = do
   payload ← coded line 5 (payload_meant signal.1.numbers m.load.numbers)
   Ok (whats.Message (whoever slot port.0 (value_of m.target.place)) signal.0 payload (record { 0 = m.load.prio }))
 
-abbrev pub form_meant : Tables → ℕ → LineForm → Result What Fault
-form_meant t line Settle = Ok whats.Settle
-form_meant t line (Message m) = message_meant t line m
+-- ---- code 7
+
+-- a time to move on by, where that is accepted
+abbrev pub advance_meant : Advances → ℕ → ℕ → Result What Fault
+advance_meant Taken line time = Ok (whats.Advance time)
+advance_meant Refused line time = Err (line, 7)
+
+abbrev pub form_meant : Advances → Tables → ℕ → LineForm → Result What Fault
+form_meant advances t line Settle = Ok whats.Settle
+form_meant advances t line (Advance time) = advance_meant advances line time
+form_meant advances t line (Message m) = message_meant t line m
 
 -- what a line asks for, or its number and its lowest code
-unfoldable pub line_meant : Tables → ℕ → List ℕ → Result What Fault
-line_meant t line text = coded line 1 (form_in text) >>= form_meant t line
+unfoldable pub line_meant : Advances → Tables → ℕ → List ℕ → Result What Fault
+line_meant advances t line text = coded line 1 (form_in text) >>= form_meant advances t line

@@ -8,5 +8,5 @@ mod fields;
 mod forms;
 mod texts;
 
-pub use accepted::{Line, What};
+pub use accepted::{Advances, Line, What};
 pub use forms::{Form, Load, Target, Wanted, read_form};

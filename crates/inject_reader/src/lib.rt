@@ -5,12 +5,14 @@
 
 mod directory;
 mod fault;
+mod fitting;
 pub mod inject_lines;
 mod lines;
 mod meaning;
 mod parts;
 mod reader;
 
-pub use crate::inject_lines::{Line, What};
+pub use crate::inject_lines::{Advances, Line, What};
 pub use fault::InjectFault;
-pub use reader::read_injections;
+pub use fitting::read_lines_fit;
+pub use reader::{read_injections, read_untimed};

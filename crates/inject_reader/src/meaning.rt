@@ -2,11 +2,11 @@
 ghost use Rattle.std.specs.Prelude.{◌≡◌, ◌≤◌, length, IfOk};
 ghost use Rattle.inject_reader.specs.inject_lines.Views.{wanted_view};
 ghost use Rattle.inject_reader.specs.Gives.{Gives};
-ghost use Rattle.inject_reader.specs.Meaning.{reduced_all, payload_meant, message_meant, line_meant};
+ghost use Rattle.inject_reader.specs.Meaning.{reduced_all, payload_meant, message_meant, advance_meant, line_meant};
 
 use crate::directory::Directory;
 use crate::fault::InjectFault;
-use crate::inject_lines::{Form, Wanted, What, read_form};
+use crate::inject_lines::{Advances, Form, Wanted, What, read_form};
 use room_kinds::{Endpoint, Generation, NumberType, Payload};
 use std::alloc::{AllocError, Global};
 
@@ -65,21 +65,32 @@ fn message(
     })
 }
 
+fn advance(advances: Advances, line: u32, time: u32) -> Result<What, InjectFault>
+    ensures { Gives (λ w. w) result (advance_meant advances line time) }
+{
+    match advances {
+        Advances::Taken => Ok(What::Advance(time)),
+        Advances::Refused => Err(InjectFault::Code { line, code: 7 }),
+    }
+}
+
 /// What the line of this number asks for.
 #[tactic(auto, unfolding(crate::specs::Meaning::line_meant))]
 pub fn read_line(
     alloc: Global,
+    advances: Advances,
     directory: &Directory<'_>,
     line: u32,
     text: &[u8],
 ) -> Result<What, InjectFault>
-    ensures { Gives (λ w. w) result (line_meant directory.now line text.now) }
+    ensures { Gives (λ w. w) result (line_meant advances directory.now line text.now) }
 {
     let Some(form) = read_form(alloc, text)? else {
         return Err(InjectFault::Code { line, code: 1 });
     };
     match form {
         Form::Settle => Ok(What::Settle),
+        Form::Advance(time) => advance(advances, line, time),
         Form::Message(wanted) => message(alloc, directory, line, &wanted),
     }
 }

@@ -14,7 +14,7 @@ use crate::lines::{
 use crate::naming;
 use crate::speaker::speaker_after;
 use room_kinds::{ControllerId, Incarnation, Msg, Note, SlotId, Stamp};
-use room_outside::{LineBuffer, Part, Sink, WriteFault, write_line};
+use room_outside::{Failed, LineBuffer, Part, Sink, write_line};
 use room_wiring::Wiring;
 
 fn write_note<K: Sink>(
@@ -23,8 +23,9 @@ fn write_note<K: Sink>(
     wiring: &Wiring,
     speaker: Option<SlotId>,
     note: &Note,
-) -> Result<(), WriteFault>
-    ensures { Puts result (at_rest (K.written sink.old)) (at_rest (K.written sink.new))
+) -> Result<(), Failed>
+    ensures { Puts result
+        (at_rest (K.written sink.old) out.old) (at_rest (K.written sink.new) out.new)
         (note_line wiring.now speaker note.now) }
 {
     match note {
@@ -67,8 +68,9 @@ fn write_notes<K: Sink>(
     duty: bool,
     speaker: Option<SlotId>,
     notes: &[Note],
-) -> Result<(), WriteFault>
-    ensures { Puts result (at_rest (K.written sink.old)) (at_rest (K.written sink.new))
+) -> Result<(), Failed>
+    ensures { Puts result
+        (at_rest (K.written sink.old) out.old) (at_rest (K.written sink.new) out.new)
         (note_lines wiring.now duty speaker notes.now) }
 {
     let mut speaking = speaker;
@@ -93,7 +95,7 @@ fn put_turn_head<K: Sink>(
     sink: &mut K,
     wiring: &Wiring,
     head: TurnHead,
-) -> Result<(), WriteFault>
+) -> Result<(), Failed>
     ensures { Puts result
         (record { written = K.written sink.old; held = out.old })
         (record { written = K.written sink.new; held = out.new })
@@ -114,10 +116,10 @@ fn end_turn_line<K: Sink>(
     sink: &mut K,
     wiring: &Wiring,
     did: Did,
-) -> Result<(), WriteFault>
+) -> Result<(), Failed>
     ensures { Puts result
         (record { written = K.written sink.old; held = out.old })
-        (at_rest (K.written sink.new))
+        (at_rest (K.written sink.new) out.new)
         (line (did_parts wiring.now did)) }
 {
     match did {
@@ -142,8 +144,9 @@ fn write_turn<K: Sink>(
     wiring: &Wiring,
     head: TurnHead,
     did: Did,
-) -> Result<(), WriteFault>
-    ensures { Puts result (at_rest (K.written sink.old)) (at_rest (K.written sink.new))
+) -> Result<(), Failed>
+    ensures { Puts result
+        (at_rest (K.written sink.old) out.old) (at_rest (K.written sink.new) out.new)
         (turn_line wiring.now head.stamp.0 head.from.0 head.sent.0 did) }
 {
     out.clear();
@@ -157,8 +160,9 @@ fn write_fetch<K: Sink>(
     wiring: &Wiring,
     stamp: Stamp,
     msg: &Msg,
-) -> Result<(), WriteFault>
-    ensures { Puts result (at_rest (K.written sink.old)) (at_rest (K.written sink.new))
+) -> Result<(), Failed>
+    ensures { Puts result
+        (at_rest (K.written sink.old) out.old) (at_rest (K.written sink.new) out.new)
         (fetch_line wiring.now stamp.0 msg.now) }
 {
     let head = [
@@ -178,8 +182,9 @@ fn write_post<K: Sink>(
     wiring: &Wiring,
     stamp: Stamp,
     msg: &Msg,
-) -> Result<(), WriteFault>
-    ensures { Puts result (at_rest (K.written sink.old)) (at_rest (K.written sink.new))
+) -> Result<(), Failed>
+    ensures { Puts result
+        (at_rest (K.written sink.old) out.old) (at_rest (K.written sink.new) out.new)
         (post_line wiring.now stamp.0 msg.now) }
 {
     out.clear();
@@ -201,8 +206,9 @@ fn write_start<K: Sink>(
     who: Incarnation,
     state: u16,
     notes: &[Note],
-) -> Result<(), WriteFault>
-    ensures { Puts result (at_rest (K.written sink.old)) (at_rest (K.written sink.new))
+) -> Result<(), Failed>
+    ensures { Puts result
+        (at_rest (K.written sink.old) out.old) (at_rest (K.written sink.new) out.new)
         (start_line wiring.now who state ++ note_lines wiring.now false (Some who.slot) notes.now) }
 {
     write_standing_line(out, sink, wiring, &[Part::Text(b"start ")], who, state)?;
@@ -217,8 +223,9 @@ fn write_turn_and_notes<K: Sink>(
     head: TurnHead,
     did: Did,
     notes: &[Note],
-) -> Result<(), WriteFault>
-    ensures { Puts result (at_rest (K.written sink.old)) (at_rest (K.written sink.new))
+) -> Result<(), Failed>
+    ensures { Puts result
+        (at_rest (K.written sink.old) out.old) (at_rest (K.written sink.new) out.new)
         (turn_line wiring.now head.stamp.0 head.from.0 head.sent.0 did
         ++ note_lines wiring.now (is_duty did) (speaker_of did) notes.now) }
 {
@@ -234,8 +241,9 @@ fn write_notes_of<K: Sink>(
     wiring: &Wiring,
     did: Did,
     notes: &[Note],
-) -> Result<(), WriteFault>
-    ensures { Puts result (at_rest (K.written sink.old)) (at_rest (K.written sink.new))
+) -> Result<(), Failed>
+    ensures { Puts result
+        (at_rest (K.written sink.old) out.old) (at_rest (K.written sink.new) out.new)
         (note_lines wiring.now (is_duty did) (speaker_of did) notes.now) }
 {
     match notes {
@@ -250,8 +258,9 @@ pub fn write_entry<K: Sink>(
     sink: &mut K,
     wiring: &Wiring,
     entry: &Entry,
-) -> Result<(), WriteFault>
-    ensures { Puts result (at_rest (K.written sink.old)) (at_rest (K.written sink.new))
+) -> Result<(), Failed>
+    ensures { Puts result
+        (at_rest (K.written sink.old) out.old) (at_rest (K.written sink.new) out.new)
         (entry_text wiring.now entry.now) }
 {
     match entry {
@@ -284,8 +293,9 @@ pub fn write_journal<K: Sink>(
     sink: &mut K,
     wiring: &Wiring,
     entries: &[Entry],
-) -> Result<(), WriteFault>
-    ensures { Puts result (at_rest (K.written sink.old)) (at_rest (K.written sink.new))
+) -> Result<(), Failed>
+    ensures { Puts result
+        (at_rest (K.written sink.old) out.old) (at_rest (K.written sink.new) out.new)
         (journal_text wiring.now entries.now) }
 {
     for entry in entries {
@@ -302,8 +312,9 @@ fn write_controller<K: Sink>(
     wiring: &Wiring,
     c: usize,
     journal: &Journal,
-) -> Result<(), WriteFault>
-    ensures { Puts result (at_rest (K.written sink.old)) (at_rest (K.written sink.new))
+) -> Result<(), Failed>
+    ensures { Puts result
+        (at_rest (K.written sink.old) out.old) (at_rest (K.written sink.new) out.new)
         (controller_text wiring.now c journal.now) }
 {
     write_title(out, sink, wiring, c)?;
@@ -316,8 +327,9 @@ pub fn write_title<K: Sink>(
     sink: &mut K,
     wiring: &Wiring,
     c: usize,
-) -> Result<(), WriteFault>
-    ensures { Puts result (at_rest (K.written sink.old)) (at_rest (K.written sink.new))
+) -> Result<(), Failed>
+    ensures { Puts result
+        (at_rest (K.written sink.old) out.old) (at_rest (K.written sink.new) out.new)
         (title_of wiring.now c) }
 {
     let parts = [
@@ -334,8 +346,9 @@ fn write_controllers<K: Sink>(
     sink: &mut K,
     wiring: &Wiring,
     journals: &[Journal],
-) -> Result<(), WriteFault>
-    ensures { Puts result (at_rest (K.written sink.old)) (at_rest (K.written sink.new))
+) -> Result<(), Failed>
+    ensures { Puts result
+        (at_rest (K.written sink.old) out.old) (at_rest (K.written sink.new) out.new)
         (controllers_text wiring.now 0 journals.now) }
 {
     for (c, journal) in journals.iter().enumerate() {
@@ -349,8 +362,9 @@ fn write_left_line<K: Sink>(
     sink: &mut K,
     wiring: &Wiring,
     left: &Left,
-) -> Result<(), WriteFault>
-    ensures { Puts result (at_rest (K.written sink.old)) (at_rest (K.written sink.new))
+) -> Result<(), Failed>
+    ensures { Puts result
+        (at_rest (K.written sink.old) out.old) (at_rest (K.written sink.new) out.new)
         (left_line wiring.now left.now) }
 {
     let place = where_word(left.pending);
@@ -379,8 +393,9 @@ pub fn write_left<K: Sink>(
     sink: &mut K,
     wiring: &Wiring,
     left: &[Left],
-) -> Result<(), WriteFault>
-    ensures { Puts result (at_rest (K.written sink.old)) (at_rest (K.written sink.new))
+) -> Result<(), Failed>
+    ensures { Puts result
+        (at_rest (K.written sink.old) out.old) (at_rest (K.written sink.new) out.new)
         (left_text wiring.now left.now) }
 {
     for one in left {
@@ -393,8 +408,9 @@ fn write_unposted_line<K: Sink>(
     out: &mut LineBuffer,
     sink: &mut K,
     number: u32,
-) -> Result<(), WriteFault>
-    ensures { Puts result (at_rest (K.written sink.old)) (at_rest (K.written sink.new))
+) -> Result<(), Failed>
+    ensures { Puts result
+        (at_rest (K.written sink.old) out.old) (at_rest (K.written sink.new) out.new)
         (unposted_line number) }
 {
     write_line(
@@ -410,8 +426,9 @@ pub fn write_unposted<K: Sink>(
     out: &mut LineBuffer,
     sink: &mut K,
     numbers: &[u32],
-) -> Result<(), WriteFault>
-    ensures { Puts result (at_rest (K.written sink.old)) (at_rest (K.written sink.new))
+) -> Result<(), Failed>
+    ensures { Puts result
+        (at_rest (K.written sink.old) out.old) (at_rest (K.written sink.new) out.new)
         (unposted_text numbers.now) }
 {
     for number in numbers {
@@ -421,8 +438,9 @@ pub fn write_unposted<K: Sink>(
 }
 
 /// Writes the last line: `done` or `spent`.
-pub fn write_end<K: Sink>(out: &mut LineBuffer, sink: &mut K, done: bool) -> Result<(), WriteFault>
-    ensures { Puts result (at_rest (K.written sink.old)) (at_rest (K.written sink.new))
+pub fn write_end<K: Sink>(out: &mut LineBuffer, sink: &mut K, done: bool) -> Result<(), Failed>
+    ensures { Puts result
+        (at_rest (K.written sink.old) out.old) (at_rest (K.written sink.new) out.new)
         (end_line done) }
 {
     if done {
@@ -439,8 +457,9 @@ pub fn write_text<K: Sink>(
     sink: &mut K,
     wiring: &Wiring,
     journals: &Journals,
-) -> Result<(), WriteFault>
-    ensures { Puts result (at_rest (K.written sink.old)) (at_rest (K.written sink.new))
+) -> Result<(), Failed>
+    ensures { Puts result
+        (at_rest (K.written sink.old) out.old) (at_rest (K.written sink.new) out.new)
         (text_of wiring.now journals.now) }
 {
     write_line(out, sink, &[Part::Text(b"room-journal 1")])?;

@@ -6,9 +6,11 @@ pub mod entries;
 mod entry;
 mod lines;
 pub mod naming;
+mod same;
 mod speaker;
 mod text;
 
 pub use entry::{Did, Entry, Journal, Journals, Left};
+pub use same::same_notes;
 pub use speaker::speaker_after;
 pub use text::text_to;

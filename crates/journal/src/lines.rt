@@ -10,7 +10,7 @@ ghost use Rattle.room_outside.specs.line_text.Output.{Puts, at_rest};
 
 use crate::naming;
 use room_kinds::{Endpoint, Incarnation, Msg, Priority};
-use room_outside::{LineBuffer, Part, Sink, WriteFault};
+use room_outside::{Failed, LineBuffer, Part, Sink};
 use room_wiring::Wiring;
 
 fn put_incarnation<K: Sink>(
@@ -18,7 +18,7 @@ fn put_incarnation<K: Sink>(
     sink: &mut K,
     wiring: &Wiring,
     who: Incarnation,
-) -> Result<(), WriteFault>
+) -> Result<(), Failed>
     ensures { Puts result
         (record { written = K.written sink.old; held = out.old })
         (record { written = K.written sink.new; held = out.new })
@@ -40,7 +40,7 @@ fn put_named<K: Sink>(
     wiring: &Wiring,
     word: &[u8],
     who: Incarnation,
-) -> Result<(), WriteFault>
+) -> Result<(), Failed>
     ensures { Puts result
         (record { written = K.written sink.old; held = out.old })
         (record { written = K.written sink.new; held = out.new })
@@ -56,7 +56,7 @@ fn put_actor<K: Sink>(
     sink: &mut K,
     wiring: &Wiring,
     endpoint: Endpoint,
-) -> Result<(), WriteFault>
+) -> Result<(), Failed>
     ensures { Puts result
         (record { written = K.written sink.old; held = out.old })
         (record { written = K.written sink.new; held = out.new })
@@ -78,7 +78,7 @@ fn put_place<K: Sink>(
     sink: &mut K,
     wiring: &Wiring,
     endpoint: Endpoint,
-) -> Result<(), WriteFault>
+) -> Result<(), Failed>
     ensures { Puts result
         (record { written = K.written sink.old; held = out.old })
         (record { written = K.written sink.new; held = out.new })
@@ -99,7 +99,7 @@ fn put_endpoint<K: Sink>(
     sink: &mut K,
     wiring: &Wiring,
     endpoint: Endpoint,
-) -> Result<(), WriteFault>
+) -> Result<(), Failed>
     ensures { Puts result
         (record { written = K.written sink.old; held = out.old })
         (record { written = K.written sink.new; held = out.new })
@@ -114,7 +114,7 @@ fn put_source<K: Sink>(
     sink: &mut K,
     wiring: &Wiring,
     source: Option<Endpoint>,
-) -> Result<(), WriteFault>
+) -> Result<(), Failed>
     ensures { Puts result
         (record { written = K.written sink.old; held = out.old })
         (record { written = K.written sink.new; held = out.new })
@@ -133,7 +133,7 @@ fn put_signal<'a, K: Sink>(
     sink: &mut K,
     wiring: &'a Wiring,
     msg: &'a Msg,
-) -> Result<(), WriteFault>
+) -> Result<(), Failed>
     ensures { Puts result
         (record { written = K.written sink.old; held = out.old })
         (record { written = K.written sink.new; held = out.new })
@@ -147,11 +147,7 @@ fn put_signal<'a, K: Sink>(
     )
 }
 
-fn put_priority<K: Sink>(
-    out: &mut LineBuffer,
-    sink: &mut K,
-    prio: Priority,
-) -> Result<(), WriteFault>
+fn put_priority<K: Sink>(out: &mut LineBuffer, sink: &mut K, prio: Priority) -> Result<(), Failed>
     ensures { Puts result
         (record { written = K.written sink.old; held = out.old })
         (record { written = K.written sink.new; held = out.new })
@@ -165,7 +161,7 @@ fn put_message<K: Sink>(
     sink: &mut K,
     wiring: &Wiring,
     msg: &Msg,
-) -> Result<(), WriteFault>
+) -> Result<(), Failed>
     ensures { Puts result
         (record { written = K.written sink.old; held = out.old })
         (record { written = K.written sink.new; held = out.new })
@@ -184,10 +180,10 @@ pub fn end_message_line<K: Sink>(
     sink: &mut K,
     wiring: &Wiring,
     msg: &Msg,
-) -> Result<(), WriteFault>
+) -> Result<(), Failed>
     ensures { Puts result
         (record { written = K.written sink.old; held = out.old })
-        (at_rest (K.written sink.new))
+        (at_rest (K.written sink.new) out.new)
         (line (message_parts wiring.now msg.now)) }
 {
     put_message(out, sink, wiring, msg)?;
@@ -201,8 +197,9 @@ pub fn write_message_line<K: Sink>(
     wiring: &Wiring,
     head: &[Part],
     msg: &Msg,
-) -> Result<(), WriteFault>
-    ensures { Puts result (at_rest (K.written sink.old)) (at_rest (K.written sink.new))
+) -> Result<(), Failed>
+    ensures { Puts result
+        (at_rest (K.written sink.old) out.old) (at_rest (K.written sink.new) out.new)
         (line (part_texts head.now ++ message_parts wiring.now msg.now)) }
 {
     out.clear();
@@ -219,8 +216,9 @@ pub fn write_actor_line<K: Sink>(
     head: &[Part],
     who: Incarnation,
     tail: &[Part],
-) -> Result<(), WriteFault>
-    ensures { Puts result (at_rest (K.written sink.old)) (at_rest (K.written sink.new))
+) -> Result<(), Failed>
+    ensures { Puts result
+        (at_rest (K.written sink.old) out.old) (at_rest (K.written sink.new) out.new)
         (line (part_texts head.now ++ (incarnation_parts wiring.now who ++ part_texts tail.now))) }
 {
     out.clear();
@@ -238,8 +236,9 @@ pub fn write_standing_line<K: Sink>(
     head: &[Part],
     who: Incarnation,
     state: u16,
-) -> Result<(), WriteFault>
-    ensures { Puts result (at_rest (K.written sink.old)) (at_rest (K.written sink.new))
+) -> Result<(), Failed>
+    ensures { Puts result
+        (at_rest (K.written sink.old) out.old) (at_rest (K.written sink.new) out.new)
         (line (part_texts head.now ++ standing_parts wiring.now who state)) }
 {
     let label = naming::state_label(wiring, who.slot, state);
@@ -255,14 +254,10 @@ pub fn write_standing_line<K: Sink>(
 
 /// Ends a line with a word.
 #[inline(always)]
-pub fn end_word_line<K: Sink>(
-    out: &mut LineBuffer,
-    sink: &mut K,
-    word: &[u8],
-) -> Result<(), WriteFault>
+pub fn end_word_line<K: Sink>(out: &mut LineBuffer, sink: &mut K, word: &[u8]) -> Result<(), Failed>
     ensures { Puts result
         (record { written = K.written sink.old; held = out.old })
-        (at_rest (K.written sink.new))
+        (at_rest (K.written sink.new) out.new)
         (line (word.now ∷ [])) }
 {
     out.put_one(sink, Part::Text(word))?;
@@ -277,10 +272,10 @@ pub fn end_actor_line<K: Sink>(
     wiring: &Wiring,
     word: &[u8],
     who: Incarnation,
-) -> Result<(), WriteFault>
+) -> Result<(), Failed>
     ensures { Puts result
         (record { written = K.written sink.old; held = out.old })
-        (at_rest (K.written sink.new))
+        (at_rest (K.written sink.new) out.new)
         (line (word.now ∷ incarnation_parts wiring.now who)) }
 {
     put_named(out, sink, wiring, word, who)?;
@@ -296,10 +291,10 @@ pub fn end_standing_line<K: Sink>(
     word: &[u8],
     who: Incarnation,
     state: u16,
-) -> Result<(), WriteFault>
+) -> Result<(), Failed>
     ensures { Puts result
         (record { written = K.written sink.old; held = out.old })
-        (at_rest (K.written sink.new))
+        (at_rest (K.written sink.new) out.new)
         (line (word.now ∷ standing_parts wiring.now who state)) }
 {
     let label = naming::state_label(wiring, who.slot, state);

@@ -21,6 +21,7 @@ lines_asked t (l ∷ lines) part = go l.what (lines_asked t lines)
     go : (w : What) → ((part : ℕ) → map (λ (l : Line). as_asked l.message) (lines_from part (items_of t lines)) ≡ asked t lines)
         → map (λ (l : Line). as_asked l.message) (lines_from part (item_of t l.number w ∷ items_of t lines)) ≡ asked_by t w ++ asked t lines
     go whats.Settle ih = ih (part + 1)
+    go (whats.Advance time) ih = ih (part + 1)
     go (whats.Message target signal payload prio) ih = ap (λ (z : List Msg). asked_by t (whats.Message target signal payload prio) ++ z) (ih part)
 
 module _ {B : Type 0} (plant : Plant B) (t : Tables) (lines : List Asked) (are : plant.lines ≡ lines_of (items_of t lines)) (es : List Entry) (end : ℕ) (posts : PostsLines plant 0 es end) where

@@ -9,9 +9,11 @@ use Rattle.inject_reader.specs.declared.inject_lines.accepted.What.TheVariants a
 use Rattle.model_run.specs.part_posts.Items.{injected}
 use Rattle.law_runs.specs.Mail.{posted}
 
--- what a line asks for: a message from outside, to the controller that runs its target's slot; `settle` asks for none
+-- what a line asks for: a message from outside, to the controller that runs its target's slot; `settle` and
+-- `advance` ask for none
 abbrev pub asked_by : Tables → What → List Msg
 asked_by t whats.Settle = []
+asked_by t (whats.Advance time) = []
 asked_by t (whats.Message target signal payload prio) = injected t target signal payload prio ∷ []
 
 -- what lines ask for, in order

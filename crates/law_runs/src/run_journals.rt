@@ -25,7 +25,7 @@ pub fn runs_are_in_place()
 {}
 
 /// What the environment of a run posts fits the wiring, in the sense in which a reader of journals judges it,
-/// where the lines name what the wiring has; and so do lines that are read.
+/// where the lines name what the wiring has; and so do lines that fit.
 pub fn environment_fits()
     ensures environment { EnvironmentFits }
     ensures lines { FitLinesName }

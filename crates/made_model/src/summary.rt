@@ -1,12 +1,11 @@
 //! The summary of a run of the made model.
-ghost use Rattle.std.specs.Prelude.{◌≡◌, decimal, OnOk, OnErr};
-ghost use Rattle.room_outside.specs.Written.{Appends, BreaksOff};
-ghost use Rattle.room_outside.specs.line_text.Output.{Puts, at_rest};
+ghost use Rattle.std.specs.Prelude.{◌≡◌, decimal, OnOk, IfErr};
+ghost use Rattle.room_outside.specs.Written.{Appends, BreaksOffAfter, Writes};
 ghost use Rattle.made_model.specs.Summaries.{end_word, lines_of, summary_text};
 
 use crate::counts::Counts;
 use itoa::Buffer;
-use room_outside::{LineBuffer, Part, Sink, WriteFault, write_line};
+use room_outside::{Part, Sink, WriteFault, write_only_line};
 
 /// What is told of a run of the made model.
 #[derive(Clone, Copy, Debug, PartialEq, Eq)]
@@ -35,7 +34,7 @@ fn write_lines<'a, K: Sink>(
     unhandled: &'a [u8],
     end: &'a [u8],
 ) -> Result<(), WriteFault>
-    ensures { Puts result (at_rest (K.written sink.old)) (at_rest (K.written sink.new))
+    ensures { Writes result (K.written sink.old) (K.written sink.new)
         (lines_of (decimal actors) posts.now fetches.now handled.now unhandled.now end.now) }
 {
     let parts = [
@@ -54,13 +53,13 @@ fn write_lines<'a, K: Sink>(
         Part::Text(b"\n"),
         Part::Text(end),
     ];
-    write_line(&mut LineBuffer::new(), sink, &parts)
+    write_only_line(sink, &parts)
 }
 
 /// Writes what is told in decimal digits.
 #[tactic(auto, unfolding(crate::specs::Summaries::summary_text))]
 fn write_digits<K: Sink>(sink: &mut K, summary: &Summary) -> Result<(), WriteFault>
-    ensures { Puts result (at_rest (K.written sink.old)) (at_rest (K.written sink.new))
+    ensures { Writes result (K.written sink.old) (K.written sink.new)
         (summary_text summary.now) }
 {
     let counts = summary.counts;
@@ -83,8 +82,8 @@ fn write_digits<K: Sink>(sink: &mut K, summary: &Summary) -> Result<(), WriteFau
 pub fn write_summary<K: Sink>(summary: &Summary, sink: &mut K) -> Result<(), WriteFault>
     ensures ok { OnOk result (Appends (K.written sink.old) (K.written sink.new)
         (summary_text summary.now)) }
-    ensures fault { OnErr result (BreaksOff (K.written sink.old) (K.written sink.new)
-        (summary_text summary.now)) }
+    ensures fault { IfErr result (λ fault. BreaksOffAfter fault.taken
+        (K.written sink.old) (K.written sink.new) (summary_text summary.now)) }
 {
     write_digits(sink, summary)
 }

@@ -7,10 +7,12 @@ use Rattle.std.proofs.lemmas.List.{map-set, get_or-map, set-get_or, length-map, 
 use mathlib.Core.Path.{fun_ext}
 use Rattle.room_kinds.specs.declared.message.Msg.{Msg}
 use Rattle.mail_core.specs.EndLog.{EndLog, gained}
+use Rattle.mail_core.specs.Takes.{MayPostAt}
 use Rattle.mail_core.proofs.LaneLemmas.{gained-same, gained-other}
-use Rattle.mail_seg.specs.Sides.{Sent, Side, from_sender, sent_more, sending, getting, IsInto, IsOutOf, AllTaken}
-use Rattle.mail_seg.specs.Wires.{IsWire, IsWired, wiring, wire_of, wire_at, party_of, no_wire}
+use Rattle.mail_seg.specs.Sides.{Sent, Side, from_sender, sent_more, sending, getting, IsInto, IsOutOf, AllTaken, IsEmptied}
+use Rattle.mail_seg.specs.Wires.{IsWire, IsWired, wiring, wire_of, wire_at, party_of, no_wire, poster_count}
 use Rattle.mail_seg.specs.Ends.{no_side, side_at, first_list, posted_at, taken_at, log_from}
+use Rattle.mail_seg.proofs.PosterLemmas.{count-most, count-above, may_post, posters-some, controller-posts}
 use Rattle.mail_seg.proofs.SideLemmas.{from_sender-append, from_sender-own, from_sender-other}
 
 pub posted_at-within : (sides : List Side) (r p : ℕ) → p < 6 → posted_at sides r p ≡ first_list (side_at sides (r * 6 + (5 - p))).posts
@@ -129,10 +131,16 @@ module _ (k n : ℕ) (sides : List Side) (w : IsWired (wiring k n sides)) where
   pub pass_is : (r b : ℕ) → r + 1 < n → b < 6 → IsWire n r (5 - b) k (wire_of (side_at sides (r * 6 + b)))
   pass_is r b h l = subst (IsWire n r (5 - b) k) (sym (wire_is r b h l)) (w.each r b h l)
 
-  pub into : (m : Msg) → m.from.0 ≡ k → m.to.0 + 1 < n → m.prio.0 < 6 → IsInto (side_at sides (m.to.0 * 6 + (5 - m.prio.0))) m
-  into m from to prio =
+  pub into : (m : Msg) → m.from.0 ≡ k → m.to.0 + 1 < n → m.prio.0 < 6 → MayPostAt n m.from.0 m.prio.0 → IsInto (side_at sides (m.to.0 * 6 + (5 - m.prio.0))) m
+  into m from to prio level =
       let p = pass_is m.to.0 (5 - m.prio.0) to (omega arith) in
-      record { to = sym p.to; prio = omega (arith, p.prio, prio); party = p.parties ∙ ap (λ s. s ∷ []) (sym from) }
+      let back : 5 - (5 - m.prio.0) ≡ m.prio.0 = omega (arith, prio) in
+      let may : MayPostAt n k (5 - (5 - m.prio.0)) = λ none. subst (λ s. s + 1 < n) from (level (sym back ∙ none)) in
+      record {
+        to = sym p.to;
+        prio = omega (arith, p.prio, prio);
+        party = p.parties ∙ posters-some n (5 - (5 - m.prio.0)) k (count-above n (5 - (5 - m.prio.0)) k w.one_of may) ∙ ap (λ s. s ∷ []) (sym from);
+      }
 
   -- the wiring after each step, whatever it answered
   pub wiring-posted : (sides' : List Side) (at : ℕ) (m : Msg) (r : Result (Unit {0}) Msg) → at < length sides → OnOk r (sides' ≡ set sides at (sending (side_at sides at) m)) → OnErr r (sides' ≡ sides) → wiring k n sides' ≡ wiring k n sides
@@ -140,7 +148,7 @@ module _ (k n : ℕ) (sides : List Side) (w : IsWired (wiring k n sides)) where
   wiring-posted sides' at m (Err x) h e g = ap (wiring k n) g
 
   pub wiring-taken : (sides' : List Side) (at : ℕ) (r : Option Msg) → at < length sides →
-      MatchOption r ((sides' ≡ sides) × AllTaken (side_at sides at).got (side_at sides at).posts) (λ m. (sides' ≡ set sides at (getting (side_at sides at) m)) × IsOutOf (side_at sides at) m) → wiring k n sides' ≡ wiring k n sides
+      MatchOption r ((sides' ≡ sides) × IsEmptied (side_at sides at)) (λ m. (sides' ≡ set sides at (getting (side_at sides at) m)) × IsOutOf (side_at sides at) m) → wiring k n sides' ≡ wiring k n sides
   wiring-taken sides' at (Some m) h e = ap (wiring k n) e.0 ∙ wiring-set k n sides at (getting (side_at sides at) m) h refl
   wiring-taken sides' at None h e = ap (wiring k n) e.0
 
@@ -148,12 +156,12 @@ module _ (k n : ℕ) (sides : List Side) (w : IsWired (wiring k n sides)) where
 log-lists : (a n : ℕ) (l : ℕ → ℕ) (f f' g g' : ℕ → ℕ → List Msg) → f ≡ f' → g ≡ g' → ◌≡◌ {A = EndLog} (record { party = a; parties = n; posted = f; taken = g; looks = l }) (record { party = a; parties = n; posted = f'; taken = g'; looks = l })
 log-lists a n l f f' g g' e h = ap (λ x. record { party = a; parties = n; posted = x; taken = g; looks = l }) e ∙ ap (λ x. record { party = a; parties = n; posted = f'; taken = x; looks = l }) h
 
-pub log-posted : (k n : ℕ) (l : ℕ → ℕ) (sides sides' : List Side) (m : Msg) → IsWired (wiring k n sides) → m.from.0 ≡ k → m.to.0 + 1 < n → m.prio.0 < 6 →
+pub log-posted : (k n : ℕ) (l : ℕ → ℕ) (sides sides' : List Side) (m : Msg) → IsWired (wiring k n sides) → m.from.0 ≡ k → m.to.0 + 1 < n → m.prio.0 < 6 → MayPostAt n m.from.0 m.prio.0 →
     sides' ≡ set sides (m.to.0 * 6 + (5 - m.prio.0)) (sending (side_at sides (m.to.0 * 6 + (5 - m.prio.0))) m) →
     log_from k n l sides' ≡ record (log_from k n l sides) { posted = gained (posted_at sides) m.to.0 m.prio.0 m }
-log-posted k n l sides sides' m w from to prio e =
+log-posted k n l sides sides' m w from to prio level e =
     let inside = within k n sides w m.to.0 (5 - m.prio.0) to (omega arith) in
-    log-lists k n l _ _ _ _ (ap posted_at e ∙ posted-sending sides m.to.0 m.prio.0 m.from.0 m prio inside (into k n sides w m from to prio).party)
+    log-lists k n l _ _ _ _ (ap posted_at e ∙ posted-sending sides m.to.0 m.prio.0 m.from.0 m prio inside (into k n sides w m from to prio level).party)
     (ap (λ xs. taken_at xs k) e ∙ taken-sending sides k (m.to.0 * 6 + (5 - m.prio.0)) m inside)
 
 pub own_taken : (s : ℕ) (got : List Msg) (xs : List Sent) → map party_of xs ≡ s ∷ [] → AllTaken got xs → first_list xs ≡ from_sender s got
@@ -162,9 +170,9 @@ own_taken s got (x ∷ xs) one all = sym all.0 ∙ ap (λ q. from_sender q got) 
 
 -- what a pop tells
 pub log-taken : (k n : ℕ) (l : ℕ → ℕ) (sides sides' : List Side) (b : ℕ) (r : Option Msg) → IsWired (wiring k n sides) → k + 1 < n → b < 6 →
-    MatchOption r ((sides' ≡ sides) × AllTaken (side_at sides (k * 6 + b)).got (side_at sides (k * 6 + b)).posts) (λ m. (sides' ≡ set sides (k * 6 + b) (getting (side_at sides (k * 6 + b)) m)) × IsOutOf (side_at sides (k * 6 + b)) m) →
+    MatchOption r ((sides' ≡ sides) × IsEmptied (side_at sides (k * 6 + b))) (λ m. (sides' ≡ set sides (k * 6 + b) (getting (side_at sides (k * 6 + b)) m)) × IsOutOf (side_at sides (k * 6 + b)) m) →
     MatchOption r ((log_from k n l sides' ≡ log_from k n l sides) × (posted_at sides k (5 - b) ≡ taken_at sides k k (5 - b)))
-    (λ m. (m.to.0 ≡ k) × (m.from.0 < n) × (m.prio.0 ≡ 5 - b) × (log_from k n l sides' ≡ record (log_from k n l sides) { taken = gained (taken_at sides k) m.from.0 m.prio.0 m }))
+    (λ m. (m.to.0 ≡ k) × (m.from.0 < n) × (m.prio.0 ≡ 5 - b) × MayPostAt n m.from.0 m.prio.0 × (log_from k n l sides' ≡ record (log_from k n l sides) { taken = gained (taken_at sides k) m.from.0 m.prio.0 m }))
 log-taken k n l sides sides' b None w h in_range e =
     let p = pass_is k n sides w k b h in_range in
     let back : 5 - (5 - b) ≡ b = omega arith in
@@ -172,7 +180,7 @@ log-taken k n l sides sides' b None w h in_range e =
       ap (log_from k n l) e.0,
       posted_at-within sides k (5 - b) low
           ∙ ap (λ c. first_list (side_at sides (k * 6 + c)).posts) back
-          ∙ own_taken k (side_at sides (k * 6 + b)).got (side_at sides (k * 6 + b)).posts p.parties e.1
+          ∙ own_taken k (side_at sides (k * 6 + b)).got (side_at sides (k * 6 + b)).posts (p.parties ∙ posters-some n (5 - b) k (controller-posts n (5 - b) k h)) e.1.all
           ∙ ap (λ c. from_sender k (side_at sides (k * 6 + c)).got) (sym back)
           ∙ sym (taken_at-within sides k k (5 - b) low),
     )
@@ -182,10 +190,12 @@ log-taken k n l sides sides' b (Some m) w h in_range e =
     let back : b ≡ 5 - m.prio.0 = omega (arith, prio) in
     let low : m.prio.0 < 6 = omega (arith, prio) in
     let inside = within k n sides w k b h in_range in
+    let posts : m.from.0 < poster_count n (5 - b) = subst (λ q. m.from.0 < q) (p.own refl).1 e.1.from in
     let step : sides' ≡ set sides (k * 6 + (5 - m.prio.0)) (getting (side_at sides (k * 6 + (5 - m.prio.0))) m) = subst (λ c. sides' ≡ set sides (k * 6 + c) (getting (side_at sides (k * 6 + c)) m)) back e.0 in
     let there : k * 6 + (5 - m.prio.0) < length sides = subst (λ c. k * 6 + c < length sides) back inside in (
       e.1.to ∙ p.to,
-      subst (λ q. m.from.0 < q) (p.own refl).1 e.1.from,
+      (let most = count-most n (5 - b) in omega (arith, posts, most)),
       prio,
+      subst (λ q. MayPostAt n m.from.0 q) (sym prio) (may_post n (5 - b) m.from.0 posts),
       log-lists k n l _ _ _ _ (ap posted_at step ∙ posted-getting sides (k * 6 + (5 - m.prio.0)) m there) (ap (λ xs. taken_at xs k) step ∙ taken-getting sides k m.prio.0 m low there),
     )

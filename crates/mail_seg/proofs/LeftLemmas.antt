@@ -8,10 +8,12 @@ use Rattle.mail_seg.specs.declared.row.Row.{Row}
 use Rattle.room_kinds.specs.declared.message.Msg.{Msg}
 use Rattle.mail_core.specs.SetUp.{at_priority}
 use Rattle.mail_core.proofs.DrainLemmas.{at_priority-same}
-use Rattle.mail_seg.specs.Sides.{Sent, Side, side, from_sender, getting, AllTaken}
+use Rattle.mail_seg.specs.Sides.{Sent, Side, side, from_sender, getting, AllTaken, IsEmptied}
 use Rattle.mail_seg.specs.Ends.{first_list}
 use Rattle.mail_seg.specs.Rows.{row_at}
 use Rattle.mail_seg.specs.Left.{queues_of, Fronts, gathered, IsBox, left_in, IsSettled, lists_of, list_at, TookMore, Drained}
+use Rattle.mail_seg.specs.Wires.{party_of, poster_count}
+use Rattle.mail_seg.proofs.PosterLemmas.{count-most, posters-some, posters-none}
 use Rattle.mail_seg.proofs.SideLemmas.{from_sender-append, from_sender-own, from_sender-other}
 use Rattle.mail_seg.proofs.EndLemmas.{own_taken}
 
@@ -121,10 +123,10 @@ TookMore-one {a = a} {b = b} {c = c} {old = old} {mid = mid} {new = new} m t too
       ];
     }
 
-pub Drained-from : {a b c : Side} {old new : List (List Msg)} → TookMore a b old new → c ≡ b → AllTaken b.got b.posts → Drained a c old new
+pub Drained-from : {a b c : Side} {old new : List (List Msg)} → TookMore a b old new → c ≡ b → IsEmptied b → Drained a c old new
 Drained-from {a = a} {b = b} {c = c} {old = old} {new = new} t e all = record {
   more = subst (λ x. TookMore a x old new) (sym e) t;
-  all = subst (λ x. AllTaken x.got x.posts) (sym e) all;
+  emptied = subst IsEmptied (sym e) all;
 }
 
 pub ruleset drain_steps = (TookMore-none, TookMore-one, Drained-from)
@@ -132,6 +134,15 @@ pub ruleset drain_steps = (TookMore-none, TookMore-one, Drained-from)
 -- the rest of a list after its front
 rest_is : (front rest all : List Msg) → front ++ rest ≡ all → drop (length front) all ≡ rest
 rest_is front rest all e = ap (drop (length front)) (sym e) ∙ drop-append_seam front rest
+
+-- a pass that posts for nobody
+nobody_posted : (xs : List Sent) → map party_of xs ≡ [] → first_list xs ≡ []
+nobody_posted [] e = refl
+nobody_posted (x ∷ xs) e = absurd (cc)
+
+-- the receiver's pass knows of no more than all parties
+pub next-most : (n r : ℕ) (passes : ℕ → Side) → IsBox n r passes → r < n → (passes r).next ≤ n
+next-most n r passes is_box inside = let is = ((is_box.wires r inside).own refl).1 in let most = count-most n is_box.prio in omega (arith, is, most)
 
 -- all passes of a box were taken in, and it was drained
 module _ (n r : ℕ) (passes : ℕ → Side) (is_box : IsBox n r passes) (inside : r < n) (own own' : Side)
@@ -147,7 +158,7 @@ module _ (n r : ℕ) (passes : ℕ → Side) (is_box : IsBox n r passes) (inside
 
   all_of : (s : ℕ) → s < n → AllTaken own'.got (passes s).posts
   all_of s h =
-      let all : AllTaken own'.got (((passes r).posts ++ gathered passes 0 r) ++ gathered passes (r + 1) (n - (r + 1))) = subst (AllTaken own'.got) posts_are d.all in
+      let all : AllTaken own'.got (((passes r).posts ++ gathered passes 0 r) ++ gathered passes (r + 1) (n - (r + 1))) = subst (AllTaken own'.got) posts_are d.emptied.all in
       let first = AllTaken-left own'.got ((passes r).posts ++ gathered passes 0 r) (gathered passes (r + 1) (n - (r + 1))) all in
       elim (cases_eq s r) [
         | inl same ↦ subst (λ j. AllTaken own'.got (passes j).posts) (sym same) (AllTaken-left own'.got (passes r).posts (gathered passes 0 r) first)
@@ -157,8 +168,22 @@ module _ (n r : ℕ) (passes : ℕ → Side) (is_box : IsBox n r passes) (inside
         ]
       ]
 
+  next_is : own'.next ≡ poster_count n is_box.prio
+  next_is = ap (λ (a : Side). a.next) d.more.side_is ∙ ap (λ (a : Side). a.next) whole ∙ ((is_box.wires r inside).own refl).1
+
+  -- what was posted in all is what was taken in all
+  taken_of : (s : ℕ) → s < n → from_sender s own'.got ≡ first_list (passes s).posts
+  taken_of s h =
+      let parties = (is_box.wires s h).parties in
+      elim (cases_lt s (poster_count n is_box.prio)) [
+        | inl posts ↦ sym (own_taken s own'.got (passes s).posts (parties ∙ posters-some n is_box.prio s posts) (all_of s h))
+        | inr past ↦
+            let none : from_sender s own'.got ≡ [] = d.emptied.none s (omega (arith, next_is, past)) in
+            none ∙ sym (nobody_posted (passes s).posts (parties ∙ posters-none n is_box.prio s past))
+      ]
+
   taken_and_left : (s : ℕ) → s < n → from_sender s (passes r).got ++ from_sender s left_list ≡ first_list (passes s).posts
-  taken_and_left s h = sym (from_sender-append s (passes r).got left_list) ∙ ap (from_sender s) (sym got_is) ∙ sym (own_taken s own'.got (passes s).posts (is_box.wires s h).parties (all_of s h))
+  taken_and_left s h = sym (from_sender-append s (passes r).got left_list) ∙ ap (from_sender s) (sym got_is) ∙ taken_of s h
 
   left_is : (s : ℕ) → s < n → left_in passes r s ≡ from_sender s left_list
   left_is s h = rest_is (from_sender s (passes r).got) (from_sender s left_list) (first_list (passes s).posts) (taken_and_left s h)

@@ -3,6 +3,7 @@ pub mod EndLemmas
 pub mod LeftLemmas
 pub mod MakeLemmas
 pub mod PlaceLemmas
+pub mod PosterLemmas
 pub mod RowLemmas
 pub mod RuleLemmas
 pub mod SideLemmas

@@ -1,6 +1,6 @@
 -- The ends of a set-up.
 use Rattle.std.proofs.Common.{◌≡◌, ℕ, zero, suc, ◌+◌, ◌-◌, ◌*◌, ◌<◌, inl, inr, List, [], ◌∷◌, ◌++◌, length, map, get_or, slice_get, slice_index, Some, None, sym, ap, subst, refl, ◌∙◌, arith}
-use Rattle.std.proofs.lemmas.Bool.{cases_eq, cases_lt, eq-eqb, ne_eqb}
+use Rattle.std.proofs.lemmas.Bool.{cases_eq, cases_lt, eq-eqb, ne_eqb, lt-ltb, le-ltb}
 use Rattle.std.proofs.lemmas.List.{get_or-map, length-map, length_push, get_or_push, get_or_append_left, get_or_past}
 use Rattle.std.proofs.lemmas.Option.{slice_get_within, slice_get-get_or, get_or_from_slice_get, none-some}
 use mathlib.Core.Path.{fun_ext}
@@ -9,16 +9,22 @@ use Rattle.mail_core.specs.Lanes.{log_at}
 use Rattle.mail_core.specs.SetUp.{AreFresh}
 use Rattle.mail_seg.specs.declared.ends.MailSeg.{MailSeg}
 use Rattle.mail_seg.specs.Sides.{Side, from_sender}
-use Rattle.mail_seg.specs.Wires.{Wire, IsWire, IsWired, wiring, wire_of, wire_at, no_wire}
+use Rattle.mail_seg.specs.Wires.{Wire, IsWire, IsWired, wiring, wire_of, wire_at, no_wire, poster_count}
 use Rattle.mail_seg.specs.Ends.{no_side, side_at, sides_of, wiring_of, first_list, posted_at, taken_at, log_of, AreTied}
 use Rattle.mail_seg.specs.Rows.{row_at, new_side, RowsTo, IsEnd, EndsTo}
+use Rattle.mail_seg.proofs.PosterLemmas.{posters-some, posters-none, controller-posts}
 use Rattle.mail_seg.proofs.EndLemmas.{posted_at-within, posted_at-beyond, taken_at-within, taken_at-beyond}
 
 -- a new pass is to its box, and carries nothing
-new_side-is : (n r p s : ℕ) (q : ℕ × ℕ) → IsWire n r p s (wire_of (new_side n r p q s)) × ((wire_of (new_side n r p q s)).queue ≡ q) × (first_list (new_side n r p q s).posts ≡ []) × ((new_side n r p q s).got ≡ [])
-new_side-is n r p s q = elim (cases_eq s r) [
-  | inl same ↦ rw (eq-eqb s r same) (record { to = refl; prio = refl; parties = ap (λ x. x ∷ []) (sym same); own = λ _. (refl, refl) }, refl, refl, refl)
-  | inr other ↦ rw (ne_eqb s r other) (record { to = refl; prio = refl; parties = refl; own = λ e. absurd (other e) }, refl, refl, refl)
+new_side-is : (n r p s : ℕ) (q : ℕ × ℕ) → r + 1 < n → IsWire n r p s (wire_of (new_side n r p q s)) × ((wire_of (new_side n r p q s)).queue ≡ q) × (first_list (new_side n r p q s).posts ≡ []) × ((new_side n r p q s).got ≡ [])
+new_side-is n r p s q inside = elim (cases_eq s r) [
+  | inl same ↦
+      let posts : s < poster_count n p = controller-posts n p s (omega (arith, same, inside)) in
+      rw (eq-eqb s r same) (record { to = refl; prio = refl; parties = ap (λ x. x ∷ []) (sym same) ∙ sym (posters-some n p s posts); own = λ _. (refl, refl) }, refl, refl, refl)
+  | inr other ↦ elim (cases_lt s (poster_count n p)) [
+    | inl posts ↦ rw (ne_eqb s r other, lt-ltb s (poster_count n p) posts) (record { to = refl; prio = refl; parties = sym (posters-some n p s posts); own = λ e. absurd (other e) }, refl, refl, refl)
+    | inr past ↦ rw (ne_eqb s r other, le-ltb s (poster_count n p) past) (record { to = refl; prio = refl; parties = sym (posters-none n p s past); own = λ e. absurd (other e) }, refl, refl, refl)
+  ]
 ]
 
 module _ (n : ℕ) (rows : List (List Side)) (all : RowsTo ((n - 1) * 6) n rows) where
@@ -32,22 +38,22 @@ module _ (n : ℕ) (rows : List (List Side)) (all : RowsTo ((n - 1) * 6) n rows)
   row_wired k h = record {
     one_of = h;
     all = omega (arith, length-map (row_at rows k) wire_of, all.len k h);
-    each = λ r b l low. subst (IsWire n r (5 - b) k) (sym (wire_is k r b h l low ∙ ap wire_of (new_at k r b h l low))) (new_side-is n r (5 - b) k (all.queue (r * 6 + b))).0;
+    each = λ r b l low. subst (IsWire n r (5 - b) k) (sym (wire_is k r b h l low ∙ ap wire_of (new_at k r b h l low))) (new_side-is n r (5 - b) k (all.queue (r * 6 + b)) l).0;
   }
 
   pub queue_is : (k r b : ℕ) → k < n → r + 1 < n → b < 6 → (wire_at (wiring k n (row_at rows k)) r b).queue ≡ all.queue (r * 6 + b)
-  queue_is k r b h l low = ap (λ (w : Wire). w.queue) (wire_is k r b h l low ∙ ap wire_of (new_at k r b h l low)) ∙ (new_side-is n r (5 - b) k (all.queue (r * 6 + b))).1
+  queue_is k r b h l low = ap (λ (w : Wire). w.queue) (wire_is k r b h l low ∙ ap wire_of (new_at k r b h l low)) ∙ (new_side-is n r (5 - b) k (all.queue (r * 6 + b)) l).1
 
   -- nothing is posted and nothing taken, within the boxes and past them
   empty_posts : (k r p : ℕ) → k < n → p < 6 → first_list (side_at (row_at rows k) (r * 6 + (5 - p))).posts ≡ []
   empty_posts k r p h l = elim (cases_lt (r + 1) n) [
-    | inl inside ↦ ap (λ (a : Side). first_list a.posts) (new_at k r (5 - p) h inside (omega arith)) ∙ (new_side-is n r (5 - (5 - p)) k (all.queue (r * 6 + (5 - p)))).2
+    | inl inside ↦ ap (λ (a : Side). first_list a.posts) (new_at k r (5 - p) h inside (omega arith)) ∙ (new_side-is n r (5 - (5 - p)) k (all.queue (r * 6 + (5 - p))) inside).2
     | inr past ↦ ap (λ (a : Side). first_list a.posts) (get_or_past (row_at rows k) (r * 6 + (5 - p)) no_side (omega (arith, all.len k h)))
   ]
 
   empty_got : (k r p : ℕ) → k < n → p < 6 → (side_at (row_at rows k) (r * 6 + (5 - p))).got ≡ []
   empty_got k r p h l = elim (cases_lt (r + 1) n) [
-    | inl inside ↦ ap (λ (a : Side). a.got) (new_at k r (5 - p) h inside (omega arith)) ∙ (new_side-is n r (5 - (5 - p)) k (all.queue (r * 6 + (5 - p)))).3
+    | inl inside ↦ ap (λ (a : Side). a.got) (new_at k r (5 - p) h inside (omega arith)) ∙ (new_side-is n r (5 - (5 - p)) k (all.queue (r * 6 + (5 - p))) inside).3
     | inr past ↦ ap (λ (a : Side). a.got) (get_or_past (row_at rows k) (r * 6 + (5 - p)) no_side (omega (arith, all.len k h)))
   ]
 

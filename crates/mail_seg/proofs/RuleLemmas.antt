@@ -9,7 +9,7 @@ use Rattle.crossbeam_queue.proofs.Lists.{at_set, set_else}
 use Rattle.mail_seg.specs.declared.contents.Contents.{Contents}
 use Rattle.mail_seg.specs.declared.rule.Posted.{Posted}
 use Rattle.mail_seg.specs.declared.rule.PassView.{PassView}
-use Rattle.mail_seg.specs.Rule.{of_party, poster, past_next, keeping_next, taking_in, spent, pushing, popping, Owns, AreBelow, IsReader, Fits, IsInOrder, TakenOf, Popped, AllTaken}
+use Rattle.mail_seg.specs.Rule.{of_party, poster, past_next, keeping_next, taking_in, spent, pushing, popping, Owns, AreBelow, IsReader, Fits, IsInOrder, TakenOf, TookAll, Popped, AllTaken}
 
 -- what stands at a place of a list with one item more
 snoc_split : (l : List PassView) (a b : PassView) (j : ℕ) → get_elem? (l ++ a ∷ []) j ≡ some b → (get_elem? l j ≡ some b) ⊎ ((j ≡ length l) × (a ≡ b))
@@ -187,7 +187,8 @@ learns port v = λ items views h at takes empty.
     let mine = h.fits port v at in
     let r = mine.1 takes in
     let all : v.got ≡ h.got ++ items = r.got_is ∙ sym (append-nil h.got) ∙ ap (λ l. h.got ++ l) (sym empty) in
-    taken_of h.writer h.sent port v.got v.posts (λ s. ap (of_party s) all ∙ h.order s) mine.0
+    let whole : (s : ℕ) → of_party s v.got ≡ h.sent s = λ s. ap (of_party s) all ∙ h.order s in
+    record { all = taken_of h.writer h.sent port v.got v.posts whole mine.0; none = λ s past. whole s ∙ (r.rest s past).1 }
 
 -- a pass for a party for which none was split off yet
 forked : {items : List Contents} {views : List PassView} (h : IsInOrder items views) (port : ℕ) (v left : PassView) (k : ℕ) → get_elem? views port ≡ some v → v.takes ≡ true → v.next ≤ k → k < left.next → v.next ≤ left.next →
@@ -227,16 +228,31 @@ forks_next port v takes = λ items views h at.
     forked h port v (past_next v) v.next at takes (omega arith) (omega arith) (omega arith) refl (AreBelow-more v.next (v.next + 1) v.posts (omega arith) r.below)
     (Owns-below h.writer (changed h.writer v.next (length (set views port (past_next v)))) h.sent v.next port v.posts r.below (λ s l. changed-other h.writer v.next _ s (λ e. absurd (omega (arith, e, l)))) mine.0)
 
-pub forks_keep : (port : ℕ) (v : PassView) → v.takes ≡ true → Forks IsInOrder port v (keeping_next v) (poster (v.next + 1))
+-- the reader posts for the next party
+pub forks_keep : (port : ℕ) (v : PassView) → v.takes ≡ true → Forks IsInOrder port v (keeping_next v) spent
 forks_keep port v takes = λ items views h at.
+    let vs : List PassView = set views port (keeping_next v) in
     let mine = h.fits port v at in
     let r = mine.1 takes in
-    forked h port v (keeping_next v) (v.next + 1) at takes (omega arith) (omega arith) (omega arith) refl
-    (omega arith, AreBelow-more v.next ((v.next + 1) + 1) v.posts (omega arith) r.below) (
-      changed-other h.writer (v.next + 1) (length (set views port (keeping_next v))) v.next (λ e. absurd (omega arith)) ∙ (r.rest v.next (omega arith)).0,
-      sym (r.rest v.next (omega arith)).1,
-      Owns-below h.writer (changed h.writer (v.next + 1) (length (set views port (keeping_next v)))) h.sent v.next port v.posts r.below (λ s l. changed-other h.writer (v.next + 1) _ s (λ e. absurd (omega (arith, e, l)))) mine.0,
-    )
+    let next = r.rest v.next (omega arith) in
+    let F = Fits h.reader h.writer h.sent h.got in
+    let kept : F port (keeping_next v) = (
+      (next.0, sym next.1, mine.0),
+      λ _. record {
+        port_is = r.port_is;
+        got_is = r.got_is;
+        below = (omega arith, AreBelow-more v.next (v.next + 1) v.posts (omega arith) r.below);
+        rest = λ s l. r.rest s (omega (arith, l));
+      },
+    ) in
+    record {
+      reader = h.reader;
+      writer = h.writer;
+      sent = h.sent;
+      got = h.got;
+      order = h.order;
+      fits = all_snoc F vs spent (all_set F views port (keeping_next v) kept (λ j u other e. h.fits j u e)) (tt, λ t. absurd (true≢false (sym t)));
+    }
 
 -- the reader's pass takes in another's posts
 pub merges : (port : ℕ) (v : PassView) (other : ℕ) (w : PassView) → v.takes ≡ true → Merges IsInOrder port v other w (taking_in v w) spent

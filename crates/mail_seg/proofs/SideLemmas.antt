@@ -1,13 +1,13 @@
 -- A pass to a shared box, as contracts see it.
-use Rattle.std.proofs.Common.{◌≡◌, ℕ, ◌==◌, if◌then◌else◌, true, false, List, [], ◌∷◌, ◌++◌, map, refl, ap, ◌∙◌}
+use Rattle.std.proofs.Common.{◌≡◌, ℕ, ◌≤◌, ◌==◌, if◌then◌else◌, true, false, List, [], ◌∷◌, ◌++◌, map, refl, ap, ◌∙◌}
 use Rattle.std.proofs.lemmas.Bool.{eq-eqb, ne_eqb}
 use Rattle.room_kinds.specs.declared.message.Msg.{Msg}
 use Rattle.mail_seg.specs.declared.contents.Contents.{Contents}
 use Rattle.mail_seg.specs.declared.rule.Posted.{Posted}
 use Rattle.mail_seg.specs.declared.rule.PassView.{PassView}
 use Rattle.mail_seg.specs.Addressed.{addressed}
-use Rattle.mail_seg.specs.Rule.{of_party, TakenOf}
-use Rattle.mail_seg.specs.Sides.{Sent, sent_of, side_of, from_sender, AllTaken}
+use Rattle.mail_seg.specs.Rule.{of_party, TakenOf, TookAll}
+use Rattle.mail_seg.specs.Sides.{Sent, sent_of, side_of, from_sender, AllTaken, IsEmptied}
 
 -- the one party of a pass
 pub one_post : (to prio s : ℕ) (ps : List Posted) → map (λ (x : Sent). x.party) (map (sent_of to prio) ps) ≡ s ∷ [] → (p : Posted) × (ps ≡ p ∷ []) × (s ≡ p.party)
@@ -28,8 +28,12 @@ all_taken to prio got [] t = tt
 all_taken to prio got (p ∷ ps) t = (from_sender-map to prio p.party got ∙ ap (map (addressed to prio)) t.0, all_taken to prio got ps t.1)
 
 -- what a pop that finds nothing tells
-pub none_found : (to prio : ℕ) (q : ℕ × ℕ) (v v' : PassView) → v.takes ≡ true → v' ≡ v → (v.takes ≡ true → ◌≡◌ {A = List Contents} [] [] → TakenOf v.got v.posts) → (side_of to prio q v' ≡ side_of to prio q v) × AllTaken (side_of to prio q v).got (side_of to prio q v).posts
-none_found to prio q v v' takes same held = (ap (side_of to prio q) same, all_taken to prio v.got v.posts (held takes refl))
+pub none_found : (to prio : ℕ) (q : ℕ × ℕ) (v v' : PassView) → v.takes ≡ true → v' ≡ v → (v.takes ≡ true → ◌≡◌ {A = List Contents} [] [] → TookAll v) → (side_of to prio q v' ≡ side_of to prio q v) × IsEmptied (side_of to prio q v)
+none_found to prio q v v' takes same held =
+    let took = held takes refl in (
+      ap (side_of to prio q) same,
+      record { all = all_taken to prio v.got v.posts took.all; none = λ s past. from_sender-map to prio s v.got ∙ ap (map (addressed to prio)) (took.none s past) },
+    )
 
 -- the messages of one party in two lists
 pub from_sender-append : (s : ℕ) (xs ys : List Msg) → from_sender s (xs ++ ys) ≡ from_sender s xs ++ from_sender s ys

@@ -3,7 +3,7 @@ use Rattle.std.specs.Prelude.{ℕ, zero, suc, ◌≡◌, ◌+◌, ◌<◌, ◌�
 use Rattle.std.specs.Global.{Vec}
 use Rattle.mail_seg.specs.declared.row.Row.{Row}
 use Rattle.room_kinds.specs.declared.message.Msg.{Msg}
-use Rattle.mail_seg.specs.Sides.{Sent, Side, side, from_sender, AllTaken}
+use Rattle.mail_seg.specs.Sides.{Sent, Side, side, from_sender, IsEmptied}
 use Rattle.mail_seg.specs.Wires.{IsWire, wire_of}
 use Rattle.mail_seg.specs.Ends.{side_at, first_list}
 use Rattle.mail_seg.specs.Rows.{row_at}
@@ -59,7 +59,7 @@ pub record TookMore (a a' : Side) (old new : List (List Msg)) : Type 0 where
   pub count : length new ≡ length old
   pub lists : (s : ℕ) → s < length old → list_at new s ≡ list_at old s ++ from_sender s left
 
--- and then all is taken that was posted by the parties whose posts the pass has
+-- and then all is taken
 pub record Drained (a a' : Side) (old new : List (List Msg)) : Type 0 where
   pub more : TookMore a a' old new
-  pub all : AllTaken a'.got a'.posts
+  pub emptied : IsEmptied a'

@@ -1,10 +1,11 @@
 -- Passes made one after another.
-use Rattle.std.specs.Prelude.{ℕ, ◌≡◌, ◌+◌, ◌-◌, ◌*◌, ◌<◌, ◌≤◌, ◌==◌, if◌then◌else◌, true, List, [], ◌∷◌, ◌++◌, length, map, slice_index_or, slice_get, Some}
+use Rattle.std.specs.Prelude.{ℕ, ◌≡◌, ◌+◌, ◌-◌, ◌*◌, ◌<◌, ◌≤◌, ◌==◌, nat_lt, if◌then◌else◌, true, List, [], ◌∷◌, ◌++◌, length, map, slice_index_or, slice_get, Some}
 use Rattle.std.specs.Global.{Vec}
 use Rattle.mail_core.specs.EndLog.{fresh}
 use Rattle.mail_seg.specs.declared.shared_box.BoxPass.{BoxPass}
 use Rattle.mail_seg.specs.declared.ends.MailSeg.{MailSeg}
-use Rattle.mail_seg.specs.Sides.{Side, side, poster_side}
+use Rattle.mail_seg.specs.Sides.{Side, side, poster_side, idle_side}
+use Rattle.mail_seg.specs.Wires.{poster_count}
 use Rattle.mail_seg.specs.Ends.{side_at, sides_of, log_of}
 
 abbrev pub row_at : List (List Side) → ℕ → List Side
@@ -20,13 +21,14 @@ pub record Dealt (from to : ℕ) (pass : ℕ → Side) (old new : List (List Sid
   pub below : (s : ℕ) → s < from → row_at new s ≡ row_at old s
   pub above : (s : ℕ) → to ≤ s → row_at new s ≡ row_at old s
 
--- the receiver's pass to its box, which takes and knows that n parties post
+-- the receiver's pass to its box, which takes and knows how many of n parties post
 abbrev pub reader_side : ℕ → ℕ → ℕ → ℕ × ℕ → Side
-reader_side n r p queue = record { to = r; prio = p; queue = queue; takes = true; next = n; posts = record { party = r; list = [] } ∷ []; got = [] }
+reader_side n r p queue = record { to = r; prio = p; queue = queue; takes = true; next = poster_count n p; posts = record { party = r; list = [] } ∷ []; got = [] }
 
 -- the pass of party s to a box just made
 abbrev pub new_side : ℕ → ℕ → ℕ → ℕ × ℕ → ℕ → Side
-new_side n r p queue s = if s == r then reader_side n r p queue else poster_side r p queue s
+new_side n r p queue s =
+    if s == r then reader_side n r p queue else if nat_lt s (poster_count n p) then poster_side r p queue s else idle_side r p queue
 
 -- each party has a pass more, to a new box
 pub record AddedBox (n r p : ℕ) (queue : ℕ × ℕ) (old new : List (List Side)) : Type 0 where

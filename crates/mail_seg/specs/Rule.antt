@@ -19,9 +19,9 @@ poster s = record { posts = record { party = s; list = [] } ∷ []; takes = fals
 abbrev pub past_next : PassView → PassView
 past_next v = record v { next = v.next + 1 }
 
--- the pass posts for the next party, and one was split off for the party after it
+-- the pass posts for the next party
 abbrev pub keeping_next : PassView → PassView
-keeping_next v = record v { posts = record { party = v.next; list = [] } ∷ v.posts; next = (v.next + 1) + 1 }
+keeping_next v = record v { posts = record { party = v.next; list = [] } ∷ v.posts; next = v.next + 1 }
 
 abbrev pub taking_in : PassView → PassView → PassView
 taking_in v w = record v { posts = v.posts ++ w.posts }
@@ -76,6 +76,12 @@ TakenOf got (p ∷ ps) = (of_party p.party got ≡ p.list) × TakenOf got ps
 abbrev pub Popped : PassView → Contents → PassView → Type 0
 Popped v x w = (w ≡ popping v x) × (x.from.0 < v.next)
 
+-- a pass has taken all: all that was posted by the parties for which it posts, and nothing of those for which no pass
+-- was split off
+pub record TookAll (v : PassView) : Type 0 where
+  pub all : TakenOf v.got v.posts
+  pub none : (s : ℕ) → v.next ≤ s → of_party s v.got ≡ []
+
 -- what a pass that takes knows of a queue that holds nothing
 abbrev pub AllTaken : PassView → List Contents → Type 0
-AllTaken v items = v.takes ≡ true → items ≡ [] → TakenOf v.got v.posts
+AllTaken v items = v.takes ≡ true → items ≡ [] → TookAll v

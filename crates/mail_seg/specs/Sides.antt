@@ -1,5 +1,5 @@
 -- What contracts see of a pass to a shared box.
-use Rattle.std.specs.Prelude.{ℕ, ◌+◌, ◌<◌, ◌≡◌, ◌==◌, if◌then◌else◌, Bool, true, false, List, [], ◌∷◌, ◌++◌, map}
+use Rattle.std.specs.Prelude.{ℕ, ◌+◌, ◌<◌, ◌≤◌, ◌≡◌, ◌==◌, if◌then◌else◌, Bool, true, false, List, [], ◌∷◌, ◌++◌, map}
 use Rattle.std.specs.Arc.{arc_value}
 use Rattle.room_kinds.specs.declared.message.Msg.{Msg}
 use Rattle.mail_seg.specs.declared.rule.Posted.{Posted}
@@ -59,13 +59,17 @@ first_side to prio queue = record { to = to; prio = prio; queue = queue; takes =
 abbrev pub poster_side : ℕ → ℕ → ℕ × ℕ → ℕ → Side
 poster_side to prio queue s = record { to = to; prio = prio; queue = queue; takes = false; next = 0; posts = record { party = s; list = [] } ∷ []; got = [] }
 
+-- a pass that posts for nobody and takes nothing
+abbrev pub idle_side : ℕ → ℕ → ℕ × ℕ → Side
+idle_side to prio queue = record { to = to; prio = prio; queue = queue; takes = false; next = 0; posts = []; got = [] }
+
 -- after a pass was split off for the next party
 abbrev pub past_side : Side → Side
 past_side a = record a { next = a.next + 1 }
 
--- after the next party kept the pass, and one was split off for the party after it
+-- after the next party kept the pass
 abbrev pub keeping_side : Side → Side
-keeping_side a = record a { posts = record { party = a.next; list = [] } ∷ a.posts; next = (a.next + 1) + 1 }
+keeping_side a = record a { posts = record { party = a.next; list = [] } ∷ a.posts; next = a.next + 1 }
 
 -- after another pass was taken in
 abbrev pub joined : Side → Side → Side
@@ -99,3 +103,9 @@ pub record IsOutOf (a : Side) (m : Msg) : Type 0 where
 abbrev pub AllTaken : List Msg → List Sent → Type 0
 AllTaken got [] = Unit {0}
 AllTaken got (x ∷ xs) = (from_sender x.party got ≡ x.list) × AllTaken got xs
+
+-- a pass has taken all: all that was posted by the parties for which it posts, and nothing of those for which no pass
+-- was split off
+pub record IsEmptied (a : Side) : Type 0 where
+  pub all : AllTaken a.got a.posts
+  pub none : (s : ℕ) → a.next ≤ s → from_sender s a.got ≡ []

@@ -1,5 +1,5 @@
 -- What of the passes of an end never changes.
-use Rattle.std.specs.Prelude.{ℕ, ◌+◌, ◌-◌, ◌*◌, ◌<◌, ◌≡◌, Bool, true, false, List, [], ◌∷◌, map, length, slice_index_or}
+use Rattle.std.specs.Prelude.{ℕ, ◌+◌, ◌-◌, ◌*◌, ◌<◌, ◌≡◌, ◌==◌, nat_lt, if◌then◌else◌, Bool, true, false, List, [], ◌∷◌, map, length, slice_index_or}
 use Rattle.mail_seg.specs.Sides.{Sent, Side}
 
 -- whose box at which priority, by which queue; for which parties the pass posts; whether it takes, and from which
@@ -34,12 +34,20 @@ no_wire = record { to = 0; prio = 0; queue = (0, 0); parties = []; takes = false
 abbrev pub wire_at : Wiring → ℕ → ℕ → Wire
 wire_at w r b = slice_index_or w.wires (r * 6 + b) no_wire
 
+-- how many of n parties post at a priority, from the first on: at the system level, priority 0, all but the environment
+abbrev pub poster_count : ℕ → ℕ → ℕ
+poster_count n p = if p == 0 then n - 1 else n
+
+-- for whom a pass of party s posts: for the party, if that posts at the priority
+abbrev pub posters : ℕ → ℕ → ℕ → List ℕ
+posters n p s = if nat_lt s (poster_count n p) then s ∷ [] else []
+
 -- a pass of party s to the box of receiver r at priority p; the receiver's takes, and knows how many parties post
 pub record IsWire (n r p s : ℕ) (w : Wire) : Type 0 where
   pub to : w.to ≡ r
   pub prio : w.prio ≡ p
-  pub parties : w.parties ≡ s ∷ []
-  pub own : s ≡ r → (w.takes ≡ true) × (w.next ≡ n)
+  pub parties : w.parties ≡ posters n p s
+  pub own : s ≡ r → (w.takes ≡ true) × (w.next ≡ poster_count n p)
 
 -- a pass to each box of each controller, at its place
 pub record IsWired (w : Wiring) : Type 0 where

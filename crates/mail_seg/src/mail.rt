@@ -3,6 +3,7 @@ use crate::close::all_left;
 use crate::ends::MailSeg;
 use crate::make::all_ends;
 use mail_core::PostRefused;
+use mail_core::boxes::BoxLane;
 use room_kinds::Msg;
 use std::alloc::{AllocError, Global};
 use std::sync::Wait;
@@ -13,7 +14,7 @@ impl MailSeg {
     ghost use Rattle.std.specs.Prelude.{◌≡◌, ◌+◌, ◌<◌, map, length, OnOk, OnErr, IfOk, IfErr, IfSome, IfNone};
     ghost use Rattle.mail_core.specs.EndLog.{posting, taking};
     ghost use Rattle.mail_core.specs.SetUp.{AreFresh, IsLeft};
-    ghost use Rattle.mail_core.specs.Takes.{IsOfBox, OwnIsTaken};
+    ghost use Rattle.mail_core.specs.Takes.{IsOfBox, KeepsToLevel, OwnIsTaken};
     ghost use Rattle.mail_core.specs.Tied.{StaysTied};
     ghost use Rattle.mail_seg.specs.Ends.{log_of, IsSharedBox, shared_boxes, AreTied};
 
@@ -39,7 +40,8 @@ impl MailSeg {
     }
 
     /// Posts a message from the end's party to a controller: one push. Where there is no memory for
-    /// it, nothing has changed.
+    /// it, nothing has changed. The environment has no room at the system level, priority 0, where it
+    /// posts nothing: a message of it there is refused.
     #[tactic(auto, using(crate::proofs::TiedLemmas::tied_steps), unfolding(mail_core::specs::EndLog::posting))]
     pub fn post<R: Wait>(&mut self, rt: &R, m: Msg) -> Result<(), PostRefused>
         requires from { m.from.0 ≡ (log_of self.old).party }
@@ -51,6 +53,13 @@ impl MailSeg {
         ensures refused { IfErr result (λ r. r.message ≡ m) }
         ensures tied { StaysTied AreTied (log_of self.old).party tt tt self.old self.new }
     {
+        let lane = BoxLane {
+            sender: self.party,
+            prio: m.prio.0,
+        };
+        if !lane.is_in_use(self.parties) {
+            return Err(PostRefused { message: m });
+        }
         match self.post_to(rt, m) {
             Ok(()) => Ok(()),
             Err(message) => Err(PostRefused { message }),
@@ -59,13 +68,15 @@ impl MailSeg {
 
     /// Looks at a box once, and takes its oldest message if it finds one: one pop. It may miss a
     /// message that another party posts; it finds nothing only where the end has taken all that it
-    /// posted into this box itself.
+    /// posted into this box itself. It never gives a message of the environment at the system level,
+    /// priority 0, where the environment posts nothing.
     #[tactic(auto, using(crate::proofs::TiedLemmas::tied_steps), unfolding(mail_core::specs::EndLog::taking))]
     pub fn take<R: Wait>(&mut self, rt: &R, b: u32) -> Option<Msg>
         requires { b < shared_boxes (log_of self.old).party (log_of self.old).parties }
 
         ensures log { log_of self.new ≡ taking (log_of self.old) b result }
         ensures some { IfSome result (IsOfBox IsSharedBox (log_of self.old) b) }
+        ensures level { IfSome result (KeepsToLevel (log_of self.old).parties) }
         ensures none { IfNone result (OwnIsTaken IsSharedBox (log_of self.old) b) }
         ensures tied { StaysTied AreTied (log_of self.old).party tt tt self.old self.new }
     {

@@ -1,6 +1,6 @@
 //! A step at one of an end's passes.
 ghost use Rattle.std.specs.Prelude.{◌≡◌, ◌+◌, ◌*◌, ◌<◌, true, map, length, slice_set, OnOk, OnErr, IfErr, MatchOption};
-ghost use Rattle.mail_seg.specs.Sides.{side, sending, getting, IsInto, IsOutOf, AllTaken};
+ghost use Rattle.mail_seg.specs.Sides.{side, sending, getting, IsInto, IsOutOf, IsEmptied};
 ghost use Rattle.mail_seg.specs.Ends.{side_at};
 
 use crate::shared_box::BoxPass;
@@ -38,7 +38,7 @@ pub(crate) fn take_at<R: Wait>(rt: &R, outlets: &mut Vec<BoxPass>, at: usize) ->
     requires takes { (side_at (map side outlets.old.items) at).takes ≡ true }
     ensures took { let a = side_at (map side outlets.old.items) at in
         MatchOption result
-        ((map side outlets.new.items ≡ map side outlets.old.items) × AllTaken a.got a.posts)
+        ((map side outlets.new.items ≡ map side outlets.old.items) × IsEmptied a)
         (λ m.
         (map side outlets.new.items ≡ slice_set (map side outlets.old.items) at (getting a m))
         × IsOutOf a m) }

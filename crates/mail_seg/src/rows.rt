@@ -1,6 +1,7 @@
 //! The passes of all parties, with nothing posted yet.
 ghost use Rattle.std.specs.Prelude.{ℕ, ◌≡◌, ◌+◌, ◌-◌, ◌*◌, ◌<◌, ◌≤◌, ◌∷◌, ◌++◌, [], true, IfOk, OnOk, length, replicate, slice_set};
 ghost use Rattle.mail_seg.specs.Sides.{side, poster_side};
+ghost use Rattle.mail_seg.specs.Wires.{poster_count};
 ghost use Rattle.mail_seg.specs.Rows.{rows_of, row_at, Dealt, AddedBox, RowsTo};
 
 use crate::shared_box::BoxPass;
@@ -34,6 +35,34 @@ fn deal(own: &mut BoxPass, rows: &mut Vec<Vec<BoxPass>>, from: u8, to: u8) -> Re
     Ok(())
 }
 
+/// How many parties post at a priority, from the first on: at the system level, priority 0, all but
+/// the environment, which is the last.
+fn poster_count(parties: u8, prio: u8) -> u8
+    requires { 0 < parties }
+    ensures { result ≡ poster_count parties prio }
+{
+    if prio == 0 { parties - 1 } else { parties }
+}
+
+/// Gives the parties that don't post at a priority a pass that does nothing. There is one at the
+/// system level, the environment, and none else.
+fn give_idle(
+    rows: &mut Vec<Vec<BoxPass>>,
+    parties: u8,
+    prio: u8,
+    idle: BoxPass,
+) -> Result<(), AllocError>
+    requires some { 0 < parties }
+    requires rows { length rows.old.items ≡ parties }
+    ensures { OnOk result (Dealt (poster_count parties prio) parties (λ s. side idle)
+        (rows_of rows.old.items) (rows_of rows.new.items)) }
+{
+    if prio == 0 {
+        return give(rows, parties - 1, idle);
+    }
+    Ok(())
+}
+
 /// A box, with a pass for each party.
 fn add_box(
     alloc: Global,
@@ -49,8 +78,9 @@ fn add_box(
 {
     let mut own = BoxPass::new(alloc, receiver, prio)?;
     deal(&mut own, rows, 0, receiver)?;
-    give(rows, receiver + 1, own.split_after_own()?)?;
-    deal(&mut own, rows, receiver + 2, parties)?;
+    let idle = own.keep_next()?;
+    deal(&mut own, rows, receiver + 1, poster_count(parties, prio))?;
+    give_idle(rows, parties, prio, idle)?;
     give(rows, receiver, own)
 }
 

@@ -40,16 +40,15 @@ impl Split<PassView> for NextParty {
     ghost right = { λ v. poster v.next };
 }
 
-/// The next party keeps the pass, and the party after it gets one.
+/// The next party keeps the pass. What is split off posts for nobody and takes nothing.
 pub struct KeepNext;
 
 impl Split<PassView> for KeepNext {
-    ghost use Rattle.std.specs.Prelude.{◌+◌};
-    ghost use Rattle.mail_seg.specs.Rule.{keeping_next, poster};
+    ghost use Rattle.mail_seg.specs.Rule.{keeping_next, spent};
 
     ghost left = { keeping_next };
 
-    ghost right = { λ v. poster (v.next + 1) };
+    ghost right = { λ v. spent };
 }
 
 /// A pass takes in another's posts.

@@ -33,7 +33,7 @@ pub struct BoxPass {
 
 impl BoxPass {
     ghost use Rattle.std.specs.Prelude.{◌≡◌, ◌+◌, true, OnOk, OnErr, IfOk, IfErr, MatchOption};
-    ghost use Rattle.mail_seg.specs.Sides.{side, first_side, poster_side, past_side, keeping_side, joined, sending, getting, IsInto, IsOutOf, AllTaken};
+    ghost use Rattle.mail_seg.specs.Sides.{side, first_side, poster_side, past_side, idle_side, keeping_side, joined, sending, getting, IsInto, IsOutOf, IsEmptied};
 
     /// The pass to an empty box that takes from it and may still split off a pass for each party.
     #[tactic(auto, using(crate::proofs::RuleLemmas::begins_steps))]
@@ -69,14 +69,14 @@ impl BoxPass {
         })
     }
 
-    /// Keeps the pass for the next party, which is the receiver, and splits off that of the party after it.
+    /// Keeps the pass for the next party, which is the receiver, and splits off one that posts for
+    /// nobody.
     #[tactic(auto, using(crate::proofs::RuleLemmas::rule_steps))]
-    pub(crate) fn split_after_own(&mut self) -> Result<BoxPass, AllocError>
+    pub(crate) fn keep_next(&mut self) -> Result<BoxPass, AllocError>
         requires { (side self.old).takes ≡ true }
         ensures kept { OnOk result (side self.new ≡ keeping_side (side self.old)) }
         ensures split { IfOk result (λ b.
-            side b ≡ poster_side (side self.old).to (side self.old).prio (side self.old).queue
-            ((side self.old).next + 1)) }
+            side b ≡ idle_side (side self.old).to (side self.old).prio (side self.old).queue) }
     {
         let queue = Arc::try_clone(&self.queue)?;
         let pass = self.queue.ruled.another::<KeepNext>(&mut self.pass);
@@ -108,12 +108,13 @@ impl BoxPass {
     }
 
     /// Takes the oldest message of the box: one pop. It finds nothing only where all is taken that was
-    /// posted by the parties whose posts the pass has.
+    /// posted by the parties whose posts the pass has, and nothing was taken of parties that have no
+    /// pass.
     #[tactic(auto, using(crate::proofs::RuleLemmas::rule_steps))]
     pub(crate) fn take<R: Wait>(&mut self, rt: &R) -> Option<Msg>
         requires { (side self.old).takes ≡ true }
         ensures took { MatchOption result
-            ((side self.new ≡ side self.old) × AllTaken (side self.old).got (side self.old).posts)
+            ((side self.new ≡ side self.old) × IsEmptied (side self.old))
             (λ m. (side self.new ≡ getting (side self.old) m) × IsOutOf (side self.old) m) }
     {
         match self.queue.ruled.pop_as::<Pop, R>(rt, &mut self.pass) {

@@ -7,6 +7,7 @@ use std::sync::Wait;
 impl MailSeg {
     ghost use Rattle.std.specs.Prelude.{◌≡◌, ◌+◌, ◌-◌, ◌<◌, OnOk, OnErr, IfErr, MatchOption};
     ghost use Rattle.mail_core.specs.EndLog.{gained, looked};
+    ghost use Rattle.mail_core.specs.Takes.{MayPostAt};
     ghost use Rattle.mail_seg.specs.Ends.{log_of, wiring_of};
 
     #[tactic(auto, using(mail_core::proofs::ListLemmas::list_steps))]
@@ -24,6 +25,7 @@ impl MailSeg {
         requires from { m.from.0 ≡ self.old.party }
         requires to { m.to.0 + 1 < self.old.parties }
         requires prio { m.prio.0 < 6 }
+        requires level { MayPostAt self.old.parties m.from.0 m.prio.0 }
         ensures ok { OnOk result (log_of self.new ≡ record (log_of self.old)
             { posted = gained (log_of self.old).posted m.to.0 m.prio.0 m }) }
         ensures err { OnErr result (log_of self.new ≡ log_of self.old) }
@@ -45,6 +47,7 @@ impl MailSeg {
             (m.to.0 ≡ self.old.party)
             × (m.from.0 < self.old.parties)
             × (m.prio.0 ≡ 5 - b)
+            × MayPostAt self.old.parties m.from.0 m.prio.0
             × (log_of self.new ≡ record (log_of self.old)
             { taken = gained (log_of self.old).taken m.from.0 m.prio.0 m })) }
         ensures wiring { wiring_of self.new ≡ wiring_of self.old }

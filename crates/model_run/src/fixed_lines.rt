@@ -13,12 +13,12 @@ fn is_message(line: &Line) -> bool
     ensures { result ≡ message_line line.now }
 {
     match &line.what {
-        What::Settle => false,
+        What::Settle | What::Advance(_) => false,
         What::Message { .. } => true,
     }
 }
 
-/// How many `settle` lines stand in front.
+/// How many lines in front ask for none, as `settle` does.
 fn leading_settles(lines: &[Line]) -> usize
     ensures { result ≡ prefix_len settle_line lines.now }
 {
@@ -32,7 +32,7 @@ fn leading_messages(lines: &[Line]) -> usize
     lines.iter().take_while(|line| is_message(line)).count()
 }
 
-/// The lines of an injection text. A part ends at a `settle` or at the end of the lines.
+/// The lines of an injection text. A part ends at a line that asks for no message, or at the end.
 #[derive(Drop)]
 pub struct FixedLines<'l> {
     lines: &'l [Line],
@@ -46,7 +46,7 @@ pub struct FixedLines<'l> {
 impl<'l> FixedLines<'l> {
     ghost use Rattle.std.specs.Prelude.{take};
     ghost use Rattle.room_wiring.specs.declared.tables.Tables.{Tables};
-    ghost use Rattle.inject_reader.specs.Fitting.{FitLines};
+    ghost use Rattle.inject_reader.specs.Fitting.{LinesFit};
     ghost use Rattle.model_run.specs.part_source.Parts.{IsPart};
 
     /// These lines, at their first part.
@@ -54,8 +54,8 @@ impl<'l> FixedLines<'l> {
         ensures lines { result.lines.now ≡ lines.now }
         ensures part { result.part.now ≡ take result.to lines.now }
         ensures of { IsPart result.part.now }
-        ensures fits { (wiring : Tables) → FitLines wiring lines.now
-            → FitLines wiring result.part.now }
+        ensures fits { (wiring : Tables) → LinesFit wiring lines.now
+            → LinesFit wiring result.part.now }
     {
         let to = leading_messages(lines);
         let (part, _) = lines.split_at(to);
@@ -67,7 +67,7 @@ impl<'l> PartSource for FixedLines<'l> {
     ghost use Rattle.std.specs.Prelude.{take, map};
     ghost use Rattle.room_wiring.specs.declared.tables.Tables.{Tables};
     ghost use Rattle.inject_reader.specs.declared.inject_lines.accepted.Line.{Line as Accepted};
-    ghost use Rattle.inject_reader.specs.Fitting.{FitLines};
+    ghost use Rattle.inject_reader.specs.Fitting.{LinesFit};
 
     ghost given = { λ s. take s.to s.lines.now };
 
@@ -75,7 +75,7 @@ impl<'l> PartSource for FixedLines<'l> {
 
     ghost left = { λ s. map (λ (l : Accepted). l.number) (drop s.to s.lines.now) };
 
-    ghost fits = { λ wiring s. FitLines wiring s.lines.now × FitLines wiring s.part.now };
+    ghost fits = { λ wiring s. LinesFit wiring s.lines.now × LinesFit wiring s.part.now };
 
     ghost part_fits = { λ wiring s fit. fit.1 };
 

@@ -19,6 +19,7 @@ pub mod run_rounds;
 pub mod run_so_far;
 pub mod run_start;
 pub mod run_worker;
+pub mod worker_pauses;
 
 pub use fixed_lines::FixedLines;
 pub use local_run::{run_in_order, run_local, run_parts_in_order};

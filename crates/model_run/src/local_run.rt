@@ -1,7 +1,7 @@
 //! A run of all controllers on the calling thread, one after another.
-ghost use Rattle.std.specs.Prelude.{◌≡◌, IfOk};
-ghost use Rattle.inject_reader.specs.Fitting.{FitLines};
-ghost use Rattle.model_run.specs.part_source.Calls.{seen_in, Asked};
+ghost use Rattle.std.specs.Prelude.{◌≡◌, ◌≤◌, IfOk};
+ghost use Rattle.inject_reader.specs.Fitting.{LinesFit};
+ghost use Rattle.model_run.specs.part_source.Calls.{seen_in, StoodQuiet, Asked};
 ghost use Rattle.model_run.specs.part_source.Parts.{IsPart};
 ghost use Rattle.model_run.specs.run_ends.Runs.{IsRun, RanThrough};
 
@@ -23,7 +23,9 @@ pub fn run_local(
     lines: &[Line],
     fuel: u64,
 ) -> Result<Journals, AllocError>
-    requires { FitLines plant.now.wiring lines.now }
+    requires least { 1 ≤ fuel }
+    requires most { fuel ≤ 100000 }
+    requires fits { LinesFit plant.now.wiring lines.now }
     ensures { IfOk result (λ j. IsRun plant.now lines.now fuel j) }
 {
     run_in_order::<MailLocal>(alloc, plant, lines, fuel)
@@ -38,7 +40,9 @@ pub fn run_in_order<M: Mail + Drop>(
 ) -> Result<Journals, AllocError>
 where
     M::Office: Drop,
-    requires { FitLines plant.now.wiring lines.now }
+    requires least { 1 ≤ fuel }
+    requires most { fuel ≤ 100000 }
+    requires fits { LinesFit plant.now.wiring lines.now }
     ensures { IfOk result (λ j. IsRun plant.now lines.now fuel j) }
 {
     let mut source = FixedLines::new(lines);
@@ -54,12 +58,15 @@ pub fn run_parts_in_order<M: Mail + Drop, S: PartSource>(
 ) -> Result<Journals, AllocError>
 where
     M::Office: Drop,
+    requires least { 1 ≤ fuel }
+    requires most { fuel ≤ 100000 }
     requires first { S.given source.old ≡ S.stands_at source.old }
     requires part { IsPart (S.stands_at source.old) }
     requires fits { S.fits plant.now.wiring source.old }
     ensures ran { IfOk result (λ j.
         RanThrough plant.now (S.given source.new) (S.left source.new) fuel j) }
-    ensures asked { IfOk result (λ j. Asked S.goes_on source.old source.new (seen_in j)) }
+    ensures asked { IfOk result (λ j. Asked S.goes_on
+        (λ s journals. StoodQuiet plant.now (S.given s) fuel journals) source.old source.new (seen_in j)) }
 {
     let mut run = Run::start(alloc, plant, fuel)?;
     while let Some((office, ends)) = next_round::<M, S>(alloc, plant, &mut run, source, fuel)? {

@@ -3,9 +3,9 @@
 //! A run goes in rounds: the workers of the controllers, a joined step in which all mail is fetched and each
 //! controller takes a turn, and so on until all is quiet or spent; then the environment posts the lines of
 //! the next part. The rounds are this project's own.
-ghost use Rattle.std.specs.Prelude.{◌≡◌, IfOk};
-ghost use Rattle.inject_reader.specs.Fitting.{FitLines};
-ghost use Rattle.model_run.specs.part_source.Calls.{seen_in, Asked};
+ghost use Rattle.std.specs.Prelude.{◌≡◌, ◌≤◌, IfOk};
+ghost use Rattle.inject_reader.specs.Fitting.{LinesFit};
+ghost use Rattle.model_run.specs.part_source.Calls.{seen_in, StoodQuiet, Asked};
 ghost use Rattle.model_run.specs.part_source.Parts.{IsPart};
 ghost use Rattle.model_run.specs.run_ends.Runs.{IsRun, RanThrough};
 
@@ -33,7 +33,9 @@ pub fn run_model<M: Mail<Office = ()> + Send + Drop, G: Gate + Sync, R: Threads 
     fuel: u64,
     gate: &G,
 ) -> Result<Journals, AllocError>
-    requires { FitLines plant.now.wiring lines.now }
+    requires least { 1 ≤ fuel }
+    requires most { fuel ≤ 100000 }
+    requires fits { LinesFit plant.now.wiring lines.now }
     ensures { IfOk result (λ j. IsRun plant.now lines.now fuel j) }
 {
     let mut source = FixedLines::new(lines);
@@ -55,12 +57,15 @@ pub fn run_parts<
     fuel: u64,
     gate: &G,
 ) -> Result<Journals, AllocError>
+    requires least { 1 ≤ fuel }
+    requires most { fuel ≤ 100000 }
     requires first { S.given source.old ≡ S.stands_at source.old }
     requires part { IsPart (S.stands_at source.old) }
     requires fits { S.fits plant.now.wiring source.old }
     ensures ran { IfOk result (λ j.
         RanThrough plant.now (S.given source.new) (S.left source.new) fuel j) }
-    ensures asked { IfOk result (λ j. Asked S.goes_on source.old source.new (seen_in j)) }
+    ensures asked { IfOk result (λ j. Asked S.goes_on
+        (λ s journals. StoodQuiet plant.now (S.given s) fuel journals) source.old source.new (seen_in j)) }
 {
     let mut run = Run::start(alloc, plant, fuel)?;
     while let Some((_office, ends)) = next_round::<M, S>(alloc, plant, &mut run, source, fuel)? {

@@ -3,4 +3,5 @@
 mod injected;
 mod posting;
 
+pub use injected::message_from_outside;
 pub use posting::post_part;

@@ -1,7 +1,7 @@
 //! Where the lines of a run come from, part by part.
 ghost use Rattle.std.specs.Prelude.{◌≡◌, ℕ, [], List, false, IfOk, OnOk};
 ghost use Rattle.room_wiring.specs.declared.tables.Tables.{Tables};
-ghost use Rattle.inject_reader.specs.Fitting.{FitLines};
+ghost use Rattle.inject_reader.specs.Fitting.{LinesFit};
 ghost use Rattle.inject_reader.specs.declared.inject_lines.accepted.Line.{Line as Accepted};
 ghost use Rattle.model_run.specs.part_source.Parts.{NextPart};
 ghost use Rattle.model_run.specs.part_source.Calls.{Seen, seen};
@@ -13,8 +13,8 @@ use std::alloc::{AllocError, Global};
 /// A source of lines, which a run asks for the next part when all is quiet.
 ///
 /// A source stands at a part: lines that ask for a message each. First it stands at the first part, which may
-/// be empty. Before each later part stand `settle` lines. What a later part has may depend on all that was done
-/// before.
+/// be empty. Before each later part stand lines that ask for none, `settle` or `advance`. What a later part has
+/// may depend on all that was done before.
 pub trait PartSource: Sized {
     /// All lines so far, to the end of the part at which it stands.
     ghost given: { Self → List Accepted };
@@ -25,7 +25,8 @@ pub trait PartSource: Sized {
     /// The numbers of the lines behind that part, as the source tells them.
     ghost left: { Self → List ℕ };
 
-    /// All lines that it gives name what this wiring has.
+    /// All lines that it gives name what this wiring has: each message goes to an end place, a service access
+    /// point's and a service provision point's among them.
     ghost fits: { Tables → Self → Type 0 };
 
     /// What it may become when it is asked and sees these journals.
@@ -57,5 +58,5 @@ pub trait PartSource: Sized {
 
     /// So do those of the part at which it stands.
     ghost part_fits: { (wiring : Tables) (source : Self) → fits wiring source
-        → FitLines wiring (stands_at source) };
+        → LinesFit wiring (stands_at source) };
 }

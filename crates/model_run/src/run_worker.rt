@@ -7,6 +7,7 @@ ghost use Rattle.mail_core.specs.Tied.{IsTied, StaysTied};
 ghost use Rattle.controller.specs.Controllers.{IsOf};
 ghost use Rattle.model_run.specs.run_worker.Works.{Counted, Did, Works};
 
+use crate::worker_pauses::Pauses;
 use controller::{Controller, Plant};
 use mail_core::Mail;
 use room_outside::{ControllerNo, Gate};
@@ -77,13 +78,14 @@ fn step<M: Mail, G: Gate>(
 /// A controller posts what it has to post, and then goes step by step until 64 steps in a row fetched and
 /// turned nothing, or until its fuel is spent: then it polls no more. Before each turn, and nowhere else, it
 /// enters the gate.
-pub fn work<M: Mail, G: Gate>(
+pub fn work<M: Mail, G: Gate, W: Pauses>(
     number: ControllerNo,
     controller: &mut Controller,
     plant: &Plant,
     office: &mut M::Office,
     end: &mut M,
     gate: &G,
+    pauses: &mut W,
 ) -> Result<(), AllocError>
     requires number { number ≡ controller.old.me.0 }
     requires of { IsOf plant.now controller.old }
@@ -98,6 +100,7 @@ pub fn work<M: Mail, G: Gate>(
     controller.post_all(plant, office, end)?;
     let mut idle = 0u32;
     while !controller.is_spent() && idle < IDLE_STEPS {
+        pauses.before_step(idle);
         let turned = step(number, controller, plant, office, end, gate)?;
         idle = if turned { 0 } else { idle + 1 };
     }

@@ -1,8 +1,9 @@
 //! The program `room`: runs models of real-time actors and prints their journals.
 #![tactic(auto)]
 
-use room_outside::{OpenGate, OutSink, ReadBefore, ReadText, write_whole};
-use room_run::{Status, room_top, stack_of};
+use room_outside::{Failed, OpenGate, OutSink, ReadBefore, TextFile, read_file, write_whole};
+use room_run::{NamedFiles, Status, named_files, room_top, stack_of};
+use std::alloc::AllocError;
 use std::process::ExitCode;
 use std::rt::Env;
 use std::thread::{Builder, Threads};
@@ -29,28 +30,31 @@ fn without_memory(rt: HostRuntime) -> Status {
     }
 }
 
-/// The file that holds the model, which the word behind the command names. A made model stands in no file; it
-/// opens few braces, and none of a graph in a graph.
-fn model_file(words: &[String]) -> Option<&str> {
-    match words {
-        [command, ..] if command.as_str() == "made" => None,
-        [_, name, ..] => Some(name.as_str()),
-        _ => None,
+/// The files of these names that can be read, in their order: none behind one that can't, since
+/// after a failed read nothing more is read. The others are read when the work comes to them.
+fn read_before(rt: HostRuntime, named: NamedFiles<'_>) -> Result<Vec<TextFile>, AllocError> {
+    let mut read = Vec::new(rt.alloc());
+    for path in [named.model, named.injections].into_iter().flatten() {
+        match read_file(rt, path) {
+            Some(file) => read.push(file)?,
+            None => break,
+        }
     }
+    Ok(read)
 }
 
-/// The work that words ask for, on the stack of the thread that calls it, over a model that was read before;
-/// the controllers of a run work on threads of their own.
+/// The work that words ask for, on the stack of the thread that calls it, over files that were read
+/// before; the controllers of a run work on threads of their own.
 fn work<R: Threads + Sync>(
     rt: HostRuntime,
     threads: &R,
     words: &[String],
-    model: Option<ReadText>,
+    read: Vec<TextFile>,
 ) -> Status {
-    let mut out = OutSink::output(rt.stdout());
+    let mut out = OutSink::gathered(rt.alloc(), rt.stdout());
     let mut notes = OutSink::errors(rt.stderr());
-    let mut shelf = ReadBefore::new(rt, model);
-    room_top(
+    let mut shelf = ReadBefore::new(rt, read);
+    let status = room_top(
         threads,
         rt.alloc(),
         words,
@@ -58,20 +62,39 @@ fn work<R: Threads + Sync>(
         &mut out,
         &mut notes,
         &OpenGate,
-    )
+    );
+    match out.finish() {
+        Ok(()) => status,
+        Err(Failed) => Status::WriteFault,
+    }
 }
 
-/// Does the work on a thread of its own. Where the system gives no thread with such a stack, or no words,
-/// nothing is done.
-fn main(rt: HostRuntime) -> ExitCode {
-    let Ok(words) = words_of(&rt) else {
-        return ExitCode::from(without_memory(rt).number());
+/// Reads what words of a listed form name, and does the work on a thread of its own, whose stack the
+/// model's text can't exhaust. Where the system gives no such thread, nothing is done. Other words
+/// are refused without either.
+fn answer(rt: HostRuntime, words: Vec<String>) -> Status {
+    let Some(named) = named_files(&words) else {
+        return work(rt, &rt, &words, Vec::new(rt.alloc()));
     };
-    let model = model_file(&words).and_then(|path| ReadText::of_file(rt, path));
-    let thread = Builder::new().stack_size(stack_of(&model));
-    let status = match thread.spawn(&rt, move || work(rt, &rt, &words, model)) {
+    let Ok(read) = read_before(rt, named) else {
+        return without_memory(rt);
+    };
+    // Where a file was read, the first one is the model.
+    let stack = read
+        .first()
+        .map_or(stack_of(&[]), |model| stack_of(&model.1));
+    let thread = Builder::new().stack_size(stack);
+    match thread.spawn(&rt, move || work(rt, &rt, &words, read)) {
         Ok(thread) => thread.join(&rt),
         Err(_) => without_memory(rt),
+    }
+}
+
+/// Without memory for the words nothing is written.
+fn main(rt: HostRuntime) -> ExitCode {
+    let status = match words_of(&rt) {
+        Ok(words) => answer(rt, words),
+        Err(_) => Status::Memory,
     };
     ExitCode::from(status.number())
 }

@@ -25,7 +25,7 @@ use Rattle.room_tokens.proofs.token_names.Parts.{HasNames-append as split}
 use Rattle.derived_classes.specs.Codes.{joined_if}
 use Rattle.derived_classes.specs.Derived.{joined_items, derived_machine, derived_behavior, derived}
 use Rattle.room_inherit.specs.Flat.{base_number, base_in, over_base, flat_with, flat_actor, flat_class, flat}
-use Rattle.derived_classes.specs.Refining.{Refining, refinements, other_items, followed_by, step_into, below, meant_for, own_or, own_change, joined_subgraph, new_body, widened, acting_also, action_for, refined_transition, with_state, refined_items, refined_item, refined_state, refined_body, refined_subgraph, refined}
+use Rattle.derived_classes.specs.Refining.{Refining, refinements, other_items, followed_by, step_into, below, meant_for, change_of_state, own_changes, joined_subgraph, new_body, widened, all_widened, acting_also, all_acting, actions_for, refined_transition, with_state, refined_items, refined_item, refined_state, refined_body, refined_subgraph, refined}
 
 -- ---- lists of tokens
 
@@ -99,9 +99,9 @@ abbrev ChangeNamed : ChangeTree → Type 0
 ChangeNamed (OfState entry exit sub) = HasNames (subgraph_tokens sub)
 ChangeNamed (OfTransition c) = Unit {0}
 
-abbrev AddedNamed : Option ChangeTree → Type 0
-AddedNamed None = Unit {0}
-AddedNamed (Some change) = ChangeNamed change
+abbrev AddedNamed : List ChangeTree → Type 0
+AddedNamed [] = Unit {0}
+AddedNamed (change ∷ changes) = ChangeNamed change × AddedNamed changes
 
 abbrev AllNamed : List Refining → Type 0
 AllNamed [] = Unit {0}
@@ -134,14 +134,14 @@ all_if false rs h = h
 meant_named : (earlier : List (List ℕ)) (n : List ℕ) (rs : List Refining) → AllNamed rs → AllNamed (meant_for earlier n rs)
 meant_named earlier n rs h = all_if (is_among earlier n) (below n rs) (below_named n rs h)
 
-own_or_named : (path : List (List ℕ)) (change : ChangeTree) (other : Option ChangeTree) → ChangeNamed change → AddedNamed other → AddedNamed (own_or path change other)
-own_or_named [] (OfState entry exit sub) other h k = h
-own_or_named [] (OfTransition c) other h k = k
-own_or_named (n ∷ ns) change other h k = k
+of_state_named : (path : List (List ℕ)) (change : ChangeTree) (others : List ChangeTree) → ChangeNamed change → AddedNamed others → AddedNamed (cons_option (change_of_state path change) others)
+of_state_named [] (OfState entry exit sub) others h k = (h, k)
+of_state_named [] (OfTransition c) others h k = k
+of_state_named (n ∷ ns) change others h k = k
 
-own_named : (rs : List Refining) → AllNamed rs → AddedNamed (own_change rs)
+own_named : (rs : List Refining) → AllNamed rs → AddedNamed (own_changes rs)
 own_named [] h = tt
-own_named (r ∷ rs) h = own_or_named r.path r.change (own_change rs) h.0 (own_named rs h.1)
+own_named (r ∷ rs) h = of_state_named r.path r.change (own_changes rs) h.0 (own_named rs h.1)
 
 new_body_named : (entry exit : Option Code) (sub : SubgraphTree) → HasNames (subgraph_tokens sub) → HasNames (body_tokens (new_body entry exit sub))
 new_body_named None None no_subgraph h = tt
@@ -149,12 +149,15 @@ new_body_named None None (subgraph is) h = in_body_named None None (subgraph_tok
 new_body_named None (Some x) sub h = in_body_named None (Some x) (subgraph_tokens sub) h
 new_body_named (Some e) exit sub h = in_body_named (Some e) exit (subgraph_tokens sub) h
 
-widened_named : (change : Option ChangeTree) (b : BodyTree) → AddedNamed change → HasNames (body_tokens b) → HasNames (body_tokens (widened change b))
-widened_named None b h k = k
-widened_named (Some (OfTransition c)) b h k = k
-widened_named (Some (OfState entry exit sub)) no_body h k = new_body_named entry exit sub h
-widened_named (Some (OfState entry exit sub)) (body e x s) h k =
+widened_named : (change : ChangeTree) (b : BodyTree) → ChangeNamed change → HasNames (body_tokens b) → HasNames (body_tokens (widened change b))
+widened_named (OfTransition c) b h k = k
+widened_named (OfState entry exit sub) no_body h k = new_body_named entry exit sub h
+widened_named (OfState entry exit sub) (body e x s) h k =
     in_body_named (joined_if e entry) (joined_if exit x) (subgraph_tokens (joined_subgraph s sub)) (joined_subgraph_named s sub (named_in_body e x (subgraph_tokens s) k) h)
+
+all_widened_named : (changes : List ChangeTree) (b : BodyTree) → AddedNamed changes → HasNames (body_tokens b) → HasNames (body_tokens (all_widened changes b))
+all_widened_named [] b h k = k
+all_widened_named (change ∷ changes) b h k = all_widened_named changes (widened change b) h.1 (widened_named change b h.0 k)
 
 -- ---- transitions
 
@@ -168,20 +171,23 @@ with_action b c h =
     (join (maybe (word_code words.Cond) b.condition) (action_word c ++ mark marks.CloseBrace) (code_if_named words.Cond b.condition)
     (join (action_word c) (mark marks.CloseBrace) (code_if_named words.Action c) tt))
 
-acting_named : (c : Option Code) (b : Option TransitionBody) → HasNames (maybe transition_body b) → HasNames (maybe transition_body (acting_also c b))
-acting_named None b h = h
-acting_named (Some c) None h = join (word_code words.Action c) (mark marks.CloseBrace) (code_named c) tt
-acting_named (Some c) (Some b) h = with_action b (joined_if b.action (Some c)) h
+acting_named : (c : Code) (b : Option TransitionBody) → HasNames (maybe transition_body b) → HasNames (maybe transition_body (acting_also c b))
+acting_named c None h = join (word_code words.Action c) (mark marks.CloseBrace) (code_named c) tt
+acting_named c (Some b) h = with_action b (joined_if b.action (Some c)) h
+
+all_acting_named : (cs : List Code) (b : Option TransitionBody) → HasNames (maybe transition_body b) → HasNames (maybe transition_body (all_acting cs b))
+all_acting_named [] b h = h
+all_acting_named (c ∷ cs) b h = all_acting_named cs (acting_also c b) (acting_named c b h)
 
 transition_named : (rs : List Refining) (t : Transition) → HasNames (transition t) → HasNames (transition (refined_transition rs t))
 transition_named rs t h =
-    let next = acting_also (action_for t.name rs) t.body in
+    let next = all_acting (actions_for t.name rs) t.body in
     let named = split (maybe name t.name) (mark marks.Colon ++ (source t.source ++ (mark marks.Arrow ++ (target t.target ++ maybe transition_body t.body)))) h in
     let from = split (source t.source) (mark marks.Arrow ++ (target t.target ++ maybe transition_body t.body)) named.1 in
     let to = split (target t.target) (maybe transition_body t.body) from.1 in
     join (maybe name t.name) (mark marks.Colon ++ (source t.source ++ (mark marks.Arrow ++ (target t.target ++ maybe transition_body next)))) named.0
     (join (source t.source) (mark marks.Arrow ++ (target t.target ++ maybe transition_body next)) from.0
-    (join (target t.target) (maybe transition_body next) to.0 (acting_named (action_for t.name rs) t.body to.1)))
+    (join (target t.target) (maybe transition_body next) to.0 (all_acting_named (actions_for t.name rs) t.body to.1)))
 
 -- ---- refined graphs
 
@@ -204,9 +210,9 @@ mutual
   state_named (StateOf n b) earlier rs h k = (k.0, body_named b (meant_for earlier n rs) (meant_named earlier n rs h) k.1)
 
   body_named : (b : BodyTree) (rs : List Refining) → AllNamed rs → HasNames (body_tokens b) → HasNames (body_tokens (refined_body b rs))
-  body_named no_body rs h k = widened_named (own_change rs) no_body (own_named rs h) k
+  body_named no_body rs h k = all_widened_named (own_changes rs) no_body (own_named rs h) k
   body_named (body e x s) rs h k =
-      widened_named (own_change rs) (body e x (refined_subgraph s rs)) (own_named rs h)
+      all_widened_named (own_changes rs) (body e x (refined_subgraph s rs)) (own_named rs h)
       (in_body_named e x (subgraph_tokens (refined_subgraph s rs)) (inside_named s rs h (named_in_body e x (subgraph_tokens s) k)))
 
   inside_named : (s : SubgraphTree) (rs : List Refining) → AllNamed rs → HasNames (subgraph_tokens s) → HasNames (subgraph_tokens (refined_subgraph s rs))

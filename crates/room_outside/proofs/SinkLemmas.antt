@@ -1,9 +1,9 @@
 -- Writes to a sink, one after another.
-use Rattle.std.proofs.Common.{◌≡◌, ℕ, ◌<◌, List, [], length, take, drop, ◌++◌, None, Some, Option, refl, sym, ◌∙◌, ap, subst, arith, append_assoc, length-append}
+use Rattle.std.proofs.Common.{◌≡◌, ℕ, ◌+◌, ◌-◌, ◌<◌, ◌≤◌, List, [], length, take, drop, ◌++◌, None, Some, Option, refl, sym, ◌∙◌, ap, subst, arith, append_assoc, length-append}
 use Rattle.std.proofs.lemmas.List.{append-nil, take-append-drop}
 use Rattle.std.proofs.Math.Seq.{take-append_seam}
-use Rattle.room_outside.specs.Faults.{Rose}
-use Rattle.room_outside.specs.Written.{Written, appended, Appends, BreaksOff}
+use Rattle.room_outside.specs.Faults.{Rose, last_count}
+use Rattle.room_outside.specs.Written.{Written, appended, Appends, BreaksOffAfter}
 use Rattle.room_outside.proofs.FaultLemmas.{Rose-later}
 
 pub appended-none : (o : Option (List ℕ)) → appended o [] ≡ o
@@ -46,14 +46,18 @@ WritesFront-more {a} {b} {c} {piece} {left} n p q =
     }
 
 -- a write that took nothing, while something was left
-pub WritesFront-breaks : {a b c : Written} {piece left : List ℕ} → WritesFront a b piece left → 0 < length left → Appends b c [] → Rose b.faults c.faults → BreaksOff a c piece
-WritesFront-breaks {a} {b} {c} {piece} {left} p some q r =
+pub WritesFront-breaks : {a b c : Written} {piece left : List ℕ} → WritesFront a b piece left → length piece ≤ last_count → 0 < length left → Appends b c [] → Rose b.faults c.faults → BreaksOffAfter (length piece - length left) a c piece
+WritesFront-breaks {a} {b} {c} {piece} {left} p range some q r =
+    let long : length piece ≡ length p.front + length left = rw p.split (length-append p.front left) in
     let front : take (length p.front) piece ≡ p.front = rw p.split (take-append_seam p.front left) in
     record {
-      taken = length p.front;
-      within = rw p.split (omega (arith, length-append p.front left, some));
-      front = subst (Appends a c) (append-nil p.front ∙ sym front) (Appends-then p.appends q);
-      fault = Rose-later p.appends.faults r;
+      breaks = record {
+        taken = length p.front;
+        within = rw p.split (omega (arith, length-append p.front left, some));
+        front = subst (Appends a c) (append-nil p.front ∙ sym front) (Appends-then p.appends q);
+        fault = Rose-later p.appends.faults r;
+      };
+      number = omega (arith, range, long);
     }
 
 -- nothing is left to be written

@@ -1,7 +1,9 @@
 -- What was written to a sink.
-use Rattle.std.specs.Prelude.{◌≡◌, ℕ, ◌<◌, ◌≤◌, List, ◌++◌, length, take, Option, None}
+use Rattle.std.specs.Prelude.{◌≡◌, ℕ, ◌<◌, ◌≤◌, List, ◌++◌, length, take, min, Option, None, Result}
 use Rattle.std.specs.Option.{option_map}
-use Rattle.room_outside.specs.Faults.{Rose}
+use Rattle.std.specs.Result.{MatchResult}
+use Rattle.room_outside.specs.declared.sink.WriteFault.{WriteFault}
+use Rattle.room_outside.specs.Faults.{Rose, last_count}
 
 -- the bytes, where they are told, and how many writes have failed
 pub record Written : Type 0 where
@@ -27,3 +29,13 @@ pub record BreaksOff (before after : Written) (bytes : List ℕ) : Type 0 where
   pub within : taken < length bytes
   pub front : Appends before after (take taken bytes)
   pub fault : Rose before.faults after.faults
+
+-- the same, and this count tells how many bytes were appended; it stands still at the last value of a usize
+pub record BreaksOffAfter (count : ℕ) (before after : Written) (bytes : List ℕ) : Type 0 where
+  pub breaks : BreaksOff before after bytes
+  pub number : count ≡ min breaks.taken last_count
+
+-- a text was written whole, or broke off after as many bytes as the fault tells
+abbrev pub Writes : Result Unit WriteFault → Written → Written → List ℕ → Type 0
+Writes result before after text =
+    MatchResult result (λ _. Appends before after text) (λ fault. BreaksOffAfter fault.taken before after text)

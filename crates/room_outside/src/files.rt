@@ -7,9 +7,9 @@ ghost use Rattle.room_outside.specs.MemShelf.{that_fit};
 ghost use Rattle.room_outside.specs.Shown.{IsReadAt};
 
 /// A name and the text under it.
-pub(crate) type File = (String, Vec<u8>);
+pub type TextFile = (String, Vec<u8>);
 
-fn first_named(files: &[File], name: &[u8]) -> usize
+fn first_named(files: &[TextFile], name: &[u8]) -> usize
     ensures within { result ≤ length files.now }
     ensures place { result ≡ position_or_len (λ file. pointwise nat_eq (string_bytes file.0) name.now) files.now }
 {
@@ -21,7 +21,7 @@ fn first_named(files: &[File], name: &[u8]) -> usize
 
 /// The place of the first file of this name, or the place behind the last file.
 #[tactic(auto, using(crate::proofs::FileLemmas::file_steps))]
-pub(crate) fn place_of(files: &[File], name: &str) -> usize
+pub(crate) fn place_of(files: &[TextFile], name: &str) -> usize
     ensures within { result ≤ length files.now }
     ensures place { result ≡ place_of (files_of files.now) name.now }
 {
@@ -30,7 +30,7 @@ pub(crate) fn place_of(files: &[File], name: &str) -> usize
 
 /// The text of the first file of this name.
 #[tactic(auto, using(crate::proofs::FileLemmas::file_steps))]
-pub(crate) fn text_under<'a>(files: &'a [File], name: &str) -> Option<&'a [u8]>
+pub(crate) fn text_under<'a>(files: &'a [TextFile], name: &str) -> Option<&'a [u8]>
     ensures { MatchOption result (text_under (files_of files.now) name.now ≡ None) (λ text. text_under (files_of files.now) name.now ≡ Some text.now) }
 {
     let place = place_of(files, name);

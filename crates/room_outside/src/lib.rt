@@ -19,12 +19,13 @@ mod sink;
 mod sure;
 mod system;
 
+pub use files::TextFile;
 pub use gate::{ControllerNo, Gate, OpenGate};
-pub use line_text::{LineBuffer, Part, write_line};
+pub use line_text::{LineBuffer, Part, write_line, write_only_line};
 pub use meet::MeetGate;
 pub use mem_shelf::MemShelf;
 pub use mem_sink::MemSink;
-pub use read_before::{ReadBefore, ReadText};
+pub use read_before::{ReadBefore, read_file};
 pub use shelf::{MAX_TEXT, ReadRefused, Shelf, read_limit, read_whole};
 pub use sink::{Sink, WriteFault, write_whole};
 pub use sure::{SureShelf, SureSink};

@@ -8,5 +8,5 @@ mod part;
 mod short_numbers;
 
 pub use buffer::LineBuffer;
-pub use lines::write_line;
+pub use lines::{write_line, write_only_line};
 pub use part::Part;

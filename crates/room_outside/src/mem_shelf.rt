@@ -4,7 +4,7 @@ ghost use Rattle.room_outside.specs.Faults.{Rose};
 ghost use Rattle.room_outside.specs.Shown.{Keeps, IsReadAt};
 
 use crate::calls::Calls;
-use crate::files::{File, copy_at, place_of, text_under};
+use crate::files::{TextFile, copy_at, place_of, text_under};
 use crate::{Failed, Shelf};
 use std::alloc::{AllocError, Global};
 use std::marker::Model;
@@ -13,7 +13,7 @@ use std::marker::Model;
 /// be made to fail.
 #[derive(Drop, Debug)]
 pub struct MemShelf {
-    files: Vec<File>,
+    files: Vec<TextFile>,
     // One count for each file, and a last one for all other names.
     counts: Vec<u64>,
     calls: Calls,
@@ -38,11 +38,7 @@ impl MemShelf {
 
     /// A shelf with these files, each under its name. `fail` holds the numbers, from 1, of the
     /// calls that fail.
-    pub fn new(
-        alloc: Global,
-        files: Vec<(String, Vec<u8>)>,
-        fail: Vec<u64>,
-    ) -> Result<MemShelf, AllocError>
+    pub fn new(alloc: Global, files: Vec<TextFile>, fail: Vec<u64>) -> Result<MemShelf, AllocError>
         ensures { IfOk result (λ s. s ≡ record { files = files_of files.items; counts = replicate (length files.items + 1) 0; calls = record { made = 0; fail = fail.items } }) }
     {
         let counts = vec![in alloc; 0; files.len() + 1]?;

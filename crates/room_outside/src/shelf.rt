@@ -37,12 +37,12 @@ pub enum ReadRefused {
 }
 
 /// How many bytes a read asks for. A shelf of files keeps the file open from one to the next.
-const PIECE: usize = 65_536;
+const PIECE: usize = 4_096;
 
 /// The most bytes of a text that `read_whole` reads.
 pub const MAX_TEXT: u64 = 1_048_576;
 
-/// Reads a whole text of at most 1,048,576 bytes, in pieces of 65,536 bytes.
+/// Reads a whole text of at most 1,048,576 bytes, in pieces of 4,096 bytes.
 ///
 /// Each read but the last takes at least one byte. `ReadFault` comes only where the count of
 /// faults of this name rose in this call, `TooLong` only above the limit and after more bytes than

@@ -1,7 +1,7 @@
 //! A stream of bytes that can only grow.
-ghost use Rattle.std.specs.Prelude.{◌≡◌, ◌<◌, ◌≤◌, [], length, take, Ok, IfOk, OnOk, OnErr};
-ghost use Rattle.room_outside.specs.Faults.{Rose};
-ghost use Rattle.room_outside.specs.Written.{Written, Appends, BreaksOff};
+ghost use Rattle.std.specs.Prelude.{◌≡◌, ◌<◌, ◌≤◌, [], length, take, Ok, IfOk, OnOk, OnErr, IfErr};
+ghost use Rattle.room_outside.specs.Faults.{Rose, last_count};
+ghost use Rattle.room_outside.specs.Written.{Written, Appends, BreaksOffAfter};
 
 use crate::Failed;
 
@@ -26,21 +26,37 @@ pub trait Sink {
 
 /// A write failed, after a front of the bytes was taken.
 #[derive(Clone, Copy, Debug, PartialEq, Eq)]
-pub struct WriteFault;
+pub struct WriteFault {
+    /// How many bytes were taken. It stands still at the last value of its type.
+    pub taken: usize,
+}
+
+impl WriteFault {
+    pub(crate) fn after(taken: usize) -> WriteFault
+        ensures taken { result.taken ≡ taken }
+        ensures range { result.taken ≤ last_count }
+    {
+        WriteFault { taken }
+    }
+}
 
 /// Writes a whole piece, in as many writes as it needs. It takes no memory.
 ///
-/// At a fault a front of the piece was appended, shorter than the piece: how much of it is told by
-/// the sink alone. A fault comes only where the sink's count of faults rose in this call.
+/// At a fault a front of the piece was appended, shorter than the piece, and the fault tells how
+/// many bytes that is. It comes only where the sink's count of faults rose in this call.
 #[inline(always)]
 pub fn write_whole<K: Sink>(sink: &mut K, piece: &[u8]) -> Result<(), WriteFault>
     ensures ok { OnOk result (Appends (K.written sink.old) (K.written sink.new) piece.now) }
-    ensures fault { OnErr result (BreaksOff (K.written sink.old) (K.written sink.new) piece.now) }
+    ensures fault { IfErr result (λ fault. BreaksOffAfter fault.taken
+        (K.written sink.old) (K.written sink.new) piece.now) }
 {
     let mut rest = piece;
     while !rest.is_empty() {
         match sink.write(rest) {
-            Ok(0) | Err(Failed) => return Err(WriteFault),
+            Ok(0) | Err(Failed) => {
+                let taken = piece.len() - rest.len();
+                return Err(WriteFault { taken });
+            }
             Ok(n) => rest = rest.split_at(n).1,
         }
     }

@@ -4,14 +4,14 @@ ghost use Rattle.room_outside.specs.Faults.{Rose};
 ghost use Rattle.room_outside.specs.Shown.{Keeps, IsReadAt};
 ghost use Rattle.room_outside.specs.Written.{Appends};
 
-use crate::files::{File, copy_at, text_under};
+use crate::files::{TextFile, copy_at, text_under};
 use crate::{Failed, Shelf, Sink};
 use std::marker::Model;
 
 /// A shelf that keeps its files and never fails. A name without a file has the empty text.
 #[derive(Drop, Debug)]
 pub struct SureShelf {
-    files: Vec<File>,
+    files: Vec<TextFile>,
 }
 
 impl Model for SureShelf {
@@ -28,7 +28,7 @@ impl SureShelf {
     ghost use Rattle.room_outside.specs.Files.{files_of};
 
     /// A shelf with these files, each under its name. It takes no memory.
-    pub fn new(files: Vec<(String, Vec<u8>)>) -> SureShelf
+    pub fn new(files: Vec<TextFile>) -> SureShelf
         ensures { result ≡ files_of files.items }
     {
         SureShelf { files }

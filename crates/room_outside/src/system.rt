@@ -5,7 +5,8 @@ ghost use Rattle.room_outside.specs.Shown.{Keeps, IsReadAt};
 ghost use Rattle.room_outside.specs.Written.{Appends};
 
 use crate::{Failed, Shelf, Sink};
-use std::io::{Read, Seek, SeekFrom, Stderr, Stdout, Write};
+use std::alloc::Global;
+use std::io::{BufWriter, IsTerminal, Read, Seek, SeekFrom, Stderr, Stdout, Write};
 use std::marker::Model;
 use std::rt::Files;
 use std::{fs, io};
@@ -141,10 +142,15 @@ impl<R: Files + AllocGlobal> Shelf for FileShelf<R> {
     }
 }
 
+/// How many bytes are gathered before they are handed to the system.
+const GATHERED: usize = 65_536;
+
 /// One of the two standard streams.
-#[derive(Clone, Copy, Debug)]
+#[derive(Drop)]
 pub enum Stream {
     Output(Stdout),
+    /// Standard output, in pieces of 65,536 bytes.
+    Gathered(BufWriter<Stdout>),
     Errors(Stderr),
 }
 
@@ -152,6 +158,7 @@ impl Write for Stream {
     fn write(&mut self, buf: &[u8]) -> io::Result<usize> {
         match self {
             Stream::Output(stdout) => stdout.write(buf),
+            Stream::Gathered(gathered) => gathered.write(buf),
             Stream::Errors(stderr) => stderr.write(buf),
         }
     }
@@ -159,14 +166,16 @@ impl Write for Stream {
     fn flush(&mut self) -> io::Result<()> {
         match self {
             Stream::Output(stdout) => stdout.flush(),
+            Stream::Gathered(gathered) => gathered.flush(),
             Stream::Errors(stderr) => stderr.flush(),
         }
     }
 }
 
 /// A sink over a writer, usually a standard stream. It tells no bytes and counts its faults. It
-/// keeps nothing back: each write is one of the writer's own.
-#[derive(Drop, Debug)]
+/// keeps nothing back: each write is one of the writer's own. What the writer keeps back goes out by
+/// `finish`.
+#[derive(Drop)]
 pub struct OutSink<W = Stream> {
     out: W,
     faults: u64,
@@ -188,6 +197,21 @@ impl OutSink {
         OutSink::new(Stream::Output(stdout))
     }
 
+    /// A sink over standard output. Where that is no terminal, pieces are gathered until there are
+    /// 65,536 bytes, if there is memory for as many, so that a long text takes few calls of the
+    /// system: `finish` writes out the rest.
+    pub fn gathered(alloc: Global, stdout: Stdout) -> OutSink
+        ensures { result ≡ 0 }
+    {
+        if stdout.is_terminal() {
+            return OutSink::new(Stream::Output(stdout));
+        }
+        match BufWriter::with_capacity(alloc, GATHERED, stdout) {
+            Ok(gathered) => OutSink::new(Stream::Gathered(gathered)),
+            Err(_) => OutSink::new(Stream::Output(stdout)),
+        }
+    }
+
     /// A sink over standard error.
     pub fn errors(stderr: Stderr) -> OutSink
         ensures { result ≡ 0 }
@@ -197,7 +221,7 @@ impl OutSink {
 }
 
 impl<W> OutSink<W> {
-    /// A sink over a writer that keeps nothing back.
+    /// A sink over a writer.
     pub fn new(out: W) -> OutSink<W>
         ensures { result ≡ 0 }
     {
@@ -209,6 +233,22 @@ impl<W> OutSink<W> {
         ensures { result ≡ self.now }
     {
         self.faults
+    }
+}
+
+impl<W: Write> OutSink<W> {
+    /// Writes out what the writer kept back. That it can't is a fault.
+    pub fn finish(&mut self) -> Result<(), Failed>
+        ensures ok { OnOk result (self.new ≡ self.old) }
+        ensures err { OnErr result (self.new ≡ one_more self.old) }
+    {
+        match self.out.flush() {
+            Ok(()) => Ok(()),
+            Err(_) => {
+                self.faults = self.faults.saturating_add(1);
+                Err(Failed)
+            }
+        }
     }
 }
 

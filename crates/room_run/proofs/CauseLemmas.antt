@@ -1,5 +1,5 @@
 -- From what was read to what runs, and why a call is refused.
-use Rattle.std.proofs.Common.{◌≡◌, ℕ, ◌≤◌, List, length, Option, Some, None, IfSome, Result, Ok, Err, subst}
+use Rattle.std.proofs.Common.{◌≡◌, ℕ, ◌≤◌, List, length, Option, Some, None, IfSome, Result, Ok, Err, refl, subst}
 use Rattle.std.specs.Prelude.{IfOk, IfErr}
 use Rattle.std.specs.Global.{Vec}
 use Rattle.room_outside.specs.Shown.{Shown, Keeps}
@@ -10,10 +10,11 @@ use Rattle.room_wiring.specs.declared.tables.Tables.{Tables}
 use Rattle.room_run.specs.Models.{IsModel, IsSound, SoundCauses, most_bytes}
 use Rattle.inject_reader.specs.declared.inject_lines.accepted.Line.{Line}
 use Rattle.inject_reader.specs.Answer.{answer}
+use Rattle.inject_reader.specs.declared.inject_lines.accepted.Advances.TheVariants.{Refused}
 use Rattle.inject_reader.specs.Gives.{Fails}
 use Rattle.inject_reader.specs.declared.fault.InjectFault.{InjectFault}
 use Rattle.inject_reader.specs.declared.fault.InjectFault.TheVariants as inject_faults
-use Rattle.room_run.specs.Causes.{IsInjections, TextIs, AreOf, ModelCauses, model_refused, LinesCauses, faulty_line, no_memory_for_lines, refusal_of_lines, InjectionsCauses, injections_unread, injections_long, injections_refused, injections_no_memory, RunCauses, of_injections}
+use Rattle.room_run.specs.Causes.{IsInjections, HasBadLine, TextIs, AreOf, ModelCauses, model_refused, LinesCauses, faulty_line, no_memory_for_lines, refusal_of_lines, InjectionsCauses, injections_unread, injections_long, bad_line, injections_no_memory, RunCauses, of_injections}
 use Rattle.room_run.specs.declared.model_fault.ModelFault.{ModelFault}
 use Rattle.room_run.specs.declared.refusal.Refusal.{Refusal}
 use Rattle.room_run.specs.declared.refusal.Refusal.TheVariants as refusals
@@ -47,11 +48,12 @@ found_lines shelf name bytes w (Err why) is h = tt
 -- the text was read, and its lines are refused
 pub lines_cause : (before after : Shown) (name bytes : List ℕ) (w : Tables) (r : Result (Vec Line) Refusal) → IfSome (before.text name) (λ text. bytes ≡ text) → IfErr r (λ why. LinesCauses w bytes why) → IfErr r (λ why. InjectionsCauses before after name w why)
 lines_cause before after name bytes w (Ok lines) is h = tt
-lines_cause before after name bytes w (Err why) is h =
-    injections_refused (found_fact (λ text. LinesCauses w text why) (before.text name) bytes is h)
+lines_cause before after name bytes w (Err _) is (faulty_line number code h) =
+    bad_line number code (found_fact (λ text. HasBadLine w text number code) (before.text name) bytes is h) refl
+lines_cause before after name bytes w (Err _) is no_memory_for_lines = injections_no_memory refl
 
 -- a line is faulty
-pub line_told : (w : Tables) (bytes : List ℕ) (e : InjectFault) → length bytes ≤ most_bytes → Fails e (answer w bytes) → LinesCauses w bytes (refusal_of_lines e)
+pub line_told : (w : Tables) (bytes : List ℕ) (e : InjectFault) → length bytes ≤ most_bytes → Fails e (answer Refused w bytes) → LinesCauses w bytes (refusal_of_lines e)
 line_told w bytes (inject_faults.Code n code) short h = faulty_line n code (record { short = short; faulty = h })
 line_told w bytes inject_faults.Memory short h = no_memory_for_lines
 
@@ -60,7 +62,7 @@ line_told w bytes inject_faults.Memory short h = no_memory_for_lines
 lines_causes_before : {a b c : Shown} {name : List ℕ} {w : Tables} {why : Refusal} → Keeps a b → InjectionsCauses b c name w why → InjectionsCauses a c name w why
 lines_causes_before {a} {b} {c} {name} k (injections_unread r is) = injections_unread (Rose-before name k r) is
 lines_causes_before {a} {b} {c} {name} k (injections_long h is) = injections_long (IfSome-before name _ k h) is
-lines_causes_before {a} {b} {c} {name} k (injections_refused h) = injections_refused (IfSome-before name _ k h)
+lines_causes_before {a} {b} {c} {name} k (bad_line number code h is) = bad_line number code (IfSome-before name _ k h) is
 lines_causes_before k (injections_no_memory is) = injections_no_memory is
 
 -- the model was read, and the injections are refused

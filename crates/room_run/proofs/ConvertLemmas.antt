@@ -1,5 +1,5 @@
 -- From texts of journals to what is written of them, and why they are refused.
-use Rattle.std.proofs.Common.{◌≡◌, ℕ, ◌≤◌, List, length, IfSome}
+use Rattle.std.proofs.Common.{◌≡◌, ℕ, ◌≤◌, List, length, IfSome, refl}
 use Rattle.room_outside.specs.Shown.{Shown, Keeps}
 use Rattle.room_outside.proofs.ShelfLemmas.{IfSome-before, Rose-before}
 use Rattle.room_wiring.specs.declared.tables.Tables.{Tables}
@@ -12,8 +12,8 @@ use Rattle.journal_reader.specs.declared.fault.ReadFaultOf.{ReadFaultOf}
 use Rattle.journal_reader.specs.declared.fault.ReadFaultOf.TheVariants as journal_faults
 use Rattle.room_run.specs.Words.{Record}
 use Rattle.room_run.specs.Models.{IsSound}
-use Rattle.room_run.specs.Conversions.{most_journal_bytes, HasTiedJournals}
-use Rattle.room_run.specs.Causes.{TextIs, RecordedCauses, malformed, no_memory_for_journals, refusal_of_journals, JournalsCauses, journals_unread, journals_long, journals_refused, journals_no_memory, ConvertCauses, of_journals}
+use Rattle.room_run.specs.Conversions.{most_journal_bytes, HasNoJournals, HasTiedJournals, HasUntiedJournals}
+use Rattle.room_run.specs.Causes.{TextIs, RecordedCauses, malformed, untied, no_memory_for_journals, refusal_of_journals, JournalsCauses, journals_unread, journals_long, journals_malformed, journals_untied, journals_no_memory, ConvertCauses, of_journals}
 use Rattle.room_run.specs.Outcome.{AreRecorded}
 use Rattle.room_run.specs.declared.refusal.Refusal.{Refusal}
 use Rattle.room_run.proofs.CauseLemmas.{found_fact}
@@ -36,12 +36,17 @@ journals_found shelf name bytes t j is h = found_fact (λ text. HasTiedJournals 
 -- the text was read, and its journals are refused
 pub journals_cause : (before after : Shown) (name bytes : List ℕ) (t : Tables) (why : Refusal) → IfSome (before.text name) (λ text. bytes ≡ text) → RecordedCauses t bytes why
     → JournalsCauses before after name t why
-journals_cause before after name bytes t why is h = journals_refused (found_fact (λ text. RecordedCauses t text why) (before.text name) bytes is h)
+journals_cause before after name bytes t _ is (malformed offset h) =
+    journals_malformed offset (found_fact (λ text. HasNoJournals t text) (before.text name) bytes is h) refl
+journals_cause before after name bytes t _ is (untied controller stamp h) =
+    journals_untied controller stamp (found_fact (λ text. HasUntiedJournals t text controller stamp) (before.text name) bytes is h) refl
+journals_cause before after name bytes t _ is no_memory_for_journals = journals_no_memory refl
 
 journals_causes_before : {a b c : Shown} {name : List ℕ} {t : Tables} {why : Refusal} → Keeps a b → JournalsCauses b c name t why → JournalsCauses a c name t why
 journals_causes_before {a} {b} {c} {name} k (journals_unread r is) = journals_unread (Rose-before name k r) is
 journals_causes_before {a} {b} {c} {name} k (journals_long h is) = journals_long (IfSome-before name _ k h) is
-journals_causes_before {a} {b} {c} {name} k (journals_refused h) = journals_refused (IfSome-before name _ k h)
+journals_causes_before {a} {b} {c} {name} k (journals_malformed offset h is) = journals_malformed offset (IfSome-before name _ k h) is
+journals_causes_before {a} {b} {c} {name} k (journals_untied controller stamp h is) = journals_untied controller stamp (IfSome-before name _ k h) is
 journals_causes_before k (journals_no_memory is) = journals_no_memory is
 
 -- the model was read, and the journals are refused

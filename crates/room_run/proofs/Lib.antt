@@ -1,4 +1,5 @@
 pub mod Names
+pub mod Fuel
 pub mod OneCut
 pub mod JournalLaws
 pub mod AnswerLaws

@@ -1,5 +1,5 @@
 -- A made model's texts, as those of files.
-use Rattle.std.proofs.Common.{◌≡◌, ℕ, List, ap, subst}
+use Rattle.std.proofs.Common.{◌≡◌, ℕ, List, refl, ap, subst}
 use Rattle.journal.specs.declared.entry.Journals.{Journals}
 use Rattle.inject_reader.specs.declared.inject_lines.accepted.Line.{Line}
 use Rattle.controller_actors.specs.declared.plant.Plant.{Plant}
@@ -12,7 +12,9 @@ use Rattle.room_run.specs.Words.{usual_fuel}
 use Rattle.room_run.specs.MadeShelf.{made_files, made_shelf}
 use Rattle.room_run.specs.Models.{IsModel}
 use Rattle.room_run.specs.Finished.{Summarizes}
-use Rattle.room_run.specs.Causes.{IsInjections, no_text, model_long, model_refused, injections_long, injections_refused, RunCauses, of_model, of_injections, PlantCauses, long_model, unfit_model, InjectedCauses, long_injections, unfit_lines}
+use Rattle.room_run.specs.fitting_plants.Plants.{PlantFits}
+use Rattle.inject_reader.proofs.EndPlaces.{read_fit}
+use Rattle.room_run.specs.Causes.{IsInjections, no_text, model_long, model_refused, injections_long, bad_line, injections_no_memory, faulty_line, no_memory_for_lines, RunCauses, of_model, of_injections, PlantCauses, long_model, unfit_model, InjectedCauses, long_injections, unfit_lines}
 use Rattle.room_run.specs.declared.refusal.Refusal.{Refusal}
 
 model_cause : (actors : ℕ) (why : Refusal) → PlantCauses (model_text actors) why → RunCauses (made_shelf actors) (made_shelf actors) made_files why
@@ -21,7 +23,8 @@ model_cause actors why (unfit_model fault h) = of_model (model_refused fault h)
 
 lines_cause : (actors : ℕ) (p : Plant) (why : Refusal) → IsModel (model_text actors) p → InjectedCauses p.wiring (injections_text actors) why → RunCauses (made_shelf actors) (made_shelf actors) made_files why
 lines_cause actors p why model (long_injections h is) = of_injections p model (injections_long h is)
-lines_cause actors p why model (unfit_lines h) = of_injections p model (injections_refused h)
+lines_cause actors p _ model (unfit_lines (faulty_line number code h)) = of_injections p model (bad_line number code h refl)
+lines_cause actors p _ model (unfit_lines no_memory_for_lines) = of_injections p model (injections_no_memory refl)
 
 -- the text of the model is refused
 pub made_refused : (actors : ℕ) (model : List ℕ) (why : Refusal) → model ≡ model_text actors → PlantCauses model why → RunCauses (made_shelf actors) (made_shelf actors) made_files why
@@ -35,12 +38,14 @@ made_lines_refused actors model injections p why is are h causes =
 
 -- both were accepted, and the run has ended
 pub summarized : (actors : ℕ) (model injections : List ℕ) (p : Plant) (handed lines : List Line) (j : Journals) (counts : Counts) → model ≡ model_text actors → injections ≡ injections_text actors → handed ≡ lines
-    → IsModel model p → IsInjections p.wiring injections lines → IsRun p handed usual_fuel j → counts ≡ counts_of j → Summarizes actors (record { actors = actors; counts = counts; done = j.done })
-summarized actors model injections p handed lines j counts is are same h read run counted = record {
+    → IsModel model p → PlantFits p → IsInjections p.wiring injections lines → IsRun p handed usual_fuel j → counts ≡ counts_of j → Summarizes actors (record { actors = actors; counts = counts; done = j.done })
+summarized actors model injections p handed lines j counts is are same h fits read run counted = record {
   plant = p;
   lines = lines;
   journals = j;
   texts = record { model_accepted = subst (λ text. IsModel text p) is h; lines_accepted = subst (λ text. IsInjections p.wiring text lines) are read };
+  plant_fits = fits;
+  lines_fit = read_fit p.wiring lines read.fit;
   run = subst (λ ls. IsRun p ls usual_fuel j) same run;
   is = ap (summary actors j) counted;
 }

@@ -4,7 +4,7 @@ use Rattle.room_outside.specs.Shown.{Shown}
 use Rattle.room_outside.specs.Written.{Written}
 use Rattle.room_outside.proofs.SinkLemmas.{Appends-none}
 use Rattle.tied_journals.specs.Text.{tied_text_of}
-use Rattle.inject_reader.specs.Fitting.{FitLines}
+use Rattle.inject_reader.specs.Fitting.{LinesFit}
 use Rattle.inject_reader.specs.declared.inject_lines.accepted.Line.{Line}
 use Rattle.controller_actors.specs.declared.plant.Plant.{Plant}
 use Rattle.journal.specs.declared.entry.Journals.{Journals}
@@ -15,18 +15,18 @@ use Rattle.law_charts.proofs.ByCharts.{by_charts}
 use Rattle.law_runs.proofs.run_journals.InPlaceLaw.{in_place}
 use Rattle.law_runs.proofs.run_journals.TiedLaw.{tied}
 use Rattle.law_runs.proofs.PromisesLaw.{promises}
-use Rattle.room_run.specs.Agreement.{AllAgree}
-use Rattle.law_runs.specs.run_texts.Texts.{TextTells}
-use Rattle.room_run.proofs.settled.Fitting.{settles_of, in_place_of, fits_of}
+use Rattle.room_run.proofs.fitting_journals.FitsLaw.{journals_fit}
+use Rattle.room_run.proofs.fitting_plants.Runs.{runs_settle}
 use Rattle.room_run.proofs.settled.Runs.{runs_agree}
-use Rattle.law_runs.specs.run_texts.Fetches.{FetchesFit}
-use Rattle.room_run.proofs.settled.Told.{text_tells, model_fetches_fit}
+use Rattle.law_runs.proofs.run_texts.TextsLaw.{fetches_fit}
+use Rattle.room_run.proofs.settled.Told.{text_tells}
+use Rattle.room_run.specs.fitting_plants.Plants.{PlantFits}
 use Rattle.made_model.specs.Summaries.{summary_text}
 use Rattle.made_model.specs.declared.summary.Summary.{Summary}
 use Rattle.room_run.specs.Words.{Files, Made, asked_by, usual_fuel}
 use Rattle.room_run.specs.MadeShelf.{made_files, made_shelf}
 use Rattle.room_run.specs.Models.{IsModel, IsSoundText}
-use Rattle.room_run.specs.Causes.{AreOf, Causes, IsInjections}
+use Rattle.room_run.specs.Causes.{AreOf, Causes}
 use Rattle.room_run.specs.fitting_journals.Fitting.{FittingRunsAreInPlace}
 use Rattle.room_run.specs.Finished.{Finishes, Summarizes}
 use Rattle.room_run.specs.Outcome.{Answers, says_made, IsByCharts, IsRunOfFiles, status_of_run, Outcome, Prints, written, cut, Tells, told, broken, whole, cut_short, refused, refused_unheard}
@@ -47,38 +47,23 @@ by_model (Some text) p lines fuel j h run = (h.charts, h.is, by_charts p h.chart
 is_by_charts : (shelf : Shown) (files : Files) (p : Plant) (lines : List Line) (fuel : ℕ) (j : Journals) → AreOf shelf files p lines → IsRun p lines fuel j → IsByCharts shelf files p lines fuel j
 is_by_charts shelf files p lines fuel j h run = by_model (shelf.text files.model) p lines fuel j h.model_accepted run
 
--- where a run of a model is done, all controllers agree
-agreed_of : (model injections : Option (List ℕ)) (p : Plant) (lines : List Line) (fuel : ℕ) (j : Journals)
-    → IfSome model (λ text. IsModel text p) → IfSome injections (λ text. IsInjections p.wiring text lines) → (run : IsRun p lines fuel j)
-    → IfSome model (λ text. IfSome injections (λ injected. j.done ≡ true → AllAgree p.wiring run.world))
-agreed_of None injections p lines fuel j h k run = tt
-agreed_of (Some text) None p lines fuel j h k run = tt
-agreed_of (Some text) (Some injected) p lines fuel j h k run = λ done.
-    runs_agree h.is.tree p h.charts lines fuel j h.is.sound.keeps h.is.sound.wired.wired h.is.sound.wired.flawless h.is.sound.faultless h.tables k.fit run done
-
--- what is said of a run of a model over injections, where both texts are told
-of_texts : (model injections : Option (List ℕ)) (p : Plant) (lines : List Line) (P : Type 0)
-    → IfSome model (λ text. IsModel text p) → IfSome injections (λ text. IsInjections p.wiring text lines)
-    → ((text : List ℕ) → IsModel text p → FitLines p.wiring lines → P) → IfSome model (λ text. IfSome injections (λ injected. P))
-of_texts None injections p lines P h k make = tt
-of_texts (Some text) None p lines P h k make = tt
-of_texts (Some text) (Some injected) p lines P h k make = make text h k.fit
-
--- what a run of a plant is of the texts that it comes from
-pub run_of : FittingRunsAreInPlace → (shelf : Shown) (files : Files) (fuel : ℕ) (p : Plant) (lines : List Line) (j : Journals) → AreOf shelf files p lines → IsRun p lines fuel j → IsRunOfFiles shelf files fuel p lines j
-run_of law shelf files fuel p lines j texts run = record {
+-- what a run of a plant that fits, over lines that fit, is of the texts that it comes from
+pub run_of : FittingRunsAreInPlace → (shelf : Shown) (files : Files) (fuel : ℕ) (p : Plant) (lines : List Line) (j : Journals)
+    → AreOf shelf files p lines → PlantFits p → LinesFit p.wiring lines → IsRun p lines fuel j → IsRunOfFiles shelf files fuel p lines j
+run_of law shelf files fuel p lines j texts fits fit run = record {
   texts = texts;
+  plant_fits = fits;
+  lines_fit = fit;
   run = run;
   promises = promises p lines fuel j run;
+  by_own_charts = by_charts p fits.charts lines fuel j fits.tables run;
   by_charts = is_by_charts shelf files p lines fuel j texts run;
-  agreed = agreed_of (shelf.text files.model) (shelf.text files.injections) p lines fuel j texts.model_accepted texts.lines_accepted run;
-  fetches = of_texts (shelf.text files.model) (shelf.text files.injections) p lines (FetchesFit p j) texts.model_accepted texts.lines_accepted
-      (λ text model fit. model_fetches_fit text p lines fuel j model fit run);
-  determined = of_texts (shelf.text files.model) (shelf.text files.injections) p lines (TextTells p lines j) texts.model_accepted texts.lines_accepted
-      (λ text model fit. text_tells text p lines fuel j model fit run);
-  settled = settles_of (shelf.text files.model) (shelf.text files.injections) p lines fuel j texts.model_accepted texts.lines_accepted run;
-  wired = in_place_of law (shelf.text files.model) (shelf.text files.injections) p lines fuel j texts.model_accepted texts.lines_accepted run;
-  fits = fits_of law (shelf.text files.model) (shelf.text files.injections) p lines fuel j texts.model_accepted texts.lines_accepted run;
+  agreed = λ done. runs_agree p lines fuel j fits fit run done;
+  fetches = fetches_fit p lines fit fuel j run;
+  determined = text_tells p lines fuel j fits fit run;
+  settled = runs_settle p lines fuel j fits fit run;
+  wired = law p lines fuel j fits fit run;
+  fits = journals_fit law p lines fuel j fits fit run;
   in_place = in_place p lines fuel j run;
   tied = tied p lines fuel j run;
 }
@@ -86,7 +71,7 @@ run_of law shelf files fuel p lines j texts run = record {
 -- what is told of a run of a made model
 pub sum_answers : FittingRunsAreInPlace → (shelf : Shown) (words : List (List ℕ)) (actors : ℕ) (s : Summary) → asked_by words ≡ Some (Made actors) → Summarizes actors s → Answers shelf words (summary_text s) (status_of_run s.done)
 sum_answers law shelf words actors s asked h =
-    says_made actors h.plant h.lines h.journals asked (run_of law (made_shelf actors) made_files usual_fuel h.plant h.lines h.journals h.texts h.run)
+    says_made actors h.plant h.lines h.journals asked (run_of law (made_shelf actors) made_files usual_fuel h.plant h.lines h.journals h.texts h.plant_fits h.lines_fit h.run)
     (ap summary_text h.is) (ap (λ (x : Summary). status_of_run x.done) h.is)
 
 -- the answer was written

@@ -1,10 +1,10 @@
 pub mod Words
 pub mod Statuses
 pub mod Models
+pub mod Named
 pub mod Reading
 pub mod Conversions
 pub mod Causes
-pub mod Fitting
 pub mod Outcome
 pub mod OneAnswer
 pub mod Finished

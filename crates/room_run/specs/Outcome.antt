@@ -12,7 +12,9 @@ use Rattle.std.specs.Prelude.{◌≡◌, ℕ, List, [], ◌∷◌, Bool, true, O
 use Rattle.room_outside.specs.Shown.{Shown}
 use Rattle.room_outside.specs.Written.{Written, Appends, BreaksOff}
 use Rattle.room_outside.specs.line_text.Lines.{line}
+use Rattle.journal.specs.Fits.{Fits}
 use Rattle.journal.specs.declared.entry.Journals.{Journals}
+use Rattle.inject_reader.specs.Fitting.{LinesFit}
 use Rattle.inject_reader.specs.declared.inject_lines.accepted.Line.{Line}
 use Rattle.controller_actors.specs.declared.plant.Plant.{Plant}
 use Rattle.model_run.specs.run_ends.Runs.{IsRun}
@@ -33,7 +35,9 @@ use Rattle.tied_journals.specs.Text.{tied_text_of}
 use Rattle.room_run.specs.Models.{IsSound, IsSoundText}
 use Rattle.room_run.specs.Conversions.{HasTiedJournals}
 use Rattle.room_run.specs.Causes.{Causes, AreOf, TextIs, status_of, note_of}
-use Rattle.room_run.specs.Fitting.{SettlesWhenTold, InPlaceWhenTold, FitWhenTold}
+use Rattle.room_run.specs.fitting_journals.Fitting.{JournalsInPlace}
+use Rattle.room_run.specs.fitting_plants.Plants.{PlantFits}
+use Rattle.room_run.specs.fitting_plants.Runs.{Settles}
 use Rattle.room_run.specs.declared.prepare.Answer.{Answer}
 use Rattle.room_run.specs.declared.prepare.Answer.TheVariants as answers
 use Rattle.room_run.specs.declared.refusal.Refusal.{Refusal}
@@ -49,31 +53,21 @@ abbrev pub IsByCharts : Shown → Files → Plant → List Line → ℕ → Jour
 IsByCharts shelf files plant lines fuel j =
     TextIs shelf files.model (λ text. (charts : List (Option Chart)) × IsSoundText text plant.wiring charts × IsRunByCharts plant.wiring charts lines fuel j)
 
--- where the run is done, all controllers agree in the world that its journals lead to: on who lives, on imports, on who is linked by name, and on peers
-abbrev pub AgreesWhenDone : (shelf : Shown) (files : Files) (plant : Plant) (lines : List Line) (fuel : ℕ) (j : Journals) → IsRun plant lines fuel j → Type 0
-AgreesWhenDone shelf files plant lines fuel j run =
-    TextIs shelf files.model (λ text. TextIs shelf files.injections (λ injected. j.done ≡ true → AllAgree plant.wiring run.world))
-
--- what the journals fetch fits: each message comes from a party, to the controller that fetches it, at one of the six priorities
-abbrev pub HasFetchesThatFit : Shown → Files → Plant → Journals → Type 0
-HasFetchesThatFit shelf files plant j = TextIs shelf files.model (λ text. TextIs shelf files.injections (λ injected. FetchesFit plant j))
-
--- the text of the journals tells them: no other run of the model over the injections has this text
-abbrev pub IsToldByText : Shown → Files → Plant → List Line → Journals → Type 0
-IsToldByText shelf files plant lines j = TextIs shelf files.model (λ text. TextIs shelf files.injections (λ injected. TextTells plant lines j))
-
--- Plant, lines and journals are those of a run of the model of two files over the injections of the other, with so much fuel: the texts are those of a model which runs as this plant, and of injections with these lines; and the journals, one for each controller and one for the environment, are those of a run of the plant over the lines (`IsRun`: each controller's journal is the replay of its own fetches, run to completion; merged by stamp they are one run of the world; what is taken in each lane is a prefix of what was sent, and all of it where the run is done). What a reader may rely on is said sentence by sentence (`RunPromises`), the run is one of the model's charts (`IsByCharts`), where it is done all controllers agree on who lives, on imports, links by name and peers (`AgreesWhenDone`), what it fetches fits (`HasFetchesThatFit`), and its text tells it (`IsToldByText`). What is so of every run of a plant that fits is so of it (`SettlesWhenTold`), and so is what is so of the journals of each: they are in place, the environment's fits the wiring, and what they tell of actors, places and signals is so of it (`InPlaceWhenTold`); so they fit the wiring (`FitWhenTold`). Each entry stands where it belongs (`AreInPlace`), and each fetch is that of the one post that it names (`Tied`).
+-- Plant, lines and journals are those of a run of the model of two files over the injections of the other, with so much fuel: the texts are those of a model which runs as this plant, and of injections with these lines; and the journals, one for each controller and one for the environment, are those of a run of the plant over the lines (`IsRun`: each controller's journal is the replay of its own fetches, run to completion; merged by stamp they are one run of the world; what is taken in each lane is a prefix of what was sent, and all of it where the run is done). Whatever the shelf tells, the plant is that of some model that keeps all rules and has no fault, and the lines name what its wiring has; so all below is said without a premise. What a reader may rely on is said sentence by sentence (`RunPromises`). The run is one of the charts of the plant's model, and of those of the model whose text the shelf tells (`IsByCharts`). Where it is done all controllers agree on who lives, on imports, links by name and peers (`AllAgree`); what it fetches fits (`FetchesFit`), and its text tells it (`TextTells`). What is so of every run of a plant that fits is so of it (`Settles`), and so is what is so of the journals of each: they are in place, the environment's fits the wiring, and what they tell of actors, places and signals is so of it (`JournalsInPlace`); so they fit the wiring (`Fits`). Each entry stands where it belongs (`AreInPlace`), and each fetch is that of the one post that it names (`Tied`).
 pub record IsRunOfFiles (shelf : Shown) (files : Files) (fuel : ℕ) (plant : Plant) (lines : List Line) (journals : Journals) : Type 0 where
   pub texts : AreOf shelf files plant lines
+  pub plant_fits : PlantFits plant
+  pub lines_fit : LinesFit plant.wiring lines
   pub run : IsRun plant lines fuel journals
   pub promises : RunPromises plant lines fuel journals
+  pub by_own_charts : IsRunByCharts plant.wiring plant_fits.charts lines fuel journals
   pub by_charts : IsByCharts shelf files plant lines fuel journals
-  pub agreed : AgreesWhenDone shelf files plant lines fuel journals run
-  pub fetches : HasFetchesThatFit shelf files plant journals
-  pub determined : IsToldByText shelf files plant lines journals
-  pub settled : SettlesWhenTold shelf files plant lines fuel journals run
-  pub wired : InPlaceWhenTold shelf files plant journals
-  pub fits : FitWhenTold shelf files plant journals
+  pub agreed : journals.done ≡ true → AllAgree plant.wiring run.world
+  pub fetches : FetchesFit plant journals
+  pub determined : TextTells plant lines journals
+  pub settled : Settles plant lines fuel journals run
+  pub wired : JournalsInPlace plant.wiring journals
+  pub fits : Fits plant.wiring journals
   pub in_place : AreInPlace plant.wiring journals
   pub tied : Tied journals
 

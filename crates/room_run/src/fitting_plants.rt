@@ -3,7 +3,6 @@
 //!
 //! No code: the laws.
 
-ghost use Rattle.room_run.specs.fitting_plants.Lines.{ReadLinesFit};
 ghost use Rattle.room_run.specs.fitting_plants.Plants.{PlantsFit};
 ghost use Rattle.room_run.specs.fitting_plants.Runs.{FittingRunsSettle};
 
@@ -13,11 +12,6 @@ ghost use Rattle.room_run.specs.fitting_plants.Runs.{FittingRunsSettle};
 /// that a message is deferred exactly where they defer it.
 pub fn plants_fit()
     ensures { PlantsFit }
-{}
-
-/// The lines that an injection text is read as name what the wiring has.
-pub fn read_lines_fit()
-    ensures { ReadLinesFit }
 {}
 
 /// Of every run of a plant that fits, over lines that name what its wiring has: each controller's journal tells

@@ -4,6 +4,8 @@ ghost use Rattle.room_run.specs.MadeShelf.{made_files, made_shelf};
 ghost use Rattle.room_run.specs.Models.{IsModel};
 ghost use Rattle.room_run.specs.Causes.{InjectedCauses, IsInjections, PlantCauses, RunCauses};
 ghost use Rattle.room_run.specs.Finished.{Summarizes};
+ghost use Rattle.room_run.specs.fitting_plants.Plants.{PlantFits};
+ghost use Rattle.inject_reader.specs.Fitting.{LinesFit};
 
 use crate::asked::USUAL_FUEL;
 use crate::judge::read_plant;
@@ -25,6 +27,7 @@ const MOST_BYTES: usize = 1_048_576;
 /// The plant of a text that stands in memory.
 fn made_plant(alloc: Global, text: &[u8]) -> Result<Plant, Refusal>
     ensures ok { IfOk result (λ plant. IsModel text.now plant) }
+    ensures fits { IfOk result (λ plant. PlantFits plant) }
     ensures err { IfErr result (λ why. PlantCauses text.now why) }
 {
     if text.len() > MOST_BYTES {
@@ -39,6 +42,7 @@ fn made_plant(alloc: Global, text: &[u8]) -> Result<Plant, Refusal>
 /// The lines of injections that stand in memory.
 fn made_lines(alloc: Global, text: &[u8], wiring: &Wiring) -> Result<Vec<Line>, Refusal>
     ensures ok { IfOk result (λ lines. IsInjections wiring.now text.now lines.items) }
+    ensures fit { IfOk result (λ lines. LinesFit wiring.now lines.items) }
     ensures err { IfErr result (λ why. InjectedCauses wiring.now text.now why) }
 {
     if text.len() > MOST_BYTES {

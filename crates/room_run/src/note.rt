@@ -1,31 +1,30 @@
 //! The lines that the program writes of its own.
-ghost use Rattle.std.specs.Prelude.{◌∷◌, [], codes, decimal, OnOk, OnErr};
+ghost use Rattle.std.specs.Prelude.{◌∷◌, [], codes, decimal, OnOk, IfErr};
 ghost use Rattle.room_outside.specs.line_text.Lines.{line};
 ghost use Rattle.room_outside.specs.line_text.Parts.{part_texts};
-ghost use Rattle.room_outside.specs.line_text.Output.{Puts, at_rest};
-ghost use Rattle.room_outside.specs.Written.{Appends, BreaksOff};
+ghost use Rattle.room_outside.specs.Written.{Appends, BreaksOffAfter, Writes};
 ghost use Rattle.room_run.specs.Causes.{note_of, note_of_fault};
 ghost use Rattle.room_run.specs.Outcome.{accepted};
 
 use crate::model_fault::ModelFault;
 use crate::refusal::Refusal;
-use room_outside::{LineBuffer, Part, Sink, WriteFault, write_line};
+use room_outside::{Part, Sink, WriteFault, write_only_line};
 
 /// Writes a line of a text.
 fn write_text<K: Sink>(notes: &mut K, text: &[u8]) -> Result<(), WriteFault>
-    ensures { Puts result (at_rest (K.written notes.old)) (at_rest (K.written notes.new))
+    ensures { Writes result (K.written notes.old) (K.written notes.new)
         (line (text.now ∷ [])) }
 {
-    write_line(&mut LineBuffer::new(), notes, &[Part::Text(text)])
+    write_only_line(notes, &[Part::Text(text)])
 }
 
 /// Writes a line of a text and a number.
 fn write_number<K: Sink>(notes: &mut K, text: &[u8], number: u64) -> Result<(), WriteFault>
-    ensures { Puts result (at_rest (K.written notes.old)) (at_rest (K.written notes.new))
+    ensures { Writes result (K.written notes.old) (K.written notes.new)
         (line (text.now ∷ decimal number ∷ [])) }
 {
     let parts = [Part::Text(text), Part::Number(number)];
-    write_line(&mut LineBuffer::new(), notes, &parts)
+    write_only_line(notes, &parts)
 }
 
 /// Writes a line of a text, the name of a class and a number.
@@ -35,7 +34,7 @@ fn write_class<'a, K: Sink>(
     class: &'a [u8],
     number: u64,
 ) -> Result<(), WriteFault>
-    ensures { Puts result (at_rest (K.written notes.old)) (at_rest (K.written notes.new)) (line (text.now ∷ class.now ∷ codes " " ∷ decimal number ∷ [])) }
+    ensures { Writes result (K.written notes.old) (K.written notes.new) (line (text.now ∷ class.now ∷ codes " " ∷ decimal number ∷ [])) }
 {
     let parts = [
         Part::Text(text),
@@ -43,7 +42,7 @@ fn write_class<'a, K: Sink>(
         Part::Text(b" "),
         Part::Number(number),
     ];
-    write_line(&mut LineBuffer::new(), notes, &parts)
+    write_only_line(notes, &parts)
 }
 
 /// Writes a line of a text and two numbers.
@@ -53,7 +52,7 @@ fn write_place<K: Sink>(
     first: u64,
     second: u64,
 ) -> Result<(), WriteFault>
-    ensures { Puts result (at_rest (K.written notes.old)) (at_rest (K.written notes.new)) (line (text.now ∷ decimal first ∷ codes " " ∷ decimal second ∷ [])) }
+    ensures { Writes result (K.written notes.old) (K.written notes.new) (line (text.now ∷ decimal first ∷ codes " " ∷ decimal second ∷ [])) }
 {
     let parts = [
         Part::Text(text),
@@ -61,11 +60,11 @@ fn write_place<K: Sink>(
         Part::Text(b" "),
         Part::Number(second),
     ];
-    write_line(&mut LineBuffer::new(), notes, &parts)
+    write_only_line(notes, &parts)
 }
 
 fn write_model_fault<K: Sink>(why: &ModelFault, notes: &mut K) -> Result<(), WriteFault>
-    ensures { Puts result (at_rest (K.written notes.old)) (at_rest (K.written notes.new))
+    ensures { Writes result (K.written notes.old) (K.written notes.new)
         (note_of_fault why.now) }
 {
     match why {
@@ -92,7 +91,7 @@ fn write_model_fault<K: Sink>(why: &ModelFault, notes: &mut K) -> Result<(), Wri
 }
 
 fn write_refusal<K: Sink>(why: &Refusal, notes: &mut K) -> Result<(), WriteFault>
-    ensures { Puts result (at_rest (K.written notes.old)) (at_rest (K.written notes.new))
+    ensures { Writes result (K.written notes.old) (K.written notes.new)
         (note_of why.now) }
 {
     match why {
@@ -126,8 +125,8 @@ fn write_refusal<K: Sink>(why: &Refusal, notes: &mut K) -> Result<(), WriteFault
 pub(crate) fn write_note<K: Sink>(why: &Refusal, notes: &mut K) -> Result<(), WriteFault>
     ensures ok { OnOk result (Appends (K.written notes.old) (K.written notes.new)
         (note_of why.now)) }
-    ensures fault { OnErr result (BreaksOff (K.written notes.old) (K.written notes.new)
-        (note_of why.now)) }
+    ensures fault { IfErr result (λ fault. BreaksOffAfter fault.taken
+        (K.written notes.old) (K.written notes.new) (note_of why.now)) }
 {
     write_refusal(why, notes)
 }
@@ -136,7 +135,8 @@ pub(crate) fn write_note<K: Sink>(why: &Refusal, notes: &mut K) -> Result<(), Wr
 /// in one piece. It takes no memory.
 pub(crate) fn write_ok<K: Sink>(out: &mut K) -> Result<(), WriteFault>
     ensures ok { OnOk result (Appends (K.written out.old) (K.written out.new) accepted) }
-    ensures fault { OnErr result (BreaksOff (K.written out.old) (K.written out.new) accepted) }
+    ensures fault { IfErr result (λ fault. BreaksOffAfter fault.taken
+        (K.written out.old) (K.written out.new) accepted) }
 {
     write_text(out, b"ok")
 }

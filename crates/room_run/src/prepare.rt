@@ -3,7 +3,7 @@ ghost use Rattle.std.specs.Prelude.{◌≡◌, ◌≤◌, ℕ, List, map, length
 ghost use Rattle.std.specs.String.{string_bytes};
 ghost use Rattle.room_outside.specs.Shown.{Keeps};
 ghost use Rattle.controller_actors.specs.declared.plant.Plant.{Plant as RunPlant};
-ghost use Rattle.inject_reader.specs.Fitting.{FitLines};
+ghost use Rattle.inject_reader.specs.Fitting.{LinesFit};
 ghost use Rattle.inject_reader.specs.declared.inject_lines.accepted.Line.{Line as InjectedLine};
 ghost use Rattle.room_run.specs.Words.{files_view};
 ghost use Rattle.room_run.specs.Models.{IsSound, IsModel};
@@ -11,13 +11,14 @@ ghost use Rattle.room_run.specs.Causes.{AreOf, Causes, InjectionsCauses, IsInjec
 ghost use Rattle.room_wiring.specs.WellNamed.{IsWellNamed};
 ghost use Rattle.room_run.specs.Outcome.{Answers, HasTied, answer_status, answer_text};
 ghost use Rattle.room_run.specs.Finished.{Finishes};
+ghost use Rattle.room_run.specs.fitting_plants.Plants.{PlantFits};
 
 use crate::asked::{Asked, Files, asked_by};
 use crate::convert::convert;
 use crate::fitting_journals::fitting_runs_journals;
 use crate::judge::{read_plant, sound_model};
 use crate::made::run_made;
-use crate::refusal::Refusal;
+use crate::refusal::{Refusal, told_code};
 use controller::Plant;
 use inject_reader::InjectFault;
 use inject_reader::inject_lines::Line;
@@ -96,6 +97,7 @@ pub(crate) fn read_wiring<S: Shelf>(
 fn read_model<S: Shelf>(alloc: Global, shelf: &mut S, name: &str) -> Result<Plant, Refusal>
     ensures ok { IfOk result (λ plant.
         TextIs (S.shown shelf.old) name.now (λ text. IsModel text plant)) }
+    ensures fits { IfOk result (λ plant. PlantFits plant) }
     ensures err { IfErr result (λ why.
         ModelCauses (S.shown shelf.old) (S.shown shelf.new) name.now why) }
     ensures keeps { Keeps (S.shown shelf.old) (S.shown shelf.new) }
@@ -115,7 +117,10 @@ fn refusal_of_lines(fault: InjectFault) -> Refusal
     ensures { result ≡ refusal_of_lines fault }
 {
     match fault {
-        InjectFault::Code { line, code } => Refusal::InjectionsLine { line, code },
+        InjectFault::Code { line, code } => Refusal::InjectionsLine {
+            line,
+            code: told_code(code),
+        },
         InjectFault::Memory => Refusal::Memory,
     }
 }
@@ -124,10 +129,10 @@ fn refusal_of_lines(fault: InjectFault) -> Refusal
 pub(crate) fn judge_lines(alloc: Global, text: &[u8], wiring: &Wiring) -> Result<Vec<Line>, Refusal>
     requires short { length text.now ≤ 1048576 }
     ensures ok { IfOk result (λ lines. IsInjections wiring.now text.now lines.items) }
-    ensures fit { IfOk result (λ lines. FitLines wiring.now lines.items) }
+    ensures fit { IfOk result (λ lines. LinesFit wiring.now lines.items) }
     ensures err { IfErr result (λ why. LinesCauses wiring.now text.now why) }
 {
-    match inject_reader::read_injections(alloc, text, wiring) {
+    match inject_reader::read_untimed(alloc, text, wiring) {
         Ok(lines) => Ok(lines),
         Err(fault) => Err(refusal_of_lines(fault)),
     }
@@ -142,7 +147,7 @@ fn read_injections<S: Shelf>(
 ) -> Result<Vec<Line>, Refusal>
     ensures ok { IfOk result (λ lines.
         TextIs (S.shown shelf.old) name.now (λ text. IsInjections wiring.now text lines.items)) }
-    ensures fit { IfOk result (λ lines. FitLines wiring.now lines.items) }
+    ensures fit { IfOk result (λ lines. LinesFit wiring.now lines.items) }
     ensures err { IfErr result (λ why.
         InjectionsCauses (S.shown shelf.old) (S.shown shelf.new) name.now wiring.now why) }
     ensures keeps { Keeps (S.shown shelf.old) (S.shown shelf.new) }
@@ -165,7 +170,10 @@ fn run<G: Gate + Sync, R: Threads + Sync>(
     fuel: u64,
     gate: &G,
 ) -> Result<Recorded, AllocError>
-    requires { FitLines plant.wiring lines.now }
+    requires least { 1 ≤ fuel }
+    requires most { fuel ≤ 100000 }
+    requires plant_fits { PlantFits plant }
+    requires lines_fit { LinesFit plant.wiring lines.now }
     ensures { IfOk result (λ f. Finishes plant lines.now fuel f) }
 {
     let journals = run_model::<MailLanes, G, R>(rt, alloc, &plant, lines, fuel, gate)?;
@@ -184,6 +192,8 @@ fn run_files<S: Shelf, G: Gate + Sync, R: Threads + Sync>(
     fuel: u64,
     gate: &G,
 ) -> Result<Recorded, Refusal>
+    requires least { 1 ≤ fuel }
+    requires most { fuel ≤ 100000 }
     ensures ok { IfOk result (λ f.
         (plant : RunPlant)
         × (lines : List InjectedLine)

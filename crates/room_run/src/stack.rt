@@ -1,7 +1,5 @@
 //! The stack of the thread on which the work is done.
-ghost use Rattle.std.specs.Prelude.{◌≡◌, ◌+◌, ◌*◌, ◌==◌, min, count_by, MatchOption};
-
-use room_outside::ReadText;
+ghost use Rattle.std.specs.Prelude.{◌≡◌, ◌+◌, ◌*◌, ◌==◌, min, count_by};
 
 /// The stack of a text without braces.
 const LEAST_STACK: usize = 8 << 20;
@@ -15,24 +13,12 @@ const FOR_A_BRACE: usize = 20 << 10;
 /// The braces that are counted. The greatest text nests 61,680 graphs, which open 123,360.
 const MOST_BRACES: usize = 131_072;
 
-/// How large a stack the work on a text takes at most. It is so many addresses: a page of it takes memory
-/// once it is used.
-fn stack_for(text: &[u8]) -> usize
+/// How large a stack the work on a model of this text takes at most; no text, no braces. It is so many
+/// addresses: a page of it takes memory once it is used.
+pub fn stack_of(text: &[u8]) -> usize
     ensures { result
         ≡ LEAST_STACK + min (count_by (λ b. b == 123) text.now) MOST_BRACES * FOR_A_BRACE }
 {
     let braces = text.iter().filter(|b| **b == b'{').count();
     LEAST_STACK + braces.min(MOST_BRACES) * FOR_A_BRACE
-}
-
-/// How large a stack the work on a model takes at most that was read before. The work reads this very
-/// text, so what it nests is known.
-pub fn stack_of(model: &Option<ReadText>) -> usize
-    ensures { MatchOption model.now (result ≡ LEAST_STACK) (λ m. result
-        ≡ LEAST_STACK + min (count_by (λ b. b == 123) m.text.items) MOST_BRACES * FOR_A_BRACE) }
-{
-    match model {
-        Some(model) => stack_for(&model.text),
-        None => LEAST_STACK,
-    }
 }

@@ -1,9 +1,9 @@
 //! Why a line of injections is refused, and what would be right there.
 use crate::texts::{Kind, read};
 use crate::why::tell_meaning;
-use inject_reader::{InjectFault, read_injections};
+use inject_reader::{InjectFault, read_untimed};
 use room_kinds::{ReferenceKind, SlotId};
-use room_run::Status;
+use room_run::{Status, told_code};
 use room_wiring::{ClassNames, SignalNames, Wiring};
 use std::alloc::{AllocError, Global};
 use view_faults::line_meaning;
@@ -213,6 +213,7 @@ fn tell_lines(
     let InjectFault::Code { line, code } = fault else {
         return Err(AllocError);
     };
+    let code = told_code(code);
     page.put(named.name.as_bytes())?;
     page.put(b" is refused: line ")?;
     page.put_number(u64::from(line))?;
@@ -243,7 +244,7 @@ pub(crate) fn injections_of(
         name,
         text: lines.as_slice(),
     };
-    match read_injections(rt.alloc(), named.text, wiring) {
+    match read_untimed(rt.alloc(), named.text, wiring) {
         Ok(_) => Ok(Ok(lines)),
         Err(fault) => {
             tell_lines(rt.alloc(), page, named, wiring, fault)?;

@@ -29,7 +29,7 @@ use crate::runs::{tell_end_of, tell_story_of};
 use crate::texts::read_model;
 use crate::why::tell_model;
 use crate::words::{Asked, FORMS, Question, question_of};
-use room_outside::{OutSink, ReadText, write_whole};
+use room_outside::{OutSink, TextFile, read_file, write_whole};
 use room_run::{Status, stack_of};
 use room_wiring::Wiring;
 use std::alloc::AllocError;
@@ -95,7 +95,7 @@ fn tell(
     rt: HostRuntime,
     page: &mut Page,
     question: Question<'_>,
-    model: Option<ReadText>,
+    model: Vec<TextFile>,
 ) -> Result<Status, AllocError> {
     let text = match read_model(rt, page, question.model, model)? {
         Ok(text) => text,
@@ -138,7 +138,7 @@ fn write_page(rt: HostRuntime, page: &Page, status: Status) -> Status {
 }
 
 /// Writes the page for words, of a model that may have been read before.
-fn work(rt: HostRuntime, words: &[String], model: Option<ReadText>) -> Status {
+fn work(rt: HostRuntime, words: &[String], model: Vec<TextFile>) -> Status {
     let mut notes = OutSink::errors(rt.stderr());
     let Some(question) = question_of(words) else {
         let _ = write_whole(&mut notes, FORMS);
@@ -157,8 +157,14 @@ fn main(rt: HostRuntime) -> ExitCode {
     let Ok(words) = words_of(&rt) else {
         return ExitCode::from(Status::Memory.number());
     };
-    let model = question_of(&words).and_then(|asked| ReadText::of_file(rt, asked.model));
-    let thread = Builder::new().stack_size(stack_of(&model));
+    let model = question_of(&words).and_then(|asked| read_file(rt, asked.model));
+    let stack = model
+        .as_ref()
+        .map_or(stack_of(&[]), |model| stack_of(&model.1));
+    let Ok(model) = model.into_iter().collect(rt.alloc()) else {
+        return ExitCode::from(Status::Memory.number());
+    };
+    let thread = Builder::new().stack_size(stack);
     let status = match thread.spawn(&rt, move || work(rt, &words, model)) {
         Ok(thread) => thread.join(&rt),
         Err(_) => Status::Memory,

@@ -2,7 +2,7 @@
 ghost use Rattle.std.specs.Prelude.{◌≤◌};
 
 use crate::why::tell_refused;
-use room_outside::{FileShelf, MAX_TEXT, ReadBefore, ReadRefused, ReadText, Shelf, read_limit};
+use room_outside::{FileShelf, MAX_TEXT, ReadBefore, ReadRefused, Shelf, TextFile, read_limit};
 use room_run::Status;
 use std::alloc::{AllocError, Global};
 use view_journals::view_pages::{Named, Page};
@@ -85,7 +85,7 @@ pub(crate) fn read_model(
     rt: HostRuntime,
     page: &mut Page,
     name: &str,
-    before: Option<ReadText>,
+    before: Vec<TextFile>,
 ) -> Result<Result<Vec<u8>, Status>, AllocError> {
     let mut shelf = ReadBefore::new(rt, before);
     read_from(rt.alloc(), &mut shelf, page, name, Kind::Model)

@@ -7,7 +7,7 @@ ghost use Rattle.room_outside.specs.line_text.Output.{Puts};
 
 use crate::paths::{Paths, Piece};
 use room_kinds::SharedSequence;
-use room_outside::{LineBuffer, Sink, WriteFault};
+use room_outside::{Failed, LineBuffer, Sink};
 use std::alloc::{AllocError, Global};
 use std::marker::Model;
 
@@ -68,7 +68,7 @@ impl Path {
 
     /// Adds the path to a line.
     #[inline(always)]
-    pub fn put<K: Sink>(&self, out: &mut LineBuffer, sink: &mut K) -> Result<(), WriteFault>
+    pub fn put<K: Sink>(&self, out: &mut LineBuffer, sink: &mut K) -> Result<(), Failed>
         ensures { Puts result
             (record { written = K.written sink.old; held = out.old })
             (record { written = K.written sink.new; held = out.new })
@@ -131,7 +131,7 @@ fn put_path<K: Sink>(
     number: usize,
     out: &mut LineBuffer,
     sink: &mut K,
-) -> Result<(), WriteFault>
+) -> Result<(), Failed>
     requires pieces { ArePieces [] pieces.now }
     requires there { number < length pieces.now }
     ensures { Puts result

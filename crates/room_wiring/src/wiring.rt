@@ -14,7 +14,7 @@ use crate::names::{ClassNames, PortNames};
 use crate::slot::{Partner, Slot};
 use crate::tables::{PlaceSpan, Tables};
 use room_kinds::{ControllerId, SlotId};
-use room_outside::{LineBuffer, Sink, WriteFault};
+use room_outside::{Failed, LineBuffer, Sink};
 use std::marker::Model;
 
 /// The slots, controllers and classes of a model by number, and what each place is joined to. A
@@ -78,7 +78,7 @@ impl Wiring {
         out: &mut LineBuffer,
         sink: &mut K,
         s: SlotId,
-    ) -> Result<(), WriteFault>
+    ) -> Result<(), Failed>
         ensures { Puts result
             (record { written = K.written sink.old; held = out.old })
             (record { written = K.written sink.new; held = out.new })

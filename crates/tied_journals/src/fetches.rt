@@ -9,7 +9,7 @@ ghost use Rattle.tied_journals.specs.Writing.{standing};
 use journal::entries::write_entry;
 use journal::{Entry, naming};
 use room_kinds::{Msg, Stamp};
-use room_outside::{LineBuffer, Part, Sink, WriteFault};
+use room_outside::{Failed, LineBuffer, Part, Sink};
 use room_wiring::Wiring;
 
 /// Whether an entry is a fetch.
@@ -31,9 +31,9 @@ fn begin_fetches<K: Sink>(
     wiring: &Wiring,
     stamp: Stamp,
     msg: &Msg,
-) -> Result<(), WriteFault>
+) -> Result<(), Failed>
     ensures { Puts result
-        (at_rest (K.written sink.old))
+        (at_rest (K.written sink.old) out.old)
         (record { written = K.written sink.new; held = out.new })
         (concat (fetch_parts wiring.now stamp.0 msg.now)) }
 {
@@ -49,7 +49,7 @@ fn put_further<K: Sink>(
     sink: &mut K,
     wiring: &Wiring,
     msg: &Msg,
-) -> Result<(), WriteFault>
+) -> Result<(), Failed>
     ensures { Puts result
         (record { written = K.written sink.old; held = out.old })
         (record { written = K.written sink.new; held = out.new })
@@ -71,7 +71,7 @@ fn put_fetch<K: Sink>(
     begun: bool,
     stamp: Stamp,
     msg: &Msg,
-) -> Result<(), WriteFault>
+) -> Result<(), Failed>
     ensures { Puts result
         (standing begun (K.written sink.old) out.old)
         (record { written = K.written sink.new; held = out.new })
@@ -85,10 +85,10 @@ fn put_fetch<K: Sink>(
 }
 
 /// Ends the line of fetches, if one stands open.
-fn end_fetches<K: Sink>(out: &mut LineBuffer, sink: &mut K, begun: bool) -> Result<(), WriteFault>
+fn end_fetches<K: Sink>(out: &mut LineBuffer, sink: &mut K, begun: bool) -> Result<(), Failed>
     ensures { Puts result
         (standing begun (K.written sink.old) out.old)
-        (at_rest (K.written sink.new))
+        (at_rest (K.written sink.new) out.new)
         (fetches_end begun) }
 {
     if begun { out.end_line(sink) } else { Ok(()) }
@@ -101,10 +101,10 @@ fn end_and_write<K: Sink>(
     wiring: &Wiring,
     begun: bool,
     entry: &Entry,
-) -> Result<(), WriteFault>
+) -> Result<(), Failed>
     ensures { Puts result
         (standing begun (K.written sink.old) out.old)
-        (at_rest (K.written sink.new))
+        (at_rest (K.written sink.new) out.new)
         (fetches_end begun ++ entry_text wiring.now entry.now) }
 {
     end_fetches(out, sink, begun)?;
@@ -117,7 +117,7 @@ fn write_tied_entry<K: Sink>(
     wiring: &Wiring,
     begun: bool,
     entry: &Entry,
-) -> Result<(), WriteFault>
+) -> Result<(), Failed>
     ensures { Puts result
         (standing begun (K.written sink.old) out.old)
         (standing (is_fetch entry.now) (K.written sink.new) out.new)
@@ -138,8 +138,9 @@ pub fn write_tied_journal<K: Sink>(
     sink: &mut K,
     wiring: &Wiring,
     entries: &[Entry],
-) -> Result<(), WriteFault>
-    ensures { Puts result (at_rest (K.written sink.old)) (at_rest (K.written sink.new))
+) -> Result<(), Failed>
+    ensures { Puts result
+        (at_rest (K.written sink.old) out.old) (at_rest (K.written sink.new) out.new)
         (tied_journal_text wiring.now entries.now) }
 {
     let mut begun = false;

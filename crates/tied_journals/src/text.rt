@@ -1,6 +1,6 @@
 //! The text of journals in form 2.
-ghost use Rattle.std.specs.Prelude.{◌≡◌, ◌++◌, OnOk, OnErr};
-ghost use Rattle.room_outside.specs.Written.{Appends, BreaksOff};
+ghost use Rattle.std.specs.Prelude.{◌≡◌, ◌++◌, OnOk, IfErr};
+ghost use Rattle.room_outside.specs.Written.{Appends, BreaksOffAfter};
 ghost use Rattle.room_outside.specs.line_text.Output.{Puts, at_rest};
 ghost use Rattle.journal.specs.Text.{journal_text, left_text, unposted_text, end_line};
 ghost use Rattle.tied_journals.specs.Tied.{Tied};
@@ -9,7 +9,7 @@ ghost use Rattle.tied_journals.specs.Text.{tied_controller_text, tied_controller
 use crate::fetches::write_tied_journal;
 use journal::entries::{write_end, write_journal, write_left, write_title, write_unposted};
 use journal::{Journal, Journals};
-use room_outside::{LineBuffer, Part, Sink, WriteFault, write_line};
+use room_outside::{Failed, LineBuffer, Part, Sink, WriteFault, write_line};
 use room_wiring::Wiring;
 
 /// Writes a controller's journal under its line.
@@ -20,8 +20,9 @@ fn write_controller<K: Sink>(
     wiring: &Wiring,
     c: usize,
     journal: &Journal,
-) -> Result<(), WriteFault>
-    ensures { Puts result (at_rest (K.written sink.old)) (at_rest (K.written sink.new))
+) -> Result<(), Failed>
+    ensures { Puts result
+        (at_rest (K.written sink.old) out.old) (at_rest (K.written sink.new) out.new)
         (tied_controller_text wiring.now c journal.now) }
 {
     write_title(out, sink, wiring, c)?;
@@ -33,8 +34,9 @@ fn write_controllers<K: Sink>(
     sink: &mut K,
     wiring: &Wiring,
     journals: &[Journal],
-) -> Result<(), WriteFault>
-    ensures { Puts result (at_rest (K.written sink.old)) (at_rest (K.written sink.new))
+) -> Result<(), Failed>
+    ensures { Puts result
+        (at_rest (K.written sink.old) out.old) (at_rest (K.written sink.new) out.new)
         (tied_controllers_text wiring.now 0 journals.now) }
 {
     for (c, journal) in journals.iter().enumerate() {
@@ -50,8 +52,9 @@ fn write_below<K: Sink>(
     sink: &mut K,
     wiring: &Wiring,
     journals: &Journals,
-) -> Result<(), WriteFault>
-    ensures { Puts result (at_rest (K.written sink.old)) (at_rest (K.written sink.new))
+) -> Result<(), Failed>
+    ensures { Puts result
+        (at_rest (K.written sink.old) out.old) (at_rest (K.written sink.new) out.new)
         (below_text wiring.now journals.now) }
 {
     write_left(out, sink, wiring, journals.left.as_slice())?;
@@ -66,8 +69,9 @@ fn write_rest<K: Sink>(
     sink: &mut K,
     wiring: &Wiring,
     journals: &Journals,
-) -> Result<(), WriteFault>
-    ensures { Puts result (at_rest (K.written sink.old)) (at_rest (K.written sink.new))
+) -> Result<(), Failed>
+    ensures { Puts result
+        (at_rest (K.written sink.old) out.old) (at_rest (K.written sink.new) out.new)
         (rest_text wiring.now journals.now) }
 {
     write_line(out, sink, &[Part::Text(b"environment")])?;
@@ -82,8 +86,9 @@ fn write_text<K: Sink>(
     sink: &mut K,
     wiring: &Wiring,
     journals: &Journals,
-) -> Result<(), WriteFault>
-    ensures { Puts result (at_rest (K.written sink.old)) (at_rest (K.written sink.new))
+) -> Result<(), Failed>
+    ensures { Puts result
+        (at_rest (K.written sink.old) out.old) (at_rest (K.written sink.new) out.new)
         (tied_text_of wiring.now journals.now) }
 {
     write_line(out, sink, &[Part::Text(b"room-journal 2")])?;
@@ -100,18 +105,22 @@ pub fn lines_to<K: Sink>(
 ) -> Result<(), WriteFault>
     ensures ok { OnOk result (Appends (K.written sink.old) (K.written sink.new)
         (tied_text_of wiring.now journals.now)) }
-    ensures fault { OnErr result (BreaksOff (K.written sink.old) (K.written sink.new)
-        (tied_text_of wiring.now journals.now)) }
+    ensures fault { IfErr result (λ fault. BreaksOffAfter fault.taken
+        (K.written sink.old) (K.written sink.new) (tied_text_of wiring.now journals.now)) }
 {
     let mut out = LineBuffer::new();
-    write_text(&mut out, sink, wiring, journals)
+    match write_text(&mut out, sink, wiring, journals) {
+        Ok(()) => Ok(()),
+        Err(Failed) => Err(out.fault()),
+    }
 }
 
 /// Appends the text of tied journals in form 2: each line in one piece, and a line of more than
 /// 4,096 bytes in pieces of 4,096 bytes and then its rest. It takes no memory.
 ///
-/// At a fault a front of the text was appended. A name that the wiring doesn't have is written as
-/// nothing, and such a state as `-`; of journals that fit the wiring (`Fits`) it has them all.
+/// At a fault a front of the text was appended, and the fault tells its length. A name that the
+/// wiring doesn't have is written as nothing, and such a state as `-`; of journals that fit the
+/// wiring (`Fits`) it has them all.
 pub fn text_to<K: Sink>(
     journals: &Journals,
     wiring: &Wiring,
@@ -120,8 +129,8 @@ pub fn text_to<K: Sink>(
     requires { Tied journals.now }
     ensures ok { OnOk result (Appends (K.written sink.old) (K.written sink.new)
         (tied_text_of wiring.now journals.now)) }
-    ensures fault { OnErr result (BreaksOff (K.written sink.old) (K.written sink.new)
-        (tied_text_of wiring.now journals.now)) }
+    ensures fault { IfErr result (λ fault. BreaksOffAfter fault.taken
+        (K.written sink.old) (K.written sink.new) (tied_text_of wiring.now journals.now)) }
 {
     lines_to(journals, wiring, sink)
 }

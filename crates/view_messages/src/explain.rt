@@ -1,7 +1,7 @@
 //! The way of one message through a run.
 use crate::chain::Chain;
-use crate::injected::posted_line;
-use crate::posted::{entries_of, place_of_post, posted_at, posts_before, turn_before};
+use crate::injected::{Line, posted_line};
+use crate::posted::{entries_of, is_of_a_line, lines_before, place_of_post, posted_at, turn_before};
 use crate::replayed::{Replayed, tell_attributes};
 use crate::takers::tell_takers;
 use crate::transitions::Incoming;
@@ -63,10 +63,18 @@ impl<'a> Explained<'a> {
         page.put_line(self.class_name(msg.target.slot))
     }
 
-    /// The line of the injections from which the environment posted its message at a place.
-    fn tell_line(&self, page: &mut Page, place: usize) -> Result<(), AllocError> {
-        let before = posts_before(self.journals.environment.as_slice(), place);
-        let Some(line) = posted_line(self.injections.text, before) else {
+    /// The line of the injections that made the message which the environment posted at a place.
+    fn line_of(&self, msg: &Msg, place: usize) -> Option<Line<'a>> {
+        if !is_of_a_line(self.wiring, msg) {
+            return None;
+        }
+        let before = lines_before(self.wiring, self.journals.environment.as_slice(), place);
+        posted_line(self.injections.text, before)
+    }
+
+    /// The line of the injections from which the environment posted a message, at a place of its journal.
+    fn tell_line(&self, page: &mut Page, msg: &Msg, place: usize) -> Result<(), AllocError> {
+        let Some(line) = self.line_of(msg, place) else {
             return page.put_line(b"    the injections have no line for it");
         };
         page.put(b"    line ")?;
@@ -111,7 +119,7 @@ impl<'a> Explained<'a> {
         page.put(b" by ")?;
         let Some(source) = msg.source else {
             page.put_line(b"environment")?;
-            return self.tell_line(page, place);
+            return self.tell_line(page, msg, place);
         };
         put_end(page, self.wiring, source)?;
         page.put(b" on ")?;

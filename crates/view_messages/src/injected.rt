@@ -11,28 +11,24 @@ fn is_blank(byte: u8) -> bool {
     byte == b' ' || byte == b'\t'
 }
 
-/// A line without the blanks at its ends.
-fn trimmed(line: &[u8]) -> &[u8] {
-    let start = line
-        .iter()
-        .position(|byte| !is_blank(*byte))
-        .unwrap_or(line.len());
-    let end = match line.iter().rposition(|byte| !is_blank(*byte)) {
-        Some(last) => last.saturating_add(1),
-        None => start,
-    };
-    line.get(start..end).unwrap_or(&[])
+/// The first word of a line.
+fn first_word(line: &[u8]) -> &[u8] {
+    line.split(|byte| is_blank(*byte))
+        .find(|word| !word.is_empty())
+        .unwrap_or(&[])
 }
 
-/// Whether a line divides parts.
-fn is_settle(line: &[u8]) -> bool {
+/// Whether a line divides parts, as `settle` and `advance <time>` do. No target of a message has such a name.
+fn divides_parts(line: &[u8]) -> bool {
     let settle: &[u8] = b"settle";
-    trimmed(line) == settle
+    let advance: &[u8] = b"advance";
+    let word = first_word(line);
+    word == settle || word == advance
 }
 
 /// Whether a line is posted: it isn't empty, no comment, and divides no parts.
 fn is_posted(line: &[u8]) -> bool {
-    !line.is_empty() && !line.starts_with(b"#") && !is_settle(line)
+    !line.is_empty() && !line.starts_with(b"#") && !divides_parts(line)
 }
 
 /// The line that is posted behind so many others.

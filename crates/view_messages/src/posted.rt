@@ -1,6 +1,6 @@
 //! Where messages were posted.
 use journal::{Entry, Journals};
-use room_kinds::{ControllerId, Msg};
+use room_kinds::{ControllerId, Msg, PortKind};
 use room_wiring::Wiring;
 
 fn is_post_at(entry: &Entry, stamp: u64) -> bool {
@@ -43,12 +43,27 @@ pub fn turn_before(entries: &[Entry], place: usize) -> Option<usize> {
         .rposition(|entry| matches!(entry, Entry::Turn { .. }))
 }
 
-/// How many messages are posted before a place.
-pub fn posts_before(entries: &[Entry], place: usize) -> usize {
+/// Whether a line of injections can make a message: none goes to a service access point.
+pub fn is_of_a_line(wiring: &Wiring, msg: &Msg) -> bool {
+    match wiring.port_of(msg.target.slot, msg.target.port) {
+        Some(port) => port.kind != PortKind::Sap,
+        None => true,
+    }
+}
+
+fn posts_of_a_line(wiring: &Wiring, entry: &Entry) -> bool {
+    match entry {
+        Entry::Post { msg, .. } => is_of_a_line(wiring, msg),
+        Entry::Start { .. } | Entry::Fetch { .. } | Entry::Turn { .. } => false,
+    }
+}
+
+/// How many messages that lines of injections can make are posted before a place.
+pub fn lines_before(wiring: &Wiring, entries: &[Entry], place: usize) -> usize {
     entries
         .get(..place)
         .unwrap_or(&[])
         .iter()
-        .filter(|entry| matches!(entry, Entry::Post { .. }))
+        .filter(|entry| posts_of_a_line(wiring, entry))
         .count()
 }

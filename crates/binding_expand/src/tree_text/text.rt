@@ -1,6 +1,6 @@
 //! The text, line by line.
-ghost use Rattle.std.specs.Prelude.{◌≡◌, ◌∷◌, ◌<◌, ◌≤◌, length, OnOk, OnErr};
-ghost use Rattle.room_outside.specs.Written.{Appends, BreaksOff};
+ghost use Rattle.std.specs.Prelude.{◌≡◌, ◌∷◌, ◌<◌, ◌≤◌, length, OnOk, IfErr};
+ghost use Rattle.room_outside.specs.Written.{Appends, BreaksOffAfter};
 ghost use Rattle.room_outside.specs.line_text.Output.{Puts, at_rest};
 ghost use Rattle.room_wiring.specs.Places.{port_count, place_count};
 ghost use Rattle.std.specs.List.{concat};
@@ -10,7 +10,7 @@ ghost use Rattle.binding_expand.specs.tree_text.Text.{slot_parts, path_and_class
 use crate::tree_text::names::{class_name, kind_word};
 use crate::tree_text::place::{Place, Tie};
 use room_kinds::SlotId;
-use room_outside::{LineBuffer, Part, Sink, WriteFault};
+use room_outside::{Failed, LineBuffer, Part, Sink, WriteFault};
 use room_wiring::{Partner, Slot, Wiring};
 
 /// Adds the number, the owner and the kind of a slot.
@@ -19,7 +19,7 @@ fn put_slot<K: Sink>(
     sink: &mut K,
     s: SlotId,
     slot: &Slot,
-) -> Result<(), WriteFault>
+) -> Result<(), Failed>
     ensures { Puts result
         (record { written = K.written sink.old; held = out.old })
         (record { written = K.written sink.new; held = out.new })
@@ -45,7 +45,7 @@ fn put_path_and_class<K: Sink>(
     sink: &mut K,
     wiring: &Wiring,
     slot: &Slot,
-) -> Result<(), WriteFault>
+) -> Result<(), Failed>
     requires { slot.now.class < length wiring.now.classes }
     ensures { Puts result
         (record { written = K.written sink.old; held = out.old })
@@ -63,9 +63,10 @@ fn write_slot<K: Sink>(
     sink: &mut K,
     wiring: &Wiring,
     s: SlotId,
-) -> Result<(), WriteFault>
+) -> Result<(), Failed>
     requires { s.0 < length wiring.now.slots }
-    ensures { Puts result (at_rest (K.written sink.old)) (at_rest (K.written sink.new))
+    ensures { Puts result
+        (at_rest (K.written sink.old) out.old) (at_rest (K.written sink.new) out.new)
         (slot_text wiring.now s.0) }
 {
     let slot = wiring.slot(s);
@@ -76,12 +77,9 @@ fn write_slot<K: Sink>(
 }
 
 #[tactic(auto, unfolding(crate::specs::tree_text::Text::slots_text))]
-fn write_slots<K: Sink>(
-    out: &mut LineBuffer,
-    sink: &mut K,
-    wiring: &Wiring,
-) -> Result<(), WriteFault>
-    ensures { Puts result (at_rest (K.written sink.old)) (at_rest (K.written sink.new))
+fn write_slots<K: Sink>(out: &mut LineBuffer, sink: &mut K, wiring: &Wiring) -> Result<(), Failed>
+    ensures { Puts result
+        (at_rest (K.written sink.old) out.old) (at_rest (K.written sink.new) out.new)
         (slots_text wiring.now) }
 {
     for s in 0..wiring.slot_count() {
@@ -111,7 +109,7 @@ fn put_port<K: Sink>(
     sink: &mut K,
     wiring: &Wiring,
     place: Place,
-) -> Result<(), WriteFault>
+) -> Result<(), Failed>
     ensures { Puts result
         (record { written = K.written sink.old; held = out.old })
         (record { written = K.written sink.new; held = out.new })
@@ -133,7 +131,7 @@ fn put_place<K: Sink>(
     sink: &mut K,
     wiring: &Wiring,
     place: Place,
-) -> Result<(), WriteFault>
+) -> Result<(), Failed>
     ensures { Puts result
         (record { written = K.written sink.old; held = out.old })
         (record { written = K.written sink.new; held = out.new })
@@ -150,7 +148,7 @@ fn put_at<K: Sink>(
     wiring: &Wiring,
     word: &[u8],
     place: Place,
-) -> Result<(), WriteFault>
+) -> Result<(), Failed>
     ensures { Puts result
         (record { written = K.written sink.old; held = out.old })
         (record { written = K.written sink.new; held = out.new })
@@ -167,8 +165,9 @@ fn write_tie<K: Sink>(
     word: &[u8],
     a: Place,
     b: Place,
-) -> Result<(), WriteFault>
-    ensures { Puts result (at_rest (K.written sink.old)) (at_rest (K.written sink.new))
+) -> Result<(), Failed>
+    ensures { Puts result
+        (at_rest (K.written sink.old) out.old) (at_rest (K.written sink.new) out.new)
         (tie_line wiring.now word.now a b) }
 {
     out.clear();
@@ -184,8 +183,9 @@ fn write_join<K: Sink>(
     wiring: &Wiring,
     a: Place,
     partner: Partner,
-) -> Result<(), WriteFault>
-    ensures { Puts result (at_rest (K.written sink.old)) (at_rest (K.written sink.new))
+) -> Result<(), Failed>
+    ensures { Puts result
+        (at_rest (K.written sink.old) out.old) (at_rest (K.written sink.new) out.new)
         (join_text wiring.now a partner) }
 {
     match partner {
@@ -209,8 +209,9 @@ fn write_socket<K: Sink>(
     wiring: &Wiring,
     a: Place,
     partner: Partner,
-) -> Result<(), WriteFault>
-    ensures { Puts result (at_rest (K.written sink.old)) (at_rest (K.written sink.new))
+) -> Result<(), Failed>
+    ensures { Puts result
+        (at_rest (K.written sink.old) out.old) (at_rest (K.written sink.new) out.new)
         (socket_text wiring.now a partner) }
 {
     match partner {
@@ -245,8 +246,9 @@ fn write_partner<K: Sink>(
     tie: Tie,
     a: Place,
     partner: Partner,
-) -> Result<(), WriteFault>
-    ensures { Puts result (at_rest (K.written sink.old)) (at_rest (K.written sink.new))
+) -> Result<(), Failed>
+    ensures { Puts result
+        (at_rest (K.written sink.old) out.old) (at_rest (K.written sink.new) out.new)
         (tie_text wiring.now tie a partner) }
 {
     match tie {
@@ -271,11 +273,12 @@ fn write_place<K: Sink>(
     wiring: &Wiring,
     tie: Tie,
     a: Place,
-) -> Result<(), WriteFault>
+) -> Result<(), Failed>
     requires slot { a.slot.0 < length wiring.now.slots }
     requires port { a.port < port_count wiring.now a.slot.0 }
     requires place { a.place < place_count wiring.now a.slot.0 a.port }
-    ensures { Puts result (at_rest (K.written sink.old)) (at_rest (K.written sink.new))
+    ensures { Puts result
+        (at_rest (K.written sink.old) out.old) (at_rest (K.written sink.new) out.new)
         (place_text wiring.now tie a.slot.0 a.port a.place) }
 {
     let partner = wiring.partner(a.slot, a.port, a.place);
@@ -290,10 +293,11 @@ fn write_port<K: Sink>(
     tie: Tie,
     slot: SlotId,
     port: u16,
-) -> Result<(), WriteFault>
+) -> Result<(), Failed>
     requires slot { slot.0 < length wiring.now.slots }
     requires port { port < port_count wiring.now slot.0 }
-    ensures { Puts result (at_rest (K.written sink.old)) (at_rest (K.written sink.new))
+    ensures { Puts result
+        (at_rest (K.written sink.old) out.old) (at_rest (K.written sink.new) out.new)
         (port_ties wiring.now tie slot.0 port) }
 {
     for place in 0..wiring.places(slot, port) {
@@ -319,9 +323,10 @@ fn write_ports<K: Sink>(
     wiring: &Wiring,
     tie: Tie,
     s: SlotId,
-) -> Result<(), WriteFault>
+) -> Result<(), Failed>
     requires { s.0 < length wiring.now.slots }
-    ensures { Puts result (at_rest (K.written sink.old)) (at_rest (K.written sink.new))
+    ensures { Puts result
+        (at_rest (K.written sink.old) out.old) (at_rest (K.written sink.new) out.new)
         (ports_ties wiring.now tie s.0) }
 {
     for port in 0..ports_told(wiring, s) {
@@ -337,9 +342,10 @@ fn write_slot_ties<K: Sink>(
     wiring: &Wiring,
     tie: Tie,
     s: SlotId,
-) -> Result<(), WriteFault>
+) -> Result<(), Failed>
     requires { s.0 < length wiring.now.slots }
-    ensures { Puts result (at_rest (K.written sink.old)) (at_rest (K.written sink.new))
+    ensures { Puts result
+        (at_rest (K.written sink.old) out.old) (at_rest (K.written sink.new) out.new)
         (slot_ties wiring.now tie s.0) }
 {
     if has_ties(tie, is_socket(wiring, s)) {
@@ -355,8 +361,9 @@ fn write_ties<K: Sink>(
     sink: &mut K,
     wiring: &Wiring,
     tie: Tie,
-) -> Result<(), WriteFault>
-    ensures { Puts result (at_rest (K.written sink.old)) (at_rest (K.written sink.new))
+) -> Result<(), Failed>
+    ensures { Puts result
+        (at_rest (K.written sink.old) out.old) (at_rest (K.written sink.new) out.new)
         (ties_text wiring.now tie) }
 {
     for s in 0..wiring.slot_count() {
@@ -366,12 +373,9 @@ fn write_ties<K: Sink>(
 }
 
 #[tactic(auto, unfolding(crate::specs::tree_text::Text::tree_text))]
-fn write_tree<K: Sink>(
-    out: &mut LineBuffer,
-    sink: &mut K,
-    wiring: &Wiring,
-) -> Result<(), WriteFault>
-    ensures { Puts result (at_rest (K.written sink.old)) (at_rest (K.written sink.new))
+fn write_tree<K: Sink>(out: &mut LineBuffer, sink: &mut K, wiring: &Wiring) -> Result<(), Failed>
+    ensures { Puts result
+        (at_rest (K.written sink.old) out.old) (at_rest (K.written sink.new) out.new)
         (tree_text wiring.now) }
 {
     write_slots(out, sink, wiring)?;
@@ -383,14 +387,17 @@ fn write_tree<K: Sink>(
 /// those of its sockets. Each line is one piece; a line of more than 4,096 bytes is written in
 /// pieces of 4,096 bytes and then its rest. It takes no memory.
 ///
-/// At a fault a front of the text was appended. Time is in proportion to the slots, ports and
-/// places.
+/// At a fault a front of the text was appended, and the fault tells its length. Time is in
+/// proportion to the slots, ports and places.
 pub fn expand_text<K: Sink>(wiring: &Wiring, sink: &mut K) -> Result<(), WriteFault>
     ensures ok { OnOk result (Appends (K.written sink.old) (K.written sink.new)
         (tree_text wiring.now)) }
-    ensures fault { OnErr result (BreaksOff (K.written sink.old) (K.written sink.new)
-        (tree_text wiring.now)) }
+    ensures fault { IfErr result (λ fault. BreaksOffAfter fault.taken
+        (K.written sink.old) (K.written sink.new) (tree_text wiring.now)) }
 {
     let mut out = LineBuffer::new();
-    write_tree(&mut out, sink, wiring)
+    match write_tree(&mut out, sink, wiring) {
+        Ok(()) => Ok(()),
+        Err(Failed) => Err(out.fault()),
+    }
 }

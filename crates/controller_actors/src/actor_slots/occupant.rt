@@ -1,6 +1,8 @@
 //! What stands in a slot.
-ghost use Rattle.std.specs.Prelude.{◌≡◌, [], IfOk, MatchOption};
+ghost use Rattle.std.specs.Prelude.{◌≡◌, [], option_map, IfOk, MatchOption};
 ghost use Rattle.std.specs.Option.{option_copied};
+ghost use Rattle.chart_behaviour.specs.ModelCharts.{state_number};
+ghost use Rattle.controller_actors.specs.Seen.{attributes_of};
 ghost use Rattle.controller_actors.specs.actor_slots.Occupants.{AreSound, HasTables, MachineFits, MachineReacts, Reacts, Begins, actor_in};
 
 use action_program::Effects;
@@ -81,6 +83,29 @@ fn react_by(
 }
 
 impl Occupant {
+    /// The number of the actor's state; none where nobody stands there. It takes no memory.
+    pub(crate) fn state(&self) -> Option<u16>
+        ensures { result ≡ option_map state_number (actor_in self.now) }
+    {
+        match self {
+            Occupant::Nobody => None,
+            Occupant::Chartless => Some(NO_STATE),
+            Occupant::Charted(machine) => Some(machine.state()),
+        }
+    }
+
+    /// The numbers of the actor's attributes, in order of declaration; none at all where nobody stands there.
+    /// It takes no memory.
+    pub(crate) fn attributes(&self) -> Option<&[i64]>
+        ensures { option_copied result ≡ option_map attributes_of (actor_in self.now) }
+    {
+        match self {
+            Occupant::Nobody => None,
+            Occupant::Chartless => Some(&[]),
+            Occupant::Charted(machine) => Some(machine.attributes()),
+        }
+    }
+
     /// The actor handles a message by the tables of its class, where there is an actor. After want of
     /// memory its machine gives no other answer.
     #[tactic(auto, using(crate::proofs::actor_slots::Occupying::chartless_reacts, crate::proofs::actor_slots::Occupying::charted_reacts))]

@@ -1,5 +1,5 @@
 //! The messages that an actor keeps.
-ghost use Rattle.std.specs.Prelude.{◌≡◌, ◌∷◌, ◌++◌, [], length, OnOk, MatchOption};
+ghost use Rattle.std.specs.Prelude.{◌≡◌, ◌∷◌, ◌++◌, [], length, slice_get, option_copied, OnOk, MatchOption};
 ghost use Rattle.actor_duties.specs.Commands.{defer, recall, recall_all};
 ghost use Rattle.controller_commands.specs.deferred_messages.Steps.{Applies};
 
@@ -42,6 +42,13 @@ impl DeferredMessages {
         ensures { result ≡ length self.now }
     {
         self.messages.len()
+    }
+
+    /// One of the messages that are kept, by how many are older. It takes no memory.
+    pub fn get(&self, i: usize) -> Option<&Msg>
+        ensures { option_copied result ≡ slice_get self.now i }
+    {
+        self.messages.get(i)
     }
 
     fn keep(&mut self, m: Msg) -> Result<(), AllocError>

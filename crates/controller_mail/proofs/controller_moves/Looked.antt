@@ -58,7 +58,7 @@ pub Took-missed : (log : EndLog) (b : ℕ) → Took log (taking log b None) []
 unfolding taking
 Took-missed log b = record { party = refl; parties = refl; posted = refl; taken = λ s p. sym (append-nil (log.taken s p)) }
 
-Took-looks : (log : EndLog) (b : ℕ) (ms : List Msg) → Took log (taking_all log b ms) ms
+pub Took-looks : (log : EndLog) (b : ℕ) (ms : List Msg) → Took log (taking_all log b ms) ms
 Took-looks log b [] = Took-none log
 Took-looks log b (m ∷ ms) = Took-join log (taking log b (Some m)) (taking_all (taking log b (Some m)) b ms) (m ∷ []) ms (Took-look log b m) (Took-looks (taking log b (Some m)) b ms)
 

@@ -6,7 +6,7 @@ use Rattle.std.specs.Prelude.{◌≡◌, ℕ, ◌<◌, ◌≤◌, ◌==◌, ◌�
 use Rattle.std.specs.List.{count_by}
 use Rattle.room_kinds.specs.declared.message.Msg.{Msg}
 use Rattle.mail_core.specs.EndLog.{EndLog, posting_all}
-use Rattle.mail_core.specs.Takes.{PollsBoxes}
+use Rattle.mail_core.specs.Takes.{PollsBox, PollsBoxes}
 use Rattle.controller_mail.specs.MailState.{MailState}
 use Rattle.controller_mail.specs.Within.{AreWithin}
 use Rattle.controller_mail.specs.Steps.{Fetches, Posts}
@@ -28,6 +28,12 @@ pub record PostsFrom (c controllers : ℕ) (old new : MailState) (log log' : End
   pub posts : PostsEach c old messages new
   pub logged : log' ≡ posting_all log messages
   pub within : AreWithin controllers messages
+
+-- a poll of one box, whose messages were fetched, one after another
+pub record PollsBoxInto (in_box : ℕ → ℕ → ℕ → ℕ → Type 0) (b : ℕ) (old new : MailState) (log log' : EndLog) : Type 0 where
+  pub gave : List Msg
+  pub fetches : FetchesEach old gave new
+  pub looks : PollsBox in_box b log log' gave
 
 -- how many of these messages are of a priority
 abbrev pub count_at : ℕ → List Msg → ℕ

@@ -1,29 +1,51 @@
 //! Graphs that get refinements, in their place: what no refinement leads to is neither copied nor moved.
-ghost use Rattle.std.specs.Prelude.{◌≡◌, IfOk, OnOk};
-ghost use Rattle.room_ast.specs.ChartTree.{AState, body_view, body_if_view, item_view, state_view, graph_view};
-ghost use Rattle.derived_classes.specs.Refining.{GivesTheSame, refined, refined_item, refined_state, refined_body, refined_subgraph, widened, with_state, own_change};
-ghost use Rattle.derived_classes.specs.Views.{IsGrouped, refining_views};
+ghost use Rattle.std.specs.Prelude.{◌≡◌, List, IfOk, OnOk};
+ghost use Rattle.std.specs.List.{cons_option};
+ghost use Rattle.room_ast.specs.ChartTree.{AState, ChangeTree, body_view, body_if_view, item_view, state_view, graph_view};
+ghost use Rattle.derived_classes.specs.Refining.{GivesTheSame, all_widened, change_of_state, own_changes, refined, refined_item, refined_state, refined_body, refined_subgraph, with_state};
+ghost use Rattle.derived_classes.specs.Views.{IsGrouped, refining_view, refining_views};
 
 use crate::refining::grouped::Grouped;
-use crate::refining::paths::{Pending, meant_for, own_change};
+use crate::refining::paths::{Pending, change_of_state, meant_for};
 use crate::refining::widening::{refine_transition, widened};
 use name_tables::Numbers;
 use room_ast::{GraphItem, State, StateBody};
 use std::alloc::{AllocError, Global};
 
+/// A state's body with what a refinement adds, if that is of the state itself.
+fn with_change<'a>(
+    alloc: Global,
+    body: Option<Box<StateBody>>,
+    one: &Pending<'a>,
+) -> Result<Option<Box<StateBody>>, AllocError>
+    ensures { IfOk result (λ b. (others : List ChangeTree)
+        → all_widened others (body_if_view b)
+        ≡ all_widened
+        (cons_option (change_of_state (refining_view one.now).path (refining_view one.now).change)
+        others)
+        (body_if_view body)) }
+{
+    match change_of_state(one) {
+        Some(change) => widened(alloc, body, change),
+        None => Ok(body),
+    }
+}
+
 /// What is added to a state itself, once its own graph has its refinements.
-fn with_own_change<'a>(
+fn with_own_changes<'a>(
     alloc: Global,
     body: Option<Box<StateBody>>,
     pending: &[Pending<'a>],
 ) -> Result<Option<Box<StateBody>>, AllocError>
     ensures { IfOk result (λ b.
-        body_if_view b ≡ widened (own_change (refining_views pending.now)) (body_if_view body)) }
+        body_if_view b
+        ≡ all_widened (own_changes (refining_views pending.now)) (body_if_view body)) }
 {
-    match own_change(pending) {
-        Some(change) => widened(alloc, body, change),
-        None => Ok(body),
+    let mut body = body;
+    for one in pending {
+        body = with_change(alloc, body, one)?;
     }
+    Ok(body)
 }
 
 /// Refines an item of a graph. `seen` has the names of the states before it that refinements lead to.
@@ -86,9 +108,9 @@ fn refined_body<'a>(
         Some(body) => {
             let inside = refined_inside(alloc, Box::into_inner(body), pending)?;
             let inside = Box::new(alloc, inside)?;
-            with_own_change(alloc, Some(inside), pending)
+            with_own_changes(alloc, Some(inside), pending)
         }
-        None => with_own_change(alloc, None, pending),
+        None => with_own_changes(alloc, None, pending),
     }
 }
 

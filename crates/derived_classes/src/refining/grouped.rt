@@ -3,9 +3,9 @@
 ghost use Rattle.std.specs.Prelude.{◌≡◌, ◌++◌, ◌∷◌, [], IfOk, IfSome, IfNone, OnOk, map, option_map};
 ghost use Rattle.std.specs.Option.{option_to_list};
 ghost use Rattle.name_tables.specs.name_numbers.Names.{names_of};
-ghost use Rattle.derived_classes.specs.Grouping.{code_of, first_names, gather, gather_all, gathered, gathered_at, no_group};
-ghost use Rattle.derived_classes.specs.Refining.{added_action, below};
-ghost use Rattle.derived_classes.specs.Views.{IsGrouped, group_view, group_views, refining_view, refining_views};
+ghost use Rattle.derived_classes.specs.Grouping.{first_names, gather, gather_all, gathered, gathered_at, no_group};
+ghost use Rattle.derived_classes.specs.Refining.{added_actions, below, code_of};
+ghost use Rattle.derived_classes.specs.Views.{IsGrouped, actions_if, code_views, group_view, group_views, refining_view, refining_views};
 
 use crate::refining::paths::{Pending, behind};
 use name_tables::NameIndex;
@@ -14,10 +14,10 @@ use std::alloc::{AllocError, Global};
 
 /// The refinements of one group, one name further.
 #[derive(Drop)]
-struct Group<'a> {
+pub(super) struct Group<'a> {
     inside: Vec<Pending<'a>>,
-    /// What the first of them adds that is of a transition of the group's name.
-    action: Option<&'a Code>,
+    /// What those of them add that are of a transition of the group's name.
+    pub(super) actions: Vec<&'a Code>,
 }
 
 /// Refinements in groups by the first of their names.
@@ -58,7 +58,7 @@ fn no_groups<'a>(alloc: Global, names: &[&'a [u8]]) -> Result<Vec<Group<'a>>, Al
     for _name in names {
         groups.push(Group {
             inside: Vec::new(alloc),
-            action: None,
+            actions: Vec::new(alloc),
         })?;
     }
     Ok(groups)
@@ -76,14 +76,22 @@ fn code_of<'a>(one: &Pending<'a>) -> Option<&'a Code>
     }
 }
 
+fn push_code<'a>(codes: &mut Vec<&'a Code>, code: Option<&'a Code>) -> Result<(), AllocError>
+    ensures { OnOk result (code_views codes.new.items
+        ≡ code_views codes.old.items ++ option_to_list (option_map (λ c. c.now) code.entry)) }
+{
+    if let Some(code) = code {
+        codes.push(code)?;
+    }
+    Ok(())
+}
+
 /// Adds a refinement to a group.
 fn gather_in<'a>(group: &mut Group<'a>, one: Pending<'a>) -> Result<(), AllocError>
     ensures { OnOk result (group_view group.new
         ≡ gathered (group_view group.old) (refining_view one.entry)) }
 {
-    if group.action.is_none() {
-        group.action = code_of(&one);
-    }
+    push_code(&mut group.actions, code_of(&one))?;
     group.inside.push(one)?;
     Ok(())
 }
@@ -179,18 +187,15 @@ impl<'p, 'a> Grouped<'p, 'a> {
         Some((*first, group.inside.as_slice()))
     }
 
-    /// What is added to the action of a transition of this name, if anything is.
-    pub(super) fn added_action(&self, name: &[u8]) -> Option<&'a Code>
+    /// The group that has what is added to the action of a transition of this name, if anything is.
+    pub(super) fn added_actions(&self, name: &[u8]) -> Option<&Group<'a>>
         requires { IsGrouped self.now }
-        ensures { option_map (λ c. c.now) result
-            ≡ added_action name.now (refining_views self.now.pending.now) }
+        ensures { actions_if result
+            ≡ added_actions name.now (refining_views self.now.pending.now) }
     {
         let Some(place) = self.names.place_of(name) else {
             return None;
         };
-        match self.groups.get(place) {
-            Some(group) => group.action,
-            None => None,
-        }
+        self.groups.get(place)
     }
 }

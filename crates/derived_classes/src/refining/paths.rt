@@ -1,8 +1,8 @@
 //! Refinements on their way to what they refine.
-ghost use Rattle.std.specs.Prelude.{◌≡◌, ◌++◌, IfOk, OnOk, Option, option_map};
+ghost use Rattle.std.specs.Prelude.{◌≡◌, ◌++◌, IfOk, OnOk, option_map};
 ghost use Rattle.std.specs.Option.{option_to_list};
-ghost use Rattle.room_ast.specs.ChartTree.{ChangeTree, body_view, item_view, graph_view};
-ghost use Rattle.derived_classes.specs.Refining.{GivesTheSame, found_or, own_or, own_change, meant_for, with_name, as_refining, refinements};
+ghost use Rattle.room_ast.specs.ChartTree.{body_view, item_view, graph_view};
+ghost use Rattle.derived_classes.specs.Refining.{GivesTheSame, change_of_state, meant_for, with_name, as_refining, refinements};
 ghost use Rattle.derived_classes.specs.Views.{IsGrouped, of_state, refining_view, refining_views};
 
 use crate::refining::grouped::Grouped;
@@ -115,10 +115,9 @@ pub(super) fn meant_for<'p, 'a>(
 }
 
 /// What a refinement adds to the state that sees it, if it is meant for that state itself.
-fn change_of_state<'a>(one: &Pending<'a>) -> Option<&'a StateBody>
-    ensures { (other : Option ChangeTree)
-        → own_or (refining_view one.now).path (refining_view one.now).change other
-        ≡ found_or (option_map (λ b. of_state (body_view b.now)) result) other }
+pub(super) fn change_of_state<'a>(one: &Pending<'a>) -> Option<&'a StateBody>
+    ensures { option_map (λ b. of_state (body_view b.now)) result
+        ≡ change_of_state (refining_view one.now).path (refining_view one.now).change }
 {
     if one.next.is_some() {
         return None;
@@ -127,17 +126,4 @@ fn change_of_state<'a>(one: &Pending<'a>) -> Option<&'a StateBody>
         Change::State(body) => Some(body),
         Change::Transition(_) => None,
     }
-}
-
-/// What is added to the state itself, if anything is.
-pub(super) fn own_change<'a>(pending: &[Pending<'a>]) -> Option<&'a StateBody>
-    ensures { option_map (λ b. of_state (body_view b.now)) result
-        ≡ own_change (refining_views pending.now) }
-{
-    for one in pending {
-        if let Some(body) = change_of_state(one) {
-            return Some(body);
-        }
-    }
-    None
 }

@@ -2,11 +2,11 @@
 ghost use Rattle.std.specs.Prelude.{◌≡◌, ◌++◌, Some, IfOk, OnOk, map, option_map};
 ghost use Rattle.room_ast.specs.ChartTree.{body_of, body_view, body_if_view, item_view};
 ghost use Rattle.derived_classes.specs.Codes.{texts_of, joined, joined_if};
-ghost use Rattle.derived_classes.specs.Refining.{acting_also, action_for, joined_subgraph, new_body, refined_transition, widened};
-ghost use Rattle.derived_classes.specs.Views.{IsGrouped, of_state, refining_views, subgraph_tree};
+ghost use Rattle.derived_classes.specs.Refining.{acting_also, actions_for, all_acting, joined_subgraph, new_body, refined_transition, widened};
+ghost use Rattle.derived_classes.specs.Views.{IsGrouped, actions_if, of_state, refining_views, subgraph_tree};
 
 use crate::copies::{copy_body, copy_code, copy_item, copy_text};
-use crate::refining::grouped::Grouped;
+use crate::refining::grouped::{Group, Grouped};
 use room_ast::{Code, CodeText, GraphItem, Name, StateBody, Transition, TransitionBody};
 use room_kinds::Sequence;
 use std::alloc::{AllocError, Global};
@@ -142,7 +142,7 @@ fn joined_subgraph(
 fn widened_body(alloc: Global, body: StateBody, change: &StateBody) -> Result<StateBody, AllocError>
     ensures { IfOk result (λ b.
         body_of (Some (body_view b))
-        ≡ widened (Some (of_state (body_view change.now))) (body_of (Some (body_view body)))) }
+        ≡ widened (of_state (body_view change.now)) (body_of (Some (body_view body)))) }
 {
     let entry = joined_if(alloc, body.entry, &change.entry)?;
     let exit = joined_before_if(alloc, &change.exit, body.exit)?;
@@ -161,7 +161,7 @@ pub(super) fn widened(
     change: &StateBody,
 ) -> Result<Option<Box<StateBody>>, AllocError>
     ensures { IfOk result (λ b.
-        body_if_view b ≡ widened (Some (of_state (body_view change.now))) (body_if_view body)) }
+        body_if_view b ≡ widened (of_state (body_view change.now)) (body_if_view body)) }
 {
     if let Some(body) = body {
         let body = widened_body(alloc, Box::into_inner(body), change)?;
@@ -191,7 +191,7 @@ fn acting_also(
     body: Option<TransitionBody>,
     code: &Code,
 ) -> Result<TransitionBody, AllocError>
-    ensures { IfOk result (λ b. Some b ≡ acting_also (Some code.now) body) }
+    ensures { IfOk result (λ b. Some b ≡ acting_also code.now body) }
 {
     let Some(body) = body else {
         let action = copy_code(alloc, code)?;
@@ -217,15 +217,28 @@ fn acting_also(
     })
 }
 
-fn action_for<'p, 'a>(name: &Option<Name>, grouped: &Grouped<'p, 'a>) -> Option<&'a Code>
+fn actions_for<'s, 'p, 'a>(
+    name: &Option<Name>,
+    grouped: &'s Grouped<'p, 'a>,
+) -> Option<&'s Group<'a>>
     requires { IsGrouped grouped.now }
-    ensures { option_map (λ c. c.now) result
-        ≡ action_for name.now (refining_views grouped.now.pending.now) }
+    ensures { actions_if result
+        ≡ actions_for name.now (refining_views grouped.entry.now.pending.now) }
 {
     match name {
-        Some(name) => grouped.added_action(name.as_bytes()),
+        Some(name) => grouped.added_actions(name.as_bytes()),
         None => None,
     }
+}
+
+/// Adds a code to the action of a transition.
+fn act_also(alloc: Global, transition: &mut Transition, code: &Code) -> Result<(), AllocError>
+    ensures { OnOk result (transition.new
+        ≡ record transition.old { body = acting_also code.now transition.old.body }) }
+{
+    let body = transition.body.take();
+    transition.body = Some(acting_also(alloc, body, code)?);
+    Ok(())
 }
 
 /// Adds to the action of a transition what refinements add.
@@ -238,10 +251,11 @@ pub(super) fn refine_transition<'p, 'a>(
     ensures { OnOk result (transition.new
         ≡ refined_transition (refining_views grouped.now.pending.now) transition.old) }
 {
-    let Some(code) = action_for(&transition.name, grouped) else {
+    let Some(group) = actions_for(&transition.name, grouped) else {
         return Ok(());
     };
-    let body = transition.body.take();
-    transition.body = Some(acting_also(alloc, body, code)?);
+    for code in &group.actions {
+        act_also(alloc, transition, *code)?;
+    }
     Ok(())
 }

@@ -4,11 +4,10 @@ ghost use Rattle.room_kinds.specs.declared.system.SysKind.{SysKind};
 ghost use Rattle.actor_duties.specs.Words.{whose};
 ghost use Rattle.actor_duties.specs.Messages.{reply};
 ghost use Rattle.actor_duties.specs.Lives.{counts_as_live};
-ghost use Rattle.actor_duties.specs.Frame.{frame_duty_of};
 ghost use Rattle.frame_lives.specs.Shown.{shown};
-ghost use Rattle.frame_service.specs.State.{frame_in, IsFrameOf};
+ghost use Rattle.frame_service.specs.State.{IsFrameOf};
 ghost use Rattle.frame_service.specs.Forms.{has_form};
-ghost use Rattle.frame_service.specs.Done.{ended_left, IsDone, IsSetEnded};
+ghost use Rattle.frame_service.specs.Done.{ended_left, IsHeard, IsSetEnded};
 
 use crate::frame_endings::messages::{end_actors, end_parts};
 use crate::state::FrameState;
@@ -110,10 +109,7 @@ impl FrameState {
         requires form { has_form wiring.now self.old.me.0 SysKind.Destroy m.now.payload from slot
             ≡ true }
         ensures { IfOk result (λ d.
-            IsDone wiring.now self.old self.new
-            (frame_duty_of wiring.now self.old.me.0 (frame_in self.old) m.now SysKind.Destroy from
-            slot)
-            out.old out.new d) }
+            IsHeard wiring.now self.old self.new m.now SysKind.Destroy from slot out.old out.new d) }
     {
         if !may_end(&self.lives, wiring, self.me, slot.slot, from) {
             let nobody = frame_at(slot.slot, Generation(0));
@@ -140,10 +136,7 @@ impl FrameState {
         requires form { has_form wiring.now self.old.me.0 SysKind.PartEnd m.now.payload actor again
             ≡ true }
         ensures { IfOk result (λ d.
-            IsDone wiring.now self.old self.new
-            (frame_duty_of wiring.now self.old.me.0 (frame_in self.old) m.now SysKind.PartEnd actor
-            again)
-            out.old out.new d) }
+            IsHeard wiring.now self.old self.new m.now SysKind.PartEnd actor again out.old out.new d) }
     {
         let ended = self.end_set(wiring, actor.slot, out)?;
         Ok(left(self.alloc, ended, None))

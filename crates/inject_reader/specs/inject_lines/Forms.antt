@@ -1,9 +1,9 @@
 -- The forms of a line.
-use Rattle.std.specs.Prelude.{ℕ, List, [], ◌∷◌, ◌&&◌, if◌then◌else◌, Option, Some, None, option_map, option_and_then, codes, ℤ}
+use Rattle.std.specs.Prelude.{ℕ, List, [], ◌∷◌, Bool, false, not, ◌&&◌, ◌==◌, nat_le, if◌then◌else◌, Option, Some, None, option_map, option_and_then, codes, ℤ}
 use Rattle.name_tables.specs.name_numbers.Names.{same}
 use Rattle.room_wiring.specs.WellNamed.{is_ident}
 use Rattle.text_reading.specs.Cuts.{cut_at}
-use Rattle.text_reading.specs.Numerals.{are_digits, number_in}
+use Rattle.text_reading.specs.Numerals.{are_digits, value_of, number_in}
 use Rattle.inject_reader.specs.inject_lines.Texts.{is_path}
 use Rattle.inject_reader.specs.inject_lines.Fields.{fields}
 
@@ -27,6 +27,7 @@ pub record MessageForm : Type 0 where
 -- what a line of a known form says
 pub data LineForm : Type 0 where
   Settle : LineForm
+  Advance : ℕ → LineForm
   Message : MessageForm → LineForm
 
 -- digits and then `]` at the end
@@ -87,11 +88,29 @@ message_in target signal words =
 abbrev pub settle_in : List ℕ → Option LineForm
 settle_in word = if same word (codes "settle") then Some Settle else None
 
--- `settle`, or `<path>.<port>[<place>] <signal> <numbers> at <prio>`
+-- digits, the first of them not 0
+abbrev pub is_plain : List ℕ → Bool
+is_plain [] = false
+is_plain (b ∷ bs) = not (b == 48) && are_digits (b ∷ bs)
+
+-- a time to move on by, from 1 to 2,147,483,647
+unfoldable pub time_in : List ℕ → Option ℕ
+time_in text = if is_plain text && nat_le (value_of text) 2147483647 then Some (value_of text) else None
+
+-- a time and nothing behind it
+abbrev pub advance_in : List ℕ → List (List ℕ) → Option LineForm
+advance_in time [] = option_map Advance (time_in time)
+advance_in time (word ∷ words) = None
+
+-- `advance` and what stands behind it, or a message of these words
+abbrev pub longer_in : List ℕ → List ℕ → List (List ℕ) → Option LineForm
+longer_in first second words = if same first (codes "advance") then advance_in second words else message_in first second words
+
+-- `settle`, `advance <time>`, or `<path>.<port>[<place>] <signal> <numbers> at <prio>`
 abbrev pub form_of : List (List ℕ) → Option LineForm
 form_of [] = None
 form_of (word ∷ []) = settle_in word
-form_of (target ∷ signal ∷ words) = message_in target signal words
+form_of (first ∷ second ∷ words) = longer_in first second words
 
 -- the form of a line, if it has one
 unfoldable pub form_in : List ℕ → Option LineForm

@@ -1,7 +1,7 @@
 //! The forms of lines.
 ghost use Rattle.std.specs.Prelude.{◌≡◌, option_map, IfOk};
 ghost use Rattle.std.specs.Option.{option_copied};
-ghost use Rattle.inject_reader.specs.inject_lines.Forms.{place_in, target_at, target_in, priority_in, priority_of, load_in, message_in, form_in, settle_in, loaded};
+ghost use Rattle.inject_reader.specs.inject_lines.Forms.{place_in, target_at, target_in, priority_in, priority_of, load_in, message_in, form_in, settle_in, is_plain, time_in, advance_in, loaded};
 ghost use Rattle.text_reading.specs.Cuts.{cut_at};
 ghost use Rattle.inject_reader.specs.inject_lines.Views.{target_view, load_view, form_view};
 
@@ -9,7 +9,7 @@ use crate::inject_lines::fields::Fields;
 use crate::inject_lines::texts::{is, is_ident, is_path};
 use room_kinds::Priority;
 use std::alloc::{AllocError, Global};
-use text_reading::{are_digits, cut, number};
+use text_reading::{are_digits, cut, number, value};
 
 /// Where a message goes, as it is written: the path of a slot, the name of a port and the digits
 /// of a place, of which there are none where no place is written.
@@ -39,6 +39,7 @@ pub struct Wanted<'a> {
 #[derive(Drop)]
 pub enum Form<'a> {
     Settle,
+    Advance(u32),
     Message(Wanted<'a>),
 }
 
@@ -154,6 +155,39 @@ fn settle<'a>(word: &'a [u8]) -> Option<Form<'a>>
     }
 }
 
+/// Whether there are digits alone, the first of them not 0.
+fn is_plain(text: &[u8]) -> bool
+    ensures { result ≡ is_plain text.now }
+{
+    match text {
+        [first, ..] => *first != b'0' && are_digits(text),
+        [] => false,
+    }
+}
+
+/// A time to move on by, from 1 to 2,147,483,647.
+#[tactic(auto, unfolding(crate::specs::inject_lines::Forms::time_in))]
+fn time(text: &[u8]) -> Option<u32>
+    ensures { result ≡ time_in text.now }
+{
+    let time = value(text);
+    if is_plain(text) && time <= 2_147_483_647 {
+        Some(time as u32)
+    } else {
+        None
+    }
+}
+
+/// A time and nothing behind it.
+fn advance<'a>(text: &'a [u8], mut words: Fields<'a>) -> Option<Form<'a>>
+    ensures { option_map form_view result ≡ advance_in text.now words.entry }
+{
+    if words.take().is_some() {
+        return None;
+    }
+    Some(Form::Advance(time(text)?))
+}
+
 fn message<'a>(
     alloc: Global,
     text: &'a [u8],
@@ -179,9 +213,9 @@ fn message<'a>(
     })))
 }
 
-/// What a line says, if it has the form `settle` or `<path>.<port>[<place>] <signal> <numbers> at
-/// <prio>`, in which the place, the numbers and the last two words may be missing. It takes time
-/// and memory in proportion to the line.
+/// What a line says, if it has the form `settle`, `advance <time>` or `<path>.<port>[<place>]
+/// <signal> <numbers> at <prio>`, in which the place, the numbers and the last two words may be
+/// missing. It takes time and memory in proportion to the line.
 #[tactic(auto, unfolding(crate::specs::inject_lines::Forms::form_in))]
 pub fn read_form(alloc: Global, line: &[u8]) -> Result<Option<Form<'_>>, AllocError>
     ensures { IfOk result (λ f. option_map form_view f ≡ form_in line.now) }
@@ -190,8 +224,12 @@ pub fn read_form(alloc: Global, line: &[u8]) -> Result<Option<Form<'_>>, AllocEr
     let Some(first) = words.take() else {
         return Ok(None);
     };
-    let Some(signal) = words.take() else {
+    let Some(second) = words.take() else {
         return Ok(settle(first));
     };
-    message(alloc, first, signal, words)
+    // No target lacks a dot, so no message begins with this word.
+    if is(first, "advance") {
+        return Ok(advance(second, words));
+    }
+    message(alloc, first, second, words)
 }

@@ -19,7 +19,7 @@ use Rattle.journal.specs.Fits.{FitsMessage, FitsEnvironment}
 use Rattle.journal.specs.declared.entry.Entry.{Entry}
 use Rattle.journal.specs.declared.entry.Entry.TheVariants as entry
 use Rattle.journal.specs.declared.entry.Journals.{Journals}
-use Rattle.inject_reader.specs.Fitting.{ComesIn, FitsWhat}
+use Rattle.inject_reader.specs.Fitting.{ComesIn, WhatFits}
 use Rattle.inject_reader.specs.Meaning.{coming}
 use Rattle.inject_reader.specs.declared.inject_lines.accepted.Line.{Line as Asked}
 use Rattle.inject_reader.specs.declared.inject_lines.accepted.What.{What}
@@ -38,7 +38,7 @@ use Rattle.law_runs.proofs.Party.{environment_lines}
 use Rattle.law_runs.proofs.run_texts.Party.{did, nobody, outside}
 use Rattle.law_runs.specs.run_journals.Outside.{NamesPlace, WhatNames, LinesName, FitLinesName}
 
--- ---- what lines that are read name
+-- ---- what lines that fit name
 
 comes_below : (incoming outgoing : ℕ) (c : Bool) (place signal : ℕ) → place < (if c then outgoing else incoming)
     → signal ≡ (if c then incoming else 0) + place → signal < incoming + outgoing
@@ -57,7 +57,7 @@ signal_there port signal numbers h =
     by_side true b = b
     by_side false b = b
 
-pub line_names : (t : Tables) (target : Endpoint) (signal numbers : ℕ) (port : PortNames) (slot : Slot) → slot_at t target.slot.0 ≡ Some slot
+line_names : (t : Tables) (target : Endpoint) (signal numbers : ℕ) (port : PortNames) (slot : Slot) → slot_at t target.slot.0 ≡ Some slot
     → option_and_then (port_of target.port) (class_of t target.slot.0) ≡ Some port → ComesIn port signal numbers → (prio : ℕ) → 1 ≤ prio → NamesPlace t target signal prio
 unfolding port_at
 line_names t target signal numbers port slot slot_is port_is comes prio least = record {
@@ -67,8 +67,9 @@ line_names t target signal numbers port slot slot_is port_is comes prio least = 
   worded = least;
 }
 
-one_names : (t : Tables) (what : What) → FitsWhat t what → WhatNames t what
+one_names : (t : Tables) (what : What) → WhatFits t what → WhatNames t what
 one_names t whats.Settle h = tt
+one_names t (whats.Advance time) h = tt
 one_names t (whats.Message target signal payload prio) h =
     line_names t target signal (length payload) h.port h.target_fits.slot.slot h.target_fits.slot.slot_is h.target_fits.port_is h.signal_fits prio.0 h.least
 
@@ -117,6 +118,7 @@ module _ (t : Tables) (owners : OwnersAreThere t) where
       go : (what : What) → WhatNames t what → ((p : ℕ) → Each LineIsGood (lines_from p (items_of t lines)))
           → Each LineIsGood (lines_from part (item_of t x.number what ∷ items_of t lines))
       go whats.Settle f rest = rest (part + 1)
+      go (whats.Advance time) f rest = rest (part + 1)
       go (whats.Message target signal payload prio) f rest = ((λ k. line_fits target signal payload prio f k), rest part)
 
   line_at : (ls : List Line) (i : ℕ) (l : Line) → Each LineIsGood ls → slice_get ls i ≡ Some l → LineIsGood l

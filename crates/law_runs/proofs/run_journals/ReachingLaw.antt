@@ -54,6 +54,7 @@ lines_above t (x ∷ lines) part h = go x.what h.0 (λ p. lines_above t lines p 
     go : (what : What) → WhatNames t what → ((p : ℕ) → Each (λ (l : Line). IsAbove l.message) (lines_from p (items_of t lines)))
         → Each (λ (l : Line). IsAbove l.message) (lines_from part (item_of t x.number what ∷ items_of t lines))
     go whats.Settle f rest = rest (part + 1)
+    go (whats.Advance time) f rest = rest (part + 1)
     go (whats.Message target signal payload prio) f rest = (f.worded, rest part)
 
 line_above : (ls : List Line) (i : ℕ) (l : Line) → Each (λ (l : Line). IsAbove l.message) ls → slice_get ls i ≡ Some l → IsAbove l.message

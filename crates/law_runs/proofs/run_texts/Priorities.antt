@@ -17,7 +17,7 @@ use Rattle.room_wiring.specs.declared.tables.Tables.{Tables}
 use Rattle.inject_reader.specs.declared.inject_lines.accepted.Line.{Line as Asked}
 use Rattle.inject_reader.specs.declared.inject_lines.accepted.What.{What}
 use Rattle.inject_reader.specs.declared.inject_lines.accepted.What.TheVariants as whats
-use Rattle.inject_reader.specs.Fitting.{FitsWhat, FitLines}
+use Rattle.inject_reader.specs.Fitting.{WhatFits, LinesFit}
 use Rattle.actor_merge.specs.Parties.{State, Line, Plant as RunPlant, Taken, next_of, turn, turn_with, post, post_front, fetch, Does, Replays}
 use Rattle.actor_duties.specs.Words.{whose, is_own}
 use Rattle.actor_duties.specs.Lives.{last_of}
@@ -201,13 +201,14 @@ line_at [] i l h e = absurd cc
 line_at (x ∷ ls) zero l h e = subst (λ (z : Line). IsRanked z.message) (same_Some x l e) h.0
 line_at (x ∷ ls) (suc i) l h e = line_at ls i l h.1 e
 
-lines_ranked : (t : Tables) (lines : List Asked) (part : ℕ) → FitLines t lines → LinesRanked (lines_from part (items_of t lines))
+lines_ranked : (t : Tables) (lines : List Asked) (part : ℕ) → LinesFit t lines → LinesRanked (lines_from part (items_of t lines))
 lines_ranked t [] part h = tt
 lines_ranked t (x ∷ lines) part h = go x.what h.0 (λ p. lines_ranked t lines p h.1)
   where
-    go : (w : What) → FitsWhat t w → ((p : ℕ) → LinesRanked (lines_from p (items_of t lines)))
+    go : (w : What) → WhatFits t w → ((p : ℕ) → LinesRanked (lines_from p (items_of t lines)))
         → LinesRanked (lines_from part (item_of t x.number w ∷ items_of t lines))
     go whats.Settle f rest = rest (part + 1)
+    go (whats.Advance time) f rest = rest (part + 1)
     go (whats.Message target signal payload prio) f rest = (le-leb prio.0 5 f.most, rest part)
 
 environment_ranked : {B : Type 0} (plant : RunPlant B) (es : List Entry) (at end : ℕ) → LinesRanked plant.lines
@@ -228,7 +229,7 @@ ranked_in (y ∷ ms) m h c = go (head_or_tail y ms m c) (λ k. ranked_in ms m h.
     go (inr there) rest = rest there
 
 module _ (plant : Plant) (lines : List Asked) (fuel : ℕ) (j : Journals) (run : IsRun plant lines fuel j)
-    (asks : AsksOnly is_ranked (model_of plant)) (fit : FitLines plant.wiring lines) where
+    (asks : AsksOnly is_ranked (model_of plant)) (fit : LinesFit plant.wiring lines) where
   abbrev n : ℕ
   n = length plant.wiring.controllers
 

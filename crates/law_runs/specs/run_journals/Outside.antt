@@ -1,6 +1,6 @@
 -- What comes from outside fits the wiring: the environment's journal has posts alone, and each names what the
 -- wiring has. This is a point of the definition of journals that fit a wiring (`Fits` of `journal`).
--- `LinesName` is what that asks of the lines; lines that are read do (`FitLines`).
+-- `LinesName` is what that asks of the lines; lines that fit do (`LinesFit`).
 use Rattle.std.specs.Prelude.{◌≡◌, ℕ, ◌≤◌, Some, List, All}
 use Rattle.std.specs.List.{AllByRecursion}
 use Rattle.room_kinds.specs.declared.numbers.Endpoint.{Endpoint}
@@ -9,7 +9,7 @@ use Rattle.room_wiring.specs.declared.slot.Slot.{Slot}
 use Rattle.room_wiring.specs.declared.tables.Tables.{Tables}
 use Rattle.journal.specs.Fits.{HasSignal, FitsEnvironment}
 use Rattle.journal.specs.declared.entry.Journals.{Journals}
-use Rattle.inject_reader.specs.Fitting.{FitLines}
+use Rattle.inject_reader.specs.Fitting.{LinesFit}
 use Rattle.inject_reader.specs.declared.inject_lines.accepted.Line.{Line}
 use Rattle.inject_reader.specs.declared.inject_lines.accepted.What.{What}
 use Rattle.inject_reader.specs.declared.inject_lines.accepted.What.TheVariants as whats
@@ -26,6 +26,7 @@ pub record NamesPlace (t : Tables) (target : Endpoint) (signal prio : ℕ) : Typ
 
 abbrev pub WhatNames : Tables → What → Type 0
 WhatNames t whats.Settle = Unit {0}
+WhatNames t (whats.Advance time) = Unit {0}
 WhatNames t (whats.Message target signal payload prio) = NamesPlace t target signal prio.0
 
 -- each line asks for such a message, or for none
@@ -34,7 +35,7 @@ LinesName t lines = AllByRecursion (λ (l : Line). WhatNames t l.what) lines
 
 -- lines that fit do
 abbrev pub FitLinesName : Type 0
-FitLinesName = (t : Tables) (lines : List Line) → FitLines t lines → LinesName t lines
+FitLinesName = (t : Tables) (lines : List Line) → LinesFit t lines → LinesName t lines
 
 -- over every run of every plant whose slots have owners, over lines that name what its wiring has
 abbrev pub EnvironmentFits : Type 0

@@ -3,7 +3,7 @@
 use Rattle.std.specs.Prelude.{◌≡◌, ℕ, ◌≤◌, List, Contains, length}
 use Rattle.room_kinds.specs.declared.message.Msg.{Msg}
 use Rattle.journal.specs.declared.entry.Journals.{Journals}
-use Rattle.inject_reader.specs.Fitting.{FitLines}
+use Rattle.inject_reader.specs.Fitting.{LinesFit}
 use Rattle.inject_reader.specs.declared.inject_lines.accepted.Line.{Line}
 use Rattle.controller_actors.specs.declared.plant.Plant.{Plant}
 use Rattle.actor_world.specs.world_laws.Whereabouts.{fetched}
@@ -23,5 +23,5 @@ FetchesFit plant j = (c : ℕ) (m : Msg) → Contains (fetched (journal_of j c))
 -- over every run of a plant over lines that name what the wiring has
 abbrev pub RunsFetchWhatFits : Type 0
 RunsFetchWhatFits =
-    (plant : Plant) (lines : List Line) → FitLines plant.wiring lines
+    (plant : Plant) (lines : List Line) → LinesFit plant.wiring lines
     → (fuel : ℕ) (j : Journals) → IsRun plant lines fuel j → FetchesFit plant j

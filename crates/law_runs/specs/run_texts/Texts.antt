@@ -8,7 +8,7 @@ use Rattle.room_wiring.specs.Consistent.{IsConsistent}
 use Rattle.room_wiring.specs.WellNamed.{IsWellNamed}
 use Rattle.journal.specs.declared.entry.Journals.{Journals}
 use Rattle.tied_journals.specs.Text.{tied_text_of}
-use Rattle.inject_reader.specs.Fitting.{FitLines}
+use Rattle.inject_reader.specs.Fitting.{LinesFit}
 use Rattle.inject_reader.specs.declared.inject_lines.accepted.Line.{Line}
 use Rattle.controller_actors.specs.declared.plant.Plant.{Plant}
 use Rattle.actor_world.specs.world_laws.Whereabouts.{fetched}
@@ -31,4 +31,4 @@ TextTells plant lines j =
 abbrev pub TextsTellRuns : Type 0
 TextsTellRuns =
     (plant : Plant) (lines : List Line) → IsConsistent plant.wiring → IsWellNamed plant.wiring
-    → FitLines plant.wiring lines → (fuel : ℕ) (j : Journals) → IsRun plant lines fuel j → TextTells plant lines j
+    → LinesFit plant.wiring lines → (fuel : ℕ) (j : Journals) → IsRun plant lines fuel j → TextTells plant lines j

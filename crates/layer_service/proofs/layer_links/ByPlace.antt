@@ -1,6 +1,6 @@
 -- Links in order of place: how the link of a place is found, put there, and taken away.
 use Rattle.std.proofs.Common.{◌≡◌, ◌≢◌, ℕ, zero, suc, ◌+◌, ◌<◌, ◌≤◌, ◌^◌, Bool, true, false, cond, not, ◌&&◌, List, [], ◌∷◌, length, get_or, set, Some, None, Result, Ok, Err, IfOk, IfErr, refl, sym, ap, subst, ◌∙◌, arith}
-use Rattle.std.specs.Prelude.{nat_lt, ◌==◌, filter, slice_index}
+use Rattle.std.specs.Prelude.{nat_lt, nat_le, ◌==◌, filter, slice_get, slice_index}
 use Rattle.std.specs.List.{insert, remove}
 use Rattle.std.specs.List.Sorted.{IsSearchInRange, IsBinarySearchResult, IsNonDecreasingBy}
 use Rattle.std.specs.Ordering.{nat_cmp, ordering_index}
@@ -12,7 +12,7 @@ use Rattle.actor_duties.specs.State.{Link}
 use Rattle.actor_duties.specs.Words.{is_endpoint}
 use Rattle.actor_duties.specs.Links.{with_link}
 use Rattle.actor_duties.specs.Peers.{link_at}
-use Rattle.layer_service.specs.layer_links.Rising.{AreRisingFrom, AreRising, places_of, without_link, no_link, place_of, IsAt, IsGapFor}
+use Rattle.layer_service.specs.layer_links.Rising.{AreRisingFrom, AreRising, places_of, without_link, first_from, no_link, place_of, IsAt, IsGapFor}
 
 -- ---- numbers
 
@@ -237,3 +237,34 @@ pub place_at : (links : List Link) (i : ℕ) (x : Link) → i < length links →
 place_at [] i x lt is = absurd (omega arith)
 place_at (y ∷ rest) zero x lt is = ap (λ (z : Link). z.place) is
 place_at (y ∷ rest) (suc i) x lt is = place_at rest i x (omega arith) is
+
+-- ---- the first link from a place on
+
+reaches : (k n : ℕ) → k ≤ n → nat_le k n ≡ true
+reaches k n le = grind (arith, nat_tests)
+
+falls_short : (k n : ℕ) → n < k → nat_le k n ≡ false
+falls_short k n lt = grind (arith, nat_tests)
+
+-- behind lower places, it is the link that stands there
+first_at : (links : List Link) (k i : ℕ) → i ≤ length links → ((j : ℕ) → j < i → place_of links j < k) → (i < length links → k ≤ place_of links i)
+    → first_from k links ≡ slice_get links i
+first_at [] k zero within lower here = refl
+first_at [] k (suc i) within lower here = absurd (omega arith)
+first_at (x ∷ rest) k zero within lower here =
+    ap (λ (b : Bool). cond b (Some x) (first_from k rest)) (reaches k x.place (here (omega arith)))
+first_at (x ∷ rest) k (suc i) within lower here =
+    ap (λ (b : Bool). cond b (Some x) (first_from k rest)) (falls_short k x.place (lower 0 (omega arith)))
+    ∙ first_at rest k i (omega arith) (λ j lt. lower (suc j) (omega arith)) (λ lt. here (omega arith))
+
+-- where the place is linked
+pub first_found : (links : List Link) (k i : ℕ) → AreRising links → IsAt links k i → first_from k links ≡ slice_get links i
+first_found links k i rise at =
+    let within : i < length links = at.within in
+    let is : place_of links i ≡ k = at.is in
+    first_at links k i (omega arith) (λ j lt. let below = rising 0 links j i rise lt within in omega (arith, below, is)) (λ lt. omega (arith, is))
+
+-- where it isn't
+pub first_in_gap : (links : List Link) (k i : ℕ) → IsGapFor links k i → first_from k links ≡ slice_get links i
+first_in_gap links k i gap =
+    first_at links k i gap.within gap.lower (λ lt. let above = gap.higher i (omega arith) lt in omega (arith, above))

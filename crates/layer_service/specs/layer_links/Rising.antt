@@ -1,5 +1,5 @@
 -- Links in order of place, and where among them the link of a place stands.
-use Rattle.std.specs.Prelude.{◌≡◌, ℕ, ◌+◌, ◌<◌, ◌≤◌, ◌^◌, not, List, [], ◌∷◌, length, map, filter, slice_index_or}
+use Rattle.std.specs.Prelude.{◌≡◌, ℕ, ◌+◌, ◌<◌, ◌≤◌, ◌^◌, not, nat_le, Option, option_map, List, [], ◌∷◌, length, map, filter, find, slice_index_or}
 use Rattle.room_kinds.specs.declared.numbers.Endpoint.{Endpoint}
 use Rattle.actor_duties.specs.State.{Link}
 use Rattle.actor_duties.specs.Words.{endpoint}
@@ -17,6 +17,14 @@ AreRising links = AreRisingFrom 0 links
 -- the places of links
 abbrev pub places_of : List Link → List ℕ
 places_of links = map (λ (x : Link). x.place) links
+
+-- the first link whose place is at or above one; in order of place, the one of the least such place
+abbrev pub first_from : ℕ → List Link → Option Link
+first_from place links = find (λ (x : Link). nat_le place x.place) links
+
+-- its place
+abbrev pub next_linked : ℕ → List Link → Option ℕ
+next_linked place links = option_map (λ (x : Link). x.place) (first_from place links)
 
 -- links but the one of a place to a peer, if it is there
 abbrev pub without_link : Endpoint → ℕ → List Link → List Link

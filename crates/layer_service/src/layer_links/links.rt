@@ -3,7 +3,7 @@ ghost use Rattle.std.specs.Prelude.{◌&&◌, ◌==◌, ◌≡◌, ℕ, ◌<◌,
 ghost use Rattle.room_kinds.specs.declared.system.SysKind.TheVariants as kinds;
 ghost use Rattle.actor_duties.specs.Words.{endpoint, whose, is_endpoint, is_sap, is_joined, joined_at};
 ghost use Rattle.actor_duties.specs.Messages.{system, name_told};
-ghost use Rattle.actor_duties.specs.Links.{register_from, register_command, withdraw_command, name_request, bound, unbound, asked_heard, name_reply, is_own_point, links_duty_of, links_duty, end_of};
+ghost use Rattle.actor_duties.specs.Links.{register_from, register_command, withdraw_command, name_request, bound, unbound, asked_heard, name_reply, is_own_point, links_duty_of, links_duty, end_of, next_place};
 ghost use Rattle.actor_duties.specs.Peers.{link_peer};
 ghost use Rattle.service_messages.specs.Shown.{signal_of};
 ghost use Rattle.layer_service.specs.layer_links.Kept.{registration_of, points_of, point_in, links_of, no_links, with_registration, cleared, withdrawals, IsListed};
@@ -169,6 +169,18 @@ impl Links {
         match self.slots.as_slice().get(usize::from(slot.0)) {
             Some(points) => points.linked_place(port, index),
             None => 0,
+        }
+    }
+
+    /// The least place of the endpoint's port that is linked by name and at or above the endpoint's
+    /// own; none exactly where there is none. It takes no memory.
+    #[tactic(auto, unfolding(actor_duties::specs::Links::next_place, crate::specs::layer_links::Kept::links_by, crate::specs::layer_links::Kept::point_in, crate::specs::layer_links::Kept::points_of, crate::specs::layer_links::Kept::point_at))]
+    pub fn next_place(&self, from: Endpoint) -> Option<u32>
+        ensures { result ≡ next_place (links_of self.now) from }
+    {
+        match self.slots.as_slice().get(usize::from(from.slot.0)) {
+            Some(points) => points.next_place(from.port, from.place),
+            None => None,
         }
     }
 

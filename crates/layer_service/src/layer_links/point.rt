@@ -1,9 +1,9 @@
 //! One service point.
-ghost use Rattle.std.specs.Prelude.{◌≡◌, ◌<◌, ◌^◌, length, option_map, slice_index, IfErr, IfOk, IfSome, OnOk};
+ghost use Rattle.std.specs.Prelude.{◌≡◌, ◌<◌, ◌^◌, length, option_map, slice_get, slice_index, IfErr, IfOk, IfSome, OnOk};
 ghost use Rattle.actor_duties.specs.Links.{with_link, is_entered};
 ghost use Rattle.actor_duties.specs.Peers.{link_at};
 ghost use Rattle.layer_service.specs.layer_links.Kept.{registration_of, unnamed};
-ghost use Rattle.layer_service.specs.layer_links.Rising.{IsAt, IsGapFor, places_of, without_link};
+ghost use Rattle.layer_service.specs.layer_links.Rising.{IsAt, IsGapFor, first_from, next_linked, places_of, without_link};
 
 use crate::layer_links::link::Link;
 use room_kinds::Endpoint;
@@ -110,6 +110,30 @@ impl Point {
         match self.search(place) {
             Ok(index) => Some(self.linked[index].peer()),
             Err(_) => None,
+        }
+    }
+
+    /// Where the first link stands whose place is at or above one; behind the last where there is
+    /// none.
+    fn place_from(&self, place: u64) -> usize
+        ensures { first_from place self.now.linked ≡ slice_get self.now.linked result }
+    {
+        // A look at the links, which stand in order of place.
+        let _links = self.linked.as_slice();
+        match self.search(place) {
+            Ok(index) => index,
+            Err(index) => index,
+        }
+    }
+
+    /// The least linked place that is at or above one.
+    pub fn next_place(&self, place: u32) -> Option<u32>
+        ensures { result ≡ next_linked place self.now.linked }
+    {
+        let index = self.place_from(u64::from(place));
+        match self.linked.as_slice().get(index) {
+            Some(link) => Some(link.place()),
+            None => None,
         }
     }
 

@@ -4,7 +4,7 @@ ghost use Rattle.std.specs.List.{range_with_len};
 ghost use Rattle.actor_duties.specs.Links.{with_link};
 ghost use Rattle.actor_duties.specs.Peers.{link_at};
 ghost use Rattle.layer_service.specs.layer_links.Kept.{registration_of, point_at, withdrawals};
-ghost use Rattle.layer_service.specs.layer_links.Rising.{places_of, without_link};
+ghost use Rattle.layer_service.specs.layer_links.Rising.{next_linked, places_of, without_link};
 
 use crate::layer_links::point::{Point, Registration};
 use crate::layer_links::sent::{ask, point_of};
@@ -100,6 +100,17 @@ impl Points {
         match self.by_port.as_slice().get(usize::from(port)) {
             Some(point) => point.linked_place(index),
             None => 0,
+        }
+    }
+
+    /// The least linked place of a port that is at or above one.
+    #[tactic(auto, unfolding(crate::specs::layer_links::Kept::point_at))]
+    pub fn next_place(&self, port: u16, place: u32) -> Option<u32>
+        ensures { result ≡ next_linked place (point_at self.now port).linked }
+    {
+        match self.by_port.as_slice().get(usize::from(port)) {
+            Some(point) => point.next_place(place),
+            None => None,
         }
     }
 

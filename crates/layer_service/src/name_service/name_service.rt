@@ -168,17 +168,36 @@ impl NameService {
         let protocol = protocol_of(wiring, point);
         if is_spp(wiring, point.slot, point.port) {
             let base = wiring.places(point.slot, point.port);
-            self.register_spp(wiring, name, protocol, base, point, out)
+            self.provide(wiring, name, protocol, base, point, out)
         } else {
-            self.register_sap(wiring, name, protocol, point, out)
+            self.add_user(wiring, name, protocol, point, out)
         }
     }
 
     /// A service provision point registers under a name. `base` is the number of its static places.
     /// Where the service has a provider it is refused with code 8, and nothing else is done; else it
-    /// is answered with 0, and the users that wait are linked to it, in their order.
+    /// is answered with 0, and the users that wait are linked to it, in their order. Where the
+    /// numbers of its places are used up, want of memory is answered.
+    pub fn register_spp(
+        &mut self,
+        wiring: &Wiring,
+        name: u32,
+        protocol: u16,
+        base: u32,
+        endpoint: Endpoint,
+        out: &mut Outbox,
+    ) -> Result<(), AllocError>
+        ensures now { let done = register_spp wiring.now name protocol base endpoint self.old in
+            OnOk result (self.new ≡ done.now) }
+        ensures sent { let done = register_spp wiring.now name protocol base endpoint self.old in
+            OnOk result (out.new ≡ out.old ++ done.sent) }
+    {
+        self.provide(wiring, u64::from(name), protocol, base, endpoint, out)
+    }
+
+    /// A provider registers under the name of a message, whose number may have more than 32 bits.
     #[tactic(auto, unfolding(actor_duties::specs::Names::register_spp))]
-    fn register_spp(
+    fn provide(
         &mut self,
         wiring: &Wiring,
         name: u64,
@@ -197,9 +216,27 @@ impl NameService {
     }
 
     /// A service access point registers under a name: it is answered with 0, and is linked where the
-    /// service has a provider.
+    /// service has a provider. Where the numbers of the provider's places are used up, want of memory
+    /// is answered.
+    pub fn register_sap(
+        &mut self,
+        wiring: &Wiring,
+        name: u32,
+        protocol: u16,
+        endpoint: Endpoint,
+        out: &mut Outbox,
+    ) -> Result<(), AllocError>
+        ensures now { let done = register_sap wiring.now name protocol endpoint self.old in
+            OnOk result (self.new ≡ done.now) }
+        ensures sent { let done = register_sap wiring.now name protocol endpoint self.old in
+            OnOk result (out.new ≡ out.old ++ done.sent) }
+    {
+        self.add_user(wiring, u64::from(name), protocol, endpoint, out)
+    }
+
+    /// A user registers under the name of a message, whose number may have more than 32 bits.
     #[tactic(auto, unfolding(actor_duties::specs::Names::register_sap))]
-    fn register_sap(
+    fn add_user(
         &mut self,
         wiring: &Wiring,
         name: u64,
@@ -218,7 +255,7 @@ impl NameService {
 
     /// An endpoint is withdrawn: its links end, and then it is answered with 0; with code 9 where it
     /// doesn't stand in the table.
-    fn withdraw(
+    pub fn withdraw(
         &mut self,
         wiring: &Wiring,
         endpoint: Endpoint,

@@ -5,6 +5,7 @@ use Rattle.std.proofs.lemmas.Bool.{cases_lt}
 use Rattle.std.proofs.lemmas.Option.{slice_get_read, slice_get_within, get_or_from_slice_get}
 use Rattle.std.proofs.lemmas.List.{map-set, get_or-map, get_or-set_other}
 use Rattle.room_kinds.specs.declared.message.Msg.{Msg}
+use Rattle.room_kinds.specs.declared.numbers.ControllerId.{ControllerId}
 use Rattle.mail_core.specs.EndLog.{EndLog, fresh}
 use Rattle.mail_core.specs.Lanes.{log_at}
 use Rattle.mail_core.specs.SetUp.{IsLeft}
@@ -20,7 +21,7 @@ use Rattle.controller.specs.View.{Controller}
 use Rattle.controller.proofs.Going.{goes_none}
 use Rattle.model_run.specs.run_worker.Works.{Works}
 use Rattle.model_run.proofs.run_loop.ListFacts.{found}
-use Rattle.model_run.specs.joined_round.Joined.{AllStand, Changes, LastTurn, IsReady, seat, WorkedAt, FetchedAt, TurnedAt, HaveWorked, AreJoined, Joined, RoundDone}
+use Rattle.model_run.specs.joined_round.Joined.{AllStand, AreInOrder, Changes, LastTurn, IsReady, seat, WorkedAt, FetchedAt, TurnedAt, HaveWorked, AreJoined, Joined, RoundDone}
 use Rattle.controller.proofs.Standing.{some_at}
 
 -- where nobody's turn is, no message waits
@@ -150,6 +151,16 @@ worked_of plant olds mids logs logs' s count c k at =
     let w = s.below c inside o.0 o.1 in
     let both : IsOf plant w.0 × (w.0.mail.outbox ≡ []) = (w.2.1, w.2.0.posted) in
     subst (λ (z : Controller). IsOf plant z × (z.mail.outbox ≡ [])) (same_there (slice_get mids c) w.0 k w.1 at) both
+
+-- and each still stands at its number
+pub in_order_of : (plant : Plant) (olds mids : List Controller) (logs logs' : List EndLog) → StepsBelow (WorkedAt plant) (length olds) (seat olds logs) (seat mids logs')
+    → length mids ≡ length olds → AreInOrder olds → AreInOrder mids
+in_order_of plant olds mids logs logs' s count before c k at =
+    let inside : c < length olds = omega (arith, slice_get_within mids c k at) in
+    let o = some_at olds c inside in
+    let w = s.below c inside o.0 o.1 in
+    let me : w.0.me.0 ≡ c = ap (λ (z : ControllerId). z.0) w.2.0.did.goes.me ∙ before c o.0 o.1 in
+    subst (λ (z : Controller). z.me.0 ≡ c) (same_there (slice_get mids c) w.0 k w.1 at) me
 
 -- after the fetches each controller is ready for a turn
 pub fetched_ready : (plant : Plant) (mids fetched : List Controller) (answer : List (List Msg)) → StepsBelow (FetchedAt plant answer) (length mids) (slice_get mids) (slice_get fetched)

@@ -1,4 +1,4 @@
--- What is left at the ends of a round is of the six priorities, and may be answered.
+-- What is left at the ends of a round goes to whom it is left for, is of the six priorities, and may be answered.
 use Rattle.std.proofs.Common.{◌≡◌, ℕ, zero, suc, ◌+◌, ◌<◌, ◌≤◌, Bool, true, false, if◌then◌else◌, List, [], ◌∷◌, ◌++◌, length, slice_get, slice_index_or, Some, refl, sym, ap, ◌∙◌, subst, arith, ◌⊎◌, inl, inr}
 use Rattle.std.specs.Prelude.{◌-◌, All}
 use Rattle.std.specs.List.{AllByRecursion as Each}
@@ -15,13 +15,13 @@ use Rattle.mail_core.specs.SetUp.{AreFresh, IsLeft, of_controllers, at_priority,
 use Rattle.actor_merge.specs.Mail.{Lane, lane, is_lane, given}
 use Rattle.actor_merge.proofs.Lanes.{is_lane-true}
 use Rattle.controller_mail.specs.MailState.{HasPriority}
-use Rattle.controller_mail.specs.Within.{IsAnswerable, IsFrom}
+use Rattle.controller_mail.specs.Within.{IsAnswerable, IsFor, IsFrom}
 use Rattle.controller_actors.specs.declared.plant.Plant.{Plant}
 use Rattle.controller.specs.Controllers.{EndGoes, run_plant, state_in}
 use Rattle.controller.specs.View.{Controller}
 use Rattle.model_run.specs.run_rounds.Rounds.{EndDid, PostsAbove}
 use Rattle.model_run.specs.run_so_far.SoFar.{EndsPosted}
-use Rattle.model_run.specs.joined_round.ByPriority.{AreOfPriority, IsByPriority, AreByPriority, HavePriorities, AreAnswerable}
+use Rattle.model_run.specs.joined_round.ByPriority.{AreOfLane, IsByPriority, AreByPriority, AreForThem, HavePriorities, AreAnswerable}
 use Rattle.model_run.specs.joined_round.Joined.{HaveWorked, Seat}
 use Rattle.controller.proofs.Standing.{some_at}
 use Rattle.model_run.proofs.joined_round.JoinLaw.{same_there}
@@ -44,17 +44,19 @@ all_at P (x ∷ xs) (suc c) h = all_at P xs c h
 
 -- ---- what ends have posted
 
--- what entries give to a lane is of its priority
-given_of : (s r p : ℕ) (es : List Entry) → AreOfPriority p (given (lane s r p) s es)
+-- what entries give to a lane goes to its receiver, at its priority
+given_of : (s r p : ℕ) (es : List Entry) → AreOfLane r p (given (lane s r p) s es)
 given_of s r p [] = tt
 given_of s r p (entry.Start who state notes ∷ es) = given_of s r p es
 given_of s r p (entry.Fetch stamp m ∷ es) = given_of s r p es
 given_of s r p (entry.Turn stamp from sent did notes ∷ es) = given_of s r p es
 given_of s r p (entry.Post stamp m ∷ es) = go (is_lane (lane s r p) (lane s m.to.0 m.prio.0)) refl (given_of s r p es)
   where
-    go : (b : Bool) → is_lane (lane s r p) (lane s m.to.0 m.prio.0) ≡ b → AreOfPriority p (given (lane s r p) s es)
-        → AreOfPriority p ((if b then m ∷ [] else []) ++ given (lane s r p) s es)
-    go true e rest = (sym (ap (λ (l : Lane). l.priority) (is_lane-true (lane s r p) (lane s m.to.0 m.prio.0) e)), rest)
+    go : (b : Bool) → is_lane (lane s r p) (lane s m.to.0 m.prio.0) ≡ b → AreOfLane r p (given (lane s r p) s es)
+        → AreOfLane r p ((if b then m ∷ [] else []) ++ given (lane s r p) s es)
+    go true e rest =
+        let same : lane s r p ≡ lane s m.to.0 m.prio.0 = is_lane-true (lane s r p) (lane s m.to.0 m.prio.0) e in
+        ((sym (ap (λ (l : Lane). l.receiver) same), sym (ap (λ (l : Lane). l.priority) same)), rest)
     go false e rest = rest
 
 -- messages of a controller's lane come from it
@@ -81,20 +83,20 @@ none_of_system n s r (entry.Post stamp m ∷ es) a = go (is_lane (lane s r 0) (l
 goes_on : (n c : ℕ) (old new : EndLog) (es : List Entry) → EndGoes c old new es → ((r : ℕ) → Each (IsFrom n) (given (lane c r 0) c es)) → IsByPriority n old → IsByPriority n new
 goes_on n c old new es goes system before = record {
   own = λ r p.
-      subst (AreOfPriority p) (sym (goes.posted r p))
-      (each_append (λ (m : Msg). m.prio.0 ≡ p) (old.posted r p) (given (lane c r p) c es) (before.own r p) (given_of c r p es));
+      subst (AreOfLane r p) (sym (goes.posted r p))
+      (each_append (λ (m : Msg). IsFor r m × (m.prio.0 ≡ p)) (old.posted r p) (given (lane c r p) c es) (before.own r p) (given_of c r p es));
   system = λ r. subst (Each (IsFrom n)) (sym (goes.posted r 0)) (each_append (IsFrom n) (old.posted r 0) (given (lane c r 0) c es) (before.system r) (system r));
 }
 
 by_entries : (n c : ℕ) (log : EndLog) (es : List Entry) → EndDid c log es → PostsAbove es → IsByPriority n log
 by_entries n c log es did above = record {
-  own = λ r p. subst (AreOfPriority p) (sym (did.posted r p)) (given_of c r p es);
+  own = λ r p. subst (AreOfLane r p) (sym (did.posted r p)) (given_of c r p es);
   system = λ r. subst (Each (IsFrom n)) (sym (did.posted r 0)) (none_of_system n c r es above);
 }
 
 by_none : (n parties k : ℕ) (log : EndLog) → log ≡ fresh parties k → IsByPriority n log
 by_none n parties k log e = record {
-  own = λ r p. subst (λ (z : EndLog). AreOfPriority p (z.posted r p)) (sym e) tt;
+  own = λ r p. subst (λ (z : EndLog). AreOfLane r p (z.posted r p)) (sym e) tt;
   system = λ r. subst (λ (z : EndLog). Each (IsFrom n) (z.posted r 0)) (sym e) tt;
 }
 
@@ -134,13 +136,17 @@ all_worked plant olds mids logs logs' w before k h = go (cases_lt k (length olds
 
 -- ---- what is left
 
-low : (p : ℕ) (ms : List Msg) → p < 6 → AreOfPriority p ms → Each HasPriority ms
-low p [] h k = tt
-low p (m ∷ ms) h k = (omega (arith, k.0, h), low p ms h k.1)
+for_receiver : (r p : ℕ) (ms : List Msg) → AreOfLane r p ms → Each (IsFor r) ms
+for_receiver r p [] k = tt
+for_receiver r p (m ∷ ms) k = (k.0.0, for_receiver r p ms k.1)
 
-answerable : (n p : ℕ) (ms : List Msg) → AreOfPriority p ms → (p ≡ 0 → Each (IsFrom n) ms) → Each (IsAnswerable n) ms
-answerable n p [] h f = tt
-answerable n p (m ∷ ms) h f = (λ system. (f (sym h.0 ∙ system)).0, answerable n p ms h.1 (λ z. (f z).1))
+low : (r p : ℕ) (ms : List Msg) → p < 6 → AreOfLane r p ms → Each HasPriority ms
+low r p [] h k = tt
+low r p (m ∷ ms) h k = (omega (arith, k.0.1, h), low r p ms h k.1)
+
+answerable : (n r p : ℕ) (ms : List Msg) → AreOfLane r p ms → (p ≡ 0 → Each (IsFrom n) ms) → Each (IsAnswerable n) ms
+answerable n r p [] h f = tt
+answerable n r p (m ∷ ms) h f = (λ system. (f (sym h.0.1 ∙ system)).0, answerable n r p ms h.1 (λ z. (f z).1))
 
 module _ (P : Msg → Type 0) (n : ℕ) (left : ℕ → ℕ → List Msg) (each : (s p : ℕ) → s < n → p < 6 → Each P (left s p)) where
   of_controllers_each : (p k : ℕ) → p < 6 → k ≤ n → Each P (of_controllers (λ s. left s p) k)
@@ -162,29 +168,32 @@ module _ (logs : List EndLog) (answer : List (List Msg)) (l : IsLeft logs answer
   behind P s c p hs hc hp h = each_behind P ((log_at logs c).taken s p) (l.left s c p) (subst (Each P) (sym (l.kept s c p hs hc hp)) h)
 
   -- what holds of what is left in all lanes of a controller holds of what is left for it
-  for_each : (P : Msg → Type 0) → ((s c p : ℕ) → s < length logs → c + 1 < length logs → p < 6 → Each P (l.left s c p)) → (c : ℕ) → All P (slice_index_or answer c [])
+  for_each : (P : Msg → Type 0) (c : ℕ) → ((s p : ℕ) → s < length logs → c + 1 < length logs → p < 6 → Each P (l.left s c p)) → All P (slice_index_or answer c [])
   unfolding in_poll_order
-  for_each P lanes c = all_at P answer c here
+  for_each P c lanes = all_at P answer c here
     where
       here : (ms : List Msg) → slice_get answer c ≡ Some ms → All P ms
       here ms at =
           let within : c < length answer = slice_get_within answer c ms at in
           let inside : c + 1 < length logs = omega (arith, within, l.count) in
           let whole : Each P (priorities (length logs) (λ s p. l.left s c p) 6) =
-          priorities_each P (length logs) (λ s p. l.left s c p) (λ s p hs hp. lanes s c p hs inside hp) 6 (omega arith) (omega (arith, inside)) in
+          priorities_each P (length logs) (λ s p. l.left s c p) (λ s p hs hp. lanes s p hs inside hp) 6 (omega arith) (omega (arith, inside)) in
           let same : ms ≡ priorities (length logs) (λ s p. l.left s c p) 6 =
           same_there (slice_get answer c) ms (priorities (length logs) (λ s p. l.left s c p) 6) at (l.order c inside) in
           All-from_recursion P ms (subst (Each P) (sym same) whole)
 
   module _ (n : ℕ) (ranked : AreByPriority n logs) where
-    own : (s c p : ℕ) → s < length logs → c + 1 < length logs → p < 6 → AreOfPriority p (l.left s c p)
-    own s c p hs hc hp = behind (λ (m : Msg). m.prio.0 ≡ p) s c p hs hc hp ((ranked s hs).own c p)
+    own : (s c p : ℕ) → s < length logs → c + 1 < length logs → p < 6 → AreOfLane c p (l.left s c p)
+    own s c p hs hc hp = behind (λ (m : Msg). IsFor c m × (m.prio.0 ≡ p)) s c p hs hc hp ((ranked s hs).own c p)
+
+    pub left_for_them : AreForThem answer
+    left_for_them c = for_each (IsFor c) c (λ s p hs hc hp. for_receiver c p (l.left s c p) (own s c p hs hc hp))
 
     pub left_low : HavePriorities answer
-    left_low = for_each HasPriority (λ s c p hs hc hp. low p (l.left s c p) hp (own s c p hs hc hp))
+    left_low c = for_each HasPriority c (λ s p hs hc hp. low c p (l.left s c p) hp (own s c p hs hc hp))
 
     pub left_answerable : AreAnswerable n answer
-    left_answerable =
-        for_each (IsAnswerable n) (λ s c p hs hc hp.
-        answerable n p (l.left s c p) (own s c p hs hc hp)
+    left_answerable c =
+        for_each (IsAnswerable n) c (λ s p hs hc hp.
+        answerable n c p (l.left s c p) (own s c p hs hc hp)
         (λ z. behind (IsFrom n) s c p hs hc hp (subst (λ (q : ℕ). Each (IsFrom n) ((log_at logs s).posted c q)) (sym z) ((ranked s hs).system c))))

@@ -131,10 +131,6 @@ all_gone plant lines = drop_all (length lines) (items_of plant.wiring lines) (rw
 pub line_there : (lines : List Line) (at : ℕ) (x : Line) → x ≡ get_or lines at x → at < length lines → slice_get lines at ≡ Some x
 line_there lines at x e h = slice_get-get_or lines at x h ∙ ap Some (sym e)
 
--- no line of a part is a `settle`
-pub no_settle : (lines : List Line) (at : ℕ) (x : Line) → IsPart lines → x ≡ get_or lines at x → at < length lines → (get_or lines at x).what ≡ whats.Settle → ⊥
-no_settle lines at x part e h is = true≢false (sym (part at x h) ∙ ap is_message is)
-
 -- the line that was read asks for a message
 pub message_read : (plant : Plant) (lines : List Line) (at : ℕ) (x : Line) (target : Endpoint) (signal : ℕ) (payload : List ℤ) (prio : Priority) (m : Msg)
     → x ≡ get_or lines at x → at < length lines → (get_or lines at x).what ≡ whats.Message target signal payload prio → m ≡ injected plant.wiring target signal payload prio

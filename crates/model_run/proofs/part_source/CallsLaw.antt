@@ -76,30 +76,31 @@ grew_round plant ks news env logs logs' answer stand done = record {
   environment = ([], sym (append-nil env.journal));
 }
 
-module _ {S : Type 0} (goes_on : S → Seen → S → Type 0) where
+module _ {S : Type 0} (goes_on : S → Seen → S → Type 0) (stood : S → Seen → Type 0) where
   -- the journals grew
-  pub asked_grew : (start now : S) (before after : Seen) → Asked goes_on start now before → Grew before after → Asked goes_on start now after
+  pub asked_grew : (start now : S) (before after : Seen) → Asked goes_on stood start now before → Grew before after → Asked goes_on stood start now after
   asked_grew start now before after (never js) g = never after
-  asked_grew start now before after (once_more mid now' then js a h grew) g = once_more mid now' then after a h (grew_then then js after grew g)
+  asked_grew start now before after (once_more mid now' then js a s h grew) g = once_more mid now' then after a s h (grew_then then js after grew g)
 
-  asked_may : (start old new : S) (before after : Seen) → Asked goes_on start old before → MayAsk goes_on old before new → Grew before after → Asked goes_on start new after
+  asked_may : (start old new : S) (before after : Seen) → Asked goes_on stood start old before → MayAsk goes_on stood old before new → Grew before after → Asked goes_on stood start new after
   asked_may start old new before after a not_asked g = asked_grew start old before after a g
-  asked_may start old new before after a (asked now h) g = once_more old now before after a h g
+  asked_may start old new before after a (asked now s h) g = once_more old now before after a s h g
 
-  pub asked_then : (start old new : S) (before after : Seen) → Asked goes_on start old before → Asks goes_on old new before after → Asked goes_on start new after
+  pub asked_then : (start old new : S) (before after : Seen) → Asked goes_on stood start old before → Asks goes_on stood old new before after → Asked goes_on stood start new after
   asked_then start old new before after a k = asked_may start old new before after a k.may k.grew
 
   -- and then the journals grew more
-  pub asks_grew : (old new : S) (a b c : Seen) → Asks goes_on old new a b → Grew b c → Asks goes_on old new a c
+  pub asks_grew : (old new : S) (a b c : Seen) → Asks goes_on stood old new a b → Grew b c → Asks goes_on stood old new a c
   asks_grew old new a b c k g = record { may = k.may; grew = grew_then a b c k.grew g }
 
-  pub asks_none : (s : S) (js : Seen) → Asks goes_on s s js js
+  pub asks_none : (s : S) (js : Seen) → Asks goes_on stood s s js js
   asks_none s js = record { may = not_asked; grew = grew_none js }
 
 -- what a source keeps at each call it keeps over all of them
-pub asked_keeps : {S X : Type 0} (f : S → X) (start now : S) (js : Seen) → Asked (λ (old : S) (seen : Seen) (new : S). f new ≡ f old) start now js → f now ≡ f start
-asked_keeps f start now js (never js') = refl
-asked_keeps f start now js (once_more mid now' before js' a h g) = h ∙ asked_keeps f start mid before a
+pub asked_keeps : {S X : Type 0} (f : S → X) (stood : S → Seen → Type 0) (start now : S) (js : Seen)
+    → Asked (λ (old : S) (seen : Seen) (new : S). f new ≡ f old) stood start now js → f now ≡ f start
+asked_keeps f stood start now js (never js') = refl
+asked_keeps f stood start now js (once_more mid now' before js' a s h g) = h ∙ asked_keeps f stood start mid before a
 
 -- what follows from what a call that ends well ensures
 pub if_ok_then : {T E : Type 0} {P Q : T → Type 0} (r : Result T E) → ((x : T) → P x → Q x) → IfOk r P → IfOk r Q

@@ -36,9 +36,13 @@ use Rattle.model_run.specs.run_ends.Runs.MayBeLeft.{nothing, from_settle}
 use Rattle.model_run.specs.run_ends.Told.{journals_in, left_from, AreTold}
 use Rattle.model_run.proofs.run_ends.ToldLaw.{map_at, six_at, none_waits, all_empty, some_waits, six_lists, flat_nothing, left_rows, none_left, map_numbers}
 
+-- of what waits for controllers each message is at one of the six priorities
+abbrev pub WaitInSix : List Controller → Type 0
+WaitInSix ks = (c : ℕ) (k : Controller) → slice_get ks c ≡ Some k → flat_map (λ (p : ℕ). map (left c true) (pending_of k.mail.pending p)) priorities ≡ map (left c true) (messages_in k.mail.pending)
+
 module _ (plant : Plant) (gone rest : List Item) (fuel : ℕ) (ks : List Controller) (env : EnvironmentState) (done : Bool) (js : List (List Entry)) (ls : List Left)
     (a : IsAtEnd plant gone fuel ks env done)
-    (t : AreTold (length plant.wiring.controllers) ks [] js ls)
+    (journals_of : js ≡ journals_in ks) (left_told : ls ≡ left_from 0 ks) (in_six : WaitInSix ks)
     (whole_is : done ≡ true → rest ≡ []) (ends : EndsPart rest) where
   abbrev n : ℕ
   n = length plant.wiring.controllers
@@ -57,12 +61,6 @@ module _ (plant : Plant) (gone rest : List Item) (fuel : ℕ) (ks : List Control
 
   abbrev j : Journals
   j = record { controllers = js; environment = env.journal; left = ls; unposted = unposted; done = done }
-
-  journals_of : js ≡ journals_in ks
-  journals_of = sym (append-nil js) ∙ t.journals_are
-
-  left_told : ls ≡ left_from 0 ks
-  left_told = sym (append-nil ls) ∙ t.left_is
 
   count_is : length js ≡ n
   count_is = ap (λ (z : List (List Entry)). length z) journals_of ∙ length-map ks (λ (k : Controller). k.mail.journal) ∙ a.so_far.stand.count
@@ -104,9 +102,8 @@ module _ (plant : Plant) (gone rest : List Item) (fuel : ℕ) (ks : List Control
 
   left_at : (c : ℕ) (k : Controller) → slice_get ks c ≡ Some k → left_for plan w c ≡ map (left c true) (messages_in k.mail.pending)
   left_at c k e =
-      let lists = six_at ks c k (t.six tt) e in
       ap (λ (z : State (Body Actor)). flat_map (λ (p : ℕ). map (left c true) (z.pending p)) priorities ++ lanes_left c) (at_seat c k e)
-      ∙ ap (λ (z : List Left). z ++ lanes_left c) (six_lists (left c true) k.mail.pending lists)
+      ∙ ap (λ (z : List Left). z ++ lanes_left c) (in_six c k e)
       ∙ ap (λ (z : List Left). map (left c true) (messages_in k.mail.pending) ++ z) (no_lanes c)
       ∙ append-nil (map (left c true) (messages_in k.mail.pending))
 
@@ -205,17 +202,23 @@ ends_there : (t : Tables) (done : Bool) (rest : List Line) → MayBeLeft done re
 ends_there t done rest nothing = tt
 ends_there t done rest (from_settle l lines h) = subst (λ (z : Item). EndsPart (z ∷ items_of t lines)) (sym (settle_item t l.number l.what h)) tt
 
--- the same of what was told, with whatever may be left
-pub ran_told : (plant : Plant) (given rest : List Line) (fuel : ℕ) (ks : List Controller) (env : EnvironmentState) (done : Bool) (count : ℕ) (js : List (List Entry)) (ls : List Left)
-    → IsAtEnd plant (items_of plant.wiring given) fuel ks env done → count ≡ length plant.wiring.controllers → AreTold count ks [] js ls → MayBeLeft done rest
-    → IsRun plant (given ++ rest) fuel (record { controllers = js; environment = env.journal; left = ls; unposted = map (λ (l : Line). l.number) rest; done = done })
-ran_told plant given rest fuel ks env done count js ls a same t may =
-    let items = items_of plant.wiring rest in
-    let none : done ≡ true → items ≡ [] = λ e. ap (λ (z : List Line). items_of plant.wiring z) (none_left_over rest (subst (λ (z : Bool). MayBeLeft z rest) e may)) in
-    subst (λ (z : List ℕ). IsRun plant (given ++ rest) fuel (record { controllers = js; environment = env.journal; left = ls; unposted = z; done = done })) (map_numbers plant.wiring rest)
-    (is_run plant (items_of plant.wiring given) items fuel ks env done js ls a (subst (λ (z : ℕ). AreTold z ks [] js ls) same t) none (ends_there plant.wiring done rest may)
-    (given ++ rest) (map-append (λ (l : Line). item_of plant.wiring l.number l.what) given rest))
-
 -- the journals that were told are those that were seen
 pub journals_told : (count : ℕ) (ks : List Controller) (js : List (List Entry)) (ls : List Left) → AreTold count ks [] js ls → js ≡ journals_in ks
 journals_told count ks js ls t = sym (append-nil js) ∙ t.journals_are
+
+lefts_told : (count : ℕ) (ks : List Controller) (js : List (List Entry)) (ls : List Left) → AreTold count ks [] js ls → ls ≡ left_from 0 ks
+lefts_told count ks js ls t = sym (append-nil ls) ∙ t.left_is
+
+six_told : (count : ℕ) (ks : List Controller) (js : List (List Entry)) (ls : List Left) → AreTold count ks [] js ls → WaitInSix ks
+six_told count ks js ls t c k e = six_lists (left c true) k.mail.pending (six_at ks c k (t.six tt) e)
+
+-- the same of what was told, with whatever may be left
+pub ran_told : (plant : Plant) (given rest : List Line) (fuel : ℕ) (ks : List Controller) (env : EnvironmentState) (done : Bool) (count : ℕ) (js : List (List Entry)) (ls : List Left)
+    → IsAtEnd plant (items_of plant.wiring given) fuel ks env done → AreTold count ks [] js ls → MayBeLeft done rest
+    → IsRun plant (given ++ rest) fuel (record { controllers = js; environment = env.journal; left = ls; unposted = map (λ (l : Line). l.number) rest; done = done })
+ran_told plant given rest fuel ks env done count js ls a t may =
+    let items = items_of plant.wiring rest in
+    let none : done ≡ true → items ≡ [] = λ e. ap (λ (z : List Line). items_of plant.wiring z) (none_left_over rest (subst (λ (z : Bool). MayBeLeft z rest) e may)) in
+    subst (λ (z : List ℕ). IsRun plant (given ++ rest) fuel (record { controllers = js; environment = env.journal; left = ls; unposted = z; done = done })) (map_numbers plant.wiring rest)
+    (is_run plant (items_of plant.wiring given) items fuel ks env done js ls a (journals_told count ks js ls t) (lefts_told count ks js ls t) (six_told count ks js ls t) none (ends_there plant.wiring done rest may)
+    (given ++ rest) (map-append (λ (l : Line). item_of plant.wiring l.number l.what) given rest))

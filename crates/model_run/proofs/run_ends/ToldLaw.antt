@@ -105,6 +105,7 @@ none_left c (k ∷ ks) h =
 -- the numbers of lines
 number_is : (t : Tables) (n : ℕ) (w : What) → number_of (item_of t n w) ≡ n
 number_is t n whats.Settle = refl
+number_is t n (whats.Advance time) = refl
 number_is t n (whats.Message target signal payload prio) = refl
 
 -- the numbers of items are those of their lines

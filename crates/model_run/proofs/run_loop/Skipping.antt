@@ -15,6 +15,7 @@ use Rattle.model_run.specs.part_posts.Items.{item_of, items_of}
 -- the item of a `settle`
 pub settle_item : (t : Tables) (number : ℕ) (what : What) → is_message what ≡ false → item_of t number what ≡ Settle number
 settle_item t number whats.Settle h = refl
+settle_item t number (whats.Advance time) h = refl
 settle_item t number (whats.Message target signal payload prio) h = absurd cc
 
 -- one `settle` more

@@ -96,19 +96,19 @@ rest_unposted items rest posted q c ends =
     first (Settle number ∷ r) e = refl
 
 module _ {B : Type 0} (plant : Plant B) where
-  part_before-last : (line : ℕ) → part_before plant line ≡ last_part plant.lines line
+  pub part_before-last : (line : ℕ) → part_before plant line ≡ last_part plant.lines line
   part_before-last zero = refl
   part_before-last (suc line) = refl
 
-  begins-same : (line q : ℕ) → part_of plant line ≡ q → part_before plant line ≡ q → begins plant line ≡ false
+  pub begins-same : (line q : ℕ) → part_of plant line ≡ q → part_before plant line ≡ q → begins plant line ≡ false
   unfolding begins
   begins-same line q h k = rw (eq-eqb (part_of plant line) (part_before plant line) (h ∙ sym k)) refl
 
-  begins-later : (line q : ℕ) → part_of plant line ≡ q → part_before plant line < q → begins plant line ≡ true
+  pub begins-later : (line q : ℕ) → part_of plant line ≡ q → part_before plant line < q → begins plant line ≡ true
   unfolding begins
   begins-later line q h k = rw (ne_eqb (part_of plant line) (part_before plant line) (λ e. absurd (omega (arith, h, k, e)))) refl
 
-  caught_up-later : (w : World B) → begins plant w.environment.posted ≡ true → caught_up plant w ≡ record w.environment { clock = latest_of plant w }
+  pub caught_up-later : (w : World B) → begins plant w.environment.posted ≡ true → caught_up plant w ≡ record w.environment { clock = latest_of plant w }
   unfolding caught_up
   caught_up-later w h = rw h refl
 

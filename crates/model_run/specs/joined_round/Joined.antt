@@ -67,6 +67,10 @@ FetchedAt plant left c o o' = Changes (λ k k'. FetchesLeft plant k k' (slice_in
 abbrev pub TurnedAt : Plant → ℕ → Option Controller → Option Controller → Type 0
 TurnedAt plant c o o' = Changes (λ k k'. LastTurn plant k k' × IsOf plant k') o o'
 
+-- each controller stands at its number
+abbrev pub AreInOrder : List Controller → Type 0
+AreInOrder ks = (c : ℕ) (k : Controller) → slice_get ks c ≡ Some k → k.me.0 ≡ c
+
 -- controllers of the plant that have nothing left to post
 abbrev pub HavePosted : Plant → List Controller → Type 0
 HavePosted plant ks = (c : ℕ) (k : Controller) → slice_get ks c ≡ Some k → IsOf plant k × (k.mail.outbox ≡ [])

@@ -23,9 +23,10 @@ injected t target signal payload prio = record {
   payload = payload;
 }
 
--- what a line asks for, under its number
+-- what a line asks for, under its number: an `advance` is a `settle`, and its time is for the source of the lines
 abbrev pub item_of : Tables → ℕ → What → Item
 item_of t number whats.Settle = Settle number
+item_of t number (whats.Advance time) = Settle number
 item_of t number (whats.Message target signal payload prio) = Message number (injected t target signal payload prio)
 
 -- the items of an injection text

@@ -30,7 +30,7 @@ pub record IsRun (plant : Plant) (lines : List Line) (fuel : ℕ) (j : Journals)
   pub prompt : IsPrompt (length plant.wiring.controllers) (journal_of j)
   pub ended : IsEnded (run_plant plant (lines_of (items_of plant.wiring lines))) (items_of plant.wiring lines) fuel world j.left j.unposted j.done
 
--- what may be left of the lines where a run ended: nothing; or, where it isn't done, lines from a `settle` on
+-- what may be left of the lines where a run ended: nothing; or, where it isn't done, lines from one without a message on
 pub data MayBeLeft : Bool → List Line → Type 0 where
   nothing : {done : Bool} → MayBeLeft done []
   from_settle : (l : Line) (rest : List Line) → is_message l.what ≡ false → MayBeLeft false (l ∷ rest)

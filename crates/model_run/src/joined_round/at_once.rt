@@ -3,12 +3,14 @@ ghost use Rattle.std.specs.Prelude.{◌≡◌, ◌+◌, map, length, IfOk};
 ghost use Rattle.model_run.specs.joined_round.Joined.{AllStand, HaveWorked};
 
 use crate::joined_round::halves::work_halves;
+use crate::joined_round::seat::Shared;
 use crate::joined_round::seats::{seated, unseated};
 use controller::{Controller, Plant};
 use mail_core::Mail;
 use room_outside::Gate;
 use std::alloc::{AllocError, Global};
 use std::mem;
+use std::sync::atomic::AtomicU32;
 use std::thread::Threads;
 
 /// All controllers work at once, each with its end. It answers the ends, the environment's last. After a
@@ -34,7 +36,11 @@ pub(crate) fn work_at_once<M: Mail<Office = ()> + Send + Drop, G: Gate + Sync, R
     };
     let idle = mem::replace(controllers, Vec::new(alloc));
     let mut seats = seated(alloc, plant.wiring.controller_count(), idle, ends)?;
-    work_halves(rt, plant, gate, seats.as_mut_slice())?;
+    let shared = Shared {
+        gate,
+        busy: AtomicU32::new(u32::from(plant.wiring.controller_count())),
+    };
+    work_halves(rt, plant, &shared, seats.as_mut_slice())?;
     let (worked, mut after) = unseated(alloc, seats)?;
     *controllers = worked;
     after.push(environment)?;

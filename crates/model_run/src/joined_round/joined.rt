@@ -3,8 +3,8 @@ ghost use Rattle.std.specs.Prelude.{◌≡◌, ℕ, [], map, false, length, slic
 ghost use Rattle.model_run.specs.run_rounds.OneByOne.{StepsBelow};
 ghost use Rattle.controller.specs.Controllers.{IsOf};
 ghost use Rattle.controller.specs.View.{Controller as Seated};
-ghost use Rattle.model_run.specs.joined_round.ByPriority.{AreAnswerable, HavePriorities};
-ghost use Rattle.model_run.specs.joined_round.Joined.{FetchedAt, TurnedAt, LastTurn, IsReady};
+ghost use Rattle.model_run.specs.joined_round.ByPriority.{AreAnswerable, AreForThem, HavePriorities};
+ghost use Rattle.model_run.specs.joined_round.Joined.{AreInOrder, FetchedAt, TurnedAt, LastTurn, IsReady};
 
 use controller::{Controller, Plant};
 use room_kinds::Msg;
@@ -21,6 +21,8 @@ pub(crate) fn fetch_all(
     requires of { (c : ℕ) (k : Seated) → slice_get controllers.old.items c ≡ Some k
         → IsOf plant.now k }
     requires count { length left.items ≡ length controllers.old.items }
+    requires in_order { AreInOrder controllers.old.items }
+    requires to { AreForThem (map (λ v. v.items) left.items) }
     requires priorities { HavePriorities (map (λ v. v.items) left.items) }
     requires answerable { AreAnswerable (length plant.now.wiring.controllers) (map (λ v. v.items)
         left.items) }

@@ -3,7 +3,7 @@ ghost use Rattle.std.specs.Prelude.{◌≡◌, ◌+◌, List, map, length, OnOk}
 ghost use Rattle.room_kinds.specs.declared.message.Msg.{Msg as Message};
 ghost use Rattle.mail_core.specs.EndLog.{EndLog};
 ghost use Rattle.model_run.specs.joined_round.ByPriority.{AreByPriority};
-ghost use Rattle.model_run.specs.joined_round.Joined.{AllStand, HavePosted, AreJoined, RoundDone};
+ghost use Rattle.model_run.specs.joined_round.Joined.{AllStand, AreInOrder, HavePosted, AreJoined, RoundDone};
 
 use crate::joined_round::at_once::work_at_once;
 use crate::joined_round::joined::{fetch_all, turn_all};
@@ -22,6 +22,7 @@ fn join_all<M: Mail>(
     office: M::Office,
     ends: Vec<M>,
 ) -> Result<(), AllocError>
+    requires in_order { AreInOrder controllers.old.items }
     requires posted { HavePosted plant.now controllers.old.items }
     requires count { length ends.items ≡ length controllers.old.items + 1 }
     requires tied { M.tied office ends.items }

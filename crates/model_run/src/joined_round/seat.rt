@@ -3,10 +3,12 @@ ghost use Rattle.std.specs.Prelude.{◌≡◌, OnOk};
 
 use crate::joined_round::halves::Works;
 use crate::run_worker::work;
+use crate::worker_pauses::SharedPauses;
 use controller::{Controller, Plant};
 use mail_core::Mail;
 use room_outside::{ControllerNo, Gate};
 use std::alloc::AllocError;
+use std::sync::atomic::AtomicU32;
 
 /// A controller with its end of the mail, while its worker may be on another thread.
 #[derive(Drop)]
@@ -17,21 +19,33 @@ pub(crate) struct Seat<M> {
     pub(crate) end: M,
 }
 
-impl<M: Mail<Office = ()>, G: Gate> Works<Plant, G> for Seat<M> {
+/// What the workers of a round share.
+#[derive(Drop)]
+pub(crate) struct Shared<'g, G> {
+    pub(crate) gate: &'g G,
+    /// How many of them have something to do.
+    pub(crate) busy: AtomicU32,
+}
+
+impl<'g, M: Mail<Office = ()>, G: Gate> Works<Plant, Shared<'g, G>> for Seat<M> {
     ghost use Rattle.model_run.specs.joined_round.Seats.{CanWork, HasWorked};
 
     ghost can = { CanWork M.log M.tied };
 
     ghost did = { HasWorked M.log M.tied };
 
-    fn work(&mut self, plant: &Plant, gate: &G) -> Result<(), AllocError> {
-        work(
+    fn work(&mut self, plant: &Plant, shared: &Shared<'g, G>) -> Result<(), AllocError> {
+        let mut pauses = SharedPauses::new(&shared.busy);
+        let worked = work(
             self.number,
             &mut self.controller,
             plant,
             &mut (),
             &mut self.end,
-            gate,
-        )
+            shared.gate,
+            &mut pauses,
+        );
+        pauses.end();
+        worked
     }
 }

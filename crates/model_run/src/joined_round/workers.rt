@@ -3,6 +3,7 @@ ghost use Rattle.std.specs.Prelude.{◌≡◌, ◌+◌, map, length, OnOk};
 ghost use Rattle.model_run.specs.joined_round.Joined.{AllStand, HaveWorked};
 
 use crate::run_worker::work;
+use crate::worker_pauses::NoPauses;
 use controller::{Controller, Plant};
 use mail_core::Mail;
 use room_outside::OpenGate;
@@ -31,6 +32,7 @@ pub(crate) fn work_in_order<M: Mail>(
             office,
             &mut ends[place],
             &OpenGate,
+            &mut NoPauses,
         )?;
     }
     Ok(())

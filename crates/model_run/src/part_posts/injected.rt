@@ -8,7 +8,7 @@ use std::alloc::{AllocError, Global};
 
 /// The message that a line asks for, to the owner of its target, who is there.
 #[tactic(auto, unfolding(actor_duties::specs::Words::owner_of))]
-pub(crate) fn message_from_outside(
+pub fn message_from_outside(
     alloc: Global,
     plant: &Plant,
     target: Endpoint,

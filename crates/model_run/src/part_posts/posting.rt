@@ -1,6 +1,6 @@
 //! Posts of a part.
 ghost use Rattle.std.specs.Prelude.{◌≡◌, ◌+◌, length, OnOk};
-ghost use Rattle.inject_reader.specs.Fitting.{FitLines};
+ghost use Rattle.inject_reader.specs.Fitting.{LinesFit};
 ghost use Rattle.mail_core.specs.Tied.{IsTied, StaysTied};
 ghost use Rattle.model_run.specs.part_source.Parts.{IsPart};
 ghost use Rattle.model_run.specs.part_posts.Posting.{PostsThePart};
@@ -24,7 +24,7 @@ pub fn post_part<M: Mail>(
     requires parties { (M.log end.old).parties ≡ length plant.now.wiring.controllers + 1 }
     requires tied { IsTied M.tied (M.log end.old).party office.old end.old }
     requires part { IsPart part.now }
-    requires fits { FitLines plant.now.wiring part.now }
+    requires fits { LinesFit plant.now.wiring part.now }
     ensures ok { OnOk result (PostsThePart plant.now part.now environment.old environment.new
         (M.log end.old) (M.log end.new)) }
     ensures tied { StaysTied M.tied (M.log end.old).party office.old office.new end.old end.new }

@@ -2,7 +2,7 @@
 ghost use Rattle.std.specs.Prelude.{◌≡◌, ◌+◌, ◌<◌, true, map, length, IfOk, OnOk, IfSome, IfNone};
 ghost use Rattle.std.specs.List.{list_all};
 ghost use Rattle.model_run.specs.part_posts.Items.{items_of};
-ghost use Rattle.model_run.specs.part_source.Calls.{seen, Asks};
+ghost use Rattle.model_run.specs.part_source.Calls.{seen, StoodQuiet, Asks};
 ghost use Rattle.model_run.specs.run_loop.Plays.{InPart, rests};
 ghost use Rattle.model_run.specs.run_loop.Runs.{StandsBetween, IsInRound, IsOver, StandsAtPart, StaysAtPart, RoundBegins};
 
@@ -34,7 +34,8 @@ fn next_part<S: PartSource>(
     ensures some { IfOk result (λ more. more ≡ true → 0 < length (S.stands_at source.new)) }
     ensures stays { OnOk result (StaysAtPart run.old run.new) }
     ensures asks { IfOk result (λ more.
-        Asks S.goes_on source.old source.new (seen run.old.controllers.items run.old.environment)
+        Asks S.goes_on (λ s journals. StoodQuiet plant.now (S.given s) fuel journals)
+        source.old source.new (seen run.old.controllers.items run.old.environment)
         (seen run.new.controllers.items run.new.environment)) }
 {
     if someone_waits(&run.controllers) {
@@ -74,7 +75,8 @@ where
         IfNone next (IsOver plant.now (S.given source.new) (S.left source.new) fuel run.new)) }
     ensures fits { OnOk result (S.fits plant.now.wiring source.new) }
     ensures asks { IfOk result (λ next.
-        Asks S.goes_on source.old source.new (seen run.old.controllers.items run.old.environment)
+        Asks S.goes_on (λ s journals. StoodQuiet plant.now (S.given s) fuel journals)
+        source.old source.new (seen run.old.controllers.items run.old.environment)
         (seen run.new.controllers.items run.new.environment)) }
 {
     if run.in_part {

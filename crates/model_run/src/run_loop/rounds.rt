@@ -1,6 +1,6 @@
 //! The beginning of a round, with a mail of its own.
 ghost use Rattle.std.specs.Prelude.{◌≡◌, ◌+◌, map, length, IfOk, OnOk};
-ghost use Rattle.inject_reader.specs.Fitting.{FitLines};
+ghost use Rattle.inject_reader.specs.Fitting.{LinesFit};
 ghost use Rattle.mail_core.specs.SetUp.{AreFresh};
 ghost use Rattle.model_run.specs.part_posts.Items.{items_of};
 ghost use Rattle.model_run.specs.part_source.Calls.{seen, Grew};
@@ -37,7 +37,7 @@ fn post_at_last<M: Mail>(
     requires fresh { AreFresh (length plant.now.wiring.controllers + 1) (map M.log ends.old.items) }
     requires tied { M.tied office.old ends.old.items }
     requires part { IsPart part.now }
-    requires fits { FitLines plant.now.wiring part.now }
+    requires fits { LinesFit plant.now.wiring part.now }
     ensures posted { OnOk result (PartPosted plant.now part.now environment.old environment.new
         (map M.log ends.new.items)) }
     ensures tied { M.tied office.new ends.new.items }

@@ -5,7 +5,7 @@ use Rattle.room_outside.specs.declared.line_text.part.Part.{Part}
 use Rattle.room_outside.specs.line_text.Parts.{part_text, part_texts}
 use Rattle.std.proofs.lemmas.List.{at_drop_more, at_drop_all, take-append-drop}
 use Rattle.room_outside.specs.Written.{Written}
-use Rattle.room_outside.specs.line_text.Output.{Output, Put, Breaks}
+use Rattle.room_outside.specs.line_text.Output.{Held, Output, Stop, Put, Breaks, holding}
 use Rattle.room_outside.proofs.line_text.OutputLemmas.{put_none, put_held, put_two, breaks_first, breaks_second}
 
 -- of the whole, all but the rest was put
@@ -25,9 +25,9 @@ going_on a b c whole x rest g p = record {
 }
 
 -- room was made in the buffer, and a front of what is left went in
-pub going_fills : (a b : Output) (w : Written) (held whole rest : List ℕ) (n : ℕ)
+pub going_fills : (a b : Output) (w : Written) (held : Held) (whole rest : List ℕ) (n : ℕ)
     → Going a b whole rest → Put b (record { written = w; held = held }) []
-    → Going a (record { written = w; held = held ++ take n rest }) whole (drop n rest)
+    → Going a (record { written = w; held = holding held (take n rest) }) whole (drop n rest)
 going_fills a b w held whole rest n g p = record {
   done = g.done ++ take n rest;
   put = put_two _ _ _ g.done (take n rest) g.put (put_two _ _ _ [] (take n rest) p (put_held w held (take n rest)));
@@ -37,7 +37,7 @@ going_fills a b w held whole rest n g p = record {
 pub going_end : (a b : Output) (whole : List ℕ) → Going a b whole [] → Put a b whole
 going_end a b whole g = rw (g.split, append-nil g.done) g.put
 
-pub going_breaks : (a b : Output) (w : Written) (whole x rest : List ℕ) → Going a b whole (x ++ rest) → Breaks b w x → Breaks a w whole
+pub going_breaks : (a b : Output) (w : Stop) (whole x rest : List ℕ) → Going a b whole (x ++ rest) → Breaks b w x → Breaks a w whole
 going_breaks a b w whole x rest g p =
     rw g.split (breaks_second a b w g.done (x ++ rest) g.put (breaks_first b w x rest p))
 

@@ -4,74 +4,104 @@ ghost use Rattle.std.specs.Fmt.{signed_decimal};
 ghost use Rattle.room_outside.specs.line_text.Lines.{numbers_text};
 ghost use Rattle.std.specs.List.{concat};
 ghost use Rattle.room_outside.specs.line_text.Parts.{part_text, part_texts};
-ghost use Rattle.room_outside.specs.line_text.Output.{Puts, at_rest};
+ghost use Rattle.room_outside.specs.Faults.{last_count};
+ghost use Rattle.room_outside.specs.line_text.Output.{Held, Counts, Puts, at_rest, emptied, holding, new_held};
 
 use crate::line_text::laying::{
     PIECE, Piece, lay_four, lay_number, lay_part, lay_signed, lay_three, lay_two,
 };
 use crate::line_text::part::{Part, most_of_number, most_of_signed};
-use crate::{Sink, WriteFault, write_whole};
+use crate::{Failed, Sink, WriteFault, write_whole};
 use itoa::Buffer;
 use std::marker::Model;
 
-/// The bytes of a line that were not written yet, at most a piece.
+/// The bytes of a line that were not written yet, at most a piece, and how many bytes the sink has
+/// taken from the buffer in all: with one buffer for a whole text, this is what a fault tells.
 #[derive(Drop)]
 pub struct LineBuffer {
     bytes: Piece,
     len: usize,
+    // It stands still at its last value.
+    taken: usize,
 }
 
 impl Model for LineBuffer {
-    ghost use Rattle.std.specs.Prelude.{List, ℕ, ◌≤◌, take};
+    ghost use Rattle.std.specs.Prelude.{◌≤◌, take};
+    ghost use Rattle.room_outside.specs.line_text.Output.{Held};
 
-    ghost Value = { List ℕ };
+    ghost Value = { Held };
 
-    ghost view = { λ b. take b.len b.bytes };
+    ghost view = { λ b. record { bytes = take b.len b.bytes; taken = b.taken } };
 
     ghost invariant = { λ b. b.len ≤ 4096 };
 }
 
 impl LineBuffer {
     pub fn new() -> LineBuffer
-        ensures { result ≡ [] }
+        ensures { result ≡ new_held }
     {
         LineBuffer {
             bytes: [0; PIECE],
             len: 0,
+            taken: 0,
         }
+    }
+
+    /// The fault of a text that went through this buffer alone.
+    pub fn fault(&self) -> WriteFault
+        ensures taken { result.taken ≡ self.now.taken }
+        ensures range { result.taken ≤ last_count }
+    {
+        WriteFault::after(self.taken)
     }
 
     /// Forgets what the buffer holds.
     pub fn clear(&mut self)
-        ensures { self.new ≡ [] }
+        ensures { self.new ≡ emptied self.old }
     {
         self.len = 0;
+    }
+
+    /// Counts bytes that the sink took.
+    fn count(&mut self, more: usize)
+        ensures bytes { self.new.bytes ≡ self.old.bytes }
+        ensures count { Counts self.old.taken self.new.taken more }
+    {
+        self.taken = self.taken.saturating_add(more);
     }
 
     /// Writes what the buffer holds.
     #[inline(never)]
-    pub fn flush<K: Sink>(&mut self, sink: &mut K) -> Result<(), WriteFault>
+    pub fn flush<K: Sink>(&mut self, sink: &mut K) -> Result<(), Failed>
         ensures puts { Puts result
             (record { written = K.written sink.old; held = self.old })
-            (at_rest (K.written sink.new)) [] }
-        ensures empty { OnOk result (self.new ≡ []) }
+            (record { written = K.written sink.new; held = self.new }) [] }
+        ensures empty { OnOk result (self.new.bytes ≡ []) }
     {
-        write_whole(sink, &self.bytes[..self.len])?;
-        self.len = 0;
-        Ok(())
+        match write_whole(sink, &self.bytes[..self.len]) {
+            Ok(()) => {
+                self.count(self.len);
+                self.clear();
+                Ok(())
+            }
+            Err(fault) => {
+                self.count(fault.taken);
+                Err(Failed)
+            }
+        }
     }
 
     fn is_full(&self) -> bool
-        ensures full { result ≡ (length self.now == 4096) }
-        ensures within { length self.now ≤ 4096 }
+        ensures full { result ≡ (length self.now.bytes == 4096) }
+        ensures within { length self.now.bytes ≤ 4096 }
     {
         self.len == PIECE
     }
 
     #[inline(always)]
     fn push(&mut self, byte: u8)
-        requires { length self.old < 4096 }
-        ensures { self.new ≡ self.old ++ byte ∷ [] }
+        requires { length self.old.bytes < 4096 }
+        ensures { self.new ≡ holding self.old (byte ∷ []) }
     {
         self.bytes[self.len] = byte;
         self.len += 1;
@@ -80,7 +110,7 @@ impl LineBuffer {
     /// Whether there is room for so many bytes.
     #[inline(always)]
     fn has_room(&self, bytes: usize) -> bool
-        ensures { IsTrue result ↔ (length self.now + bytes ≤ 4096) }
+        ensures { IsTrue result ↔ (length self.now.bytes + bytes ≤ 4096) }
     {
         bytes <= PIECE - self.len
     }
@@ -88,8 +118,8 @@ impl LineBuffer {
     /// Takes bytes for which there is room.
     #[inline(always)]
     fn append(&mut self, bytes: &[u8])
-        requires { length self.old + length bytes.now ≤ 4096 }
-        ensures { self.new ≡ self.old ++ bytes.now }
+        requires { length self.old.bytes + length bytes.now ≤ 4096 }
+        ensures { self.new ≡ holding self.old bytes.now }
     {
         let end = self.len + bytes.len();
         self.bytes[self.len..end].copy_from_slice(bytes);
@@ -98,8 +128,9 @@ impl LineBuffer {
 
     /// Takes as many of the bytes as there is room for, and gives those that are left.
     fn fill<'a>(&mut self, bytes: &'a [u8]) -> &'a [u8]
-        ensures held { self.new ≡ self.old ++ take (4096 - length self.old) bytes.now }
-        ensures left { result.now ≡ drop (4096 - length self.old) bytes.now }
+        ensures held { self.new
+            ≡ holding self.old (take (4096 - length self.old.bytes) bytes.now) }
+        ensures left { result.now ≡ drop (4096 - length self.old.bytes) bytes.now }
     {
         let count = bytes.len().min(PIECE - self.len);
         let (front, rest) = bytes.split_at(count);
@@ -109,11 +140,11 @@ impl LineBuffer {
 
     /// Writes a full buffer.
     #[inline(always)]
-    fn make_room<K: Sink>(&mut self, sink: &mut K) -> Result<(), WriteFault>
+    fn make_room<K: Sink>(&mut self, sink: &mut K) -> Result<(), Failed>
         ensures puts { Puts result
             (record { written = K.written sink.old; held = self.old })
             (record { written = K.written sink.new; held = self.new }) [] }
-        ensures room { OnOk result (length self.new < 4096) }
+        ensures room { OnOk result (length self.new.bytes < 4096) }
     {
         if self.is_full() {
             return self.flush(sink);
@@ -122,7 +153,7 @@ impl LineBuffer {
     }
 
     #[inline(always)]
-    fn put_byte<K: Sink>(&mut self, sink: &mut K, byte: u8) -> Result<(), WriteFault>
+    fn put_byte<K: Sink>(&mut self, sink: &mut K, byte: u8) -> Result<(), Failed>
         ensures { Puts result
             (record { written = K.written sink.old; held = self.old })
             (record { written = K.written sink.new; held = self.new })
@@ -134,7 +165,7 @@ impl LineBuffer {
     }
 
     /// Adds bytes to the line. Whole pieces are written as the line goes on.
-    pub fn put<K: Sink>(&mut self, sink: &mut K, bytes: &[u8]) -> Result<(), WriteFault>
+    pub fn put<K: Sink>(&mut self, sink: &mut K, bytes: &[u8]) -> Result<(), Failed>
         ensures { Puts result
             (record { written = K.written sink.old; held = self.old })
             (record { written = K.written sink.new; held = self.new })
@@ -149,7 +180,7 @@ impl LineBuffer {
 
     /// Adds bytes, and writes each piece that they fill.
     #[inline(never)]
-    fn put_pieces<K: Sink>(&mut self, sink: &mut K, bytes: &[u8]) -> Result<(), WriteFault>
+    fn put_pieces<K: Sink>(&mut self, sink: &mut K, bytes: &[u8]) -> Result<(), Failed>
         ensures { Puts result
             (record { written = K.written sink.old; held = self.old })
             (record { written = K.written sink.new; held = self.new })
@@ -164,7 +195,7 @@ impl LineBuffer {
     }
 
     /// Adds a number.
-    pub fn put_number<K: Sink>(&mut self, sink: &mut K, number: u64) -> Result<(), WriteFault>
+    pub fn put_number<K: Sink>(&mut self, sink: &mut K, number: u64) -> Result<(), Failed>
         ensures { Puts result
             (record { written = K.written sink.old; held = self.old })
             (record { written = K.written sink.new; held = self.new })
@@ -179,7 +210,7 @@ impl LineBuffer {
     }
 
     /// Adds a number with its sign.
-    pub fn put_signed<K: Sink>(&mut self, sink: &mut K, number: &i64) -> Result<(), WriteFault>
+    pub fn put_signed<K: Sink>(&mut self, sink: &mut K, number: &i64) -> Result<(), Failed>
         ensures { Puts result
             (record { written = K.written sink.old; held = self.old })
             (record { written = K.written sink.new; held = self.new })
@@ -195,7 +226,7 @@ impl LineBuffer {
     }
 
     /// Adds a number with a blank before it.
-    fn put_after_blank<K: Sink>(&mut self, sink: &mut K, number: &i64) -> Result<(), WriteFault>
+    fn put_after_blank<K: Sink>(&mut self, sink: &mut K, number: &i64) -> Result<(), Failed>
         ensures { Puts result
             (record { written = K.written sink.old; held = self.old })
             (record { written = K.written sink.new; held = self.new })
@@ -206,7 +237,7 @@ impl LineBuffer {
     }
 
     /// Adds numbers, each with a blank before it.
-    pub fn put_numbers<K: Sink>(&mut self, sink: &mut K, numbers: &[i64]) -> Result<(), WriteFault>
+    pub fn put_numbers<K: Sink>(&mut self, sink: &mut K, numbers: &[i64]) -> Result<(), Failed>
         ensures { Puts result
             (record { written = K.written sink.old; held = self.old })
             (record { written = K.written sink.new; held = self.new })
@@ -220,7 +251,7 @@ impl LineBuffer {
 
     /// Adds a part of a line.
     #[inline(always)]
-    fn put_part<K: Sink>(&mut self, sink: &mut K, part: Part) -> Result<(), WriteFault>
+    fn put_part<K: Sink>(&mut self, sink: &mut K, part: Part) -> Result<(), Failed>
         ensures { Puts result
             (record { written = K.written sink.old; held = self.old })
             (record { written = K.written sink.new; held = self.new })
@@ -235,7 +266,7 @@ impl LineBuffer {
 
     /// Adds a part for which there may be no room.
     #[inline(never)]
-    fn put_long<K: Sink>(&mut self, sink: &mut K, part: Part) -> Result<(), WriteFault>
+    fn put_long<K: Sink>(&mut self, sink: &mut K, part: Part) -> Result<(), Failed>
         ensures { Puts result
             (record { written = K.written sink.old; held = self.old })
             (record { written = K.written sink.new; held = self.new })
@@ -252,7 +283,7 @@ impl LineBuffer {
     /// Adds a part of a line. With the three that follow, parts that are known where they are called
     /// cost no more than their bytes, and one test of the room is for them all.
     #[inline(always)]
-    pub fn put_one<K: Sink>(&mut self, sink: &mut K, part: Part) -> Result<(), WriteFault>
+    pub fn put_one<K: Sink>(&mut self, sink: &mut K, part: Part) -> Result<(), Failed>
         ensures { Puts result
             (record { written = K.written sink.old; held = self.old })
             (record { written = K.written sink.new; held = self.new })
@@ -263,7 +294,7 @@ impl LineBuffer {
 
     /// Adds two parts of a line.
     #[inline(always)]
-    pub fn put_two<K: Sink>(&mut self, sink: &mut K, a: Part, b: Part) -> Result<(), WriteFault>
+    pub fn put_two<K: Sink>(&mut self, sink: &mut K, a: Part, b: Part) -> Result<(), Failed>
         ensures { Puts result
             (record { written = K.written sink.old; held = self.old })
             (record { written = K.written sink.new; held = self.new })
@@ -284,7 +315,7 @@ impl LineBuffer {
         a: Part,
         b: Part,
         c: Part,
-    ) -> Result<(), WriteFault>
+    ) -> Result<(), Failed>
         ensures { Puts result
             (record { written = K.written sink.old; held = self.old })
             (record { written = K.written sink.new; held = self.new })
@@ -306,7 +337,7 @@ impl LineBuffer {
         b: Part,
         c: Part,
         d: Part,
-    ) -> Result<(), WriteFault>
+    ) -> Result<(), Failed>
         ensures { Puts result
             (record { written = K.written sink.old; held = self.old })
             (record { written = K.written sink.new; held = self.new })
@@ -320,7 +351,7 @@ impl LineBuffer {
     }
 
     /// Adds the parts of a line.
-    pub fn put_all<K: Sink>(&mut self, sink: &mut K, parts: &[Part]) -> Result<(), WriteFault>
+    pub fn put_all<K: Sink>(&mut self, sink: &mut K, parts: &[Part]) -> Result<(), Failed>
         ensures { Puts result
             (record { written = K.written sink.old; held = self.old })
             (record { written = K.written sink.new; held = self.new })
@@ -333,10 +364,10 @@ impl LineBuffer {
     }
 
     /// Ends the line, and writes what the buffer holds.
-    pub fn end_line<K: Sink>(&mut self, sink: &mut K) -> Result<(), WriteFault>
+    pub fn end_line<K: Sink>(&mut self, sink: &mut K) -> Result<(), Failed>
         ensures { Puts result
             (record { written = K.written sink.old; held = self.old })
-            (at_rest (K.written sink.new)) (10 ∷ []) }
+            (at_rest (K.written sink.new) self.new) (10 ∷ []) }
     {
         self.put_byte(sink, b'\n')?;
         self.flush(sink)

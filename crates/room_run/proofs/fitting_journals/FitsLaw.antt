@@ -33,7 +33,7 @@ use Rattle.law_runs.proofs.run_journals.InPlaceLaw.{adds, journal_is, each_flat,
 use Rattle.law_runs.proofs.run_journals.OnePost.{none_in, as_first, as_later}
 use Rattle.law_runs.proofs.run_journals.OneRun.{queue}
 use Rattle.law_runs.proofs.run_journals.Waiting.{all_counted, each_behind, each_weaker}
-use Rattle.room_run.specs.fitting_plants.Lines.{LinesFit}
+use Rattle.inject_reader.specs.Fitting.{LinesFit}
 use Rattle.room_run.specs.fitting_plants.Plants.{PlantFits}
 use Rattle.room_run.specs.fitting_journals.Fitting.{JournalsInPlace, FittingRunsAreInPlace, FittingJournalsFit}
 use Rattle.room_run.specs.fitting_journals.Actors.{FitsActor, TellsOfActors}

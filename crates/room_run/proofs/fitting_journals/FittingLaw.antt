@@ -3,9 +3,6 @@ use Rattle.std.proofs.Common.{◌≡◌, ℕ, zero, suc, ◌<◌, List, [], ◌�
 use Rattle.std.specs.Option.{option_map_or}
 use Rattle.room_wiring.specs.declared.slot.Slot.{Slot}
 use Rattle.room_wiring.specs.declared.tables.Tables.{Tables as Wired}
-use Rattle.inject_reader.specs.declared.inject_lines.accepted.Line.{Line}
-use Rattle.inject_reader.specs.declared.inject_lines.accepted.What.{What}
-use Rattle.inject_reader.specs.declared.inject_lines.accepted.What.TheVariants as whats
 use Rattle.actor_duties.specs.Words.{owner_of}
 use Rattle.law_sends.specs.Sends.{OwnersAreThere, is_ranked}
 use Rattle.chart_behaviour.specs.Asked.{ClassesAsk}
@@ -17,26 +14,15 @@ use Rattle.law_models.proofs.settled_models.Models.{models_ranked}
 use Rattle.law_models.specs.joined_ports.Protocols.{ModelsJoinOneProtocol, ModelsLinkOneProtocol}
 use Rattle.law_models.specs.settled_models.Wirings.{ModelsHaveOwners, ModelsAreMutual}
 use Rattle.law_charts.specs.Charts.{ShowsChart, ShowCharts}
-use Rattle.law_runs.specs.run_journals.Outside.{WhatNames, LinesName}
+use Rattle.law_runs.specs.run_journals.Outside.{LinesName}
 use Rattle.law_runs.proofs.run_journals.InPlaceLaw.{in_place}
-use Rattle.law_runs.proofs.run_journals.OutsideLaw.{line_names, environment_fits}
+use Rattle.law_runs.proofs.run_journals.OutsideLaw.{fit_lines_name, environment_fits}
 use Rattle.law_runs.proofs.run_journals.ReachingLaw.{reach}
 use Rattle.law_runs.proofs.run_journals.TiedLaw.{tied}
-use Rattle.room_run.specs.fitting_plants.Lines.{WhatFits, LinesFit}
 use Rattle.room_run.specs.fitting_plants.Plants.{PlantFits}
 use Rattle.room_run.specs.fitting_journals.Fitting.{FittingRunsAreInPlace}
 use Rattle.room_run.proofs.fitting_journals.ActorsLaw.{actors_told}
 use Rattle.room_run.proofs.fitting_journals.PlacesLaw.{Joins, places_named, signals_named}
-
--- lines that fit name what the wiring has
-one_names : (t : Wired) (what : What) → WhatFits t what → WhatNames t what
-one_names t whats.Settle h = tt
-one_names t (whats.Message target signal payload prio) h =
-    line_names t target signal (length payload) h.port h.target_fits.slot.slot h.target_fits.slot.slot_is h.target_fits.port_is h.signal_fits prio.0 h.least
-
-lines_name : (t : Wired) (lines : List Line) → LinesFit t lines → LinesName t lines
-lines_name t [] h = tt
-lines_name t (x ∷ lines) h = (one_names t x.what h.0, lines_name t lines h.1)
 
 -- the owner of each slot is a controller
 slots_owned : (t : Wired) → ((s : ℕ) → owner_of t s < length t.controllers) → OwnersAreThere t
@@ -64,7 +50,7 @@ module _ (plant : Plant) (fits : PlantFits plant) where
 pub fitting_in_place : ModelsHaveOwners → ModelsAreMutual → ModelsJoinOneProtocol → ModelsLinkOneProtocol → FittingRunsAreInPlace
 fitting_in_place owned joined alike linked plant lines fuel j fits fit run =
     let owners : OwnersAreThere plant.wiring = slots_owned plant.wiring (owned fits.model plant.wiring fits.keeps fits.wired fits.flawless) in
-    let names : LinesName plant.wiring lines = lines_name plant.wiring lines fit in
+    let names : LinesName plant.wiring lines = fit_lines_name plant.wiring lines fit in
     let joins : Joins plant.wiring =
     record {
       partners = joined fits.model plant.wiring fits.keeps fits.wired fits.flawless;

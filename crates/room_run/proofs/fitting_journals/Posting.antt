@@ -76,6 +76,7 @@ lines_named t (x ∷ lines) part h = go x.what h.0 (λ p. lines_named t lines p 
     go : (what : What) → WhatNames t what → ((p : ℕ) → Each (λ (l : Line). IsNamed t l.message) (lines_from p (items_of t lines)))
         → Each (λ (l : Line). IsNamed t l.message) (lines_from part (item_of t x.number what ∷ items_of t lines))
     go whats.Settle n rest = rest (part + 1)
+    go (whats.Advance time) n rest = rest (part + 1)
     go (whats.Message target signal payload prio) n rest =
         let place : FitsEndpoint t target =
         record { slot = slice_get_within t.slots target.slot.0 n.slot n.slot_is; port = port_within t target.slot.0 target.port n.known.port n.known.port_is } in

@@ -16,7 +16,7 @@ use Rattle.law_runs.specs.run_journals.Reaching.{NamesReceiver}
 use Rattle.room_run.specs.fitting_journals.Actors.{TellsOfActors}
 use Rattle.room_run.specs.fitting_journals.Places.{NamesItsPlaces}
 use Rattle.room_run.specs.fitting_journals.Signals.{NamesSignal}
-use Rattle.room_run.specs.fitting_plants.Lines.{LinesFit}
+use Rattle.inject_reader.specs.Fitting.{LinesFit}
 use Rattle.room_run.specs.fitting_plants.Plants.{PlantFits}
 
 -- what is so of the journals

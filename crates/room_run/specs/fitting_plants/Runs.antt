@@ -30,7 +30,7 @@ use Rattle.controller_actors.specs.Plants.{model_of}
 use Rattle.controller_actors.specs.declared.plant.Plant.{Plant}
 use Rattle.model_run.specs.part_posts.Items.{items_of}
 use Rattle.model_run.specs.run_ends.Runs.{journal_of, IsRun}
-use Rattle.room_run.specs.fitting_plants.Lines.{LinesFit}
+use Rattle.inject_reader.specs.Fitting.{LinesFit}
 use Rattle.room_run.specs.fitting_plants.Plants.{PlantFits}
 
 -- a plant with the lines that it runs over

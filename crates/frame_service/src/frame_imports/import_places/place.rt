@@ -4,9 +4,11 @@ ghost use Rattle.actor_duties.specs.Words.{is_incarnation};
 ghost use Rattle.actor_duties.specs.Imports.{is_asking, is_held, is_leaving, tied_home};
 ghost use Rattle.frame_service.specs.frame_imports.frame_peers.Parts.{held_home};
 ghost use Rattle.frame_service.specs.frame_imports.import_places.Places.{place_of};
+ghost use Rattle.frame_service.specs.Places.{place_shown};
 
 use frame_lives::Blank;
-use room_kinds::Incarnation;
+use room_kinds::{Incarnation, PlaceState};
+use service_messages::id_of;
 use std::alloc::Global;
 
 /// What an imported slot of a live container holds: nothing; or an actor of another slot, its home, that
@@ -84,6 +86,18 @@ impl ImportPlace {
         match self {
             ImportPlace::Leaving(leaving) => is_same_actor(leaving, home),
             ImportPlace::Empty | ImportPlace::Asking(_) | ImportPlace::Held(_) => false,
+        }
+    }
+
+    /// What the place shows: its home as the number that actions have of it.
+    pub fn shown(self) -> PlaceState
+        ensures { result ≡ place_shown (place_of self) }
+    {
+        match self {
+            ImportPlace::Empty => PlaceState::Empty,
+            ImportPlace::Asking(home) => PlaceState::Asking(id_of(home).unsigned_abs()),
+            ImportPlace::Held(home) => PlaceState::Held(id_of(home).unsigned_abs()),
+            ImportPlace::Leaving(home) => PlaceState::Leaving(id_of(home).unsigned_abs()),
         }
     }
 }

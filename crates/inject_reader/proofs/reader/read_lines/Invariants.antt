@@ -5,7 +5,7 @@ use Rattle.inject_reader.proofs.reader.read_lines.Given as goal
 
 abbrev pub invariant-loop-text : goal.invariant-loop-text
 invariant-loop-text l = record {
-  read : joined (Ok l.found.items) (entries_from l.directory l.number (lines l.rest)) ≡ entries_from l.directory 1 (lines l.bytes);
+  read : joined (Ok l.found.items) (entries_from l.advances l.directory l.number (lines l.rest)) ≡ entries_from l.advances l.directory 1 (lines l.bytes);
   few : l.number + length (lines l.rest) ≤ 10001;
 }
 

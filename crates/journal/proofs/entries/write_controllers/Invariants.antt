@@ -6,5 +6,5 @@ use Rattle.journal.proofs.entries.write_controllers.Given as goal
 
 abbrev pub invariant-loop-c : goal.invariant-loop-c
 invariant-loop-c g l =
-    Going (at_rest (g.K.Sink.written l.initial.sink)) (at_rest (g.K.Sink.written l.sink))
+    Going (at_rest (g.K.Sink.written l.initial.sink) l.initial.out) (at_rest (g.K.Sink.written l.sink) l.out)
     (controllers_text l.wiring 0 l.journals) (controllers_text l.wiring l.c (drop l.c l.journals))

@@ -7,5 +7,5 @@ use Rattle.journal.proofs.entries.write_left.Given as goal
 
 abbrev pub invariant-loop-one : goal.invariant-loop-one
 invariant-loop-one g l =
-    Going (at_rest (g.K.Sink.written l.initial.sink)) (at_rest (g.K.Sink.written l.sink))
+    Going (at_rest (g.K.Sink.written l.initial.sink) l.initial.out) (at_rest (g.K.Sink.written l.sink) l.out)
     (flat_map (left_line l.wiring) l.left) (flat_map (left_line l.wiring) (drop l.one-index l.left))

@@ -6,5 +6,5 @@ use Rattle.journal.proofs.entries.write_notes.Given as goal
 
 abbrev pub invariant-loop-note : goal.invariant-loop-note
 invariant-loop-note g l =
-    Going (at_rest (g.K.Sink.written l.initial.sink)) (at_rest (g.K.Sink.written l.sink))
+    Going (at_rest (g.K.Sink.written l.initial.sink) l.initial.out) (at_rest (g.K.Sink.written l.sink) l.out)
     (note_lines l.wiring l.duty l.fn.speaker l.notes) (note_lines l.wiring l.duty l.speaking (drop l.note-index l.notes))

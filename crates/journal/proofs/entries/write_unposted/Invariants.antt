@@ -7,5 +7,5 @@ use Rattle.journal.proofs.entries.write_unposted.Given as goal
 
 abbrev pub invariant-loop-number : goal.invariant-loop-number
 invariant-loop-number g l =
-    Going (at_rest (g.K.Sink.written l.initial.sink)) (at_rest (g.K.Sink.written l.sink))
+    Going (at_rest (g.K.Sink.written l.initial.sink) l.initial.out) (at_rest (g.K.Sink.written l.sink) l.out)
     (flat_map unposted_line l.numbers) (flat_map unposted_line (drop l.number-index l.numbers))

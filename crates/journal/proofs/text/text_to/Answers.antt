@@ -1,5 +1,6 @@
-use Rattle.room_outside.proofs.line_text.OutputLemmas.{puts_off}
+use Rattle.room_outside.proofs.line_text.OutputLemmas.{whole_fault}
 use Rattle.journal.proofs.text.text_to.Goals as goal
 
-pub returns-clause-fault : goal.returns-clause-fault
-returns-clause-fault g c = puts_off _ _ _ _ c.write_text.ensures
+pub returns-in-Err-clause-fault : goal.returns-in-Err-clause-fault
+returns-in-Err-clause-fault g c =
+    whole_fault _ c.new-out.ensures c.fault.ensures.taken c.fault.ensures.range c.in-Err.ensures

@@ -1,10 +1,20 @@
-use Rattle.std.proofs.Common.{◌++◌, [], length, ap, ◌∙◌}
+use Rattle.std.proofs.Common.{◌≡◌, ◌≤◌, ◌++◌, [], length, map, ap, sym, ◌∙◌, arith}
 use Rattle.std.proofs.lemmas.Result.{on_ok_weaker}
-use Rattle.std.proofs.lemmas.List.{get_or-replicate, length-replicate}
-use Rattle.mail_seg.specs.Sides.{side}
+use Rattle.std.proofs.lemmas.List.{get_or-replicate, length-map, length-replicate}
+use Rattle.mail_seg.specs.Sides.{Side, side}
 use Rattle.mail_seg.specs.Left.{queues_of, pass_at, lists_of, list_at}
-use Rattle.mail_seg.proofs.LeftLemmas.{settled, listed}
+use Rattle.mail_seg.proofs.LeftLemmas.{settled, listed, next-most}
 use Rattle.mail_seg.proofs.drain.drain_box.Goals as goal
+
+pub drain-requires-clause-lists : goal.drain-requires-clause-lists
+drain-requires-clause-lists g c =
+    let n = c.args.parties in
+    let f = pass_at (queues_of c.args.rows.now.items) 0 in
+    let most : (f c.args.receiver).next ≤ n = next-most n c.args.receiver f c.requires.is_box c.requires.receiver in
+    let own : (side c.whole-own.result).next ≡ (f c.args.receiver).next = ap (λ (a : Side). a.next) c.whole-own.ensures.pass in
+    let listed : length (lists_of c.in_ok-lists.lists.items) ≡ n = ap length c.in_ok-lists.ensures ∙ length-replicate n [] in
+    let count : length c.in_ok-lists.lists.items ≡ n = sym (length-map c.in_ok-lists.lists.items (λ v. v.items)) ∙ listed in
+    omega (arith, own, most, count)
 
 pub returns-clause-settled : goal.returns-clause-settled
 returns-clause-settled g c =

@@ -1,7 +1,8 @@
-use Rattle.std.proofs.Common.{◌≡◌, List, sym, ◌∙◌, subst}
+use Rattle.std.proofs.Common.{◌≡◌, List, take, sym, ◌∙◌, subst}
 use Rattle.inject_reader.specs.declared.inject_lines.accepted.Line.{Line}
 use Rattle.model_run.specs.declared.fixed_lines.FixedLines.{FixedLines}
-use Rattle.inject_reader.specs.Fitting.{FitLines}
+use Rattle.inject_reader.specs.Fitting.{LinesFit}
+use Rattle.model_run.specs.part_source.Calls.{StoodQuiet}
 use Rattle.model_run.specs.run_ends.Runs.{IsRun}
 use Rattle.model_run.proofs.fixed_lines.FixedLaw.{ran_fixed, if_ok_both}
 use Rattle.model_run.proofs.part_source.CallsLaw.{asked_keeps}
@@ -10,7 +11,7 @@ use Rattle.model_run.proofs.local_run.run_in_order.Goals as goal
 pub run_parts_in_order-requires-clause-fits : goal.run_parts_in_order-requires-clause-fits
 run_parts_in_order-requires-clause-fits g c =
     let wiring = c.args.plant.now.wiring in
-    (subst (λ (z : List Line). FitLines wiring z) (sym c.new-source.ensures.lines) c.requires, c.new-source.ensures.fits wiring c.requires)
+    (subst (λ (z : List Line). LinesFit wiring z) (sym c.new-source.ensures.lines) c.requires.fits, c.new-source.ensures.fits wiring c.requires.fits)
 
 pub returns : goal.returns
 returns g c =
@@ -19,6 +20,6 @@ returns g c =
     let end = c.run_parts_in_order.new.source in
     if_ok_both c.run_parts_in_order.result
     (λ j ran asked.
-    let kept : end.lines.now ≡ c.args.lines.now = asked_keeps (λ (s : FixedLines). s.lines.now) start end _ asked ∙ c.new-source.ensures.lines in
+    let kept : end.lines.now ≡ c.args.lines.now = asked_keeps (λ (s : FixedLines). s.lines.now) (λ s js. StoodQuiet plant (take s.to s.lines.now) c.args.fuel js) start end _ asked ∙ c.new-source.ensures.lines in
     subst (λ (z : List Line). IsRun plant z c.args.fuel j) kept (ran_fixed plant end.lines.now end.to c.args.fuel j end.ends ran))
     c.run_parts_in_order.ensures.ran c.run_parts_in_order.ensures.asked

@@ -1,6 +1,6 @@
 use Rattle.std.proofs.Common.{◌≡◌, true, false, map, sym, ◌∙◌, rules, subst}
 use Rattle.model_run.specs.part_posts.Items.{items_of}
-use Rattle.model_run.specs.part_source.Calls.{Seen, seen, Asked, never}
+use Rattle.model_run.specs.part_source.Calls.{Seen, seen, StoodQuiet, Asked, never}
 use Rattle.model_run.specs.run_loop.Runs.{StandsBetween, IsInRound, RoundBegins}
 use Rattle.model_run.proofs.run_loop.StepsLeft.{steps_fall}
 use Rattle.model_run.proofs.part_source.CallsLaw.{asked_then, asked_grew, grew_round, if_ok_then}
@@ -22,26 +22,28 @@ loop-run-preserved g c =
     let source = c.next_round.new.source in
     let run = c.next_round.new.run in
     let goes_on = g.S.PartSource.goes_on in
+    let stood : g.S → Seen → Type 0 = λ s js. StoodQuiet c.args.plant.now (g.S.PartSource.given s) c.args.fuel js in
     let begun : IsInRound plant (items_of plant.wiring (g.S.PartSource.given source)) c.args.fuel run (map g.M.Mail.log c.in-Some.ends.items) = search rules in
     let done = c.in_ok-round_at_once.ensures in
     let news = c.round_at_once.new.controllers.items in
-    let then = asked_then goes_on c.args.source.now c.loop-run.source source _ _ c.loop-run.invariant.asked c.in_ok-_office.ensures.asks in
+    let then = asked_then goes_on stood c.args.source.now c.loop-run.source source _ _ c.loop-run.invariant.asked c.in_ok-_office.ensures.asks in
     record {
       stands = record {
         before = λ e. let both : true ≡ false = sym begun.in_part ∙ e in absurd cc;
         within = λ e. begun.goes_on news done.0 done.1 done.2;
       };
       fits = c.in_ok-_office.ensures.fits;
-      asked = asked_grew goes_on c.args.source.now source _ _ then
+      asked = asked_grew goes_on stood c.args.source.now source _ _ then
           (grew_round plant run.controllers.items news run.environment (map g.M.Mail.log c.in-Some.ends.items) done.0 done.1 begun.stand done.2);
     }
 
 pub returns-clause-asked : goal.returns-clause-asked
 returns-clause-asked g c =
     let goes_on = g.S.PartSource.goes_on in
+    let stood : g.S → Seen → Type 0 = λ s js. StoodQuiet c.args.plant.now (g.S.PartSource.given s) c.args.fuel js in
     let source = c.next_round.new.source in
-    let then = asked_then goes_on c.args.source.now c.loop-run.source source _ _ c.loop-run.invariant.asked c.in_ok-_office.ensures.asks in
-    if_ok_then c.journals.result (λ j same. subst (λ (z : Seen). Asked goes_on c.args.source.now source z) (sym same) then) c.journals.ensures.seen
+    let then = asked_then goes_on stood c.args.source.now c.loop-run.source source _ _ c.loop-run.invariant.asked c.in_ok-_office.ensures.asks in
+    if_ok_then c.journals.result (λ j same. subst (λ (z : Seen). Asked goes_on stood c.args.source.now source z) (sym same) then) c.journals.ensures.seen
 
 pub loop-run-smaller : goal.loop-run-smaller
 loop-run-smaller g c =

@@ -1,5 +1,6 @@
-use Rattle.std.proofs.Common.{rules, ◌<◌, length, arith}
+use Rattle.std.proofs.Common.{rules, ◌<◌, ◌≤◌, length, arith}
 use Rattle.std.proofs.lemmas.Grind.{common_steps}
+use Rattle.room_outside.specs.Faults.{last_count}
 use Rattle.room_outside.proofs.SinkLemmas.{WritesFront-more, WritesFront-breaks}
 use Rattle.room_outside.proofs.sink.write_whole.Goals as goal
 
@@ -12,9 +13,5 @@ loop-rest-preserved g c =
 pub returns-in-Ok-eq0-clause-fault : goal.returns-in-Ok-eq0-clause-fault
 returns-in-Ok-eq0-clause-fault g c =
     let some : 0 < length c.loop-rest.rest.now = grind (arith, common_steps) in
-    WritesFront-breaks c.loop-rest.invariant some (search rules) (search rules)
-
-pub returns-in-Ok-eq0-2-clause-fault : goal.returns-in-Ok-eq0-2-clause-fault
-returns-in-Ok-eq0-2-clause-fault g c =
-    let some : 0 < length c.loop-rest.rest.now = grind (arith, common_steps) in
-    WritesFront-breaks c.loop-rest.invariant some (search rules) (search rules)
+    let range : length c.args.piece.now ≤ last_count = grind (arith, common_steps) in
+    WritesFront-breaks c.loop-rest.invariant range some (search rules) (search rules)

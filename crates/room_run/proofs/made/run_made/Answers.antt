@@ -13,4 +13,4 @@ returns-in-Err-made_lines-clause-err g c =
 pub returns-in-Ok-run_model-clause-ok : goal.returns-in-Ok-run_model-clause-ok
 returns-in-Ok-run_model-clause-ok g c =
     summarized c.args.actors c.as_slice.result.now c.as_slice-2.result.now c.in-Ok-made_plant.plant c.as_slice-3.result.now c.in-Ok-made_lines.lines.items c.in-Ok-run_model.journals c.counts_of.result
-    (c.as_slice.ensures.value ∙ c.in-Ok.ensures.model) (c.as_slice-2.ensures.value ∙ c.in-Ok.ensures.injections) c.as_slice-3.ensures.value c.in-Ok-made_plant.ensures.ok c.in-Ok-made_lines.ensures.ok c.in-Ok-run_model.ensures c.counts_of.ensures
+    (c.as_slice.ensures.value ∙ c.in-Ok.ensures.model) (c.as_slice-2.ensures.value ∙ c.in-Ok.ensures.injections) c.as_slice-3.ensures.value c.in-Ok-made_plant.ensures.ok c.in-Ok-made_plant.ensures.fits c.in-Ok-made_lines.ensures.ok c.in-Ok-run_model.ensures c.counts_of.ensures

@@ -6,6 +6,7 @@ use Rattle.room_run.specs.Outcome.{says_ok, says_tree, says_run, says_converted}
 use Rattle.room_run.specs.declared.asked.Asked.{Asked}
 use Rattle.room_run.specs.declared.asked.Asked.TheVariants as code
 use Rattle.room_run.proofs.CauseLemmas.{model_sound}
+use Rattle.room_run.proofs.Fuel.{fuel_asked}
 use Rattle.room_run.proofs.OutcomeLemmas.{text_is, run_of, sum_answers}
 use Rattle.room_run.proofs.prepare.prepare.Goals as goal
 
@@ -29,13 +30,23 @@ returns-in-Err-read_wiring-clause-err g c =
     let is : c.in-Some-Tree.field-0 ≡ code.Tree c.in-Some-Tree.name = cc in
     of_tree c.in-Some-Tree.name.now (sym c.in-Some-Tree.ensures ∙ ap (λ (a : Asked). Some (asked_view a)) is) c.in-Err-read_wiring.ensures.err
 
+pub run_files-requires-clause-least : goal.run_files-requires-clause-least
+run_files-requires-clause-least g c =
+    let is : c.in-Some-Run.field-0 ≡ code.Run c.in-Some-Run.files c.in-Some-Run.fuel = cc in
+    (fuel_asked _ (files_view c.in-Some-Run.files) c.in-Some-Run.fuel (sym c.in-Some-Run.ensures ∙ ap (λ (a : Asked). Some (asked_view a)) is)).0
+
+pub run_files-requires-clause-most : goal.run_files-requires-clause-most
+run_files-requires-clause-most g c =
+    let is : c.in-Some-Run.field-0 ≡ code.Run c.in-Some-Run.files c.in-Some-Run.fuel = cc in
+    (fuel_asked _ (files_view c.in-Some-Run.files) c.in-Some-Run.fuel (sym c.in-Some-Run.ensures ∙ ap (λ (a : Asked). Some (asked_view a)) is)).1
+
 pub returns-in-Ok-run_files-clause-ok : goal.returns-in-Ok-run_files-clause-ok
 returns-in-Ok-run_files-clause-ok g c =
     let x = c.in-Ok-run_files.ensures.ok in
     let journals = c.in-Ok-run_files.finished.journals in
     let is : c.in-Some-Run.field-0 ≡ code.Run c.in-Some-Run.files c.in-Some-Run.fuel = cc in
     says_run (files_view c.in-Some-Run.files) c.in-Some-Run.fuel x.0 x.1 journals (sym c.in-Some-Run.ensures ∙ ap (λ (a : Asked). Some (asked_view a)) is)
-    (run_of c.fitting_runs_journals.ensures (g.S.Shelf.shown c.args.shelf.now) (files_view c.in-Some-Run.files) c.in-Some-Run.fuel x.0 x.1 journals x.2 x.3.run)
+    (run_of c.fitting_runs_journals.ensures (g.S.Shelf.shown c.args.shelf.now) (files_view c.in-Some-Run.files) c.in-Some-Run.fuel x.0 x.1 journals x.2 x.3.plant_fits x.3.lines_fit x.3.run)
     (text_is x.0 x.1 c.in-Some-Run.fuel c.in-Ok-run_files.finished x.3) refl
 
 pub returns-in-Err-run_files-clause-err : goal.returns-in-Err-run_files-clause-err

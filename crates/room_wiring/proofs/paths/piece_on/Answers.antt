@@ -1,4 +1,4 @@
-use Rattle.std.proofs.Common.{◌≡◌, ◌∙◌, ◌++◌, ℕ, List, refl, ap}
+use Rattle.std.proofs.Common.{◌∙◌, ◌++◌, ℕ, List, refl, ap}
 use Rattle.room_wiring.proofs.PathLaws.{joined_on, alone_on}
 use Rattle.room_wiring.proofs.paths.piece_on.Goals as goal
 

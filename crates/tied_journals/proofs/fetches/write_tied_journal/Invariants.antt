@@ -7,5 +7,5 @@ use Rattle.tied_journals.proofs.fetches.write_tied_journal.Given as goal
 
 abbrev pub invariant-loop-entry : goal.invariant-loop-entry
 invariant-loop-entry g l =
-    Going (at_rest (g.K.Sink.written l.initial.sink)) (standing l.begun (g.K.Sink.written l.sink) l.out)
+    Going (at_rest (g.K.Sink.written l.initial.sink) l.initial.out) (standing l.begun (g.K.Sink.written l.sink) l.out)
     (tied_journal_text l.wiring l.entries) (tied_entries_text l.wiring l.begun (drop l.entry-index l.entries))

@@ -6,5 +6,5 @@ use Rattle.tied_journals.proofs.text.write_controllers.Given as goal
 
 abbrev pub invariant-loop-c : goal.invariant-loop-c
 invariant-loop-c g l =
-    Going (at_rest (g.K.Sink.written l.initial.sink)) (at_rest (g.K.Sink.written l.sink))
+    Going (at_rest (g.K.Sink.written l.initial.sink) l.initial.out) (at_rest (g.K.Sink.written l.sink) l.out)
     (tied_controllers_text l.wiring 0 l.journals) (tied_controllers_text l.wiring l.c (drop l.c l.journals))

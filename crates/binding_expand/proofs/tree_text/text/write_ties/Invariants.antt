@@ -7,5 +7,5 @@ use Rattle.binding_expand.proofs.tree_text.text.write_ties.Given as goal
 
 abbrev pub invariant-loop-s : goal.invariant-loop-s
 invariant-loop-s g l =
-    Going (at_rest (g.K.Sink.written l.initial.sink)) (at_rest (g.K.Sink.written l.sink))
+    Going (at_rest (g.K.Sink.written l.initial.sink) l.initial.out) (at_rest (g.K.Sink.written l.sink) l.out)
     (texts_from (slot_ties l.wiring l.tie) 0 (length l.wiring.slots)) (texts_from (slot_ties l.wiring l.tie) l.s ((length l.wiring.slots) - l.s))

@@ -11,7 +11,7 @@ use Rattle.mail_seg.proofs.ends.MailSeg.post_to.Goals.{After-post_at}
 pub post_at-requires-clause-into : goal.post_at-requires-clause-into
 post_at-requires-clause-into g c =
     let e = c.args.self.now in
-    rw (c.place-at.ensures, c.from.ensures) (into e.party e.parties (sides_of e) e.wired c.args.m c.requires.from c.requires.to c.requires.prio)
+    rw (c.place-at.ensures, c.from.ensures) (into e.party e.parties (sides_of e) e.wired c.args.m c.requires.from c.requires.to c.requires.prio c.requires.level)
 
 wires : (g : Over) (c : After-post_at g) → wiring c.args.self.now.party c.args.self.now.parties (map side c.post_at.new.outlets.items) ≡ wiring_of c.args.self.now
 wires g c =
@@ -30,5 +30,5 @@ pub returns-clause-ok : goal.returns-clause-ok
 returns-clause-ok g c =
     let e = c.args.self.now in
     on_ok_weaker c.post_at.result
-    (λ h. log-posted e.party e.parties (slice_index e.looks.items) (sides_of e) (map side c.post_at.new.outlets.items) c.args.m e.wired c.requires.from c.requires.to c.requires.prio h)
+    (λ h. log-posted e.party e.parties (slice_index e.looks.items) (sides_of e) (map side c.post_at.new.outlets.items) c.args.m e.wired c.requires.from c.requires.to c.requires.prio c.requires.level h)
     (rw (c.place-at.ensures, c.from.ensures) at c.post_at.ensures.ok)

@@ -2,7 +2,7 @@ use Rattle.std.proofs.Common.{ℕ, take, List, sym, subst}
 use Rattle.std.proofs.lemmas.List.Sums.{prefix_len-le-length}
 use Rattle.inject_reader.specs.declared.inject_lines.accepted.Line.{Line}
 use Rattle.model_run.specs.fixed_lines.Fixed.{message_line}
-use Rattle.inject_reader.specs.Fitting.{FitLines}
+use Rattle.inject_reader.specs.Fitting.{LinesFit}
 use Rattle.model_run.specs.part_source.Parts.{IsPart}
 use Rattle.model_run.proofs.part_posts.FitLaw.{fit_take}
 use Rattle.model_run.proofs.fixed_lines.FixedLaw.{behind, messages_in_front}
@@ -19,7 +19,7 @@ invariant_of-result c = record {
 
 pub returns-clause-fits : goal.returns-clause-fits
 returns-clause-fits c = λ wiring fit.
-    subst (λ (z : List Line). FitLines wiring z) (sym c.split_at.ensures.front) (fit_take wiring c.leading_messages-to.result c.args.lines.now fit)
+    subst (λ (z : List Line). LinesFit wiring z) (sym c.split_at.ensures.front) (fit_take wiring c.leading_messages-to.result c.args.lines.now fit)
 
 pub returns-clause-of : goal.returns-clause-of
 returns-clause-of c =

@@ -4,7 +4,7 @@ use Rattle.std.proofs.lemmas.Bool.{ltb-true}
 use Rattle.std.proofs.lemmas.List.Sums.{prefix_len-le-length}
 use Rattle.inject_reader.specs.declared.inject_lines.accepted.Line.{Line}
 use Rattle.model_run.specs.fixed_lines.Fixed.{message_line, settle_line}
-use Rattle.inject_reader.specs.Fitting.{FitLines}
+use Rattle.inject_reader.specs.Fitting.{LinesFit}
 use Rattle.model_run.specs.part_source.Parts.{NextPart}
 use Rattle.model_run.proofs.part_posts.FitLaw.{fit_take, fit_drop}
 use Rattle.model_run.proofs.fixed_lines.FixedLaw.{ends_again, within_next, next_part, none_left, none_there}
@@ -52,7 +52,7 @@ returns-clause-fits c = λ wiring fit.
     let after : c.split_at-2.result.1.now ≡ drop settles (drop source.to lines) = c.split_at-2.ensures.back ∙ ap (λ (z : List Line). drop settles z) c.split_at.ensures.back in
     let part : c.split_at-3.result.0.now ≡ take messages (drop settles (drop source.to lines)) = c.split_at-3.ensures.front ∙ ap (λ (z : List Line). take messages z) after in (
       fit.0,
-      subst (λ (z : List Line). FitLines wiring z) (sym part)
+      subst (λ (z : List Line). LinesFit wiring z) (sym part)
           (fit_take wiring messages (drop settles (drop source.to lines)) (fit_drop wiring settles (drop source.to lines) (fit_drop wiring source.to lines fit.0))),
     )
 

@@ -3,7 +3,7 @@ use Rattle.std.specs.Prelude.{All}
 use Rattle.std.proofs.lemmas.List.{length-set}
 use Rattle.room_kinds.specs.declared.message.Msg.{Msg}
 use Rattle.controller_mail.specs.MailState.{HasPriority}
-use Rattle.controller_mail.specs.Within.{IsAnswerable}
+use Rattle.controller_mail.specs.Within.{IsAnswerable, IsFor}
 use Rattle.model_run.specs.run_rounds.OneByOne.{StepsBelow}
 use Rattle.model_run.proofs.run_rounds.OneByOne.{slice_get-other}
 use Rattle.controller.specs.Controllers.{IsOf}
@@ -19,6 +19,20 @@ fetch_left-requires-clause-of c =
     c.requires.of c.loop-i.i c.index_mut-in-loop-i.result.now
     (stood (FetchedAt c.args.plant.now (map (λ (v : Vec Msg Global). v.items) c.args.left.items)) c.args.controllers.now.items c.loop-i.controllers.items c.loop-i.i
     c.index_mut-in-loop-i.result.now c.loop-i.invariant.steps c.index_mut-in-loop-i.ensures.value inside)
+
+pub fetch_left-requires-clause-to : goal.fetch_left-requires-clause-to
+fetch_left-requires-clause-to c =
+    let i = c.loop-i.i in
+    let k = c.index_mut-in-loop-i.result.now in
+    let inside : i < length c.loop-i.controllers.items = omega arith in
+    let in_lists : i < length c.loop-i.left.items = omega (arith, c.requires.count) in
+    let me : k.me.0 ≡ i =
+    c.requires.in_order i k
+    (stood (FetchedAt c.args.plant.now (map (λ (v : Vec Msg Global). v.items) c.args.left.items)) c.args.controllers.now.items c.loop-i.controllers.items i
+    k c.loop-i.invariant.steps c.index_mut-in-loop-i.ensures.value inside) in
+    let same = list_at (λ (v : Vec Msg Global). v.items) c.loop-i.left.items c.args.left.items i c.index_mut.result.now (c.loop-i.invariant.rest i (omega arith)) c.index_mut.ensures.value in_lists in
+    let list : c.replace-list.result.items ≡ slice_index_or (map (λ (v : Vec Msg Global). v.items) c.args.left.items) i [] = ap (λ (v : Vec Msg Global). v.items) c.replace-list.ensures.value ∙ same in
+    subst (λ (n : ℕ). All (IsFor n) c.replace-list.result.items) (sym me) (subst (All (IsFor i)) (sym list) (c.requires.to i))
 
 pub fetch_left-requires-clause-prio : goal.fetch_left-requires-clause-prio
 fetch_left-requires-clause-prio c =

@@ -4,7 +4,7 @@ use Rattle.room_kinds.specs.declared.message.Msg.{Msg}
 use Rattle.model_run.specs.run_rounds.OneByOne.{StepsBelow}
 use Rattle.model_run.specs.joined_round.Joined.{TurnedAt}
 use Rattle.model_run.proofs.joined_round.JoinLaw.{ok_then, fetched_ready}
-use Rattle.model_run.proofs.joined_round.PriorityLaw.{left_low, left_answerable}
+use Rattle.model_run.proofs.joined_round.PriorityLaw.{left_for_them, left_low, left_answerable}
 use Rattle.model_run.proofs.joined_round.round.join_all.Goals as goal
 
 pub fetch_all-requires-clause-of : goal.fetch_all-requires-clause-of
@@ -18,6 +18,10 @@ fetch_all-requires-clause-count g c =
     let count = c.in_ok-left.ensures.count in
     let ends = c.requires.count in
     omega arith
+
+pub fetch_all-requires-clause-to : goal.fetch_all-requires-clause-to
+fetch_all-requires-clause-to g c =
+    left_for_them (map g.M.Mail.log c.args.ends.items) (map (λ (v : Vec Msg Global). v.items) c.in_ok-left.left.items) c.in_ok-left.ensures (length c.args.plant.now.wiring.controllers) c.requires.by_priority
 
 pub fetch_all-requires-clause-priorities : goal.fetch_all-requires-clause-priorities
 fetch_all-requires-clause-priorities g c =

@@ -1,8 +1,13 @@
 use Rattle.std.proofs.Common.{◌≡◌, map, length, arith}
 use Rattle.std.proofs.lemmas.List.{length-map}
-use Rattle.model_run.proofs.joined_round.JoinLaw.{ok_so, round_of, worked_of}
+use Rattle.model_run.proofs.joined_round.JoinLaw.{ok_so, round_of, worked_of, in_order_of}
 use Rattle.model_run.proofs.joined_round.PriorityLaw.{all_worked}
 use Rattle.model_run.proofs.joined_round.round.round_at_once.Goals as goal
+
+pub join_all-requires-clause-in_order : goal.join_all-requires-clause-in_order
+join_all-requires-clause-in_order g c =
+    let w = c.in_ok-after.ensures.worked in
+    in_order_of c.args.plant.now c.args.controllers.now.items c.work_at_once.new.controllers.items (map g.M.Mail.log c.args.ends.items) (map g.M.Mail.log c.in_ok-after.after.items) w.steps w.count c.requires.stand.me
 
 pub join_all-requires-clause-posted : goal.join_all-requires-clause-posted
 join_all-requires-clause-posted g c =

@@ -20,8 +20,15 @@ message_from_outside-requires g c =
     (message_fits c.args.plant.now.wiring c.args.part.now c.loop-at.at c.index-part-at.result c.in-Message.target c.in-Message.signal c.in-Message.payload c.in-Message.prio
     c.index-part-at.is c.loop-at-test.true c.in-Message.is c.requires.fits)
 
-pub post-requires-clause-prio : goal.post-requires-clause-prio
-post-requires-clause-prio g c =
+pub post-requires-clause-least : goal.post-requires-clause-least
+post-requires-clause-least g c =
+    let least = (message_fits c.args.plant.now.wiring c.args.part.now c.loop-at.at c.index-part-at.result c.in-Message.target c.in-Message.signal c.in-Message.payload c.in-Message.prio
+    c.index-part-at.is c.loop-at-test.true c.in-Message.is c.requires.fits).least in
+    let same : c.in_ok-m.m.prio.0 ≡ c.in-Message.prio.0 = ap (λ (z : Msg). z.prio.0) c.in_ok-m.ensures.ok in
+    omega (arith, least, same)
+
+pub post-requires-clause-most : goal.post-requires-clause-most
+post-requires-clause-most g c =
     let most = (message_fits c.args.plant.now.wiring c.args.part.now c.loop-at.at c.index-part-at.result c.in-Message.target c.in-Message.signal c.in-Message.payload c.in-Message.prio
     c.index-part-at.is c.loop-at-test.true c.in-Message.is c.requires.fits).most in
     let same : c.in_ok-m.m.prio.0 ≡ c.in-Message.prio.0 = ap (λ (z : Msg). z.prio.0) c.in_ok-m.ensures.ok in

@@ -17,7 +17,7 @@ returns-clause-ran g c =
     (record { controllers = c.from.result; environment = z; left = c.from-2.result; unposted = c.from-3.result; done = c.args.done })) (sym c.finish-posts.ensures)
     (record {
       runs = λ rest may. ran_told c.args.plant.now (g.S.PartSource.given c.args.source.now) rest c.args.fuel ks c.args.environment c.args.done k c.from.result c.from-2.result
-          c.requires.at_end c.controller_count-count.ensures.count told may;
+          c.requires.at_end told may;
       unposted = c.from-3.ensures ∙ c.in_ok-unposted.ensures;
       whole = c.requires.whole;
     })

@@ -5,11 +5,12 @@ use Rattle.controller_mail.specs.MailState.{EnvironmentState}
 use Rattle.controller.specs.Controllers.{state_at}
 use Rattle.controller.specs.View.{Controller}
 use Rattle.model_run.specs.part_posts.Items.{items_of}
-use Rattle.model_run.specs.part_source.Calls.{seen, MayAsk, asked}
+use Rattle.model_run.specs.part_source.Calls.{seen, StoodQuiet, MayAsk, asked}
 use Rattle.model_run.specs.part_source.Parts.{NextPart}
 use Rattle.model_run.specs.run_ends.Ends.{waits, IsAtEnd}
 use Rattle.model_run.proofs.part_source.CallsLaw.{grew_none, grew_same, asks_none}
 use Rattle.model_run.proofs.run_loop.PlayLaw.{ends_spent, ends_done, before_next}
+use Rattle.model_run.proofs.run_loop.QuietLaw.{stood_quiet}
 use Rattle.model_run.proofs.run_loop.next.next_part.Goals as goal
 
 pub returns-then-someone_waits-clause-stands : goal.returns-then-someone_waits-clause-stands
@@ -28,7 +29,7 @@ returns-then-someone_waits-clause-stands g c =
     }
 
 pub returns-then-someone_waits-clause-asks : goal.returns-then-someone_waits-clause-asks
-returns-then-someone_waits-clause-asks g c = asks_none g.S.PartSource.goes_on c.args.source.now (seen c.args.run.now.controllers.items c.args.run.now.environment)
+returns-then-someone_waits-clause-asks g c = asks_none g.S.PartSource.goes_on (λ s js. StoodQuiet c.args.plant.now (g.S.PartSource.given s) c.args.fuel js) c.args.source.now (seen c.args.run.now.controllers.items c.args.run.now.environment)
 
 pub returns-then-not-more-clause-stands : goal.returns-then-not-more-clause-stands
 returns-then-not-more-clause-stands g c =
@@ -53,8 +54,10 @@ pub returns-then-not-more-clause-asks : goal.returns-then-not-more-clause-asks
 returns-then-not-more-clause-asks g c =
     let run = c.args.run.now in
     let ks = run.controllers.items in
-    let saw : MayAsk g.S.PartSource.goes_on c.args.source.now (seen ks run.environment) c.next_part.new.self =
-    asked c.next_part.new.self
+    let none : list_any waits ks ≡ false = sym c.someone_waits.ensures ∙ c.if-someone_waits.false in
+    let quiet = stood_quiet c.args.plant.now c.args.fuel (g.S.PartSource.given c.args.source.now) ks run.environment c.requires.within c.requires.stopped none in
+    let saw : MayAsk g.S.PartSource.goes_on (λ s js. StoodQuiet c.args.plant.now (g.S.PartSource.given s) c.args.fuel js) c.args.source.now (seen ks run.environment) c.next_part.new.self =
+    asked c.next_part.new.self quiet
     (subst (λ (z : List Controller). g.S.PartSource.goes_on c.args.source.now (seen z run.environment) c.next_part.new.self) c.as_slice.ensures.value c.in_ok-more.ensures.goes_on) in
     record { may = saw; grew = grew_none (seen ks run.environment) }
 
@@ -85,8 +88,10 @@ pub returns-clause-asks : goal.returns-clause-asks
 returns-clause-asks g c =
     let run = c.args.run.now in
     let ks = run.controllers.items in
-    let saw : MayAsk g.S.PartSource.goes_on c.args.source.now (seen ks run.environment) c.next_part.new.self =
-    asked c.next_part.new.self
+    let none : list_any waits ks ≡ false = sym c.someone_waits.ensures ∙ c.if-someone_waits.false in
+    let quiet = stood_quiet c.args.plant.now c.args.fuel (g.S.PartSource.given c.args.source.now) ks run.environment c.requires.within c.requires.stopped none in
+    let saw : MayAsk g.S.PartSource.goes_on (λ s js. StoodQuiet c.args.plant.now (g.S.PartSource.given s) c.args.fuel js) c.args.source.now (seen ks run.environment) c.next_part.new.self =
+    asked c.next_part.new.self quiet
     (subst (λ (z : List Controller). g.S.PartSource.goes_on c.args.source.now (seen z run.environment) c.next_part.new.self) c.as_slice.ensures.value c.in_ok-more.ensures.goes_on) in
     let clock : c.catch_up.new.self ≡ record run.environment { clock = latest (state_at c.args.plant.now c.as_slice-2.result.now) (length c.as_slice-2.result.now) run.environment.clock } = c.catch_up.ensures c.args.plant.now in
     let journal : c.catch_up.new.self.journal ≡ run.environment.journal = ap (λ (z : EnvironmentState). z.journal) clock in

@@ -2,7 +2,7 @@ use Rattle.std.proofs.Common.{◌≡◌, ◌+◌, false, length, map, refl, arit
 use Rattle.std.specs.List.{list_all}
 use Rattle.std.proofs.lemmas.Grind.{common_steps}
 use Rattle.model_run.specs.part_posts.Items.{items_of}
-use Rattle.model_run.specs.part_source.Calls.{seen, Asks}
+use Rattle.model_run.specs.part_source.Calls.{seen, StoodQuiet, Asks}
 use Rattle.model_run.specs.run_loop.Plays.{rests}
 use Rattle.model_run.specs.run_loop.Runs.{BeginsPart, RoundBegins}
 use Rattle.model_run.specs.run_loop.Runs.RoundBegins.{goes_on}
@@ -27,7 +27,7 @@ returns-then-not-have_stopped-clause-begun g c =
     }
 
 pub returns-then-not-have_stopped-clause-asks : goal.returns-then-not-have_stopped-clause-asks
-returns-then-not-have_stopped-clause-asks g c = asks_none g.S.PartSource.goes_on c.args.source.now (seen c.args.run.now.controllers.items c.args.run.now.environment)
+returns-then-not-have_stopped-clause-asks g c = asks_none g.S.PartSource.goes_on (λ s js. StoodQuiet c.args.plant.now (g.S.PartSource.given s) c.args.fuel js) c.args.source.now (seen c.args.run.now.controllers.items c.args.run.now.environment)
 
 pub begin_part-requires-clause-fits : goal.begin_part-requires-clause-fits
 begin_part-requires-clause-fits g c =
@@ -52,11 +52,11 @@ returns-clause-asks g c =
     let mid = c.if-run.run in
     let new = c.begin_part.new.run in
     let before = seen old.controllers.items old.environment in
-    let here : Asks goes_on c.args.source.now c.if-run.source before (seen mid.controllers.items mid.environment) = elim c.if-run.branch [
+    let here : Asks goes_on (λ s js. StoodQuiet c.args.plant.now (g.S.PartSource.given s) c.args.fuel js) c.args.source.now c.if-run.source before (seen mid.controllers.items mid.environment) = elim c.if-run.branch [
       | then-run+else-not-have_stopped+in_ok-more+else-not-more w ↦ rw (w.source-is, w.run-is) w.in_ok-more.ensures.asks
-      | else-run w ↦ rw (w.source-is, w.run-is) (asks_none goes_on c.args.source.now before)
+      | else-run w ↦ rw (w.source-is, w.run-is) (asks_none goes_on (λ s js. StoodQuiet c.args.plant.now (g.S.PartSource.given s) c.args.fuel js) c.args.source.now before)
     ] in
-    asks_grew goes_on c.args.source.now c.if-run.source before (seen mid.controllers.items mid.environment) (seen new.controllers.items new.environment) here c.in_ok-begin_part.ensures.grew
+    asks_grew goes_on (λ s js. StoodQuiet c.args.plant.now (g.S.PartSource.given s) c.args.fuel js) c.args.source.now c.if-run.source before (seen mid.controllers.items mid.environment) (seen new.controllers.items new.environment) here c.in_ok-begin_part.ensures.grew
 
 pub returns-then-not-have_stopped-clause-begins : goal.returns-then-not-have_stopped-clause-begins
 returns-then-not-have_stopped-clause-begins g c =

@@ -2,7 +2,7 @@ use Rattle.std.proofs.Common.{◌≡◌, List, length, map, refl, sym, ap, ◌�
 use Rattle.std.proofs.lemmas.List.{length-map}
 use Rattle.journal.specs.declared.entry.Entry.{Entry}
 use Rattle.inject_reader.specs.declared.inject_lines.accepted.Line.{Line}
-use Rattle.inject_reader.specs.Fitting.{FitLines}
+use Rattle.inject_reader.specs.Fitting.{LinesFit}
 use Rattle.model_run.specs.part_posts.Items.{items_of}
 use Rattle.model_run.specs.part_source.Parts.{IsPart}
 use Rattle.model_run.specs.run_loop.Plays.{PartPosted}
@@ -18,7 +18,7 @@ post_at_last-requires-clause-part g c = subst IsPart (sym c.part.ensures) c.requ
 pub post_at_last-requires-clause-fits : goal.post_at_last-requires-clause-fits
 post_at_last-requires-clause-fits g c =
     let wiring = c.args.plant.now.wiring in
-    subst (λ (z : List Line). FitLines wiring z) (sym c.part.ensures) (g.met.S.PartSource.part_fits wiring c.args.source.now c.requires.fits)
+    subst (λ (z : List Line). LinesFit wiring z) (sym c.part.ensures) (g.met.S.PartSource.part_fits wiring c.args.source.now c.requires.fits)
 
 pub returns-clause-begun : goal.returns-clause-begun
 returns-clause-begun g c =

@@ -1,4 +1,4 @@
-use Rattle.std.proofs.Common.{◌≡◌, ◌∙◌, ◌<◌, ℕ, List, [], Some, length, ap, subst, sym}
+use Rattle.std.proofs.Common.{◌∙◌, ◌<◌, ℕ, List, [], Some, length, ap, subst, sym}
 use Rattle.std.specs.List.{slice_index_or}
 use Rattle.std.specs.Prelude.{slice_get}
 use Rattle.room_wiring.specs.declared.paths.Piece.{Piece}

@@ -11,4 +11,4 @@ returns-in_err-make_room g c =
 pub loop-rest-preserved : goal.loop-rest-preserved
 loop-rest-preserved g c =
     rw (c.fill-rest.ensures.held, c.fill-rest.ensures.left)
-    (going_fills _ _ _ _ _ _ (4096 - length c.make_room.new.self) c.loop-rest.invariant c.in_ok-make_room.ensures.puts)
+    (going_fills _ _ _ _ _ _ (4096 - length c.make_room.new.self.bytes) c.loop-rest.invariant c.in_ok-make_room.ensures.puts)

@@ -1,0 +1,2 @@
+mod Dispatched
+pub mod Worlds

@@ -1,0 +1,6 @@
+pub mod Lists
+pub mod Places
+pub mod Computing
+pub mod Later
+pub mod Fits
+pub mod Once

@@ -1,0 +1,5 @@
+pub mod Services
+pub mod Timers
+pub mod Expansion
+pub mod Examples
+pub mod Laws
