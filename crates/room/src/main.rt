@@ -72,9 +72,13 @@ fn work<R: Threads + Sync>(
 /// Reads what words of a listed form name, and does the work on a thread of its own, whose stack the
 /// model's text can't exhaust. Where the system gives no such thread, nothing is done. Other words
 /// are refused without either.
-fn answer(rt: HostRuntime, words: Vec<String>) -> Status {
+fn answer<R: Threads + Copy + Send + Sync + 'static>(
+    rt: HostRuntime,
+    threads: R,
+    words: Vec<String>,
+) -> Status {
     let Some(named) = named_files(&words) else {
-        return work(rt, &rt, &words, Vec::new(rt.alloc()));
+        return work(rt, &threads, &words, Vec::new(rt.alloc()));
     };
     let Ok(read) = read_before(rt, named) else {
         return without_memory(rt);
@@ -84,8 +88,8 @@ fn answer(rt: HostRuntime, words: Vec<String>) -> Status {
         .first()
         .map_or(stack_of(&[]), |model| stack_of(&model.1));
     let thread = Builder::new().stack_size(stack);
-    match thread.spawn(&rt, move || work(rt, &rt, &words, read)) {
-        Ok(thread) => thread.join(&rt),
+    match thread.spawn(&threads, move || work(rt, &threads, &words, read)) {
+        Ok(thread) => thread.join(&threads),
         Err(_) => without_memory(rt),
     }
 }
@@ -93,7 +97,7 @@ fn answer(rt: HostRuntime, words: Vec<String>) -> Status {
 /// Without memory for the words nothing is written.
 fn main(rt: HostRuntime) -> ExitCode {
     let status = match words_of(&rt) {
-        Ok(words) => answer(rt, words),
+        Ok(words) => answer(rt, rt, words),
         Err(_) => Status::Memory,
     };
     ExitCode::from(status.number())
