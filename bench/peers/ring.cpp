@@ -1,4 +1,4 @@
-// The ring of bench/run.sh in CAF, the C++ Actor Framework: N actors (4,000, or N of the environment); each is kicked with 7 and passes a token on until it is 0: 9N messages are taken.
+// The ring of bench/run.sh and of bench/hops.sh in CAF, the C++ Actor Framework: N actors (4,000, or N of the environment); each is kicked with 7 and passes a token on until it is 0: 9N messages are taken. Where the environment has TOKEN, one alone is kicked, with that number.
 #include <caf/all.hpp>
 #include <chrono>
 #include <iostream>
@@ -27,13 +27,15 @@ void caf_main(actor_system& sys) {
   for (int i = 0; i < n; ++i) v.push_back(sys.spawn(node, actor_cast<actor>(me)));
   for (int i = 0; i < n; ++i) me->send(v[i], next_a_v, v[(i + 1) % n]);
   auto t1 = std::chrono::steady_clock::now();
-  for (auto& a : v) me->send(a, kick_a_v, int32_t{7});
-  int left = n;
+  const char* token = getenv("TOKEN");
+  int kicked = token ? 1 : n, number = token ? atoi(token) : 7;
+  for (int i = 0; i < kicked; ++i) me->send(v[i], kick_a_v, int32_t{number});
+  int left = kicked;
   me->receive_while([&] { return left > 0; })([&](done_a) { --left; });
   auto t2 = std::chrono::steady_clock::now();
   using us = std::chrono::microseconds;
   std::cout << "ring " << n << ": spawn " << std::chrono::duration_cast<us>(t1 - t0).count() << " us, run "
-            << std::chrono::duration_cast<us>(t2 - t1).count() << " us, " << 9 * n << " messages\n";
+            << std::chrono::duration_cast<us>(t2 - t1).count() << " us, " << (number + 2) * kicked << " messages\n";
   for (auto& a : v) me->send_exit(a, exit_reason::user_shutdown);
 }
 CAF_MAIN(caf::id_block::ring)

@@ -6,7 +6,7 @@ use Rattle.std.specs.Char.{is_ascii_digit}
 use Rattle.std.proofs.lemmas.Bool.{and_parts}
 use Rattle.std.proofs.lemmas.Bool.Decides.{nat_tests}
 use Rattle.text_reading.specs.Numerals.{are_digits, value_from, value_of}
-use Rattle.room_run.specs.Words.{Files, Record, Asked, Check, Tree, Run, Convert, Made, is_word, number_in, number_of, fuel_of, actors_of, run_asked, convert_asked, usual_fuel, asked_of, asked_of_files, asked_with, asked_by}
+use Rattle.room_run.specs.Words.{Files, Check, Tree, Run, Made, is_word, number_in, number_of, fuel_of, actors_of, run_asked, convert_asked, usual_fuel, asked_by}
 
 -- a number from 1 to 100,000
 abbrev IsFuel : ℕ → Type 0
@@ -51,8 +51,8 @@ number_named most n (b ∷ bs) h = by_test (b == 48) refl h
 runs_with : (f g : Files) (m n : ℕ) → Some (Run f m) ≡ Some (Run g n) → m ≡ n
 runs_with f g m n e = cc
 
-no_run : (word : List ℕ) (o : Option ℕ) (f : Files) (n : ℕ) (check tree made : Bool)
-    → cond check (Some (Check word)) (cond tree (Some (Tree word)) (cond made (option_map Made o) None)) ≡ Some (Run f n) → IsFuel n
+no_run : (word : List ℕ) (o : Option ℕ) (f : Files) (n : ℕ) (checks trees makes : Bool)
+    → cond checks (Some (Check word)) (cond trees (Some (Tree word)) (cond makes (option_map Made o) None)) ≡ Some (Run f n) → IsFuel n
 no_run word o f n true tree made e = absurd cc
 no_run word o f n false true made e = absurd cc
 no_run word None f n false false true e = absurd cc

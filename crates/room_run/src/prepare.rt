@@ -161,7 +161,8 @@ fn read_injections<S: Shelf>(
     judge_lines(alloc, text.as_slice(), wiring)
 }
 
-/// The run of a plant over lines, which the words named: all controllers at once, with a deque for each lane.
+/// The run of a plant over lines, which the words named: all controllers at once, with a deque for each
+/// sender and receiver.
 fn run<G: Gate + Sync, R: Threads + Sync>(
     rt: &R,
     alloc: Global,
