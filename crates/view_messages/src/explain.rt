@@ -1,7 +1,9 @@
 //! The way of one message through a run.
 use crate::chain::Chain;
 use crate::injected::{Line, posted_line};
-use crate::posted::{entries_of, is_of_a_line, lines_before, place_of_post, posted_at, turn_before};
+use crate::posted::{
+    entries_of, is_of_a_line, lines_before, place_of_post, posted_at, turn_before,
+};
 use crate::replayed::{Replayed, tell_attributes};
 use crate::takers::tell_takers;
 use crate::transitions::Incoming;
