@@ -2,7 +2,7 @@
 //! journals of a run tell; and draws pictures of models and of runs.
 //!
 //! `why MODEL [INJECT]`, `doors MODEL`, `lint MODEL [INJECT]`, `story MODEL JOURNALS ..`, `end MODEL JOURNALS`,
-//! `explain MODEL INJECT JOURNALS MESSAGE`, `wiring MODEL [FORM]`, `chart MODEL CLASS [FORM]` and
+//! `outputs MODEL JOURNALS`, `explain MODEL INJECT JOURNALS MESSAGE`, `wiring MODEL [FORM]`, `chart MODEL CLASS [FORM]` and
 //! `run MODEL JOURNALS [FORM] ..` write a page to standard output; of a model that is refused all tell why. The
 //! status is that of
 //! `room` for these files: 0 where nothing is refused, 1 where the words have another form, or name what the model or
@@ -25,7 +25,7 @@ use crate::doors::tell_doors;
 use crate::lines::injections_of;
 use crate::messages::tell_message_of;
 use crate::pictures::{tell_picture, tell_run_picture};
-use crate::runs::{tell_end_of, tell_story_of};
+use crate::runs::{tell_end_of, tell_outputs_of, tell_story_of};
 use crate::texts::read_model;
 use crate::why::tell_model;
 use crate::words::{Asked, FORMS, Question, question_of};
@@ -114,12 +114,13 @@ fn tell(
         Asked::Doors => tell_doors(page, wiring)?,
         Asked::Lint(injections) => return tell_lint(rt, page, model, wiring, injections),
         Asked::Injections(name) => return tell_injections(rt, page, wiring, name),
-        Asked::Story(name, options) => return tell_story_of(rt, page, wiring, name, options),
+        Asked::Story(name, options) => return tell_story_of(rt, page, &accepted, name, options),
         Asked::Explain(message) => return tell_message_of(rt, page, &accepted, message),
-        Asked::End(name) => return tell_end_of(rt, page, wiring, name),
+        Asked::End(name) => return tell_end_of(rt, page, &accepted, name),
+        Asked::Outputs(name) => return tell_outputs_of(rt, page, &accepted, name),
         Asked::Picture(picture) => return tell_picture(rt.alloc(), page, &accepted, picture),
         Asked::Run(name, form, options) => {
-            return tell_run_picture(rt, page, wiring, name, form, options);
+            return tell_run_picture(rt, page, &accepted, name, form, options);
         }
     }
     Ok(Status::Done)

@@ -1,10 +1,9 @@
 //! Pictures of a model and its runs: actors with their bindings, charts of classes, and who sent what to whom.
 use crate::accepted::Accepted;
-use crate::runs::{journals_of, knows, wanted_of};
+use crate::runs::{knows, run_of, wanted_of};
 use crate::words::Options;
 use room_ast::Model;
 use room_run::Status;
-use room_wiring::Wiring;
 use std::alloc::{AllocError, Global};
 use view_drawing::{
     Diagram, Sequence, put_dot, put_mermaid, put_sequence_dot, put_sequence_mermaid,
@@ -106,20 +105,21 @@ fn put_run(page: &mut Page, sequence: &Sequence, form: Form) -> Result<(), Alloc
 pub(crate) fn tell_run_picture(
     rt: HostRuntime,
     page: &mut Page,
-    wiring: &Wiring,
+    model: &Accepted,
     name: &str,
     form: Form,
     options: Options<'_>,
 ) -> Result<Status, AllocError> {
+    let wiring = model.wiring();
     if !knows(page, wiring, options)? {
         return Ok(Status::WordsRefused);
     }
-    let journals = match journals_of(rt, page, wiring, name)? {
-        Ok(journals) => journals,
+    let run = match run_of(rt, page, model, name)? {
+        Ok(run) => run,
         Err(status) => return Ok(status),
     };
     let wanted = wanted_of(wiring, options);
-    let sequence = run_picture(rt.alloc(), wiring, &journals, wanted)?;
+    let sequence = run_picture(rt.alloc(), wiring, &run.journals, &run.redone, wanted)?;
     put_run(page, &sequence, form)?;
     Ok(Status::Done)
 }

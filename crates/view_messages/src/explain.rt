@@ -15,8 +15,8 @@ use room_wiring::Wiring;
 use std::alloc::{AllocError, Global};
 use view_journals::view_pages::{Named, Page};
 use view_journals::{
-    Actors, Fetched, Name, Turn, actor_at, put_actor, put_controller, put_end, put_left, put_name,
-    put_received, tell_turn, turns_of,
+    Actors, Fetched, Name, Redone, Turn, actor_at, put_actor, put_controller, put_end, put_left,
+    put_name, put_received, tell_difference, tell_turn, turns_of,
 };
 
 /// What a message is explained by.
@@ -27,6 +27,8 @@ pub struct Explained<'a> {
     pub model: &'a Model,
     pub injections: Named<'a>,
     pub journals: &'a Journals,
+    /// The run, done again by the charts of the model.
+    pub redone: &'a Redone,
     /// The turns of the message at its actor, replayed; none where they are not known.
     pub replays: &'a [Replayed],
 }
@@ -216,7 +218,7 @@ impl<'a> Explained<'a> {
         name: Name,
     ) -> Result<(), AllocError> {
         let fetched = Fetched::of(alloc, self.journals)?;
-        let turns = turns_of(alloc, self.journals)?;
+        let turns = turns_of(alloc, self.journals, self.redone)?;
         let mut actors = Actors::started(alloc, self.wiring, self.journals)?;
         let mut place = 0usize;
         for turn in turns.as_slice() {
@@ -256,7 +258,8 @@ fn state_before(actors: &Actors, did: Did) -> Option<u16> {
 
 /// Tells the way of a message, by its sender and the stamp of its post: where it was posted, and from which line of
 /// the injections; where it was fetched; each of its turns, with the transition that took it, or those that were
-/// tried and the states in which it is taken; and where it was left. It says whether the journals have the message.
+/// tried and the states in which it is taken; and where it was left. That the journals are those of another model is
+/// told before all. It says whether the journals have the message.
 pub fn tell_message(
     alloc: Global,
     page: &mut Page,
@@ -272,6 +275,7 @@ pub fn tell_message(
         return Ok(false);
     };
     let name = Name::new(from, sent);
+    tell_difference(page, told.wiring, told.redone)?;
     told.tell_message(page, msg)?;
     told.tell_posted(page, msg, place)?;
     told.tell_fetched(page, name)?;

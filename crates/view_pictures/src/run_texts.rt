@@ -5,7 +5,9 @@ use room_wiring::Wiring;
 use std::alloc::{AllocError, Global};
 use view_drawing::Label;
 use view_journals::view_pages::Page;
-use view_journals::{Turn, end_word, put_incoming, put_name, put_note, word_of};
+use view_journals::{
+    Difference, Said, Turn, end_word, put_difference, put_incoming, put_name, put_note, word_of,
+};
 
 /// A label with the bytes of a page.
 fn label_of(alloc: Global, page: &Page) -> Result<Label, AllocError> {
@@ -68,15 +70,16 @@ pub fn state_label(
     Ok(Some(Label::of(alloc, Vec::from_slice(alloc, name)?)?))
 }
 
-/// A note of actors of a slot.
+/// A note of actors of a slot, and what was said where nobody hears it.
 pub fn note_label(
     alloc: Global,
     wiring: &Wiring,
     speaker: Option<SlotId>,
     note: &Note,
+    said: Option<&Said>,
 ) -> Result<Label, AllocError> {
     let mut page = Page::new(alloc);
-    put_note(&mut page, wiring, speaker, note)?;
+    put_note(&mut page, wiring, speaker, note, said)?;
     label_of(alloc, &page)
 }
 
@@ -106,6 +109,17 @@ fn whole_label(alloc: Global, page: &Page) -> Result<Label, AllocError> {
 pub fn plain_label(alloc: Global, text: &[u8]) -> Result<Label, AllocError> {
     let mut page = Page::new(alloc);
     page.put(text)?;
+    whole_label(alloc, &page)
+}
+
+/// Where journals are those of another model.
+pub fn difference_text(
+    alloc: Global,
+    wiring: &Wiring,
+    difference: &Difference,
+) -> Result<Label, AllocError> {
+    let mut page = Page::new(alloc);
+    put_difference(&mut page, wiring, difference)?;
     whole_label(alloc, &page)
 }
 

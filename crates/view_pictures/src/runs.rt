@@ -1,12 +1,12 @@
 //! The picture of a run: who took part, and what became of the messages.
 use crate::choice::{Choice, Happening};
 use crate::drawing::Drawing;
-use crate::run_texts::{end_text, gap_text, plain_label, undrawn_text};
+use crate::run_texts::{difference_text, end_text, gap_text, plain_label, undrawn_text};
 use journal::{Entry, Journals};
 use room_wiring::Wiring;
 use std::alloc::{AllocError, Global};
 use view_drawing::Sequence;
-use view_journals::{Start, Told, Turn, Wanted, starts_of, turns_of};
+use view_journals::{Redone, Start, Told, Turn, Wanted, starts_of, turns_of};
 
 /// A run, and its starts and turns.
 #[derive(Clone, Copy)]
@@ -203,6 +203,18 @@ fn add_end(drawing: &mut Drawing<'_, '_>, gap: usize, undrawn: usize) -> Result<
     Ok(())
 }
 
+/// Draws that the journals are those of another model, if they are.
+fn add_difference(drawing: &mut Drawing<'_, '_>) -> Result<(), AllocError> {
+    let told = drawing.told;
+    match &told.redone.differs {
+        Some(difference) => {
+            let text = difference_text(drawing.alloc(), told.wiring, difference)?;
+            drawing.add_divider(text)
+        }
+        None => Ok(()),
+    }
+}
+
 /// Draws a run from its starts to its end; of messages and turns these happenings.
 fn draw<'a>(
     drawing: &mut Drawing<'a, '_>,
@@ -211,6 +223,7 @@ fn draw<'a>(
     undrawn: usize,
 ) -> Result<(), AllocError> {
     let mut progress = Progress::none(drawing.alloc(), run.told.journals)?;
+    add_difference(drawing)?;
     drawing.add_starts(run.starts)?;
     add_happenings(drawing, &mut progress, run.turns, happenings)?;
     add_end(drawing, progress.gap_before(run.turns.len()), undrawn)
@@ -236,8 +249,8 @@ fn picture_of_run(alloc: Global, run: Run<'_, '_>) -> Result<Sequence, AllocErro
 }
 
 fn picture_of_told(alloc: Global, told: &Told<'_>) -> Result<Sequence, AllocError> {
-    let starts = starts_of(alloc, told.journals)?;
-    let turns = turns_of(alloc, told.journals)?;
+    let starts = starts_of(alloc, told.journals, told.redone)?;
+    let turns = turns_of(alloc, told.journals, told.redone)?;
     let run = Run {
         told,
         starts: starts.as_slice(),
@@ -247,13 +260,14 @@ fn picture_of_told(alloc: Global, told: &Told<'_>) -> Result<Sequence, AllocErro
 }
 
 /// The picture of what is wanted of a run. No more than some 4,000 rows and 100 lifelines are drawn; where something
-/// is cut, the picture says so.
+/// is cut, or the journals are those of another model, the picture says so.
 pub fn run_picture(
     alloc: Global,
     wiring: &Wiring,
     journals: &Journals,
+    redone: &Redone,
     wanted: Wanted<'_>,
 ) -> Result<Sequence, AllocError> {
-    let told = Told::of(alloc, wiring, journals, wanted)?;
+    let told = Told::of(alloc, wiring, journals, redone, wanted)?;
     picture_of_told(alloc, &told)
 }
