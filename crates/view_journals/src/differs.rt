@@ -14,9 +14,7 @@ fn put_did(page: &mut Page, wiring: &Wiring, slot: SlotId, did: Did) -> Result<(
     let word = word_of(did);
     page.put(word.strip_suffix(b" ").unwrap_or(word))?;
     match did {
-        Did::Handled { state, .. }
-        | Did::Deferred { state, .. }
-        | Did::Unhandled { state, .. } => {
+        Did::Handled { state, .. } | Did::Deferred { state, .. } | Did::Unhandled { state, .. } => {
             page.put(b", ")?;
             put_state(page, wiring, slot, state)
         }

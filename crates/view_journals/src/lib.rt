@@ -36,7 +36,9 @@ pub use messages::{actor_at, put_end, put_incoming, put_received};
 pub use names::{find_signal, place_count, put_actor, put_controller, put_name};
 pub use notes::{is_trouble_note, put_note};
 pub use outputs::tell_outputs;
-pub use ports::{Outlets, has_joined, incoming, is_end, is_joined, is_outlet, partner_of, type_name};
+pub use ports::{
+    Outlets, has_joined, incoming, is_end, is_joined, is_outlet, partner_of, type_name,
+};
 pub use redone::{Deed, Difference, Redone, Said, Sayings};
 pub use standing::{Actors, Standing};
 pub use story::tell_story;

@@ -135,7 +135,9 @@ impl<'a> Told<'a> {
         let mut speaking = speaker;
         for note in notes {
             if let (Some(slot), Some(one)) = (speaking, sayings.with(note))
-                && self.wanted.wants_signal(said_signal(self.wiring, slot, one))
+                && self
+                    .wanted
+                    .wants_signal(said_signal(self.wiring, slot, one))
             {
                 return true;
             }

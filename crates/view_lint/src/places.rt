@@ -1,7 +1,6 @@
 //! What the wiring says of the places of ports.
 use room_kinds::PortKind;
 use room_wiring::PortNames;
-
 pub(crate) use view_journals::{has_joined, is_joined, is_outlet, partner_of};
 
 /// Whether an actor's own behaviour works at a port, and others than the frame service come there.

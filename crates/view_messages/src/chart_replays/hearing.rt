@@ -174,18 +174,25 @@ impl<'a, 'b> Hearing<'a, 'b> {
         Ok(false)
     }
 
-    /// Takes what the journals tell of sends to those who are joined by name, behind the places of the model.
+    /// Takes what the journals tell of a send to one who is joined by name, behind the places of the model; says
+    /// whether they do.
+    fn hear_link(&mut self, send: Send<'_>, count: u32) -> bool {
+        if let Some((source, msg)) = self.told.next_post(self.slot)
+            && source.port == send.port
+            && source.place >= count
+            && send.is_content(msg)
+        {
+            self.told.pass_post();
+            return true;
+        }
+        false
+    }
+
+    /// Takes what the journals tell of a send to all who are joined by name.
     fn hear_links(&mut self, send: Send<'_>, count: u32) {
         for _post in 0..self.told.posts.len() {
-            match self.told.next_post(self.slot) {
-                Some((source, msg))
-                    if source.port == send.port
-                        && source.place >= count
-                        && send.is_content(msg) =>
-                {
-                    self.told.pass_post();
-                }
-                _ => return,
+            if !self.hear_link(send, count) {
+                return;
             }
         }
     }
