@@ -119,6 +119,25 @@ fn react_openly(
     Ok(outcome)
 }
 
+/// A turn of an actor, done again, of which more may be told; none where the actor isn't in the chart of these tables.
+fn react_if_fitting(
+    alloc: Global,
+    replay: &mut Replay,
+    tables: &Tables,
+    msg: &Msg,
+    is_open: bool,
+) -> Result<Option<Outcome>, AllocError>
+    requires { IsSound tables.now }
+{
+    if !replay.fits(tables) {
+        return Ok(None);
+    }
+    if is_open {
+        return Ok(Some(react_openly(alloc, replay, tables, msg)?));
+    }
+    Ok(Some(react(alloc, replay, tables, msg)?))
+}
+
 /// When an actor has a turn, or comes up in it.
 fn moment_of(turn: &Turn<'_>, who: Incarnation) -> Moment {
     Moment {
@@ -211,15 +230,10 @@ impl<'a> Run<'a> {
         let Some(Some(replay)) = self.actors.get_mut(usize::from(who.slot.0)) else {
             return Ok(None);
         };
-        if !replay.is(who) || !replay.fits(tables) {
+        if !replay.is(who) {
             return Ok(None);
         }
-        let outcome = if is_wanted {
-            react_openly(alloc, replay, tables, msg)?
-        } else {
-            react(alloc, replay, tables, msg)?
-        };
-        Ok(Some(outcome))
+        react_if_fitting(alloc, replay, tables, msg, is_wanted)
     }
 
     /// The journals tell something else than the chart does.
