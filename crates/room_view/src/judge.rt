@@ -40,15 +40,24 @@ pub(crate) struct FaultOf<'a> {
     pub fault: &'a ModelFault,
 }
 
+/// How far a text gets that has a fault, in the order of the faults.
+fn reached(fault: &ModelFault) -> u32 {
+    let (kind, number) = rank(fault);
+    u32::from(kind)
+        .saturating_mul(1_000)
+        .saturating_add(u32::from(number))
+}
+
 impl<'a> Judge for FaultOf<'a> {
-    fn is_mended(&self, text: &[u8]) -> Result<bool, AllocError> {
+    fn reached(&self, text: &[u8]) -> Result<Option<u32>, AllocError> {
         if text.len() as u64 > MAX_TEXT {
-            return Ok(false);
+            return Ok(None);
         }
         match read_wiring(self.alloc, text) {
-            Ok(_) => Ok(true),
+            Ok(_) => Ok(Some(u32::MAX)),
             Err(ModelFault::Memory) => Err(AllocError),
-            Err(other) => Ok(comes_after(&other, self.fault)),
+            Err(other) if comes_after(&other, self.fault) => Ok(Some(reached(&other))),
+            Err(_) => Ok(None),
         }
     }
 }

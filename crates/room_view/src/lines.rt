@@ -1,4 +1,5 @@
 //! Why a line of injections is refused, and what would be right there.
+use crate::line_forms::wrong_part;
 use crate::texts::{Kind, read};
 use crate::why::tell_meaning;
 use inject_reader::{InjectFault, read_untimed};
@@ -224,9 +225,33 @@ fn tell_lines(
     page.end_line()?;
     let (start, end) = span_of(named.text, line);
     let bytes = named.text.get(start..end).unwrap_or(&[]);
+    if code == 1 {
+        return tell_form(alloc, page, named, start, bytes);
+    }
     let (from, to) = marked(bytes, code);
     page.put_part(named, start.saturating_add(from), start.saturating_add(to))?;
     tell_right(alloc, page, wiring, bytes, code)
+}
+
+/// Which part of a line is not of the form of lines. It begins at a byte of the text.
+fn tell_form(
+    alloc: Global,
+    page: &mut Page,
+    named: Named<'_>,
+    start: usize,
+    line: &[u8],
+) -> Result<(), AllocError> {
+    let line = line.strip_suffix(b"\r").unwrap_or(line);
+    let Some(part) = wrong_part(alloc, line)? else {
+        return page.put_part(named, start, start.saturating_add(line.len()));
+    };
+    page.put_part(
+        named,
+        start.saturating_add(part.start),
+        start.saturating_add(part.end),
+    )?;
+    page.put(b"    ")?;
+    page.put_line(part.why.as_bytes())
 }
 
 /// The text of injections that aren't refused over a wiring, or what is told of it and the status.

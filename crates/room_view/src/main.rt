@@ -13,6 +13,7 @@
 mod accepted;
 mod doors;
 mod judge;
+mod line_forms;
 mod lines;
 mod messages;
 mod pictures;

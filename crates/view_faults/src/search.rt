@@ -25,8 +25,9 @@ const MOST_MORE: usize = 150;
 
 /// Who knows whether a text has a fault.
 pub trait Judge {
-    /// Whether the fault is gone from a text, and none before it has come.
-    fn is_mended(&self, text: &[u8]) -> Result<bool, AllocError>;
+    /// How far a text gets from which the fault is gone, and in which none before it has come: the more, the later the
+    /// fault that it has instead, and most where it has none. None where the fault stands, or one before it.
+    fn reached(&self, text: &[u8]) -> Result<Option<u32>, AllocError>;
 }
 
 /// A search for the causes of a fault.
@@ -40,21 +41,31 @@ struct Search<'a, J: Judge> {
 }
 
 impl<'a, J: Judge> Search<'a, J> {
-    /// Whether the fault is gone from the draft, and none before it has come.
-    fn is_mended(&mut self) -> Result<bool, AllocError> {
+    /// How far the draft gets, if the fault is gone from it.
+    fn reached(&mut self) -> Result<Option<u32>, AllocError> {
         if self.tries == 0 {
-            return Ok(false);
+            return Ok(None);
         }
         self.tries -= 1;
-        self.judge.is_mended(self.draft.bytes())
+        self.judge.reached(self.draft.bytes())
+    }
+
+    /// Whether the fault is gone from the draft, and none before it has come.
+    fn is_mended(&mut self) -> Result<bool, AllocError> {
+        Ok(self.reached()?.is_some())
+    }
+
+    /// How far the text gets without these parts, if the fault is gone then.
+    fn reached_without(&mut self, items: &[Item]) -> Result<Option<u32>, AllocError> {
+        self.draft.blank_all(items);
+        let reached = self.reached()?;
+        self.draft.restore_all(items);
+        Ok(reached)
     }
 
     /// Whether the fault is gone where these parts are.
     fn is_mended_without(&mut self, items: &[Item]) -> Result<bool, AllocError> {
-        self.draft.blank_all(items);
-        let mended = self.is_mended()?;
-        self.draft.restore_all(items);
-        Ok(mended)
+        Ok(self.reached_without(items)?.is_some())
     }
 
     /// Looks for causes among parts of which it isn't known whether their absence mends the fault.
@@ -93,13 +104,25 @@ impl<'a, J: Judge> Search<'a, J> {
             }
             return Ok(());
         }
+        let before = self.found.len();
         self.draft.blank_all(right);
         self.seek_causes(left, halves - 1)?;
         self.draft.restore_all(right);
-        self.draft.blank_all(left);
-        self.seek_causes(right, halves - 1)?;
-        self.draft.restore_all(left);
+        let found = self.found_since(before, left)?;
+        self.draft.blank_all(found.as_slice());
+        if !self.is_mended()? {
+            self.seek_causes(right, halves - 1)?;
+        }
+        self.draft.restore_all(found.as_slice());
         Ok(())
+    }
+
+    /// What was found since so many were found; all of some parts where nothing was.
+    fn found_since(&self, before: usize, all: &[Item]) -> Result<Vec<Item>, AllocError> {
+        match self.found.as_slice().get(before..) {
+            Some([]) | None => Vec::from_slice(self.alloc, all),
+            Some(found) => Vec::from_slice(self.alloc, found),
+        }
     }
 
     /// The causes among these parts.
@@ -158,20 +181,63 @@ impl<'a, J: Judge> Search<'a, J> {
         Ok(found)
     }
 
+    /// Those of some parts of which each alone is a cause, and without which the text gets as far as it gets without
+    /// any of them: without another one a fault stands that its absence has made.
+    fn alone(&mut self, items: &[Item]) -> Result<Vec<Item>, AllocError> {
+        let mut furthest = 0u32;
+        let mut kept = Vec::new(self.alloc);
+        for item in items {
+            let Some(reached) = self.reached_without(&[*item])? else {
+                continue;
+            };
+            if reached > furthest {
+                furthest = reached;
+                kept = Vec::new(self.alloc);
+            }
+            if reached == furthest {
+                kept.push(*item)?;
+            }
+        }
+        Ok(kept)
+    }
+
+    /// The least that is a cause of what was found: parts that are causes alone, or else a group without what isn't
+    /// needed in it.
+    fn least(&mut self, found: Vec<Item>) -> Result<Vec<Item>, AllocError> {
+        let kept = self.alone(found.as_slice())?;
+        if !kept.is_empty() {
+            return Ok(kept);
+        }
+        let mut group = Vec::from_slice(self.alloc, found.as_slice())?;
+        for item in found.as_slice() {
+            let rest = without(self.alloc, group.as_slice(), *item)?;
+            if !rest.is_empty() && self.is_mended_without(rest.as_slice())? {
+                group = rest;
+            }
+        }
+        Ok(group)
+    }
+
     /// The causes inside causes.
     fn all_inside(&mut self, causes: &[Item]) -> Result<Vec<Item>, AllocError> {
         let mut all = Vec::new(self.alloc);
         for cause in causes {
-            let mut others = Vec::new(self.alloc);
-            for other in causes {
-                if other != cause {
-                    others.push(*other)?;
-                }
-            }
+            let others = without(self.alloc, causes, *cause)?;
             all.append(&mut self.inside(*cause, others.as_slice())?)?;
         }
         Ok(all)
     }
+}
+
+/// Some parts without one of them.
+fn without(alloc: Global, items: &[Item], one: Item) -> Result<Vec<Item>, AllocError> {
+    let mut others = Vec::new(alloc);
+    for item in items {
+        if *item != one {
+            others.push(*item)?;
+        }
+    }
+    Ok(others)
 }
 
 /// The class of this name among the parts of a model.
@@ -249,7 +315,8 @@ fn suspects(
 }
 
 /// The causes of a fault of a model whose text has these tokens, in the order in which they were found: parts whose
-/// absence mends it, alone or together. Of a fault of an actor class, those in the class of this name. None where no
+/// absence mends it, alone, or else together, and then no more of them than are needed. Where the absence of some has
+/// another fault come, and that of others hasn't, the others are told alone. Of a fault of an actor class, those in the class of this name. None where no
 /// part was found to be one within the trials that a search has.
 pub fn find_causes<J: Judge>(
     alloc: Global,
@@ -274,8 +341,10 @@ pub fn find_causes<J: Judge>(
         found = search.outermost(list)?;
     }
     search.tries = tries;
+    found = search.least(found)?;
     for _deep in 0..MOST_DEEP {
-        let inner = search.all_inside(found.as_slice())?;
+        let inside = search.all_inside(found.as_slice())?;
+        let inner = search.least(inside)?;
         let is_same = inner.as_slice() == found.as_slice();
         found = inner;
         if is_same {

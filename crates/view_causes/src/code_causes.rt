@@ -1,26 +1,14 @@
-//! Which fault a code or a trigger has that a class refuses, and where in it.
-use crate::chart::{Chart, Part, event_in};
-use crate::code::Code;
-use crate::source::Source;
+//! Which fault a code has that a class refuses, and where in it.
+use crate::cause::{Cause, cause_with};
+use crate::chart_causes::{MOST_CAUSES, Suspect};
+use crate::misread::word_meaning;
+use crate::name_causes::name_cause;
 use action_lang::{ActionFault, ServiceNames, check_action, check_cond, parse_action, parse_cond};
 use room_ast::Scope;
-use room_kinds::PortKind;
 use room_lexer::{Mark, Token, TokenKind, Word};
 use std::alloc::{AllocError, Global};
+use view_charts::{Code, Part, Source};
 use view_faults::Item;
-
-/// What is wrong at a place of a text: its first byte, the one behind its last, and what it is.
-#[derive(Clone, Copy, Drop)]
-pub struct Cause {
-    pub start: usize,
-    pub end: usize,
-    pub what: &'static str,
-}
-
-/// Whether two parts have a token in common.
-fn meet(one: Item, other: Item) -> bool {
-    one.first < other.end && other.first < one.end
-}
 
 /// What a fault of a code is.
 fn meaning_of(fault: ActionFault, is_condition: bool) -> &'static str {
@@ -30,7 +18,7 @@ fn meaning_of(fault: ActionFault, is_condition: bool) -> &'static str {
         }
         ActionFault::Syntax => "this is no statement, or the semicolon at its end is missing",
         ActionFault::UnknownName => {
-            "it names an attribute, port or reference that the class hasn't, or one of another kind; the first number of a message is `data`"
+            "it names an attribute, port or reference that the class hasn't, or one of another kind"
         }
         ActionFault::WrongPort => {
             "the message doesn't go out at this port, or the actor doesn't work at it, or the port takes no name"
@@ -46,8 +34,12 @@ fn meaning_of(fault: ActionFault, is_condition: bool) -> &'static str {
 struct Judge<'a> {
     source: Source<'a>,
     scope: &'a Scope,
+    suspect: &'a Suspect<'a>,
     is_condition: bool,
 }
+
+/// The most tokens of a statement at which something else is tried.
+const MOST_TRIED: usize = 60;
 
 impl<'a> Judge<'a> {
     fn action_fault(&self, text: &[u8]) -> Result<(), ActionFault> {
@@ -176,6 +168,144 @@ fn faulty_statement<'a>(judge: &Judge<'_>, code: &'a Code) -> Result<&'a [Token]
     Ok(statement_at(code, ends.as_slice(), number))
 }
 
+/// The text of a statement, from the first of its tokens to the last.
+fn text_of<'a>(code: &'a Code, statement: &[Token]) -> &'a [u8] {
+    match (statement.first(), statement.last()) {
+        (Some(first), Some(last)) => code.text().get(first.start..last.end).unwrap_or(&[]),
+        _ => &[],
+    }
+}
+
+/// Where a statement begins in its code.
+fn start_of(statement: &[Token]) -> usize {
+    match statement.first() {
+        Some(first) => first.start,
+        None => 0,
+    }
+}
+
+/// The text of a statement with a name in place of each token that is this word.
+fn renamed(
+    alloc: Global,
+    code: &Code,
+    statement: &[Token],
+    word: &[u8],
+) -> Result<Vec<u8>, AllocError> {
+    let mut text = Vec::from_slice(alloc, text_of(code, statement))?;
+    let start = start_of(statement);
+    for token in statement {
+        if code.bytes(token) != word {
+            continue;
+        }
+        let place = token.start.saturating_sub(start)..token.end.saturating_sub(start);
+        if let Some(part) = text.as_mut_slice().get_mut(place) {
+            for byte in part.iter_mut() {
+                *byte = b'x';
+            }
+        }
+    }
+    Ok(text)
+}
+
+/// The word in a statement that stands where a name is wanted: with a name in its place it would be a statement.
+fn word_cause(
+    judge: &Judge<'_>,
+    code: &Code,
+    statement: &[Token],
+) -> Result<Option<Cause>, AllocError> {
+    let alloc = judge.source.alloc;
+    for token in statement.iter().take(MOST_TRIED) {
+        let word = code.bytes(token);
+        let Some(what) = word_meaning(token, word) else {
+            continue;
+        };
+        let text = renamed(alloc, code, statement, word)?;
+        if judge.fault(text.as_slice())? != Some(ActionFault::Syntax) {
+            let found = cause_with(alloc, code.span(token, token), &[b"`", word, b"` ", what])?;
+            return Ok(Some(found));
+        }
+    }
+    Ok(None)
+}
+
+/// The token of a statement behind which a semicolon is missing: with one there it would be one, or several.
+fn open_end<'t>(
+    judge: &Judge<'_>,
+    code: &Code,
+    statement: &'t [Token],
+) -> Result<Option<&'t Token>, AllocError> {
+    let text = text_of(code, statement);
+    let start = start_of(statement);
+    for token in statement.iter().take(MOST_TRIED) {
+        let end = token.end.saturating_sub(start);
+        let mut closed = Vec::from_slice(judge.source.alloc, text.get(..end).unwrap_or(&[]))?;
+        closed.push(b';')?;
+        closed.extend_from_slice(text.get(end..).unwrap_or(&[]))?;
+        if judge.fault(closed.as_slice())? != Some(ActionFault::Syntax) {
+            return Ok(Some(token));
+        }
+    }
+    Ok(None)
+}
+
+/// What is wrong with a statement that is none.
+fn syntax_cause(
+    judge: &Judge<'_>,
+    code: &Code,
+    statement: &[Token],
+) -> Result<Option<Cause>, AllocError> {
+    let found = word_cause(judge, code, statement)?;
+    if found.is_some() {
+        return Ok(found);
+    }
+    let Some(first) = statement.first() else {
+        return Ok(None);
+    };
+    match open_end(judge, code, statement)? {
+        Some(last) => Ok(Some(cause_with(
+            judge.source.alloc,
+            code.span(first, last),
+            &[b"the semicolon at the end of this statement is missing"],
+        )?)),
+        None => Ok(None),
+    }
+}
+
+/// What is wrong with a condition that is none.
+fn condition_cause(judge: &Judge<'_>, code: &Code) -> Result<Option<Cause>, AllocError> {
+    let found = word_cause(judge, code, code.tokens())?;
+    if found.is_some() {
+        return Ok(found);
+    }
+    for token in code.tokens() {
+        let what: &[u8] = match token.kind {
+            TokenKind::Mark(Mark::Equals) => b"a condition compares, by `==`, and assigns nothing",
+            TokenKind::Mark(Mark::Semicolon) => b"a condition is one value, without a semicolon",
+            _ => continue,
+        };
+        let found = cause_with(judge.source.alloc, code.span(token, token), &[what])?;
+        return Ok(Some(found));
+    }
+    Ok(None)
+}
+
+/// What the tokens of a statement with a fault show of it.
+fn seen_cause(
+    judge: &Judge<'_>,
+    code: &Code,
+    fault: ActionFault,
+    statement: &[Token],
+) -> Result<Option<Cause>, AllocError> {
+    match fault {
+        ActionFault::Syntax if judge.is_condition => condition_cause(judge, code),
+        ActionFault::Syntax => syntax_cause(judge, code, statement),
+        ActionFault::UnknownName | ActionFault::WrongPort | ActionFault::WrongArgs => {
+            name_cause(judge.suspect, code, statement)
+        }
+        ActionFault::NestTooDeep | ActionFault::Memory => Ok(None),
+    }
+}
+
 /// What is wrong with a code that has a fault, at a statement of it.
 fn cause_at(
     judge: &Judge<'_>,
@@ -187,12 +317,15 @@ fn cause_at(
         return Ok(None);
     };
     let fault = judge.fault_up_to(code, last.end)?.unwrap_or(whole);
-    let (start, end) = code.span(first, last);
-    Ok(Some(Cause {
-        start,
-        end,
-        what: meaning_of(fault, judge.is_condition),
-    }))
+    let seen = seen_cause(judge, code, fault, statement)?;
+    if seen.is_some() {
+        return Ok(seen);
+    }
+    Ok(Some(cause_with(
+        judge.source.alloc,
+        code.span(first, last),
+        &[meaning_of(fault, judge.is_condition).as_bytes()],
+    )?))
 }
 
 /// What is wrong with a code, and at which of its statements.
@@ -238,101 +371,51 @@ fn add_conditions(
     Ok(())
 }
 
-/// The conditions of transitions that meet a part of the text.
-fn conditions_at(source: Source<'_>, arrows: &[Part], item: Item) -> Result<Vec<Item>, AllocError> {
+/// Adds what is wrong with some codes.
+fn add_causes(
+    judge: &Judge<'_>,
+    codes: &[Item],
+    causes: &mut Vec<Cause>,
+) -> Result<(), AllocError> {
+    for part in codes {
+        if causes.len() >= MOST_CAUSES {
+            break;
+        }
+        let code = Code::of(judge.source, *part)?;
+        if let Some(found) = cause_in(judge, &code)? {
+            causes.push(found)?;
+        }
+    }
+    Ok(())
+}
+
+/// The conditions of transitions.
+fn conditions_of(source: Source<'_>, arrows: &[Part]) -> Result<Vec<Item>, AllocError> {
     let mut codes = Vec::new(source.alloc);
     for arrow in arrows {
-        if meet(arrow.item, item) {
-            add_conditions(source, arrow.item, &mut codes)?;
-        }
+        add_conditions(source, arrow.item, &mut codes)?;
     }
     Ok(codes)
 }
 
-/// What is wrong with a code in a part of the text.
-fn cause_in_part(judge: &Judge<'_>, part: Item) -> Result<Option<Cause>, AllocError> {
-    let code = Code::of(judge.source, part)?;
-    cause_in(judge, &code)
-}
-
-/// What is wrong with the first faulty one of some codes that meets a part of the text.
-fn cause_among(judge: &Judge<'_>, codes: &[Item], item: Item) -> Result<Option<Cause>, AllocError> {
-    for part in codes {
-        if meet(*part, item) {
-            let cause = cause_in_part(judge, *part)?;
-            if cause.is_some() {
-                return Ok(cause);
-            }
-        }
-    }
-    Ok(None)
-}
-
-/// What is wrong with the codes of a chart that meet a part of the text, and where.
-pub(crate) fn code_cause(
-    source: Source<'_>,
-    chart: &Chart,
-    scope: &Scope,
-    item: Item,
-) -> Result<Option<Cause>, AllocError> {
+/// What is wrong with the codes of a chart.
+pub(crate) fn code_causes(suspect: &Suspect<'_>) -> Result<Vec<Cause>, AllocError> {
+    let source = suspect.source;
+    let mut causes = Vec::new(source.alloc);
     let actions = Judge {
         source,
-        scope,
+        scope: suspect.scope,
+        suspect,
         is_condition: false,
     };
-    let cause = cause_among(&actions, chart.codes(), item)?;
-    if cause.is_some() {
-        return Ok(cause);
-    }
+    add_causes(&actions, suspect.chart.codes(), &mut causes)?;
     let conditions = Judge {
         source,
-        scope,
+        scope: suspect.scope,
+        suspect,
         is_condition: true,
     };
-    let codes = conditions_at(source, chart.arrows(), item)?;
-    cause_among(&conditions, codes.as_slice(), item)
-}
-
-/// What is wrong with an event of a trigger, if something is.
-fn fault_of_event(scope: &Scope, message: &[u8], port: &[u8]) -> Option<&'static str> {
-    let Some((_number, port)) = scope.port(port) else {
-        return Some("the class has no such port");
-    };
-    if port.kind == PortKind::Relay {
-        return Some(
-            "this port only passes on: `external Port` in the Structure lets the actor work at it",
-        );
-    }
-    if port.received(message).is_some() {
-        return None;
-    }
-    if port.sent(message).is_some() {
-        return Some(
-            "this message goes out at the port, and doesn't come in: `conjugated` turns a port round",
-        );
-    }
-    Some("the port's protocol has no such message")
-}
-
-/// What is wrong with the event that begins with tokens, if one does, and where.
-fn event_cause(source: Source<'_>, scope: &Scope, tokens: &[Token]) -> Option<Cause> {
-    let (message, port) = event_in(tokens)?;
-    let what = fault_of_event(scope, source.bytes(message), source.bytes(port))?;
-    Some(Cause {
-        start: message.start,
-        end: port.end,
-        what,
-    })
-}
-
-/// What is wrong with the triggers of a class that meet a part of the text, and where.
-pub(crate) fn trigger_cause(source: Source<'_>, scope: &Scope, item: Item) -> Option<Cause> {
-    let tokens = source.tokens_of(item);
-    for at in 0..tokens.len() {
-        let cause = event_cause(source, scope, tokens.get(at..).unwrap_or(&[]));
-        if cause.is_some() {
-            return cause;
-        }
-    }
-    None
+    let codes = conditions_of(source, suspect.chart.arrows())?;
+    add_causes(&conditions, codes.as_slice(), &mut causes)?;
+    Ok(causes)
 }
