@@ -59,7 +59,7 @@ fn bad_byte(bytes: &[u8]) -> (&'static [u8], &'static [u8]) {
             b"this is the byte order mark of a text in UTF-16",
             b"cure: save the text as UTF-8 without BOM",
         ),
-        [128.., ..] => (
+        [first, ..] if *first > 127 => (
             b"letters beyond ASCII stand in comments, documentation, strings and blocks alone",
             b"cure: write it in letters of ASCII, or in a comment",
         ),
