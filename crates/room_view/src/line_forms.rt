@@ -190,7 +190,7 @@ fn wrong_priority(at: Field<'_>, behind: &[Field<'_>]) -> Option<Misformed> {
 /// What is wrong with what stands behind the signal.
 fn wrong_load(fields: &[Field<'_>]) -> Option<Misformed> {
     for (number, field) in fields.iter().enumerate() {
-        if field.bytes == b"at" {
+        if field.bytes == b"at".as_slice() {
             let behind = fields.get(number.saturating_add(1)..).unwrap_or(&[]);
             return wrong_priority(*field, behind);
         }
@@ -204,7 +204,7 @@ fn wrong_load(fields: &[Field<'_>]) -> Option<Misformed> {
 
 /// What is wrong with a line of one field.
 fn wrong_only(only: Field<'_>) -> Option<Misformed> {
-    if only.bytes == b"settle" {
+    if only.bytes == b"settle".as_slice() {
         return None;
     }
     let wrong = wrong_target(only);

@@ -11,7 +11,7 @@ use room_parser::{ParseFault, parse};
 use room_run::{ModelFault, read_plant};
 use std::alloc::{AllocError, Global};
 use structure_check::{CheckFault, Checked, check};
-use view_causes::{Cause, ChartFault, chart_causes, rule_cause, word_meaning};
+use view_causes::{Cause, ChartFault, chart_causes, rule_cause, system_causes, word_meaning};
 use view_charts::Source;
 use view_faults::{
     Item, Meaning, Unread, chart_meaning, could_stand, find_causes, head_of, named_by,
@@ -263,6 +263,7 @@ fn seen(
         (ModelFault::Chart { class, number }, Some(tree)) => {
             seen_in_chart(source, tree, class.as_bytes(), *number)
         }
+        (ModelFault::Rule(1), _) => system_causes(source),
         _ => Ok(Vec::new(source.alloc)),
     }
 }

@@ -6,7 +6,7 @@ use room_lexer::{Token, TokenKind};
 pub fn word_meaning(token: &Token, bytes: &[u8]) -> Option<&'static [u8]> {
     match token.kind {
         TokenKind::Ident(Some(_)) => Some(b"is a word of the language, and so no name"),
-        TokenKind::Ident(None) if bytes != b"frame" && is_part_word(bytes) => {
+        TokenKind::Ident(None) if bytes != b"frame".as_slice() && is_part_word(bytes) => {
             Some(b"is a word of the action language, and so no name here")
         }
         _ => None,

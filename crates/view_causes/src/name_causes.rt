@@ -84,16 +84,22 @@ fn behind_message<'t>(tokens: &'t [Token], message: &Token) -> &'t [Token] {
     }
 }
 
-/// The names of a path of attributes that tokens begin with.
+/// The names of a path of attributes that tokens begin with, and the dots between them.
 fn path_in(tokens: &[Token]) -> &[Token] {
-    let mut end = 1usize;
-    let mut rest = tokens.get(1..).unwrap_or(&[]);
-    while let [dot, name, more @ ..] = rest {
-        if !is_mark(dot, Mark::Dot) || !is_name(name) {
+    let mut end = 0usize;
+    for (at, token) in tokens.iter().enumerate() {
+        let goes_on = if at % 2 == 0 {
+            is_name(token)
+        } else {
+            is_mark(token, Mark::Dot)
+        };
+        if !goes_on {
             break;
         }
-        end = end.saturating_add(2);
-        rest = more;
+        end = at.saturating_add(1);
+    }
+    if end % 2 == 0 {
+        end = end.saturating_sub(1);
     }
     tokens.get(..end).unwrap_or(&[])
 }

@@ -96,7 +96,7 @@ fn word_cause(source: Source<'_>, item: Item) -> Result<Option<Cause>, AllocErro
     let name = source.bytes(token);
     let what = match word_meaning(token, name) {
         Some(what) => joined(source.alloc, &[b"`", name, b"` ", what])?,
-        None if name == b"frame" => {
+        None if name == b"frame".as_slice() => {
             Vec::from_slice(source.alloc, b"each class has a port `frame` by itself")?
         }
         None => return Ok(None),
@@ -112,6 +112,20 @@ fn base_token<'a>(source: Source<'a>, item: Item) -> Option<&'a Token> {
         .iter()
         .position(|token| is_word(token, Word::Extends))?;
     tokens.get(at.saturating_add(1))
+}
+
+/// What is wrong with the system of a model as far as its text shows it by itself: that it names no subsystem class.
+pub fn system_causes(source: Source<'_>) -> Result<Vec<Cause>, AllocError> {
+    let mut causes = Vec::new(source.alloc);
+    for system in classes_by(source, &[Word::LogicalSystem])?.as_slice() {
+        let parts = source.parts(*system)?;
+        for part in parts.as_slice() {
+            if let Some(found) = rule_cause(source, 1, *part)? {
+                causes.push(found)?;
+            }
+        }
+    }
+    Ok(causes)
 }
 
 /// What is wrong with a part of a text that is a cause of a broken rule, as far as it shows it: the name in it that isn't

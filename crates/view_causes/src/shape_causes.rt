@@ -7,6 +7,9 @@ use std::alloc::AllocError;
 use view_charts::{Chart, Ends, Part, Source, ends_of, is_word, joined};
 use view_faults::Item;
 
+/// How many names of a graph are looked at, of which the first are listed.
+const MOST_NAMES: usize = 40;
+
 /// A chart whose shape is looked at, and what it has.
 #[derive(Drop)]
 pub(crate) struct Shape<'a> {
@@ -75,6 +78,14 @@ fn unless_there(
         name,
         wanted,
     })
+}
+
+/// Adds a name that isn't there already.
+fn add_name<'a>(names: &mut Vec<&'a [u8]>, name: Option<&'a [u8]>) -> Result<(), AllocError> {
+    match name {
+        Some(name) if names.len() < MOST_NAMES && !names.contains(&name) => Ok(names.push(name)?),
+        _ => Ok(()),
+    }
 }
 
 /// Whether a transition is the initial one of its graph.
@@ -182,7 +193,7 @@ impl<'a> Shape<'a> {
         let mut names = Vec::new(source.alloc);
         for state in self.keys.chart.states() {
             if wanted.states && state.part.owner == owner {
-                names.push(source.name(state.part.item).unwrap_or(&[]))?;
+                add_name(&mut names, source.name(state.part.item))?;
             }
         }
         for point in self.keys.chart.points() {
@@ -190,7 +201,7 @@ impl<'a> Shape<'a> {
                 .word(point.item)
                 .is_some_and(|word| wanted.points.contains(&word));
             if is_wanted && point.owner == owner {
-                names.push(source.name(point.item).unwrap_or(&[]))?;
+                add_name(&mut names, source.name(point.item))?;
             }
         }
         Ok(names)

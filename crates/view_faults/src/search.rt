@@ -144,78 +144,81 @@ impl<'a, J: Judge> Search<'a, J> {
         Ok(all)
     }
 
-    /// The outermost causes among some parts and the parts inside them. Once there is one, little more is tried.
+    /// The outermost causes among some parts and the parts inside them: all that are causes alone; where there are none,
+    /// the first group that is one. Once there is one, little more is tried.
     fn outermost(&mut self, items: Vec<Item>) -> Result<Vec<Item>, AllocError> {
-        let mut all = Vec::new(self.alloc);
+        let mut best = Alone::none(self.alloc);
+        let mut group = Vec::new(self.alloc);
         let mut level = items;
         for _deep in 0..MOST_DEEP {
-            let mut found = self.causes_among(level.as_slice())?;
-            if all.is_empty() && !found.is_empty() {
+            let found = self.causes_among(level.as_slice())?;
+            if !found.is_empty() {
                 self.tries = self.tries.min(MOST_MORE);
             }
-            level = self.parts_beside(level.as_slice(), found.as_slice())?;
-            all.append(&mut found)?;
+            let alone = self.alone(found.as_slice())?;
+            level = self.parts_beside(level.as_slice(), alone.items.as_slice())?;
+            best = best.or(alone)?;
+            if group.is_empty() {
+                group = found;
+            }
             if level.is_empty() {
                 break;
             }
         }
-        Ok(all)
+        if best.items.is_empty() {
+            return self.needed(group);
+        }
+        Ok(best.items)
     }
 
     /// The causes inside a cause, or it itself where none of its parts is one. Where the fault stands without the
     /// other causes too, these are away meanwhile.
     fn inside(&mut self, cause: Item, others: &[Item]) -> Result<Vec<Item>, AllocError> {
         let parts = parts_of(self.alloc, self.draft.tokens(), cause)?;
+        if parts.is_empty() {
+            return Vec::from_slice(self.alloc, &[cause]);
+        }
         self.draft.blank_all(others);
         let apart = !self.is_mended()?;
         if !apart {
             self.draft.restore_all(others);
         }
-        let mut found = self.causes_among(parts.as_slice())?;
+        let found = self.causes_among(parts.as_slice())?;
+        let alone = self.alone(found.as_slice())?;
         if apart {
             self.draft.restore_all(others);
         }
         if found.is_empty() {
-            found.push(cause)?;
+            return Vec::from_slice(self.alloc, &[cause]);
         }
-        Ok(found)
+        if alone.items.is_empty() {
+            return Ok(found);
+        }
+        Ok(alone.items)
     }
 
-    /// Those of some parts of which each alone is a cause, and without which the text gets as far as it gets without
-    /// any of them: without another one a fault stands that its absence has made.
-    fn alone(&mut self, items: &[Item]) -> Result<Vec<Item>, AllocError> {
-        let mut furthest = 0u32;
-        let mut kept = Vec::new(self.alloc);
+    /// Those of some parts of which each alone is a cause, and without which the text gets furthest: where another one is
+    /// left out, a fault stands that its absence has made.
+    fn alone(&mut self, items: &[Item]) -> Result<Alone, AllocError> {
+        let mut best = Alone::none(self.alloc);
         for item in items {
-            let Some(reached) = self.reached_without(&[*item])? else {
-                continue;
-            };
-            if reached > furthest {
-                furthest = reached;
-                kept = Vec::new(self.alloc);
-            }
-            if reached == furthest {
-                kept.push(*item)?;
+            if let Some(reached) = self.reached_without(&[*item])? {
+                best = best.or(Alone::one(self.alloc, reached, *item)?)?;
             }
         }
-        Ok(kept)
+        Ok(best)
     }
 
-    /// The least that is a cause of what was found: parts that are causes alone, or else a group without what isn't
-    /// needed in it.
-    fn least(&mut self, found: Vec<Item>) -> Result<Vec<Item>, AllocError> {
-        let kept = self.alone(found.as_slice())?;
-        if !kept.is_empty() {
-            return Ok(kept);
-        }
-        let mut group = Vec::from_slice(self.alloc, found.as_slice())?;
-        for item in found.as_slice() {
-            let rest = without(self.alloc, group.as_slice(), *item)?;
+    /// A group of parts that together are a cause, without what isn't needed in it.
+    fn needed(&mut self, group: Vec<Item>) -> Result<Vec<Item>, AllocError> {
+        let mut left = Vec::from_slice(self.alloc, group.as_slice())?;
+        for item in group.as_slice() {
+            let rest = without(self.alloc, left.as_slice(), *item)?;
             if !rest.is_empty() && self.is_mended_without(rest.as_slice())? {
-                group = rest;
+                left = rest;
             }
         }
-        Ok(group)
+        Ok(left)
     }
 
     /// The causes inside causes.
@@ -226,6 +229,39 @@ impl<'a, J: Judge> Search<'a, J> {
             all.append(&mut self.inside(*cause, others.as_slice())?)?;
         }
         Ok(all)
+    }
+}
+
+/// Parts of which each alone is a cause, and how far the text gets without it.
+#[derive(Drop)]
+struct Alone {
+    reached: u32,
+    items: Vec<Item>,
+}
+
+impl Alone {
+    fn none(alloc: Global) -> Alone {
+        Alone {
+            reached: 0,
+            items: Vec::new(alloc),
+        }
+    }
+
+    fn one(alloc: Global, reached: u32, item: Item) -> Result<Alone, AllocError> {
+        let items = Vec::from_slice(alloc, &[item])?;
+        Ok(Alone { reached, items })
+    }
+
+    /// Those of both without which the text gets furthest.
+    fn or(self, other: Alone) -> Result<Alone, AllocError> {
+        if other.reached > self.reached {
+            return Ok(other);
+        }
+        let Alone { reached, mut items } = self;
+        if other.reached == reached {
+            items.extend_from_slice(other.items.as_slice())?;
+        }
+        Ok(Alone { reached, items })
     }
 }
 
@@ -316,8 +352,8 @@ fn suspects(
 
 /// The causes of a fault of a model whose text has these tokens, in the order in which they were found: parts whose
 /// absence mends it, alone, or else together, and then no more of them than are needed. Where the absence of some has
-/// another fault come, and that of others hasn't, the others are told alone. Of a fault of an actor class, those in the class of this name. None where no
-/// part was found to be one within the trials that a search has.
+/// another fault come, and that of others beside them hasn't, the others are told. Of a fault of an actor class, those
+/// in the class of this name. None where no part was found to be one within the trials that a search has.
 pub fn find_causes<J: Judge>(
     alloc: Global,
     text: &[u8],
@@ -341,12 +377,10 @@ pub fn find_causes<J: Judge>(
         found = search.outermost(list)?;
     }
     search.tries = tries;
-    found = search.least(found)?;
     for _deep in 0..MOST_DEEP {
         let inside = search.all_inside(found.as_slice())?;
-        let inner = search.least(inside)?;
-        let is_same = inner.as_slice() == found.as_slice();
-        found = inner;
+        let is_same = inside.as_slice() == found.as_slice();
+        found = inside;
         if is_same {
             break;
         }
