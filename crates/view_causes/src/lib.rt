@@ -1,8 +1,9 @@
-//! What is wrong where a model is refused, as far as its text shows it: which name isn't there and which are, which part
-//! of a chart has no way on, which statement of a code is none.
+//! What is wrong where a model is refused, as far as its text shows it: which name isn't there and which are, which
+//! part of a chart has no way on, which statement of a code is none.
 //!
 //! `chart_causes` looks at the whole chart of a class, so that what is told are causes alone. `rule_cause` looks at
-//! a part that was found to be the cause of a broken rule, `system_causes` at what a system names. Both name what there is in place of what there isn't.
+//! a part that was found to be the cause of a broken rule, `system_causes` at what a system names. All of them name what
+//! there is in place of what there isn't.
 //!
 //! All calls are safe and end; that they tell what they should is shown by cases.
 #![tactic(auto)]

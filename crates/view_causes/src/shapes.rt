@@ -1,8 +1,8 @@
 //! What a chart has, counted by keys: states and points, and the transitions that go on from each.
 //!
-//! A key is that of a graph, a mark, and a name. The marks are `.` for a state, `?` for a choice point, `:` for a transition
-//! point, `(` for an entry point, `)` for an exit point, `#` for any name of a state or a point; `>` for the beginning of
-//! the graph, and `-` behind a choice point for a branch without a condition.
+//! A key is that of a graph, a mark, and a name. The marks are `.` for a state, `?` for a choice point, `:` for
+//! a transition point, `(` for an entry point, `)` for an exit point, `#` for any name of a state or a point; `>` for the
+//! beginning of the graph, and `-` behind a choice point for a branch without a condition.
 use indexmap::IndexMap;
 use room_lexer::{Token, Word};
 use std::alloc::{AllocError, Global};

@@ -203,7 +203,8 @@ impl<'a, J: Judge> Search<'a, J> {
         let mut best = Alone::none(self.alloc);
         for item in items {
             if let Some(reached) = self.reached_without(&[*item])? {
-                best = best.or(Alone::one(self.alloc, reached, *item)?)?;
+                let one = Alone::one(self.alloc, reached, *item)?;
+                best = best.or(one)?;
             }
         }
         Ok(best)
