@@ -41,6 +41,14 @@ struct Judge<'a> {
 /// The most tokens of a statement at which something else is tried.
 const MOST_TRIED: usize = 60;
 
+/// How many bytes are read in these trials, but of two tokens at least.
+const MOST_READ: usize = 2 << 20;
+
+/// At how many tokens of a statement of so many bytes something else is tried.
+fn tried(len: usize) -> usize {
+    (MOST_READ / len.max(1)).clamp(2, MOST_TRIED)
+}
+
 impl<'a> Judge<'a> {
     fn action_fault(&self, text: &[u8]) -> Result<(), ActionFault> {
         let program = parse_action(self.source.alloc, text)?;
@@ -214,7 +222,8 @@ fn word_cause(
     statement: &[Token],
 ) -> Result<Option<Cause>, AllocError> {
     let alloc = judge.source.alloc;
-    for token in statement.iter().take(MOST_TRIED) {
+    let most = tried(text_of(code, statement).len());
+    for token in statement.iter().take(most) {
         let word = code.bytes(token);
         let Some(what) = word_meaning(token, word) else {
             continue;
@@ -236,7 +245,7 @@ fn open_end<'t>(
 ) -> Result<Option<&'t Token>, AllocError> {
     let text = text_of(code, statement);
     let start = start_of(statement);
-    for token in statement.iter().take(MOST_TRIED) {
+    for token in statement.iter().take(tried(text.len())) {
         let end = token.end.saturating_sub(start);
         let mut closed = Vec::from_slice(judge.source.alloc, text.get(..end).unwrap_or(&[]))?;
         closed.push(b';')?;
@@ -328,12 +337,34 @@ fn cause_at(
     )?))
 }
 
-/// What is wrong with a code, and at which of its statements.
-fn cause_in(judge: &Judge<'_>, code: &Code) -> Result<Option<Cause>, AllocError> {
-    match judge.fault(code.text())? {
-        Some(whole) => cause_at(judge, code, whole, faulty_statement(judge, code)?),
-        None => Ok(None),
+/// Whether a byte says nothing between tokens.
+fn is_blank(byte: u8) -> bool {
+    matches!(byte, b' ' | b'\t' | b'\r' | b'\n')
+}
+
+/// What is wrong with a code that has no tokens.
+fn empty_cause(judge: &Judge<'_>, code: &Code, part: Item) -> Result<Option<Cause>, AllocError> {
+    let is_empty = code.text().iter().all(|byte| is_blank(*byte));
+    let what: &[u8] = if is_empty {
+        b"a condition is one value, and here is none"
+    } else {
+        b"its text isn't made of tokens: a byte begins none of them, or a number is too large"
+    };
+    let span = judge.source.head(part);
+    Ok(Some(cause_with(judge.source.alloc, span, &[what])?))
+}
+
+/// What is wrong with a code in a part of the text, and at which of its statements.
+fn cause_in(judge: &Judge<'_>, part: Item) -> Result<Option<Cause>, AllocError> {
+    let code = Code::of(judge.source, part)?;
+    let Some(whole) = judge.fault(code.text())? else {
+        return Ok(None);
+    };
+    if code.tokens().is_empty() {
+        return empty_cause(judge, &code, part);
     }
+    let statement = faulty_statement(judge, &code)?;
+    cause_at(judge, &code, whole, statement)
 }
 
 /// Adds the codes of the guards in the triggers of a transition.
@@ -381,8 +412,7 @@ fn add_causes(
         if causes.len() >= MOST_CAUSES {
             break;
         }
-        let code = Code::of(judge.source, *part)?;
-        if let Some(found) = cause_in(judge, &code)? {
+        if let Some(found) = cause_in(judge, *part)? {
             causes.push(found)?;
         }
     }
