@@ -18,6 +18,7 @@ mod messages;
 mod pictures;
 mod runs;
 mod texts;
+mod titles;
 mod why;
 mod words;
 
@@ -90,10 +91,11 @@ fn tell_lint(
     Ok(Status::Done)
 }
 
-/// The page for a question, and the status. The model may have been read before.
+/// The page for a question, which these words ask, and the status. The model may have been read before.
 fn tell(
     rt: HostRuntime,
     page: &mut Page,
+    words: &[String],
     question: Question<'_>,
     model: Vec<TextFile>,
 ) -> Result<Status, AllocError> {
@@ -117,9 +119,11 @@ fn tell(
         Asked::Story(name, options) => return tell_story_of(rt, page, wiring, name, options),
         Asked::Explain(message) => return tell_message_of(rt, page, &accepted, message),
         Asked::End(name) => return tell_end_of(rt, page, wiring, name),
-        Asked::Picture(picture) => return tell_picture(rt.alloc(), page, &accepted, picture),
+        Asked::Picture(picture) => {
+            return tell_picture(rt.alloc(), page, model.text, &accepted, words, picture);
+        }
         Asked::Run(name, form, options) => {
-            return tell_run_picture(rt, page, wiring, name, form, options);
+            return tell_run_picture(rt, page, &accepted, words, name, form, options);
         }
     }
     Ok(Status::Done)
@@ -145,7 +149,7 @@ fn work(rt: HostRuntime, words: &[String], model: Vec<TextFile>) -> Status {
         return Status::WordsRefused;
     };
     let mut page = Page::new(rt.alloc());
-    let Ok(status) = tell(rt, &mut page, question, model) else {
+    let Ok(status) = tell(rt, &mut page, words, question, model) else {
         let _ = write_whole(&mut notes, b"room_view: memory\n");
         return Status::Memory;
     };

@@ -169,7 +169,7 @@ impl<'a, 'b> Drawing<'a, 'b> {
     /// Where a note stands that was told at a lifeline.
     fn spot_of_note(&self, lifeline: usize, note: &Note) -> Spot {
         let own = match note {
-            Note::Up { who, .. } | Note::Down { who, .. } => self.columns.of(who.slot),
+            Note::Up { who, .. } | Note::Down { who, .. } => self.columns.at(who.slot),
             _ => None,
         };
         Spot {
@@ -314,7 +314,7 @@ impl<'a, 'b> Drawing<'a, 'b> {
     /// Draws the ways of the messages that no turn took that is drawn.
     pub fn open_ways(&mut self) {
         for journey in self.journeys.as_slice() {
-            let lifeline = self.columns.of(journey.msg.target.slot);
+            let lifeline = self.columns.at(journey.msg.target.slot);
             if journey.is_open
                 && let (Some(row), Some(lifeline)) = (journey.row, lifeline)
             {

@@ -1,4 +1,6 @@
 //! The texts in the picture of a run.
+use crate::cast::MOST_LIFELINES;
+use crate::choice::Crowd;
 use journal::{Did, Journals, naming};
 use room_kinds::{Msg, Note, SlotId};
 use room_wiring::Wiring;
@@ -117,13 +119,25 @@ pub fn gap_text(alloc: Global, turns: usize) -> Result<Label, AllocError> {
     counted(alloc, b"cut: ", turns, b" turns aren't drawn here")
 }
 
-/// That messages aren't drawn, since there is no room for who sends or gets them.
+/// Who is passed over, if anybody is.
+pub fn crowd_text(alloc: Global, crowd: Crowd) -> Result<Option<Label>, AllocError> {
+    let behind: &[u8] = match crowd {
+        Crowd::Seated => return Ok(None),
+        Crowd::Idle => b" actors: those to whom nothing happens aren't drawn",
+        Crowd::Unnamed => b" actors: only those that --actor names are drawn by themselves",
+        Crowd::Late => b" actors: the first are drawn by themselves; --actor PATH chooses",
+    };
+    let text = counted(alloc, b"more than ", MOST_LIFELINES, behind)?;
+    Ok(Some(text))
+}
+
+/// That messages aren't drawn that go between those who have no lifelines of their own.
 pub fn undrawn_text(alloc: Global, messages: usize) -> Result<Label, AllocError> {
     counted(
         alloc,
         b"cut: ",
         messages,
-        b" messages aren't drawn: more than 100 slots take part",
+        b" messages to others aren't drawn",
     )
 }
 
