@@ -1,5 +1,5 @@
-//! On which side of its graph each block stands: a link begins on one side and ends on the other one, where that is free
-//! to choose.
+//! On which side of its graph each block stands: a link begins on one side and ends on the other one, where that can
+//! be chosen.
 use crate::diagram::{Diagram, Link, Shape};
 use std::alloc::AllocError;
 

@@ -184,7 +184,7 @@ fn choose<'a>(choice: &mut Choice<'a>, run: Run<'a, '_>) -> Result<(), AllocErro
     choose_starts(choice, run)
 }
 
-/// What of a run is wanted, where these are passed over; as many slots have lifelines of their own as there is room for.
+/// What of a run is wanted, where these are passed over, and all others have lifelines for whom there is room.
 fn usual_choice<'a>(
     alloc: Global,
     run: Run<'a, '_>,
