@@ -149,16 +149,32 @@ impl LaneTable {
         queue.push(m)
     }
 
+    /// How many controllers there are.
+    fn controllers(&self) -> u8
+        ensures { result ≡ self.now.controllers }
+    {
+        self.controllers
+    }
+
+    /// Whether a lane holds no message.
+    fn is_empty_lane(&self, sender: ControllerId, receiver: ControllerId, prio: Priority) -> bool
+        ensures { IsTrue result
+            ↔ (lanes_in self.now (lane sender.0 receiver.0 prio.0) ≡ []) }
+    {
+        match place_of(self.controllers, sender, receiver, prio) {
+            Some(place) => self.queues[place].is_empty(),
+            None => true,
+        }
+    }
+
     /// Whether no message of this sender, at any priority, is on its way to this receiver.
     fn is_still(&self, sender: ControllerId, receiver: ControllerId) -> bool
         ensures { IsTrue result
             ↔ ((priority : ℕ) → lanes_in self.now (lane sender.0 receiver.0 priority) ≡ []) }
     {
         for prio in 0..PRIORITIES {
-            if let Some(place) = place_of(self.controllers, sender, receiver, Priority(prio)) {
-                if !self.queues[place].is_empty() {
-                    return false;
-                }
+            if !self.is_empty_lane(sender, receiver, Priority(prio)) {
+                return false;
             }
         }
         true
@@ -169,19 +185,20 @@ impl LaneTable {
         ensures { IsTrue result
             ↔ ((sender priority : ℕ) → lanes_in self.now (lane sender receiver.0 priority) ≡ []) }
     {
-        for sender in 0..self.controllers {
+        let environment = self.controllers();
+        for sender in 0..environment {
             if !self.is_still(ControllerId(sender), receiver) {
                 return false;
             }
         }
-        self.is_still(ControllerId(self.controllers), receiver)
+        self.is_still(ControllerId(environment), receiver)
     }
 
     /// Whether no message is on its way.
     pub(crate) fn is_empty(&self) -> bool
         ensures { IsTrue result ↔ ((l : Lane) → lanes_in self.now l ≡ []) }
     {
-        for receiver in 0..self.controllers {
+        for receiver in 0..self.controllers() {
             if !self.is_empty_to(ControllerId(receiver)) {
                 return false;
             }
