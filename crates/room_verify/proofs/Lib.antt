@@ -4,3 +4,7 @@ pub mod MoveLaw
 pub mod LineLaw
 pub mod QuietLaw
 pub mod StartLaw
+pub mod HeadLaw
+pub mod MergingLaw
+pub mod CheckLaw
+pub mod AloneLaw

@@ -1,5 +1,5 @@
 //! Messages on their way.
-ghost use Rattle.std.specs.Prelude.{◌≡◌, ℕ, ◌+◌, ◌*◌, ◌<◌, ◌≤◌, ◌↔◌, ◌∷◌, ◌++◌, [], length, replicate, Some, None, IsTrue, IfOk, OnOk, OnErr, MatchOption, if◌then◌else◌};
+ghost use Rattle.std.specs.Prelude.{◌≡◌, ℕ, ◌+◌, ◌*◌, ◌<◌, ◌≤◌, ◌↔◌, ◌∷◌, ◌++◌, [], length, replicate, slice_get, option_copied, Some, None, IsTrue, IfOk, OnOk, OnErr, MatchOption, if◌then◌else◌};
 ghost use Rattle.actor_merge.specs.Mail.{Lane, lane};
 ghost use Rattle.controller_mail.specs.Within.{IsWithin};
 ghost use Rattle.room_verify.specs.Lanes.{IsFetchable, PutsInto, TakesFrom, is_among, lanes_in, place_of};
@@ -40,6 +40,12 @@ impl LaneQueue {
         ensures { IsTrue result ↔ (self.now ≡ []) }
     {
         self.messages.is_empty()
+    }
+
+    fn get(&self, i: usize) -> Option<&Msg>
+        ensures { option_copied result ≡ slice_get self.now i }
+    {
+        self.messages.get(i)
     }
 
     fn push(&mut self, m: Msg) -> Result<(), AllocError>
@@ -147,6 +153,23 @@ impl LaneTable {
         };
         let queue = &mut self.queues[place];
         queue.push(m)
+    }
+
+    /// One of the messages in a lane, by how many are older.
+    pub(crate) fn message(
+        &self,
+        sender: ControllerId,
+        receiver: ControllerId,
+        prio: Priority,
+        i: usize,
+    ) -> Option<&Msg>
+        ensures { option_copied result
+            ≡ slice_get (lanes_in self.now (lane sender.0 receiver.0 prio.0)) i }
+    {
+        match place_of(self.controllers, sender, receiver, prio) {
+            Some(place) => self.queues[place].get(i),
+            None => None,
+        }
     }
 
     /// How many controllers there are.
