@@ -16,7 +16,7 @@ use Rattle.actor_merge.specs.History.{IsLawful as Lawful}
 use Rattle.actor_merge.proofs.Back.{Happened, controller, environment, happened}
 use Rattle.actor_world.specs.Behaviour.{Behaviour}
 use Rattle.actor_world.specs.Body.{Body}
-use Rattle.actor_world.specs.Journals.{Item, lines_of, left_of, last_part, unposted_from, HasMessage, in_lane, in_pending, in_outbox, IsDone, IsStopped, IsEnded}
+use Rattle.actor_world.specs.Journals.{Item, lines_of, left_of, is_turn, last_part, unposted_from, HasMessage, in_lane, in_pending, in_outbox, IsDone, IsStopped, IsEnded}
 use Rattle.actor_world.specs.Start.{plant_of, start_entries}
 use Rattle.law_merges.specs.Merges.{Rise}
 use Rattle.law_merges.proofs.One.{one_merge}
@@ -132,6 +132,17 @@ module _ {B : Type 0} (plant : Plant B) (items : List Item) (fuel : ℕ) (w v : 
         };
   }
 
+-- ---- prompt turns
+
+prompt_from : (c : ℕ) (before es : List Entry) → ((front after : List Entry) (e : Entry) → es ≡ front ++ e ∷ after → is_turn e ≡ true → MayTurn c (before ++ front))
+    → PromptFrom c before es
+prompt_from c before [] h = tt
+prompt_from c before (e ∷ es) h = (
+  (λ turn. subst (λ (z : List Entry). MayTurn c z) (append-nil before) (h [] es e refl turn)),
+  prompt_from c (before ++ e ∷ []) es (λ front after f there turn.
+  subst (λ (z : List Entry). MayTurn c z) (sym (append_assoc before (e ∷ []) front)) (h (e ∷ front) after f (ap (λ (z : List Entry). e ∷ z) there) turn)),
+)
+
 -- ---- lawful journals
 
 module _ {M : Type 0} (model : Behaviour M) (t : Tables) (items : List Item) (fuel : ℕ) (j : Journals) (is : IsLawful model t items fuel j) where
@@ -196,21 +207,36 @@ module _ {M : Type 0} (model : Behaviour M) (t : Tables) (items : List Item) (fu
       let rest : Runs p w (x ∷ behind) legal.end = subst (λ (z : World (Body M)). Runs p z (x ∷ behind) legal.end) same parts.2 in
       refusal rest.0 (record { ready = rest.1; does = rest.2 })
 
-  left_at : (w : World (Body M)) → w ≡ legal.end → j.left ≡ left_of p w
+  pub left_at : (w : World (Body M)) → w ≡ legal.end → j.left ≡ left_of p w
   left_at w same =
       is.run.lawful.left_is ∙ sym (left_same p legal.end is.run.world legal.same.controllers legal.same.lanes) ∙ ap (left_of p) (sym same)
 
-  turns_at : (w : World (Body M)) → w ≡ legal.end → (c : ℕ) → c < n → (w.controllers c).turns ≤ fuel
+  pub turns_at : (w : World (Body M)) → w ≡ legal.end → (c : ℕ) → c < n → (w.controllers c).turns ≤ fuel
   turns_at w same c below =
       let turns : (w.controllers c).turns ≡ (is.run.world.controllers c).turns =
       ap (λ (z : World (Body M)). (z.controllers c).turns) same ∙ ap (λ (s : State (Body M)). s.turns) (legal.same.controllers c below) in
       let low = is.run.lawful.fuelled c below in
       omega (arith, turns, low)
 
-  ended_at : (w : World (Body M)) → w ≡ legal.end → IsEnded p items fuel w j.left j.unposted j.done
+  pub ended_at : (w : World (Body M)) → w ≡ legal.end → IsEnded p items fuel w j.left j.unposted j.done
   ended_at w same =
       subst (λ (z : World (Body M)). IsEnded p items fuel z j.left j.unposted j.done) (sym same)
       (ended_same p items fuel legal.end is.run.world legal.same j.left j.unposted j.done is.run.ended)
+
+  pub lawful_leads : LeadsTo model t items fuel j legal.end
+  lawful_leads = record {
+    merge = legal.merge;
+    reaches = record {
+      ordered = all_rise;
+      started = all_started;
+      is = subst (λ (z : List Placed). IsMerge (happened_by j) z) (sym (append-nil legal.merge)) merge_is;
+      run = legal.run;
+    };
+  }
+
+  pub lawful_prompt : (c : ℕ) → c < n → PromptFrom c [] (journal_of j c)
+  lawful_prompt c below =
+      prompt_from c [] (journal_of j c) (λ front after e there turn priority low. is.prompt.at_turns c priority front after e below low there turn)
 
   pub lawful_alone : (v : Verdict) → IsVerdict model t items fuel j v → v ≡ verdicts.Lawful
   lawful_alone v (out_of_order party low faulty lower) = absurd (faulty (all_rise party.0))

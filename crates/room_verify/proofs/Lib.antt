@@ -8,3 +8,4 @@ pub mod HeadLaw
 pub mod MergingLaw
 pub mod CheckLaw
 pub mod AloneLaw
+pub mod OneVerdict
