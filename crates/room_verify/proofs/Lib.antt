@@ -9,3 +9,5 @@ pub mod MergingLaw
 pub mod CheckLaw
 pub mod AloneLaw
 pub mod OneVerdict
+pub mod ChartsLaw
+pub mod RunsLaw
