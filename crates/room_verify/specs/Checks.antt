@@ -1,11 +1,13 @@
 -- What is checked of journals besides their entries.
-use Rattle.std.specs.Prelude.{◌≡◌, ℕ, ◌<◌, nat_lt, Bool, true, List, ◌++◌, Option, Some, None}
+use Rattle.std.specs.Prelude.{◌≡◌, ℕ, ◌<◌, nat_lt, Bool, true, false, List, [], ◌∷◌, ◌++◌, Option, Some, None}
 use Rattle.std.specs.List.{AllByRecursion}
 use Rattle.room_kinds.specs.declared.numbers.ControllerId.{ControllerId}
 use Rattle.journal.specs.declared.entry.Entry.{Entry}
 use Rattle.journal.specs.declared.entry.Journals.{Journals}
+use Rattle.inject_reader.specs.declared.inject_lines.accepted.Line.{Line}
 use Rattle.law_merges.specs.Merges.{Rise}
 use Rattle.law_runs.specs.Stamps.{is_event}
+use Rattle.model_run.specs.part_source.Parts.{is_message}
 use Rattle.room_verify.specs.Steps.{happened}
 
 -- the lowest of so many numbers for which this doesn't hold, or none, where it holds for each
@@ -27,3 +29,8 @@ pub record BeginsWithStarts (starts journal : List Entry) : Type 0 where
   pub after : List Entry
   pub is : journal ≡ starts ++ after
   pub only : AllByRecursion (λ (e : Entry). is_event e ≡ true) after
+
+-- the first of these lines asks for no message, or there is none
+abbrev pub EndsHere : List Line → Type 0
+EndsHere [] = Unit {0}
+EndsHere (l ∷ lines) = is_message l.what ≡ false

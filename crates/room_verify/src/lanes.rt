@@ -1,5 +1,5 @@
 //! Messages on their way.
-ghost use Rattle.std.specs.Prelude.{◌≡◌, ℕ, ◌+◌, ◌*◌, ◌<◌, ◌≤◌, ◌↔◌, ◌∷◌, ◌++◌, [], length, replicate, slice_get, option_copied, Some, None, IsTrue, IfOk, OnOk, OnErr, MatchOption, if◌then◌else◌};
+ghost use Rattle.std.specs.Prelude.{◌≡◌, ℕ, ◌+◌, ◌*◌, ◌<◌, ◌≤◌, ◌↔◌, ◌==◌, ◌∷◌, ◌++◌, [], length, replicate, slice_get, option_copied, Some, None, IsTrue, IfOk, OnOk, OnErr, MatchOption, if◌then◌else◌};
 ghost use Rattle.actor_merge.specs.Mail.{Lane, lane};
 ghost use Rattle.controller_mail.specs.Within.{IsWithin};
 ghost use Rattle.room_verify.specs.Lanes.{IsFetchable, PutsInto, TakesFrom, is_among, lanes_in, place_of};
@@ -37,7 +37,7 @@ impl LaneQueue {
     }
 
     fn is_empty(&self) -> bool
-        ensures { IsTrue result ↔ (self.now ≡ []) }
+        ensures { result ≡ (length self.now == 0) }
     {
         self.messages.is_empty()
     }
@@ -136,7 +136,9 @@ impl LaneTable {
             MatchOption result ((lanes_in self.old at ≡ []) × (self.new ≡ self.old))
             (λ m. TakesFrom self.old self.new at m) }
     {
-        let place = place_of(self.controllers, sender, receiver, prio)?;
+        let Some(place) = place_of(self.controllers, sender, receiver, prio) else {
+            return None;
+        };
         let queue = &mut self.queues[place];
         queue.pop()
     }
@@ -173,7 +175,7 @@ impl LaneTable {
     }
 
     /// How many controllers there are.
-    fn controllers(&self) -> u8
+    pub(crate) fn controllers(&self) -> u8
         ensures { result ≡ self.now.controllers }
     {
         self.controllers

@@ -51,7 +51,7 @@ fn stamped(m: Msg, me: ControllerId, time: u64) -> Msg
 }
 
 /// Whether a line asks for a message.
-fn is_message(line: &Line) -> bool
+pub(crate) fn is_message(line: &Line) -> bool
     ensures { result ≡ message_line line.now }
 {
     match &line.what {

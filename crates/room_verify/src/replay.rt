@@ -196,7 +196,7 @@ impl Replay {
     }
 
     /// Whether no message is on its way or waits anywhere.
-    fn is_quiet(&self) -> bool
+    pub(crate) fn is_quiet(&self) -> bool
         ensures { (plant : AnyPlant) (lines : List RunLine) → Stands plant self.now
             → IsTrue result ↔ IsQuiet (run_plant plant lines) (world_in plant self.now) }
     {
