@@ -1,5 +1,5 @@
 //! The environment of a replay.
-ghost use Rattle.std.specs.Prelude.{◌≡◌, ◌+◌, ◌≤◌, ◌^◌, length, position, IfOk, OnOk, OnErr};
+ghost use Rattle.std.specs.Prelude.{◌≡◌, ◌+◌, ◌<◌, ◌≤◌, ◌^◌, length, position, IfOk, IfSome, OnOk, OnErr};
 ghost use Rattle.journal.specs.declared.entry.Entry.TheVariants as entry;
 ghost use Rattle.actor_merge.specs.Parties.{stamped};
 ghost use Rattle.actor_merge.specs.World.{latest};
@@ -62,7 +62,8 @@ pub(crate) fn is_message(line: &Line) -> bool
 
 /// How many lines stand before the first that asks for a message, if one does.
 pub(crate) fn first_message(lines: &[Line]) -> Option<usize>
-    ensures { result ≡ position message_line lines.now }
+    ensures place { result ≡ position message_line lines.now }
+    ensures bound { IfSome result (λ i. i < length lines.now) }
 {
     lines.iter().position(|line| is_message(line))
 }

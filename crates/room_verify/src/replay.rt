@@ -121,10 +121,30 @@ impl Replay {
         if party.0 < environment {
             return self.move_controller(plant, party, e);
         }
-        if party.0 == environment && matches!(e, Entry::Post { .. }) {
-            return self.post_line(plant, lines);
+        if party.0 == environment {
+            return self.move_environment(plant, lines, e);
         }
         Ok(None)
+    }
+
+    /// The event of the environment that an entry names. It posts alone.
+    fn move_environment(
+        &mut self,
+        plant: &Plant,
+        lines: &[Line],
+        e: &Entry,
+    ) -> Result<Option<Entry>, AllocError>
+        requires replays { Replays plant.now lines.now self.old }
+        requires fit { LinesFit plant.now.wiring lines.now }
+        ensures { IfOk result (Came plant.now lines.now self.old self.new
+            (length plant.now.wiring.controllers) (event_of e.now)) }
+    {
+        match e {
+            Entry::Start { .. } => Ok(None),
+            Entry::Fetch { .. } => Ok(None),
+            Entry::Turn { .. } => Ok(None),
+            Entry::Post { .. } => self.post_line(plant, lines),
+        }
     }
 
     /// The event of a controller that an entry names.
