@@ -11,3 +11,4 @@ pub mod AloneLaw
 pub mod OneVerdict
 pub mod ChartsLaw
 pub mod RunsLaw
+pub mod LeftLaw

@@ -1,5 +1,5 @@
 //! What is left in the world of a replay.
-ghost use Rattle.std.specs.Prelude.{◌≡◌, List, ◌∷◌, ◌++◌, ◌↔◌, ◌<◌, [], true, false, length, map, option_copied, IsTrue};
+ghost use Rattle.std.specs.Prelude.{◌≡◌, List, ◌∷◌, ◌++◌, ◌↔◌, ◌<◌, ◌≤◌, [], true, false, drop, length, map, option_copied, IsTrue};
 ghost use Rattle.std.specs.List.{flat_map, range_with_len};
 ghost use Rattle.actor_merge.specs.Mail.{lane};
 ghost use Rattle.actor_merge.specs.Parties.{Line as RunLine};
@@ -20,21 +20,20 @@ use room_kinds::{ControllerId, Msg, Priority};
 /// How many priorities there are.
 const PRIORITIES: u8 = 6;
 
-/// What is told behind a message that is left for a controller, if that is told first.
-fn behind_message<'l>(
-    told: &'l [Left],
-    to: ControllerId,
-    pending: bool,
-    msg: &Msg,
-) -> Option<&'l [Left]>
-    ensures { Strips told.now (left to.0 pending msg.now ∷ []) (option_copied result) }
+/// What is told behind so many messages.
+fn behind(told: &[Left], count: usize) -> &[Left]
+    requires { count ≤ length told.now }
+    ensures { result.now ≡ drop count told.now }
 {
-    let (first, rest) = told.split_first()?;
-    if first.to == to && first.pending == pending && first.msg.is_same(msg) {
-        Some(rest)
-    } else {
-        None
-    }
+    let (_, rest) = told.split_at(count);
+    rest
+}
+
+/// Whether this is told of a message: that it is left for a controller, pending or in a lane.
+fn tells(told: &Left, to: ControllerId, pending: bool, msg: &Msg) -> bool
+    ensures { IsTrue result ↔ (told.now ≡ left to.0 pending msg.now) }
+{
+    told.to == to && told.pending == pending && told.msg.is_same(msg)
 }
 
 /// What is told behind the messages of a pending list of a controller, if these are told first.
@@ -48,13 +47,18 @@ fn behind_pending<'l>(
         (map (left c.0 true) (pending_of controller.now.mail.pending prio.0))
         (option_copied result) }
 {
-    let mut rest = told;
-    let mut i = 0;
-    while let Some(m) = controller.mail().waiting(prio.0, i) {
-        rest = behind_message(rest, c, true, m)?;
-        i += 1;
+    for i in 0..told.len() {
+        let Some(m) = controller.mail().waiting(prio.0, i) else {
+            return Some(behind(told, i));
+        };
+        if !tells(&told[i], c, true, m) {
+            return None;
+        }
     }
-    Some(rest)
+    match controller.mail().waiting(prio.0, told.len()) {
+        Some(_more) => None,
+        None => Some(behind(told, told.len())),
+    }
 }
 
 /// What is told behind the messages of a lane, if these are told first.
@@ -69,13 +73,18 @@ fn behind_lane<'l>(
         (map (left c.0 false) (lanes_in lanes.now (lane sender.0 c.0 prio.0)))
         (option_copied result) }
 {
-    let mut rest = told;
-    let mut i = 0;
-    while let Some(m) = lanes.message(sender, c, prio, i) {
-        rest = behind_message(rest, c, false, m)?;
-        i += 1;
+    for i in 0..told.len() {
+        let Some(m) = lanes.message(sender, c, prio, i) else {
+            return Some(behind(told, i));
+        };
+        if !tells(&told[i], c, false, m) {
+            return None;
+        }
     }
-    Some(rest)
+    match lanes.message(sender, c, prio, told.len()) {
+        Some(_more) => None,
+        None => Some(behind(told, told.len())),
+    }
 }
 
 /// What is told behind the messages that wait for a controller's turns, if these are told first.
