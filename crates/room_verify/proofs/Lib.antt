@@ -12,3 +12,4 @@ pub mod OneVerdict
 pub mod ChartsLaw
 pub mod RunsLaw
 pub mod LeftLaw
+pub mod EndLaw

@@ -101,6 +101,12 @@ fit_there t [] k d h fit = absurd (omega arith)
 fit_there t (l ∷ lines) zero d h fit = fit.0
 fit_there t (l ∷ lines) (suc k) d h fit = fit_there t lines k d (omega arith) fit.1
 
+-- a line that asks for a message has one
+pub message_of : (t : Tables) (number : ℕ) (what : What) → is_message what ≡ true → (m : Msg) × (item_of t number what ≡ Message number m)
+message_of t number whats.Settle h = absurd cc
+message_of t number (whats.Advance time) h = absurd cc
+message_of t number (whats.Message target signal payload prio) h = (injected t target signal payload prio, refl)
+
 module _ (plant : Plant) (lines : List Line) (old : Replay) (replays : Replays plant lines old) where
   abbrev t : Tables
   t = plant.wiring
@@ -125,14 +131,18 @@ module _ (plant : Plant) (lines : List Line) (old : Replay) (replays : Replays p
 
   -- ---- no line asks for a message
 
-  pub no_line_bars : position message_line (drop at lines) ≡ None → IsBarred p (world_in plant old) n Post
-  unfolding environment_post
-  no_line_bars none =
+  pub all_posted_there : position message_line (drop at lines) ≡ None → posted ≡ length (lines_of items)
+  all_posted_there none =
       let ahead : List Line = drop at lines in
       let cut : CutAt items (items_of t (drop (length ahead) ahead)) posted (q + length ahead) =
       cut_skipped t items ahead (length ahead) posted q (all_skipped ahead none) replays.environment.cut in
       let end : CutAt items [] posted (q + length ahead) = subst (λ (z : List Line). CutAt items (items_of t z) posted (q + length ahead)) (drop_whole ahead) cut in
-      let all : posted ≡ length (lines_of items) = all_posted items posted (q + length ahead) end in
+      all_posted items posted (q + length ahead) end
+
+  pub no_line_bars : position message_line (drop at lines) ≡ None → IsBarred p (world_in plant old) n Post
+  unfolding environment_post
+  no_line_bars none =
+      let all : posted ≡ length (lines_of items) = all_posted_there none in
       let gone : slice_get (lines_of items) posted ≡ None = slice_get_past (lines_of items) posted (omega (arith, all)) in
       let same : (caught_up p (world_in plant old)).posted ≡ posted = caught_up-posted p (world_in plant old) in
       environment_barred p (world_in plant old) Post
@@ -293,8 +303,20 @@ module _ (plant : Plant) (lines : List Line) (old : Replay) (replays : Replays p
           → IsBarred p (world_in plant old) n Post
       busy_bars m asked busy e next h = busy (λ some. h.ready refl (begins_is m asked ∙ lt-ltb 0 settles some))
 
--- a line that asks for a message has one
-pub message_of : (t : Tables) (number : ℕ) (what : What) → is_message what ≡ true → (m : Msg) × (item_of t number what ≡ Message number m)
-message_of t number whats.Settle h = absurd cc
-message_of t number (whats.Advance time) h = absurd cc
-message_of t number (whats.Message target signal payload prio) h = (injected t target signal payload prio, refl)
+-- the next line that asks for a message is among those of the run
+pub line_there : (plant : Plant) (lines : List Line) (old : Replay) (replays : Replays plant lines old) (settles : ℕ)
+    → position message_line (drop old.environment.at lines) ≡ Some settles
+    → (l : RunLine) × (slice_get (lines_of (items_of plant.wiring lines)) old.environment.posted ≡ Some l)
+line_there plant lines old replays settles first =
+    let ahead : List Line = drop old.environment.at lines in
+    let within = ahead_within plant lines old replays settles first in
+    let line = first_of ahead settles within in
+    let read : line.0 ≡ get_or ahead settles line.0 = line.1 line.0 in
+    let asks = asks_message plant lines old replays settles first line.0 in
+    let asked = message_of plant.wiring line.0.number line.0.what (ap (λ (l : Line). is_message l.what) read ∙ asks) in
+    (_, there plant lines old replays settles first line.0 read asked.0 asked.1)
+  where
+    first_of : (xs : List Line) (k : ℕ) → k < length xs → (l : Line) × ((d : Line) → l ≡ get_or xs k d)
+    first_of [] k h = absurd (omega arith)
+    first_of (x ∷ xs) zero h = (x, λ d. refl)
+    first_of (x ∷ xs) (suc k) h = first_of xs k (omega arith)
