@@ -117,7 +117,7 @@ not_before lists parties party e y more g below is apart before = elim (g.first 
   | inl later ↦ not_both y (record { party = party; entry = e }) before (inl later)
   | inr same ↦
       let low = same.1 in
-      not_both y (record { party = party; entry = e }) before (inr (same.0, omega (arith, low, λ z. apart z)))
+      not_both y (record { party = party; entry = e }) before (inr (same.0, omega (arith, low)))
 ]
 
 -- so it is the head of the merge

@@ -234,7 +234,10 @@ module _ (plant : Plant) (lines : List Line) (old : Replay) (replays : Replays p
           same_lanes = ap (λ (r : Replay). r.lanes) up.others
 
           same_controllers : new.controllers.items ≡ old.controllers.items
-          same_controllers = (λ i. (posts.controllers i).items) ∙ ap (λ (r : Replay). r.controllers.items) up.others
+          same_controllers =
+              let one : new.controllers.items ≡ mid.controllers.items = (λ i. (posts.controllers i).items) in
+              let two : mid.controllers.items ≡ old.controllers.items = ap (λ (r : Replay). r.controllers.items) up.others in
+              one ∙ two
 
           puts : PutsInto mid.lanes new.lanes sent
           puts = subst (λ (z : Msg). PutsInto mid.lanes new.lanes (stamped n (mid.environment.clock + 1) z)) message posts.lanes

@@ -9,7 +9,7 @@ use Rattle.room_kinds.specs.declared.numbers.Stamp.{Stamp}
 use Rattle.journal.specs.declared.entry.Entry.{Entry}
 use Rattle.journal.specs.declared.entry.Entry.TheVariants as entry
 use Rattle.actor_merge.specs.Mail.{Lane, lane, Event, Fetch, Turn, Post}
-use Rattle.actor_merge.specs.Parties.{State, Line as RunLine, Plant as RunPlant, put, stamped, fetch, turn, turn_with, next_of, post, post_front, Does}
+use Rattle.actor_merge.specs.Parties.{State, Line as RunLine, Plant as RunPlant, Taken, stamped, fetch, turn, turn_with, next_of, post, post_front, Does}
 use Rattle.actor_merge.specs.World.{World, put_lane, fetch_front, controller_does, controller_after, lanes_after}
 use Rattle.actor_merge.proofs.Steps.{same_entry}
 use Rattle.actor_world.specs.Body.{Body}
@@ -51,15 +51,15 @@ module _ {B : Type 0} (p : RunPlant B) (c : ℕ) (s next : State B) where
 
   turn_none : s.outbox ≡ [] → next_of s.pending ≡ None → turn p c s ≡ None
   unfolding turn
-  turn_none empty none = rw (empty, none) refl
+  turn_none empty none = ap (λ (o : List Msg). turn_with p c s o (next_of s.pending)) empty ∙ ap (λ (o : Option Taken). turn_with p c s [] o) none
 
   turn_waits : (m : Msg) (ms : List Msg) → s.outbox ≡ m ∷ ms → turn p c s ≡ None
   unfolding turn
-  turn_waits m ms some = rw some refl
+  turn_waits m ms some = ap (λ (o : List Msg). turn_with p c s o (next_of s.pending)) some
 
   post_none : s.outbox ≡ [] → post c s ≡ None
   unfolding post
-  post_none empty = rw empty refl
+  post_none empty = ap (λ (o : List Msg). post_front c s o) empty
 
 -- the entry of a fetch
 fetched_entry : (q new : Queues) (m : Msg) (e : Entry) → fetch (alone q) m ≡ (alone new, e) → (stamp : Stamp) × (e ≡ entry.Fetch stamp m)

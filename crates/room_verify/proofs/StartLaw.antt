@@ -66,8 +66,8 @@ range_more n = from 0 n ∙ ap (λ (k : ℕ). range_with_len 0 n ++ k ∷ []) (l
 
 pub mapped_more : {X : Type 0} (f : ℕ → X) (xs new : List X) (x : X) (n : ℕ) → xs ≡ map f (range_with_len 0 n) → x ≡ f n → new ≡ xs ++ x ∷ []
     → new ≡ map f (range_with_len 0 (n + 1))
-mapped_more f xs new x n was is now =
-    now ∙ ap (λ (z : List _). z ++ x ∷ []) was ∙ ap (λ (z : _). map f (range_with_len 0 n) ++ z ∷ []) is
+mapped_more {X} f xs new x n was is now =
+    now ∙ ap (λ (z : List X). z ++ x ∷ []) was ∙ ap (λ (z : X). map f (range_with_len 0 n) ++ z ∷ []) is
     ∙ sym (map_push f (range_with_len 0 n) n) ∙ ap (map f) (sym (range_more n))
 
 module _ (plant : Plant) (r : Replay) (all : AllStarted plant r.controllers.items) (count : length r.controllers.items ≡ length plant.wiring.controllers)

@@ -6,5 +6,6 @@ pub mod Heads
 pub mod Merging
 pub mod Checks
 pub mod Lefts
+pub mod Promptness
 pub mod Verdicts
 pub mod Laws
