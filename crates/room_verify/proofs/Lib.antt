@@ -6,10 +6,7 @@ pub mod QuietLaw
 pub mod StartLaw
 pub mod HeadLaw
 pub mod MergingLaw
-pub mod CheckLaw
 pub mod AloneLaw
 pub mod OneVerdict
 pub mod ChartsLaw
 pub mod RunsLaw
-pub mod LeftLaw
-pub mod EndLaw

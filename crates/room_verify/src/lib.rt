@@ -5,12 +5,20 @@
 //! is refused where what it names can't happen, or makes another entry.
 #![tactic(auto)]
 
+mod heads;
 mod lanes;
+mod laws;
 mod line_cursor;
+mod merging;
 mod replay;
 mod verdict;
 
+pub use heads::Head;
 pub use lanes::{LaneQueue, LaneTable};
+pub use laws::{
+    lawful_are_runs, runs_are_lawful_alone, verdicts_are_by_charts, verdicts_are_one,
+};
 pub use line_cursor::LineCursor;
+pub use merging::{Outcome, replay_merge};
 pub use replay::{Begun, Replay};
 pub use verdict::Verdict;

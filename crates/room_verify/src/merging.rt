@@ -22,7 +22,7 @@ pub enum Outcome {
 
 /// Lets the entries of the merge of journals happen, one after another, where so many entries of each party are
 /// passed.
-pub(crate) fn replay_merge(
+pub fn replay_merge(
     mut replay: Replay,
     plant: &Plant,
     lines: &[Line],
