@@ -4,6 +4,7 @@ pub mod MoveLaw
 pub mod LineLaw
 pub mod QuietLaw
 pub mod StartLaw
+pub mod StepLaw
 pub mod HeadLaw
 pub mod MergingLaw
 pub mod AloneLaw

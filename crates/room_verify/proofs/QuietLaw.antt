@@ -115,3 +115,7 @@ one_caught_up plant ss c s first clock before after at is was now =
     let own : clock ≡ (controllers_in plant ss c).clock = is ∙ ap (λ (z : State (Body Actor)). z.clock) (sym (state_is plant ss c s at)) in
     now ∙ ap (λ (k : ℕ). max clock k) was ∙ ap (λ (k : ℕ). max k (latest (controllers_in plant ss) c first)) own
     ∙ sym (latest_more (controllers_in plant ss) c first)
+
+-- the environment with another clock
+abbrev pub with_clock : LineCursor → ℕ → LineCursor
+with_clock v clock = record v { clock = clock }
