@@ -41,31 +41,31 @@ use Rattle.room_verify.proofs.WorldLaw.{environment_happens, environment_barred}
 -- ---- lines that ask for no message
 
 -- the first lines ask for none
-abbrev pub Skipped : List Line → ℕ → Type 0
-Skipped lines zero = Unit {0}
-Skipped [] (suc n) = ⊥
-Skipped (l ∷ lines) (suc n) = (is_message l.what ≡ false) × Skipped lines n
+abbrev pub Skipped : ℕ → List Line → Type 0
+Skipped zero lines = Unit {0}
+Skipped (suc n) [] = ⊥
+Skipped (suc n) (l ∷ lines) = (is_message l.what ≡ false) × Skipped n lines
 
-by_places : (lines : List Line) (n : ℕ) → n ≤ length lines → ((d : Line) (k : ℕ) → k < n → is_message (get_or lines k d).what ≡ false) → Skipped lines n
-by_places lines zero within h = tt
-by_places [] (suc n) within h = absurd (omega arith)
-by_places (l ∷ lines) (suc n) within h = (h l 0 (omega arith), by_places lines n (omega arith) (λ d k b. h d (suc k) (omega arith)))
+by_places : (n : ℕ) (lines : List Line) → n ≤ length lines → ((d : Line) (k : ℕ) → k < n → is_message (get_or lines k d).what ≡ false) → Skipped n lines
+by_places zero lines within h = tt
+by_places (suc n) [] within h = absurd (omega arith)
+by_places (suc n) (l ∷ lines) within h = (h l 0 (omega arith), by_places n lines (omega arith) (λ d k b. h d (suc k) (omega arith)))
 
 -- those before the first that asks for one
-pub skipped_before : (lines : List Line) (settles : ℕ) → position message_line lines ≡ Some settles → Skipped lines settles
+pub skipped_before : (lines : List Line) (settles : ℕ) → position message_line lines ≡ Some settles → Skipped settles lines
 skipped_before lines settles h = go lines refl
   where
-    go : (xs : List Line) → xs ≡ lines → Skipped lines settles
+    go : (xs : List Line) → xs ≡ lines → Skipped settles lines
     go [] e = absurd (let none : None ≡ Some settles = ap (λ (z : List Line). position message_line z) e ∙ h in cc)
     go (x ∷ xs) e =
         let found = position-Some message_line lines settles x h in
-        by_places lines settles (omega (arith, found.0))
+        by_places settles lines (omega (arith, found.0))
         (λ d k b. let at = position-Some message_line lines settles d h in at.2 k b)
 
 -- all lines, where none asks for one
-pub all_skipped : (lines : List Line) → position message_line lines ≡ None → Skipped lines (length lines)
+pub all_skipped : (lines : List Line) → position message_line lines ≡ None → Skipped (length lines) lines
 all_skipped lines h =
-    by_places lines (length lines) (omega arith) (λ d k b. none_at d k b (cases_lt (position_or_len message_line lines) (length lines)))
+    by_places (length lines) lines (omega arith) (λ d k b. none_at d k b (cases_lt (position_or_len message_line lines) (length lines)))
   where
     none_at : (d : Line) (k : ℕ) → k < length lines → (position_or_len message_line lines < length lines) ⊎ (length lines ≤ position_or_len message_line lines) → is_message (get_or lines k d).what ≡ false
     none_at d k b (inl within) =
@@ -78,17 +78,17 @@ all_skipped lines h =
     not_true false e = refl
 
 -- the text is cut behind them, some parts later
-pub cut_skipped : (t : Tables) (items : List Item) (lines : List Line) (n posted q : ℕ) → Skipped lines n → CutAt items (items_of t lines) posted q
+pub cut_skipped : (t : Tables) (items : List Item) (n : ℕ) (lines : List Line) (posted q : ℕ) → Skipped n lines → CutAt items (items_of t lines) posted q
     → CutAt items (items_of t (drop n lines)) posted (q + n)
-cut_skipped t items lines zero posted q h c =
+cut_skipped t items zero lines posted q h c =
     let same : q ≡ q + 0 = omega arith in subst (λ (k : ℕ). CutAt items (items_of t lines) posted k) same c
-cut_skipped t items [] (suc n) posted q h c = absurd h
-cut_skipped t items (l ∷ lines) (suc n) posted q h c =
+cut_skipped t items (suc n) [] posted q h c = absurd h
+cut_skipped t items (suc n) (l ∷ lines) posted q h c =
     let one : CutAt items (Settle l.number ∷ items_of t lines) posted q =
     subst (λ (z : Item). CutAt items (z ∷ items_of t lines) posted q) (settle_item t l.number l.what h.0) c in
     let next : (q + 1) + n ≡ q + suc n = omega arith in
     subst (λ (k : ℕ). CutAt items (items_of t (drop n lines)) posted k) next
-    (cut_skipped t items lines n posted (q + 1) h.1 (cut_settle items (items_of t lines) posted q l.number one))
+    (cut_skipped t items n lines posted (q + 1) h.1 (cut_settle items (items_of t lines) posted q l.number one))
 
 drop_whole : {X : Type 0} (xs : List X) → drop (length xs) xs ≡ []
 drop_whole [] = refl
@@ -135,7 +135,7 @@ module _ (plant : Plant) (lines : List Line) (old : Replay) (replays : Replays p
   all_posted_there none =
       let ahead : List Line = drop at lines in
       let cut : CutAt items (items_of t (drop (length ahead) ahead)) posted (q + length ahead) =
-      cut_skipped t items ahead (length ahead) posted q (all_skipped ahead none) replays.environment.cut in
+      cut_skipped t items (length ahead) ahead posted q (all_skipped ahead none) replays.environment.cut in
       let end : CutAt items [] posted (q + length ahead) = subst (λ (z : List Line). CutAt items (items_of t z) posted (q + length ahead)) (drop_whole ahead) cut in
       all_posted items posted (q + length ahead) end
 
@@ -165,7 +165,7 @@ module _ (plant : Plant) (lines : List Line) (old : Replay) (replays : Replays p
     asks_message d = (position-Some message_line ahead settles d first).1
 
     behind : CutAt items (items_of t (drop settles ahead)) posted (q + settles)
-    behind = cut_skipped t items ahead settles posted q (skipped_before ahead settles first) replays.environment.cut
+    behind = cut_skipped t items settles ahead posted q (skipped_before ahead settles first) replays.environment.cut
 
     module _ (line : Line) (read : line ≡ get_or ahead settles line) where
       module _ (m : Msg) (asked : item_of t line.number line.what ≡ Message line.number m) where
