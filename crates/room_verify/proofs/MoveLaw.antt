@@ -1,5 +1,5 @@
 -- What a controller does in a replay happens in its world.
-use Rattle.std.proofs.Common.{◌≡◌, ℕ, ◌+◌, ◌<◌, ◌≤◌, ◌==◌, not, Bool, true, false, List, [], ◌∷◌, ◌++◌, drop, set, length, slice_get, Option, Some, None, option_map, refl, sym, ap, ◌∙◌, subst, arith, inl, inr}
+use Rattle.std.proofs.Common.{◌≡◌, ℕ, ◌+◌, ◌<◌, ◌≤◌, ◌==◌, not, Bool, true, false, List, [], ◌∷◌, ◌++◌, drop, set, get_or, length, slice_get, Option, Some, None, option_map, refl, sym, ap, ◌∙◌, subst, arith, inl, inr}
 use Rattle.std.proofs.lemmas.Bool.{cases_eq, ne_eqb, not_from_false, true≢false}
 use Rattle.std.proofs.lemmas.List.{length-set}
 use Rattle.std.proofs.lemmas.Option.{slice_get_within, slice_get_read}
@@ -267,3 +267,11 @@ pub none_outside : (ms : List Msg) → not (length ms == 0) ≡ false → ms ≡
 none_outside [] h = refl
 none_outside (m ∷ ms) h =
     absurd (true≢false (sym (not_from_false _ (ne_eqb (length (m ∷ ms)) 0 (λ z. absurd (omega (arith, z))))) ∙ h))
+
+-- the controller that stands at a place of the table
+pub placed : (plant : Plant) (old : Replay) (c at : ℕ) (s : ControllerState) → Stands plant old → c < length plant.wiring.controllers → at ≡ c
+    → s ≡ get_or old.controllers.items at s → slice_get old.controllers.items c ≡ Some s
+placed plant old c at s stands below same read =
+    subst (λ (k : ℕ). slice_get old.controllers.items k ≡ Some s) same
+    (slice_get_read old.controllers.items (length old.controllers.items) at s refl
+    (let count = stands.count in omega (arith, count, same)) read)

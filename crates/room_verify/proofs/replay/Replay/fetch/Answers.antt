@@ -1,6 +1,8 @@
 use Rattle.std.proofs.Common.{◌≡◌, ◌<◌, length, refl, sym, ap, ◌∙◌, subst, arith}
 use Rattle.std.proofs.lemmas.Option.{slice_get_read}
-use Rattle.room_verify.proofs.MoveLaw.{fetch_moves, lane_bars}
+use Rattle.room_kinds.specs.declared.numbers.ControllerId.{ControllerId}
+use Rattle.controller.specs.declared.controller_state.ControllerState.{ControllerState}
+use Rattle.room_verify.proofs.MoveLaw.{Changes, fetch_moves, lane_bars, placed}
 use Rattle.room_verify.proofs.replay.Replay.fetch.Goals as goal
 
 pub returns-in_default : goal.returns-in_default
@@ -9,3 +11,20 @@ returns-in_default c =
 
 pub fetch-made-requires : goal.fetch-made-requires
 fetch-made-requires c = (rw c.in-Some.is at c.take.ensures).fetchable.priority
+
+pub returns : goal.returns
+returns c =
+    let plant = c.args.plant.now in
+    let old = c.args.self.now in
+    let s = c.index_mut-controller.result.now in
+    let next = c.fetch.new.self in
+    let takes = rw c.in-Some.is at c.take.ensures in
+    fetch_moves plant old _ c.args.c.0 s next c.requires.stands
+    (record {
+      was = placed plant old c.args.c.0 c.from.result s c.requires.stands c.requires.controller (sym c.from.ensures) c.index_mut-controller.ensures.value;
+      now = refl;
+      environment = refl;
+      lanes = takes.controllers;
+    })
+    c.requires.controller c.args.sender.0 c.args.prio.0 c.in-Some.m c.in_ok-made.made takes (c.in_ok-made.ensures.ok plant) c.in_ok-made.ensures.mail
+    (c.fetch.ensures.of plant) (ap (λ (z : ControllerState). z.me) c.fetch.ensures.others)
