@@ -140,7 +140,7 @@ prompt_from c before [] h = tt
 prompt_from c before (e ∷ es) h = (
   (λ turn. subst (λ (z : List Entry). MayTurn c z) (append-nil before) (h [] es e refl turn)),
   prompt_from c (before ++ e ∷ []) es (λ front after f there turn.
-  subst (λ (z : List Entry). MayTurn c z) (sym (append_assoc before (e ∷ []) front)) (h (e ∷ front) after f (ap (λ (z : List Entry). e ∷ z) there) turn)),
+      subst (λ (z : List Entry). MayTurn c z) (sym (append_assoc before (e ∷ []) front)) (h (e ∷ front) after f (ap (λ (z : List Entry). e ∷ z) there) turn)),
 )
 
 -- ---- lawful journals

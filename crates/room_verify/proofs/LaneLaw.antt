@@ -133,7 +133,7 @@ module _ (n : ℕ) where
   popped None queues at place old new a h read e = (
     lane_read queues at place old a h read ∙ e.0,
     (let there : get_or queues place [] ≡ new = sym (get_or_read queues place old (found_within queues at place a h) read []) ∙ e.0 ∙ sym e.1 in
-    ap table (ap (λ (z : List Msg). set queues place z) (sym there) ∙ set-get_or queues place [])),
+        ap table (ap (λ (z : List Msg). set queues place z) (sym there) ∙ set-get_or queues place [])),
   )
   popped (Some m) queues at place old new a h read e =
       let f = found_among at place h in

@@ -11,3 +11,6 @@ pub mod AloneLaw
 pub mod OneVerdict
 pub mod ChartsLaw
 pub mod RunsLaw
+pub mod CheckLaw
+pub mod LeftLaw
+pub mod EndLaw

@@ -47,14 +47,14 @@ cuts_next {X} z a x b y (one_cut s e) = one_cut (ap (λ (k : List X). z ∷ k) s
 cuts_next {X} z a x b y (before more e) = before more (ap (λ (k : List X). z ∷ k) e)
 cuts_next {X} z a x b y (behind more e) = behind more (ap (λ (k : List X). z ∷ k) e)
 
-cuts : {X : Type 0} (a : List X) (x : X) (as : List X) (b : List X) (y : X) (bs : List X) → a ++ x ∷ as ≡ b ++ y ∷ bs → Cuts a x b y
-cuts [] x as [] y bs h = one_cut refl cc
-cuts {X} [] x as (z ∷ b) y bs h = let head : x ≡ z = cc in before b (ap (λ (k : X). k ∷ b) (sym head))
-cuts {X} (z ∷ a) x as [] y bs h = let head : z ≡ y = cc in behind a (ap (λ (k : X). k ∷ a) head)
-cuts {X} (z ∷ a) x as (u ∷ b) y bs h =
+cuts : {X : Type 0} (a : List X) (x : X) (after : List X) (b : List X) (y : X) (rear : List X) → a ++ x ∷ after ≡ b ++ y ∷ rear → Cuts a x b y
+cuts [] x after [] y rear h = one_cut refl cc
+cuts {X} [] x after (z ∷ b) y rear h = let head : x ≡ z = cc in before b (ap (λ (k : X). k ∷ b) (sym head))
+cuts {X} (z ∷ a) x after [] y rear h = let head : z ≡ y = cc in behind a (ap (λ (k : X). k ∷ a) head)
+cuts {X} (z ∷ a) x after (u ∷ b) y rear h =
     let head : z ≡ u = cc in
-    let tail : a ++ x ∷ as ≡ b ++ y ∷ bs = cc in
-    subst (λ (k : X). Cuts (z ∷ a) x (k ∷ b) y) head (cuts_next z a x b y (cuts a x as b y bs tail))
+    let tail : a ++ x ∷ after ≡ b ++ y ∷ rear = cc in
+    subst (λ (k : X). Cuts (z ∷ a) x (k ∷ b) y) head (cuts_next z a x b y (cuts a x after b y rear tail))
 
 module _ {M : Type 0} (model : Behaviour M) (t : Tables) (items : List Item) (fuel : ℕ) (j : Journals) where
   abbrev p : Plant (Body M)

@@ -94,8 +94,8 @@ module _ (plant : Plant) (lines : List RunLine) (r : Replay) (stands : Stands pl
       → (result ≡ true) ↔ IsQuiet (run_plant plant lines) (world_in plant r)
   quiet_is empty result lanes is = (
     (λ yes.
-    let both = and_parts empty (not (list_any keeps_messages r.controllers.items)) (sym is ∙ yes) in
-    quiet_from (lanes.0 both.0) (not_true (list_any keeps_messages r.controllers.items) both.1)),
+        let both = and_parts empty (not (list_any keeps_messages r.controllers.items)) (sym is ∙ yes) in
+        quiet_from (lanes.0 both.0) (not_true (list_any keeps_messages r.controllers.items) both.1)),
     (λ quiet. is ∙ and_from empty (not (list_any keeps_messages r.controllers.items)) (lanes.1 quiet.lanes) (not_from_false _ (none_kept quiet))),
   )
     where

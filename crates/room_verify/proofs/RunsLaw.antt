@@ -33,8 +33,8 @@ pub lawful_run : (plant : Plant) (lines : List Line) (fuel : ℕ) (j : Journals)
     → IsVerdict (model_of plant) plant.wiring (items_of plant.wiring lines) fuel j verdicts.Lawful ↔ IsRun plant lines fuel j
 lawful_run plant lines fuel j = (
   (λ verdict.
-  let h = is_lawful (model_of plant) plant.wiring (items_of plant.wiring lines) fuel j verdicts.Lawful refl verdict in
-  record { world = h.run.world; count = h.count; lawful = h.run.lawful; prompt = h.prompt; ended = h.run.ended }),
+      let h = is_lawful (model_of plant) plant.wiring (items_of plant.wiring lines) fuel j verdicts.Lawful refl verdict in
+      record { world = h.run.world; count = h.count; lawful = h.run.lawful; prompt = h.prompt; ended = h.run.ended }),
   (λ run. lawful (record { count = run.count; run = record { world = run.world; lawful = run.lawful; ended = run.ended }; prompt = run.prompt })),
 )
 

@@ -56,8 +56,10 @@ pub range_more : (n : ℕ) → range_with_len 0 (n + 1) ≡ range_with_len 0 n +
 range_more n = from 0 n ∙ ap (λ (k : ℕ). range_with_len 0 n ++ k ∷ []) (let same : 0 + n ≡ n = omega arith in same)
   where
     from : (a n : ℕ) → range_with_len a (n + 1) ≡ range_with_len a n ++ (a + n) ∷ []
-    from a zero = (let one : zero + 1 ≡ suc zero = omega arith in let same : a ≡ a + zero = omega arith in
-    ap (λ (k : ℕ). range_with_len a k) one ∙ ap (λ (k : ℕ). k ∷ []) same)
+    from a zero =
+        let one : zero + 1 ≡ suc zero = omega arith in
+        let same : a ≡ a + zero = omega arith in
+        ap (λ (k : ℕ). range_with_len a k) one ∙ ap (λ (k : ℕ). k ∷ []) same
     from a (suc n) =
         let next : suc n + 1 ≡ suc (n + 1) = omega arith in
         let same : (a + 1) + n ≡ a + suc n = omega arith in

@@ -4,5 +4,8 @@ pub mod States
 pub mod Worlds
 pub mod Heads
 pub mod Merging
+pub mod Checks
+pub mod Lefts
+pub mod Promptness
 pub mod Verdicts
 pub mod Laws

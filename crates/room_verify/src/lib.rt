@@ -5,20 +5,25 @@
 //! is refused where what it names can't happen, or makes another entry.
 #![tactic(auto)]
 
+mod checks;
+mod ends;
 mod heads;
 mod lanes;
 mod laws;
+mod lefts;
 mod line_cursor;
 mod merging;
+mod promptness;
 mod replay;
 mod verdict;
+mod verify;
 
 pub use heads::Head;
 pub use lanes::{LaneQueue, LaneTable};
-pub use laws::{
-    lawful_are_runs, runs_are_lawful_alone, verdicts_are_by_charts, verdicts_are_one,
-};
+pub use laws::{lawful_are_runs, runs_are_lawful_alone, verdicts_are_by_charts, verdicts_are_one};
 pub use line_cursor::LineCursor;
 pub use merging::{Outcome, replay_merge};
+pub use promptness::OwnCounts;
 pub use replay::{Begun, Replay};
 pub use verdict::Verdict;
+pub use verify::verify;
