@@ -20,9 +20,9 @@ pub(crate) fn stamp_of(entry: &Entry) -> u64
 {
     match entry {
         Entry::Start { .. } => 0,
-        Entry::Fetch { stamp, .. } | Entry::Turn { stamp, .. } | Entry::Post { stamp, .. } => {
-            stamp.0
-        }
+        Entry::Fetch { stamp, .. } => stamp.0,
+        Entry::Turn { stamp, .. } => stamp.0,
+        Entry::Post { stamp, .. } => stamp.0,
     }
 }
 

@@ -61,7 +61,11 @@ impl OwnCounts {
         match entry {
             Entry::Fetch { msg, .. } => self.after_fetch(c, prio, msg.from, msg.prio),
             Entry::Post { msg, .. } => self.after_post(c, prio, msg.to, msg.prio),
-            Entry::Turn { .. } => OwnCounts { since: 0, ..self },
+            Entry::Turn { .. } => OwnCounts {
+                given: self.given,
+                taken: self.taken,
+                since: 0,
+            },
             Entry::Start { .. } => self,
         }
     }
@@ -84,9 +88,9 @@ impl OwnCounts {
             self.taken
         };
         OwnCounts {
+            given: self.given,
             taken,
             since: self.since + 1,
-            ..self
         }
     }
 
@@ -100,7 +104,8 @@ impl OwnCounts {
         if at == prio && to == c {
             return OwnCounts {
                 given: self.given + 1,
-                ..self
+                taken: self.taken,
+                since: self.since,
             };
         }
         self
