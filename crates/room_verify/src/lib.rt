@@ -8,6 +8,7 @@
 mod checks;
 mod ends;
 mod heads;
+mod judging;
 mod lanes;
 mod laws;
 mod lefts;
@@ -16,9 +17,9 @@ mod merging;
 mod promptness;
 mod replay;
 mod verdict;
-mod verify;
 
 pub use heads::Head;
+pub use judging::verify;
 pub use lanes::{LaneQueue, LaneTable};
 pub use laws::{lawful_are_runs, runs_are_lawful_alone, verdicts_are_by_charts, verdicts_are_one};
 pub use line_cursor::LineCursor;
@@ -26,4 +27,3 @@ pub use merging::{Outcome, replay_merge};
 pub use promptness::OwnCounts;
 pub use replay::{Begun, Replay};
 pub use verdict::Verdict;
-pub use verify::verify;
