@@ -1,0 +1,6 @@
+pub mod Timed
+pub mod Unseen
+pub mod Passed
+pub mod Walks
+pub mod Laws
+pub mod Examples

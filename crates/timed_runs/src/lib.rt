@@ -1,0 +1,20 @@
+//! Runs over lines that move virtual time on.
+//!
+//! `run_timed` runs a plant over the lines of an injection text, with its timers: it asks the timers' table, from what
+//! the controllers did, which timeouts come next, and gives them to the run part by part. Its contract says that what
+//! comes out is one run of the world over the expansion of the lines (`room_timer`), and that no armed timer is due
+//! where the run is done.
+#![tactic(auto)]
+
+mod examples;
+mod laws;
+mod lines;
+mod timed_lines;
+mod timed_run;
+mod unseen;
+mod walk;
+
+pub use examples::{comes_to_a_moment, comes_to_messages, comes_to_the_end, is_not_yet_due};
+pub use laws::{done_timers_are_later, expansions_fit};
+pub use timed_lines::TimedLines;
+pub use timed_run::run_timed;
