@@ -216,7 +216,7 @@ module _ (t : Tables) where
       ap (λ (k : ℕ). caught_up t (record p { since = k })) left ∙ same (more + count)
       ∙ ap (λ (k : ℕ). caught_up t (record q { since = k })) right
 
-  same_now : (p q : Point) → Same t p q → caught_up t p ≡ caught_up t q
+  pub same_now : (p q : Point) → Same t p q → caught_up t p ≡ caught_up t q
   same_now p q same =
       let left : p.since ≡ p.since + 0 = omega arith in
       let right : q.since + 0 ≡ q.since = omega arith in
@@ -225,7 +225,7 @@ module _ (t : Tables) where
   pub goes_same : (p q : Point) → caught_up t p ≡ caught_up t q → goes_on t p ≡ goes_on t q
   goes_same p q e = ap (λ (z : Point). nat_lt 0 (length z.ahead)) e
 
-  time_same : (p q : Point) → caught_up t p ≡ caught_up t q → p.timers.time ≡ q.timers.time
+  pub time_same : (p q : Point) → caught_up t p ≡ caught_up t q → p.timers.time ≡ q.timers.time
   time_same p q e =
       sym (same_times t p.timers (cut_of t p).0) ∙ ap (λ (z : Point). z.timers.time) e ∙ same_times t q.timers (cut_of t q).0
 
@@ -262,3 +262,29 @@ module _ (t : Tables) where
       let e = same_now p q same in
       cut_off p r l time ls ms h
       (subst (λ (z : ℕ). Advances t l.number (z + time) p ms r false) (sym (time_same p q e)) (advance_same l.number (q.timers.time + time) p q r ms false e s))
+
+-- the cut has so many of the party's entries in front
+pub cut_count : (party k : ℕ) (xs : List Placed) → k ≤ length (entries_of party xs) → length (entries_of party (cut_at party k xs).0) ≡ k
+cut_count party zero [] low = refl
+cut_count party (suc k) [] low = absurd (omega (arith, low))
+cut_count party zero (x ∷ xs) low = by (cases_eq x.party party) (cut_count party zero xs)
+  where
+    by : (x.party ≡ party) ⊎ (x.party ≡ party → ⊥) → (zero ≤ length (entries_of party xs) → length (entries_of party (cut_at party zero xs).0) ≡ zero)
+        → length (entries_of party (cut_at party zero (x ∷ xs)).0) ≡ zero
+    by (inl own) rest = ap (λ (c : Cut). length (entries_of party c.0)) (cut_own party x xs own)
+    by (inr apart) rest =
+        ap (λ (c : Cut). length (entries_of party c.0)) (cut_other party zero x xs apart)
+        ∙ ap length (other_first party x (cut_at party zero xs).0 apart) ∙ rest (omega arith)
+cut_count party (suc k) (x ∷ xs) low = by (cases_eq x.party party) (cut_count party k xs) (cut_count party (suc k) xs)
+  where
+    by : (x.party ≡ party) ⊎ (x.party ≡ party → ⊥) → (k ≤ length (entries_of party xs) → length (entries_of party (cut_at party k xs).0) ≡ k)
+        → (suc k ≤ length (entries_of party xs) → length (entries_of party (cut_at party (suc k) xs).0) ≡ suc k)
+        → length (entries_of party (cut_at party (suc k) (x ∷ xs)).0) ≡ suc k
+    by (inl own) fewer rest =
+        let less : k ≤ length (entries_of party xs) = omega (arith, low, ap length (own_first party x xs own)) in
+        ap (λ (c : Cut). length (entries_of party c.0)) (cut_own_more party k x xs own)
+        ∙ ap length (own_first party x (cut_at party k xs).0 own) ∙ ap suc (fewer less)
+    by (inr apart) fewer rest =
+        let same : suc k ≤ length (entries_of party xs) = omega (arith, low, ap length (other_first party x xs apart)) in
+        ap (λ (c : Cut). length (entries_of party c.0)) (cut_other party (suc k) x xs apart)
+        ∙ ap length (other_first party x (cut_at party (suc k) xs).0 apart) ∙ rest same

@@ -15,7 +15,7 @@ use Rattle.room_timer.specs.Timers.{Timers, moment}
 use Rattle.room_timer.specs.Expansion.{Point, saw_all, cut_of, caught_up, goes_on, further, with_timers, is_message, settle, Advances, over, more, last, left_from, Expands, nothing, message, settled, advanced, cut_off}
 use Rattle.timed_runs.specs.Passed.{Standing, at_end, messages_in_front, at_messages, advancing, advance_on, line_passed, passed, passed_on}
 use Rattle.timed_runs.proofs.Moments.{comes_to}
-use Rattle.timed_runs.proofs.Points.{Cut, Stops, stops_there}
+use Rattle.timed_runs.proofs.Points.{Cut, Stops, stops_there, Same, same_now, time_same, advance_same, expands_same}
 
 -- what an `advance` that goes up to this time comes to, with the lines behind it
 pub data Finishes (t : Tables) (done : Bool) (p : Point) (l : Line) (until : ℕ) (lines : List Line) : List Line → List Line → Type 0 where
@@ -73,7 +73,7 @@ module _ (t : Tables) (done : Bool) where
   left_behind p lines behind ok = ap (λ (b : Bool). if b then behind else lines) ok
 
   -- messages in front, and what is behind them
-  messages_then : (lines xs left : List Line) (p : Point)
+  pub messages_then : (lines xs left : List Line) (p : Point)
       → Expands t done (further (length (take (messages_in_front lines) lines)) p) (drop (messages_in_front lines) lines) xs left
       → Expands t done p lines (take (messages_in_front lines) lines ++ xs) left
   messages_then [] xs left p e =
@@ -253,3 +253,16 @@ module _ (t : Tables) (done : Bool) where
     all_lead (Some time) (l ∷ lines) gone ts =
         advance_leads l time lines gone ts (λ front us. passed_leads lines front us) (moment l.number ts (ts.time + time)) refl
         (advance_on (passed lines) gone l.number time ts (l ∷ lines)) refl
+
+-- what lines come to from one point they come to from another one from which the same is seen
+pub resumes_same : (t : Tables) (done : Bool) (p q : Point) (hand : Option ℕ) (lines xs left : List Line) → Same t p q
+    → Resumes t done q hand lines xs left → Resumes t done p hand lines xs left
+resumes_same t done p q None lines xs left same r = expands_same t done p q lines xs left same r
+resumes_same t done p q (Some time) [] xs left same r = expands_same t done p q [] xs left same r
+resumes_same t done p q (Some time) (l ∷ lines) xs left same r =
+    subst (λ (z : ℕ). Finishes t done p l (z + time) lines xs left) (sym (time_same t p q (same_now t p q same))) (go r)
+  where
+    go : Finishes t done q l (q.timers.time + time) lines xs left → Finishes t done p l (q.timers.time + time) lines xs left
+    go (finished r ms ys behind a e) =
+        finished r ms ys behind (advance_same t l.number (q.timers.time + time) p q r ms true (same_now t p q same) a) e
+    go (broken_off r ms a) = broken_off r ms (advance_same t l.number (q.timers.time + time) p q r ms false (same_now t p q same) a)

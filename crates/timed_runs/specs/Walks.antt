@@ -31,10 +31,11 @@ standing w more = record {
 abbrev pub outcome : Walk → Standing
 outcome w = passed_on w.left (drop w.to w.lines.now) w.gone.items w.timers
 
--- it goes over the same lines of the same wiring
+-- it goes over the same lines of the same wiring, and nothing was seen meanwhile
 pub record StaysOn (old new : Walk) : Type 0 where
   pub wiring : new.wiring.now ≡ old.wiring.now
   pub lines : new.lines.now ≡ old.lines.now
+  pub seen : new.seen.items ≡ old.seen.items
 
 -- one line was passed, and the part is still to come; or it is there
 pub record Steps (old new : Walk) (begun : Bool) : Type 0 where
@@ -44,12 +45,18 @@ pub record Steps (old new : Walk) (begun : Bool) : Type 0 where
   pub empty : begun ≡ false → new.part.items ≡ []
   pub fewer : begun ≡ false → new.to ≡ old.to + 1
 
--- it saw these journals, and went on to the next part
-pub record Walks (old : Walk) (js : Seen) (new : Walk) (more : Bool) : Type 0 where
+-- lines were passed until a part begins, or all of them
+pub record GoesOn (old new : Walk) (more : Bool) : Type 0 where
   pub stays : StaysOn old new
+  pub goes : outcome old ≡ standing new more
+
+-- it saw these journals, and went on to the next part
+pub record Walks (t : Tables) (old : Walk) (js : Seen) (new : Walk) (more : Bool) : Type 0 where
+  pub wiring : new.wiring.now ≡ old.wiring.now
+  pub lines : new.lines.now ≡ old.lines.now
   pub found : List Placed
-  pub sees : Sees (length old.wiring.now.controllers + 1) (journal_at old.wiring.now js) old.seen.items found new.seen.items
-  pub goes : passed_on old.left (drop old.to old.lines.now) (given old) (saw_all old.wiring.now old.timers found) ≡ standing new more
+  pub sees : Sees (length t.controllers + 1) (journal_at t js) old.seen.items found new.seen.items
+  pub goes : passed_on old.left (drop old.to old.lines.now) (given old) (saw_all t old.timers found) ≡ standing new more
 
 -- its lines and its part name what this wiring has, and timeouts come in where its timers were armed
 pub record Fits (t : Tables) (w : Walk) : Type 0 where

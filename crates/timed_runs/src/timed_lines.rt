@@ -59,7 +59,8 @@ impl<'l> PartSource for TimedLines<'l> {
 
     ghost part_fits = { λ wiring s fit. fit.part };
 
-    ghost goes_on = { λ old journals new. (more : Bool) × Walks old.walk journals new.walk more };
+    ghost goes_on = { λ old journals new. (old.failed ≡ false)
+        × ((more : Bool) × Walks old.walk.wiring.now old.walk journals new.walk more) };
 
     fn part(&self) -> &[Line] {
         self.walk.part.as_slice()

@@ -1,8 +1,7 @@
 //! A walk over lines that move virtual time on, part by part.
-ghost use Rattle.std.specs.Prelude.{◌≡◌, ◌+◌, ◌≤◌, ◌<◌, [], true, false, replicate, length, slice_get, Some, None, IfOk, OnOk};
+ghost use Rattle.std.specs.Prelude.{◌≡◌, ◌+◌, ◌≤◌, ◌<◌, [], length, slice_get, Some, None, IfOk, OnOk};
 ghost use Rattle.model_run.specs.part_source.Calls.{seen};
-ghost use Rattle.room_timer.specs.Timers.{no_timers};
-ghost use Rattle.timed_runs.specs.Walks.{standing, outcome, StaysOn, Steps, Walks, Passes, Advances, Takes, Begins};
+ghost use Rattle.timed_runs.specs.Walks.{Steps, GoesOn, Walks, Passes, Advances, Takes, Begins};
 
 use crate::lines::{copies_of, lines_behind, messages_in_front, settle};
 use crate::unseen::see_all;
@@ -146,18 +145,15 @@ impl<'l> Walk<'l> {
     /// Passes lines until it comes to a part. False where none is left.
     fn go_on(&mut self, alloc: Global) -> Result<bool, AllocError>
         requires { self.old.part.items ≡ [] }
-        ensures stays { OnOk result (StaysOn self.old self.new) }
-        ensures goes { IfOk result (λ more. outcome self.old ≡ standing self.new more) }
-        ensures seen { OnOk result (self.new.seen.items ≡ self.old.seen.items) }
+        ensures { IfOk result (λ more. GoesOn self.old self.new more) }
     {
-        let mut more = false;
-        while !more && self.to < self.lines.len() {
-            more = self.step(alloc)?;
+        while self.to < self.lines.len() {
+            if self.step(alloc)? {
+                return Ok(true);
+            }
         }
-        if !more {
-            self.left = None;
-        }
-        Ok(more)
+        self.left = None;
+        Ok(false)
     }
 
     /// Goes to the next part, once the timers have seen what the controllers and the environment did. False
@@ -169,7 +165,7 @@ impl<'l> Walk<'l> {
         environment: &Environment,
     ) -> Result<bool, AllocError>
         ensures { IfOk result (λ more.
-            Walks self.old (seen controllers.now environment.now) self.new more) }
+            Walks self.old.wiring.now self.old (seen controllers.now environment.now) self.new more) }
     {
         see_all(
             self.wiring,
