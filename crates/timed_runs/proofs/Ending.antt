@@ -16,7 +16,7 @@ use Rattle.room_timer.specs.Laws.{AreLater}
 use Rattle.room_timer.proofs.Later.{seen_later, moment_later, wait_later}
 use Rattle.timed_runs.specs.Passed.{messages_in_front}
 use Rattle.timed_runs.specs.Timed.{LeadsTo}
-use Rattle.timed_runs.specs.Timed.LeadsTo as leads
+use Rattle.timed_runs.specs.Timed.LeadsTo as ways
 use Rattle.timed_runs.proofs.Points.{Cut, cut_all}
 use Rattle.timed_runs.proofs.Walking.{Finishes, finished, broken_off, Resumes}
 
@@ -168,14 +168,14 @@ pub record LeadLater (t : Tables) (p : Point) (lines : List Line) : Type 0 where
   pub later : AreLater (saw_all t end.timers end.ahead)
 
 pub lead_later : (t : Tables) (p : Point) (lines xs left : List Line) → Expands t true p lines xs left → left ≡ [] → AreLater p.timers → LeadLater t p lines
-lead_later t p lines xs left (nothing _) none h = record { end = p; leads = leads.nothing p; later = all_later t p.timers p.ahead h }
+lead_later t p lines xs left (nothing _) none h = record { end = p; leads = ways.nothing p; later = all_later t p.timers p.ahead h }
 lead_later t p lines xs left (message _ l ls ys behind is a) none h =
     let tail = lead_later t (further 1 p) ls ys behind a none h in
-    record { end = tail.end; leads = leads.message p tail.end l ls is tail.leads; later = tail.later }
+    record { end = tail.end; leads = ways.message p tail.end l ls is tail.leads; later = tail.later }
 lead_later t p lines xs left (settled _ l ls ys behind is a) none h =
     let tail = lead_later t p ls ys behind a none h in
-    record { end = tail.end; leads = leads.settled p tail.end l ls is tail.leads; later = tail.later }
+    record { end = tail.end; leads = ways.settled p tail.end l ls is tail.leads; later = tail.later }
 lead_later t p lines xs left (advanced _ q l time ls ms ys behind is s a) none h =
     let tail = lead_later t q ls ys behind a none (advance_later t l.number (p.timers.time + time) p q ms true h s) in
-    record { end = tail.end; leads = leads.advanced p q tail.end l time ls ms is s tail.leads; later = tail.later }
+    record { end = tail.end; leads = ways.advanced p q tail.end l time ls ms is s tail.leads; later = tail.later }
 lead_later t p lines xs left (cut_off _ q l time ls ms is s) none h = absurd cc

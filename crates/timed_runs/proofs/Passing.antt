@@ -12,6 +12,7 @@ use Rattle.model_run.proofs.fixed_lines.FixedLaw.{messages_in_front as in_front,
 use Rattle.room_timer.specs.declared.timer.Timer.{Timer}
 use Rattle.room_timer.specs.Timers.{Timers, timeout_line, moment}
 use Rattle.room_timer.specs.Expansion.{settle}
+use Rattle.room_timer.specs.Laws.{IsPlain}
 use Rattle.timed_runs.specs.Passed.{Standing, at_end, messages_in_front, at_messages, advancing, advance_on, line_passed, passed, passed_on}
 use Rattle.timed_runs.proofs.Moments.{some_timeout, are_timeouts}
 
@@ -155,3 +156,49 @@ next_part before gone part more s f g p m = record {
   begins = λ e. subst (λ (z : List Line). 0 < length z) p (f.follows.begins (m ∙ e));
   over = λ e. sym p ∙ f.follows.over (m ∙ e);
 }
+
+-- ---- lines that don't move the time
+
+line_plain : (gone : List Line) (ts : Timers) (l : Line) (lines : List Line) → IsPlain l → ((front : List Line) (us : Timers) → (passed lines front us).left ≡ None)
+    → (w : What) → l.what ≡ w → (line_passed (passed lines) gone ts (l ∷ lines) l.number w).left ≡ None
+line_plain gone ts l lines plain more whats.Settle is = more (gone ++ settle l.number ∷ []) ts
+line_plain gone ts l lines plain more (whats.Advance time) is = absurd (plain time is)
+line_plain gone ts l lines plain more (whats.Message target signal payload prio) is = refl
+
+-- over them no `advance` is begun
+pub passed_plain : (lines gone : List Line) (ts : Timers) → AllByRecursion IsPlain lines → (passed lines gone ts).left ≡ None
+passed_plain [] gone ts h = refl
+passed_plain (l ∷ lines) gone ts h = line_plain gone ts l lines h.0 (λ front us. passed_plain lines front us h.1) l.what refl
+
+pub all_plain : (hand : Option ℕ) (lines gone : List Line) (ts : Timers) → AllByRecursion IsPlain lines → hand ≡ None → (passed_on hand lines gone ts).left ≡ None
+all_plain None lines gone ts h fresh = passed_plain lines gone ts h
+all_plain (Some time) lines gone ts h fresh = absurd cc
+
+-- ---- what comes behind
+
+-- lines of which the first isn't a message
+pub data FirstIsNone : List Line → Type 0 where
+  no_line : FirstIsNone []
+  first : (l : Line) (lines : List Line) → is_message l.what ≡ false → FirstIsNone (l ∷ lines)
+
+pub first_is_none : (lines : List Line) → messages_in_front lines ≡ 0 → FirstIsNone lines
+first_is_none [] h = no_line
+first_is_none (l ∷ lines) h = go (message_line l) refl h
+  where
+    go : (b : Bool) → message_line l ≡ b → cond b (1 + messages_in_front lines) 0 ≡ 0 → FirstIsNone (l ∷ lines)
+    go true e k = absurd (omega (arith, k))
+    go false e k = first l lines e
+
+-- behind a standing the lines go on by one that isn't a message, or not at all
+pub none_in_front : (gone rest : List Line) (s : Standing) → (f : FollowsLater gone s) → messages_in_front rest ≡ 0
+    → messages_in_front (f.follows.settles ++ (s.part ++ rest)) ≡ 0
+none_in_front gone rest s f ends = go f.follows.settles f.follows.are f.some
+  where
+    go : (settles : List Line) → AllByRecursion (λ (l : Line). is_message l.what ≡ false) settles → (s.more ≡ true → 0 < length settles)
+        → messages_in_front (settles ++ (s.part ++ rest)) ≡ 0
+    go (l ∷ settles) are some = no_front l (settles ++ (s.part ++ rest)) are.0
+    go [] are some = none s.more refl
+      where
+        none : (b : Bool) → s.more ≡ b → messages_in_front (s.part ++ rest) ≡ 0
+        none true e = absurd (omega (arith, some e))
+        none false e = ap (λ (part : List Line). messages_in_front (part ++ rest)) (f.follows.over e) ∙ ends

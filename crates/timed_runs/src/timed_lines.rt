@@ -34,7 +34,8 @@ impl<'l> TimedLines<'l> {
         wiring: &'l Wiring,
         lines: &'l [Line],
     ) -> Result<TimedLines<'l>, AllocError>
-        ensures { IfOk result (λ source. Begins wiring.now lines.now source.walk) }
+        ensures begins { IfOk result (λ source. Begins wiring.now lines.now source.walk) }
+        ensures works { IfOk result (λ source. source.failed ≡ false) }
     {
         let walk = Walk::new(alloc, wiring, lines)?;
         Ok(TimedLines {
@@ -60,7 +61,7 @@ impl<'l> PartSource for TimedLines<'l> {
     ghost part_fits = { λ wiring s fit. fit.part };
 
     ghost goes_on = { λ old journals new. (old.failed ≡ false)
-        × ((more : Bool) × Walks old.walk.wiring.now old.walk journals new.walk more) };
+        × (new.failed ≡ false) × ((more : Bool) × Walks old.walk.wiring.now old.walk journals new.walk more) };
 
     fn part(&self) -> &[Line] {
         self.walk.part.as_slice()

@@ -1,0 +1,16 @@
+pub mod Journals
+pub mod Earliest
+pub mod Moments
+pub mod Points
+pub mod Seeing
+pub mod Looking
+pub mod Passing
+pub mod Walking
+pub mod Stepping
+pub mod Runs
+pub mod Fronts
+pub mod Fitting
+pub mod Ending
+pub mod Path
+pub mod Whole
+pub mod Later

@@ -1,0 +1,7 @@
+use Rattle.std.proofs.Common.{refl}
+use Rattle.room_timer.specs.Timers.{due_by}
+use Rattle.timed_runs.proofs.examples.comes_to_the_end.Goals as goal
+
+pub returns : goal.returns
+unfolding due_by
+returns c = refl
