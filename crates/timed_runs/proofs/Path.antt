@@ -11,7 +11,7 @@ use Rattle.journal.specs.declared.entry.Entry.{Entry}
 use Rattle.journal.specs.declared.entry.Journals.{Journals}
 use Rattle.room_wiring.specs.declared.tables.Tables.{Tables}
 use Rattle.inject_reader.specs.declared.inject_lines.accepted.Line.{Line}
-use Rattle.actor_merge.specs.Parties.{begins}
+use Rattle.actor_merge.specs.Parties.{State, begins}
 use Rattle.actor_merge.specs.World.{World, Placed, start, IsQuiet}
 use Rattle.actor_merge.specs.Merge.{InOrder, entries_of}
 use Rattle.actor_merge.proofs.Extend.{entries_append}
@@ -33,7 +33,7 @@ use Rattle.room_timer.specs.Laws.{IsPlain}
 use Rattle.timed_runs.specs.declared.walk.Walk.{Walk}
 use Rattle.timed_runs.specs.Unseen.{journal_at}
 use Rattle.timed_runs.specs.Passed.{Standing, messages_in_front, passed_on}
-use Rattle.timed_runs.specs.Walks.{given, standing, Walks, Begins}
+use Rattle.timed_runs.specs.Walks.{given_by, standing, Walks, Begins}
 use Rattle.timed_runs.proofs.Ending.{NoMore}
 use Rattle.timed_runs.proofs.Fronts.{front_is, end_is_quiet, order_front, order_back, order_rises}
 use Rattle.timed_runs.proofs.Passing.{FollowsLater, all_follow, all_plain, FirstIsNone, no_line, first, first_is_none, none_in_front}
@@ -71,16 +71,16 @@ nothing_there (x ∷ a) b h = absurd cc
 
 -- what was given meanwhile
 pub follows_of : (t : Tables) (mid now : Walk) (before : Seen) (more : Bool) → Walks t mid before now more → messages_in_front (drop mid.to mid.lines.now) ≡ 0
-    → FollowsLater (given mid) (standing now more)
+    → FollowsLater (given_by mid) (standing now more)
 follows_of t mid now before more w ends =
-    subst (FollowsLater (given mid)) w.goes (all_follow mid.left (drop mid.to mid.lines.now) (given mid) (saw_all t mid.timers w.found) ends)
+    subst (FollowsLater (given_by mid)) w.goes (all_follow mid.left (drop mid.to mid.lines.now) (given_by mid) (saw_all t mid.timers w.found) ends)
 
 -- and what comes behind what was given before
-pub behind_of : (all rest : List Line) (mid now : Walk) (more : Bool) (f : FollowsLater (given mid) (standing now more)) → all ≡ given now ++ rest
-    → all ≡ given mid ++ (f.follows.settles ++ (now.part.items ++ rest))
+pub behind_of : (all rest : List Line) (mid now : Walk) (more : Bool) (f : FollowsLater (given_by mid) (standing now more)) → all ≡ given_by now ++ rest
+    → all ≡ given_by mid ++ (f.follows.settles ++ (now.part.items ++ rest))
 behind_of all rest mid now more f is =
-    is ∙ ap (λ (z : List Line). (z ++ now.part.items) ++ rest) f.follows.is ∙ append_assoc (given mid ++ f.follows.settles) now.part.items rest
-    ∙ append_assoc (given mid) f.follows.settles (now.part.items ++ rest)
+    is ∙ ap (λ (z : List Line). (z ++ now.part.items) ++ rest) f.follows.is ∙ append_assoc (given_by mid ++ f.follows.settles) now.part.items rest
+    ∙ append_assoc (given_by mid) f.follows.settles (now.part.items ++ rest)
 
 module _ (plant : Plant) (lines : List Line) (fuel : ℕ) (j : Journals) (all : List Line) (run : IsRun plant all fuel (record j { unposted = [] })) where
   abbrev pub t : Tables
@@ -105,7 +105,7 @@ module _ (plant : Plant) (lines : List Line) (fuel : ℕ) (j : Journals) (all : 
     pub saw : (p : ℕ) → p < length plant.wiring.controllers + 1 → SawOf (journal_at plant.wiring js p) (entries_of p front) (slice_index_or w.seen.items p 0)
     pub fresh : AllByRecursion IsPlain lines → w.left ≡ None
     pub path : (xs left : List Line) → Resumes plant.wiring j.done (stands back w) w.left (drop w.to lines) xs left
-        → Expands plant.wiring j.done (beginning run.lawful.run.merge) lines (given w ++ xs) left
+        → Expands plant.wiring j.done (beginning run.lawful.run.merge) lines (given_by w ++ xs) left
 
   -- ---- at the start
 
@@ -137,7 +137,7 @@ module _ (plant : Plant) (lines : List Line) (fuel : ℕ) (j : Journals) (all : 
         subst (λ (ts : Timers). Expands plant.wiring j.done (record { timers = ts; ahead = run.lawful.run.merge; since = length w.part.items }) (drop (messages_in_front lines) lines) xs left) b.timers to in
         let here : Expands plant.wiring j.done (record { timers = no_timers; ahead = run.lawful.run.merge; since = 0 + length (take (messages_in_front lines) lines) }) (drop (messages_in_front lines) lines) xs left =
         subst (λ (k : ℕ). Expands plant.wiring j.done (record { timers = no_timers; ahead = run.lawful.run.merge; since = k }) (drop (messages_in_front lines) lines) xs left) count timers in
-        let gone : take (messages_in_front lines) lines ≡ given w =
+        let gone : take (messages_in_front lines) lines ≡ given_by w =
         sym (ap (λ (g : List Line). g ++ take (messages_in_front lines) lines) b.gone) ∙ ap (λ (part : List Line). w.gone.items ++ part) (sym b.part) in
         subst (λ (z : List Line). Expands plant.wiring j.done (beginning run.lawful.run.merge) lines (z ++ xs) left) gone
         (messages_then plant.wiring j.done lines xs left (beginning run.lawful.run.merge) here);
@@ -151,56 +151,45 @@ module _ (plant : Plant) (lines : List Line) (fuel : ℕ) (j : Journals) (all : 
 
   -- ---- from part to part
 
-  module _ (mid now : Walk) (before : Seen) (more : Bool) (rest : List Line) (s : Stands mid before) (st : StoodQuiet plant (given mid) fuel before)
-      (w : Walks plant.wiring mid before now more) (ends : messages_in_front (drop mid.to mid.lines.now) ≡ 0) (is : all ≡ given now ++ rest)
+  module _ (mid now : Walk) (before : Seen) (more : Bool) (rest : List Line) (s : Stands mid before) (st : StoodQuiet plant (given_by mid) fuel before)
+      (w : Walks plant.wiring mid before now more) (ends : messages_in_front (drop mid.to mid.lines.now) ≡ 0) (is : all ≡ given_by now ++ rest)
       (ends_rest : messages_in_front rest ≡ 0) (grew : Grew before (seen_in j)) where
-    -- the run that was done when the source was asked
-    abbrev then_run : IsRun plant (given mid) fuel (told_done before)
-    then_run = st.run
-
-    abbrev then : List Placed
-    then = st.run.lawful.run.merge
-
-    -- how many messages were given by then
-    abbrev sent : ℕ
-    sent = messages (given mid)
-
     abbrev found_then : List Placed
     found_then = (cut_at (length plant.wiring.controllers) (length mid.part.items) s.back).0
 
     abbrev back_then : List Placed
     back_then = (cut_at (length plant.wiring.controllers) (length mid.part.items) s.back).1
 
-    then_posts : length (entries_of (length plant.wiring.controllers) st.run.lawful.run.merge) ≡ messages (given mid)
-    then_posts = all_posts plant (given mid) fuel (told_done before) st.run refl
+    then_posts : length (entries_of (length plant.wiring.controllers) st.run.lawful.run.merge) ≡ messages (given_by mid)
+    then_posts = all_posts plant (given_by mid) fuel (told_done before) st.run refl
 
     all_posted : length (entries_of (length plant.wiring.controllers) run.lawful.run.merge) ≡ messages all
     all_posted = all_posts plant all fuel (record j { unposted = [] }) run refl
 
     -- the lines that were given meanwhile, and what comes behind
-    follows : FollowsLater (given mid) (standing now more)
+    follows : FollowsLater (given_by mid) (standing now more)
     follows = follows_of plant.wiring mid now before more w ends
 
-    is_behind : all ≡ given mid ++ (follows.follows.settles ++ (now.part.items ++ rest))
+    is_behind : all ≡ given_by mid ++ (follows.follows.settles ++ (now.part.items ++ rest))
     is_behind = behind_of all rest mid now more follows is
 
     ends_behind : messages_in_front (follows.follows.settles ++ (now.part.items ++ rest)) ≡ 0
-    ends_behind = none_in_front (given mid) rest (standing now more) follows ends_rest
+    ends_behind = none_in_front (given_by mid) rest (standing now more) follows ends_rest
 
     -- if the environment posts more, then it begins a part
-    begins_then : messages (given mid) < length (entries_of (length plant.wiring.controllers) run.lawful.run.merge)
-        → begins (run_plant plant (lines_of (items_of plant.wiring all))) (messages (given mid)) ≡ true
+    begins_then : messages (given_by mid) < length (entries_of (length plant.wiring.controllers) run.lawful.run.merge)
+        → begins (run_plant plant (lines_of (items_of plant.wiring all))) (messages (given_by mid)) ≡ true
     begins_then less = go (follows.follows.settles ++ (now.part.items ++ rest)) is_behind (first_is_none (follows.follows.settles ++ (now.part.items ++ rest)) ends_behind)
       where
-        go : (tail : List Line) → all ≡ given mid ++ tail → FirstIsNone tail → begins (run_plant plant (lines_of (items_of plant.wiring all))) (messages (given mid)) ≡ true
+        go : (tail : List Line) → all ≡ given_by mid ++ tail → FirstIsNone tail → begins (run_plant plant (lines_of (items_of plant.wiring all))) (messages (given_by mid)) ≡ true
         go tail e no_line =
-            let count : messages all ≡ messages (given mid) = ap messages (e ∙ append-nil (given mid)) in
+            let count : messages all ≡ messages (given_by mid) = ap messages (e ∙ append-nil (given_by mid)) in
             absurd (omega (arith, less, all_posted, count))
         go tail e (first l behind none) =
-            let count : length (lines_of (items_of plant.wiring (given mid ++ l ∷ behind))) ≡ messages all =
-            line_count plant.wiring 1 (given mid ++ l ∷ behind) ∙ ap messages (sym e) in
-            subst (λ (z : List Line). begins (run_plant plant (lines_of (items_of plant.wiring z))) (messages (given mid)) ≡ true) (sym e)
-            (begins_there plant (given mid) l behind none (omega (arith, less, all_posted, count)))
+            let count : length (lines_of (items_of plant.wiring (given_by mid ++ l ∷ behind))) ≡ messages all =
+            line_count plant.wiring 1 (given_by mid ++ l ∷ behind) ∙ ap messages (sym e) in
+            subst (λ (z : List Line). begins (run_plant plant (lines_of (items_of plant.wiring z))) (messages (given_by mid)) ≡ true) (sym e)
+            (begins_there plant (given_by mid) l behind none (omega (arith, less, all_posted, count)))
 
     -- what each party did in the whole run begins with what it did by then
     did_more : (p : ℕ) → BeginsWith (entries_of p run.lawful.run.merge) (entries_of p st.run.lawful.run.merge)
@@ -208,26 +197,26 @@ module _ (plant : Plant) (lines : List Line) (fuel : ℕ) (j : Journals) (all : 
         let g = grew_at plant.wiring before (seen_in j) grew p in (
           filter is_event g.0,
           events_are plant all fuel (record j { unposted = [] }) run p ∙ ap (filter is_event) g.1 ∙ filter_both (journal_at plant.wiring before p) g.0
-              ∙ ap (λ (z : List Entry). z ++ filter is_event g.0) (sym (events_are plant (given mid) fuel (told_done before) st.run p)),
+              ∙ ap (λ (z : List Entry). z ++ filter is_event g.0) (sym (events_are plant (given_by mid) fuel (told_done before) st.run p)),
         )
 
-    front_then : (cut_at (length plant.wiring.controllers) (messages (given mid)) run.lawful.run.merge).0 ≡ st.run.lawful.run.merge
+    front_then : (cut_at (length plant.wiring.controllers) (messages (given_by mid)) run.lawful.run.merge).0 ≡ st.run.lawful.run.merge
     front_then =
-        front_is plant (lines_of (items_of plant.wiring all)) (lines_of (items_of plant.wiring (given mid))) run.lawful.run.merge st.run.lawful.run.merge
-        run.lawful.run.end st.run.lawful.run.end run.lawful.run.run st.run.lawful.run.run (is_quiet plant (given mid) fuel (told_done before) st.run refl)
-        run.lawful.run.is.ordered st.run.lawful.run.is.ordered did_more (messages (given mid)) then_posts begins_then
+        front_is plant (lines_of (items_of plant.wiring all)) (lines_of (items_of plant.wiring (given_by mid))) run.lawful.run.merge st.run.lawful.run.merge
+        run.lawful.run.end st.run.lawful.run.end run.lawful.run.run st.run.lawful.run.run (is_quiet plant (given_by mid) fuel (told_done before) st.run refl)
+        run.lawful.run.is.ordered st.run.lawful.run.is.ordered did_more (messages (given_by mid)) then_posts begins_then
 
-    quiet_then : (cut_at (length plant.wiring.controllers) (messages (given mid)) run.lawful.run.merge).1 ≡ []
+    quiet_then : (cut_at (length plant.wiring.controllers) (messages (given_by mid)) run.lawful.run.merge).1 ≡ []
         → IsQuiet (run_plant plant (lines_of (items_of plant.wiring all))) run.lawful.run.end
     quiet_then =
-        end_is_quiet plant (lines_of (items_of plant.wiring all)) (lines_of (items_of plant.wiring (given mid))) run.lawful.run.merge st.run.lawful.run.merge
-        run.lawful.run.end st.run.lawful.run.end run.lawful.run.run st.run.lawful.run.run (is_quiet plant (given mid) fuel (told_done before) st.run refl)
-        run.lawful.run.is.ordered st.run.lawful.run.is.ordered did_more (messages (given mid)) then_posts begins_then
+        end_is_quiet plant (lines_of (items_of plant.wiring all)) (lines_of (items_of plant.wiring (given_by mid))) run.lawful.run.merge st.run.lawful.run.merge
+        run.lawful.run.end st.run.lawful.run.end run.lawful.run.run st.run.lawful.run.run (is_quiet plant (given_by mid) fuel (told_done before) st.run refl)
+        run.lawful.run.is.ordered st.run.lawful.run.is.ordered did_more (messages (given_by mid)) then_posts begins_then
 
     -- the cut, seen from where the walk stood
-    cut_is : cut_at (length plant.wiring.controllers) (messages (given mid)) run.lawful.run.merge ≡ (s.front ++ found_then, back_then)
+    cut_is : cut_at (length plant.wiring.controllers) (messages (given_by mid)) run.lawful.run.merge ≡ (s.front ++ found_then, back_then)
     cut_is =
-        let count : messages (given mid) ≡ length (entries_of (length plant.wiring.controllers) s.front) + length mid.part.items =
+        let count : messages (given_by mid) ≡ length (entries_of (length plant.wiring.controllers) s.front) + length mid.part.items =
         omega (arith, messages_both mid.gone.items mid.part.items, s.sent, s.part) in
         ap (λ (k : ℕ). cut_at (length plant.wiring.controllers) k run.lawful.run.merge) count
         ∙ ap (cut_at (length plant.wiring.controllers) (length (entries_of (length plant.wiring.controllers) s.front) + length mid.part.items)) s.whole
@@ -236,13 +225,13 @@ module _ (plant : Plant) (lines : List Line) (fuel : ℕ) (j : Journals) (all : 
     then_is : st.run.lawful.run.merge ≡ s.front ++ found_then
     then_is = sym front_then ∙ ap (λ (c : Cut). c.0) cut_is
 
-    back_is : (cut_at (length plant.wiring.controllers) (messages (given mid)) run.lawful.run.merge).1 ≡ back_then
+    back_is : (cut_at (length plant.wiring.controllers) (messages (given_by mid)) run.lawful.run.merge).1 ≡ back_then
     back_is = ap (λ (c : Cut). c.1) cut_is
 
     whole_then : run.lawful.run.merge ≡ st.run.lawful.run.merge ++ back_then
     whole_then =
-        sym (cut_whole (length plant.wiring.controllers) (messages (given mid)) run.lawful.run.merge)
-        ∙ ap (λ (z : List Placed). z ++ (cut_at (length plant.wiring.controllers) (messages (given mid)) run.lawful.run.merge).1) front_then
+        sym (cut_whole (length plant.wiring.controllers) (messages (given_by mid)) run.lawful.run.merge)
+        ∙ ap (λ (z : List Placed). z ++ (cut_at (length plant.wiring.controllers) (messages (given_by mid)) run.lawful.run.merge).1) front_then
         ∙ ap (λ (z : List Placed). st.run.lawful.run.merge ++ z) back_is
 
     -- ---- what was found
@@ -254,7 +243,7 @@ module _ (plant : Plant) (lines : List Line) (fuel : ℕ) (j : Journals) (all : 
     unseen_is p below =
         let o = s.saw p below in
         let mine : entries_of p s.front ++ entries_of p found_then ≡ entries_of p s.front ++ filter is_event o.more =
-        sym (found_of p) ∙ events_are plant (given mid) fuel (told_done before) st.run p ∙ ap (filter is_event) o.is ∙ filter_both o.old o.more
+        sym (found_of p) ∙ events_are plant (given_by mid) fuel (told_done before) st.run p ∙ ap (filter is_event) o.is ∙ filter_both o.old o.more
         ∙ ap (λ (z : List Entry). z ++ filter is_event o.more) (sym o.events) in
         let behind : unseen (journal_at plant.wiring before) mid.seen.items p ≡ o.more =
         ap (λ (k : ℕ). drop k (journal_at plant.wiring before p)) o.counted ∙ ap (drop (length o.old)) o.is ∙ drop_at o.old o.more (length o.old) refl in
@@ -276,7 +265,7 @@ module _ (plant : Plant) (lines : List Line) (fuel : ℕ) (j : Journals) (all : 
         same p (inl below) = seen_then.whole p below ∙ sym (unseen_is p below)
         same p (inr past) =
             let none : entries_of p st.run.lawful.run.merge ≡ [] =
-            no_others (run_plant plant (lines_of (items_of plant.wiring (given mid)))) (start (run_plant plant (lines_of (items_of plant.wiring (given mid)))))
+            no_others (run_plant plant (lines_of (items_of plant.wiring (given_by mid)))) (start (run_plant plant (lines_of (items_of plant.wiring (given_by mid)))))
             st.run.lawful.run.merge st.run.lawful.run.end st.run.lawful.run.run p (omega (arith, past)) in
             seen_then.beyond p past ∙ sym (nothing_there (entries_of p s.front) (entries_of p found_then) (sym (found_of p) ∙ none))
 
@@ -284,9 +273,6 @@ module _ (plant : Plant) (lines : List Line) (fuel : ℕ) (j : Journals) (all : 
     saw_is = saw_events plant.wiring mid.timers w.found ∙ ap (saw_all plant.wiring mid.timers) found_is
 
     -- ---- what the lines come to
-
-    abbrev seen_point : Point
-    seen_point = record { timers = saw_all plant.wiring mid.timers w.found; ahead = back_then; since = 0 }
 
     caught : caught_up plant.wiring (stands s.back mid) ≡ record { timers = saw_all plant.wiring mid.timers w.found; ahead = back_then; since = 0 }
     caught = ap (λ (ts : Timers). at ts) (sym saw_is)
@@ -303,10 +289,10 @@ module _ (plant : Plant) (lines : List Line) (fuel : ℕ) (j : Journals) (all : 
             let one : 0 < length now.part.items = follows.follows.begins e in
             let asked : messages now.part.items ≡ length now.part.items =
             all_messages now.part.items (recursion_from_All (λ (l : Line). is_message l.what ≡ true) now.part.items follows.follows.of) in
-            let now_sent : messages (given now) ≡ messages now.gone.items + messages now.part.items = messages_both now.gone.items now.part.items in
-            let gone_sent : messages now.gone.items ≡ messages (given mid) + messages follows.follows.settles =
-            ap messages follows.follows.is ∙ messages_both (given mid) follows.follows.settles in
-            let whole : messages all ≡ messages (given now) + messages rest = ap messages is ∙ messages_both (given now) rest in
+            let now_sent : messages (given_by now) ≡ messages now.gone.items + messages now.part.items = messages_both now.gone.items now.part.items in
+            let gone_sent : messages now.gone.items ≡ messages (given_by mid) + messages follows.follows.settles =
+            ap messages follows.follows.is ∙ messages_both (given_by mid) follows.follows.settles in
+            let whole : messages all ≡ messages (given_by now) + messages rest = ap messages is ∙ messages_both (given_by now) rest in
             let posts : entries_of (length plant.wiring.controllers) run.lawful.run.merge ≡ entries_of (length plant.wiring.controllers) st.run.lawful.run.merge =
             ap (entries_of (length plant.wiring.controllers)) (whole_then ∙ ap (λ (z : List Placed). st.run.lawful.run.merge ++ z) b ∙ append-nil st.run.lawful.run.merge) in
             absurd (omega (arith, one, asked, now_sent, gone_sent, whole, ap length posts, then_posts, all_posted))
@@ -321,8 +307,8 @@ module _ (plant : Plant) (lines : List Line) (fuel : ℕ) (j : Journals) (all : 
             absurd ((run.ended.is_stopped e).busy
             (record {
               lanes = λ l. sym (run.lawful.run.same.lanes l) ∙ quiet.lanes l;
-              pending = λ c p below. ap (λ z. z.pending p) (sym (run.lawful.run.same.controllers c below)) ∙ quiet.pending c p below;
-              outbox = λ c below. ap (λ z. z.outbox) (sym (run.lawful.run.same.controllers c below)) ∙ quiet.outbox c below;
+              pending = λ c p below. ap (λ (z : State (Body Actor)). z.pending p) (sym (run.lawful.run.same.controllers c below)) ∙ quiet.pending c p below;
+              outbox = λ c below. ap (λ (z : State (Body Actor)). z.outbox) (sym (run.lawful.run.same.controllers c below)) ∙ quiet.outbox c below;
             }))
 
     ok_then : (j.done || nat_lt 0 (length back_then)) ≡ true
@@ -335,17 +321,17 @@ module _ (plant : Plant) (lines : List Line) (fuel : ℕ) (j : Journals) (all : 
             or_right j.done (nat_lt 0 (length back_then)) (lt-ltb 0 (length back_then) (omega (arith, long, ap length b)))
 
     leads : (xs left : List Line) → Resumes plant.wiring j.done (stands back_then now) now.left (drop now.to now.lines.now) xs left
-        → Rest plant.wiring j.done (record { timers = saw_all plant.wiring mid.timers w.found; ahead = back_then; since = 0 }) mid.left (drop mid.to mid.lines.now) (given mid) (standing now more) xs left
+        → Rest plant.wiring j.done (record { timers = saw_all plant.wiring mid.timers w.found; ahead = back_then; since = 0 }) mid.left (drop mid.to mid.lines.now) (given_by mid) (standing now more) xs left
     leads =
         subst (λ (z : Standing). (z.more ≡ true → nat_lt 0 (length back_then) ≡ true) → (xs left : List Line)
         → Resumes plant.wiring j.done (record { timers = z.timers; ahead = back_then; since = length z.part }) z.left z.behind xs left
-        → Rest plant.wiring j.done (record { timers = saw_all plant.wiring mid.timers w.found; ahead = back_then; since = 0 }) mid.left (drop mid.to mid.lines.now) (given mid) z xs left)
+        → Rest plant.wiring j.done (record { timers = saw_all plant.wiring mid.timers w.found; ahead = back_then; since = 0 }) mid.left (drop mid.to mid.lines.now) (given_by mid) z xs left)
         w.goes
-        (all_lead plant.wiring j.done back_then (cut_stops (length plant.wiring.controllers) (length mid.part.items) s.back) ok_then mid.left (drop mid.to mid.lines.now) (given mid) (saw_all plant.wiring mid.timers w.found))
+        (all_lead plant.wiring j.done back_then (cut_stops (length plant.wiring.controllers) (length mid.part.items) s.back) ok_then mid.left (drop mid.to mid.lines.now) (given_by mid) (saw_all plant.wiring mid.timers w.found))
         goes_then
 
     path_then : (xs left : List Line) → Resumes plant.wiring j.done (stands back_then now) now.left (drop now.to lines) xs left
-        → Expands plant.wiring j.done (beginning run.lawful.run.merge) lines (given now ++ xs) left
+        → Expands plant.wiring j.done (beginning run.lawful.run.merge) lines (given_by now ++ xs) left
     path_then xs left r =
         let lines_now : lines ≡ now.lines.now = sym (w.lines ∙ s.lines_are) in
         let tail = leads xs left (subst (λ (ls : List Line). Resumes plant.wiring j.done (stands back_then now) now.left (drop now.to ls) xs left) lines_now r) in
@@ -367,8 +353,8 @@ module _ (plant : Plant) (lines : List Line) (fuel : ℕ) (j : Journals) (all : 
       lines_are = w.lines ∙ s.lines_are;
       count = seen_then.long ∙ s.count;
       sent =
-          let gone_sent : messages now.gone.items ≡ messages (given mid) + messages follows.follows.settles =
-          ap messages follows.follows.is ∙ messages_both (given mid) follows.follows.settles in
+          let gone_sent : messages now.gone.items ≡ messages (given_by mid) + messages follows.follows.settles =
+          ap messages follows.follows.is ∙ messages_both (given_by mid) follows.follows.settles in
           let none : messages follows.follows.settles ≡ 0 = no_messages follows.follows.settles follows.follows.are in
           omega (arith, then_posts, gone_sent, none);
       part = all_messages now.part.items (recursion_from_All (λ (l : Line). is_message l.what ≡ true) now.part.items follows.follows.of);
@@ -380,11 +366,11 @@ module _ (plant : Plant) (lines : List Line) (fuel : ℕ) (j : Journals) (all : 
             more = m.0;
             is = m.1;
             counted = seen_then.counted p below (omega (arith, o.counted, ap length o.is, length-append o.old o.more));
-            events = events_are plant (given mid) fuel (told_done before) st.run p;
+            events = events_are plant (given_by mid) fuel (told_done before) st.run p;
           };
       fresh = λ plain.
           ap (λ (z : Standing). z.left) (sym w.goes)
-          ∙ all_plain mid.left (drop mid.to mid.lines.now) (given mid) (saw_all plant.wiring mid.timers w.found)
+          ∙ all_plain mid.left (drop mid.to mid.lines.now) (given_by mid) (saw_all plant.wiring mid.timers w.found)
           (subst (λ (ls : List Line). AllByRecursion IsPlain (drop mid.to ls)) (sym s.lines_are) (plain_behind mid.to lines plain)) (s.fresh plain);
       path = path_then;
     }

@@ -37,10 +37,7 @@ cut_twice party k cut = (cut.0 ++ (cut_at party k cut.1).0, (cut_at party k cut.
 
 -- a cut of so many and so many more
 pub cut_more : (party k more : ℕ) (xs : List Placed) → cut_at party (k + more) xs ≡ cut_twice party more (cut_at party k xs)
-cut_more party k more [] = no_entries (cut_at party more []) refl
-  where
-    no_entries : (c : Cut) → cut_at party more [] ≡ c → cut_at party (k + more) [] ≡ ([] ++ (cut_at party more []).0, (cut_at party more []).1)
-    no_entries c e = refl
+cut_more party k more [] = refl
 cut_more party zero more (x ∷ xs) = by (cases_eq x.party party) (cut_more party zero more xs)
   where
     count : zero + more ≡ more

@@ -464,6 +464,6 @@ module _ (plant : Plant) (lines : List Line) (fuel : ℕ) (j : Journals) (run : 
       let quiet = (run.ended.is_done e).quiet in
       record {
         lanes = λ l. run.lawful.run.same.lanes l ∙ quiet.lanes l;
-        pending = λ c p below. ap (λ s. s.pending p) (run.lawful.run.same.controllers c below) ∙ quiet.pending c p below;
-        outbox = λ c below. ap (λ s. s.outbox) (run.lawful.run.same.controllers c below) ∙ quiet.outbox c below;
+        pending = λ c p below. ap (λ (s : State (Body Actor)). s.pending p) (run.lawful.run.same.controllers c below) ∙ quiet.pending c p below;
+        outbox = λ c below. ap (λ (s : State (Body Actor)). s.outbox) (run.lawful.run.same.controllers c below) ∙ quiet.outbox c below;
       }

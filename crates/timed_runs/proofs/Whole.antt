@@ -21,7 +21,7 @@ use Rattle.timed_runs.specs.declared.timed_lines.TimedLines.{TimedLines}
 use Rattle.timed_runs.specs.declared.walk.Walk.{Walk}
 use Rattle.timed_runs.specs.Passed.{messages_in_front}
 use Rattle.timed_runs.specs.Timed.{numbers_of, IsTimedRun}
-use Rattle.timed_runs.specs.Walks.{given, standing, Walks, Begins}
+use Rattle.timed_runs.specs.Walks.{given_by, standing, Walks, Begins}
 use Rattle.timed_runs.proofs.Ending.{NoMore, AreLeft, are_left, none_resumes}
 use Rattle.timed_runs.proofs.Fitting.{expands_fit}
 use Rattle.timed_runs.proofs.Passing.{none_in_front}
@@ -35,7 +35,7 @@ Goes old js new = (old.failed ≡ false) × (new.failed ≡ false) × ((more : B
 
 -- the journals of a run that was done with all lines so far
 abbrev pub Stood : Plant → ℕ → TimedLines → Seen → Type 0
-Stood plant fuel s js = StoodQuiet plant (given s.walk) fuel js
+Stood plant fuel s js = StoodQuiet plant (given_by s.walk) fuel js
 
 no_numbers : (lines : List Line) → numbers_of lines ≡ [] → lines ≡ []
 no_numbers [] h = refl
@@ -49,22 +49,22 @@ plain_behind (suc k) (l ∷ lines) h = plain_behind k lines h.1
 module _ (plant : Plant) (lines : List Line) (fuel : ℕ) (j : Journals) (all : List Line) (run : IsRun plant all fuel (record j { unposted = [] })) where
   -- from one call to the next
   step : (mid now : TimedLines) (before js : Seen) (more : Bool) (rest : List Line) → messages_in_front (drop mid.walk.to mid.walk.lines.now) ≡ 0
-      → StoodQuiet plant (given mid.walk) fuel before → Walks mid.walk.wiring.now mid.walk before now.walk more → all ≡ given now.walk ++ rest
+      → StoodQuiet plant (given_by mid.walk) fuel before → Walks mid.walk.wiring.now mid.walk before now.walk more → all ≡ given_by now.walk ++ rest
       → messages_in_front rest ≡ 0 → Grew before js → Grew js (seen_in j)
-      → ((behind : List Line) → all ≡ given mid.walk ++ behind → messages_in_front behind ≡ 0 → Grew before (seen_in j) → Stands plant lines fuel j all run mid.walk before)
+      → ((behind : List Line) → all ≡ given_by mid.walk ++ behind → messages_in_front behind ≡ 0 → Grew before (seen_in j) → Stands plant lines fuel j all run mid.walk before)
       → Stands plant lines fuel j all run now.walk js
   step mid now before js more rest none stood walks is ends grew onward earlier =
       let f = follows_of mid.walk.wiring.now mid.walk now.walk before more walks none in
       let whole : Grew before (seen_in j) = grew_then before js (seen_in j) grew onward in
       let there : Stands plant lines fuel j all run mid.walk before =
       earlier (f.follows.settles ++ (now.walk.part.items ++ rest)) (behind_of all rest mid.walk now.walk more f is)
-      (none_in_front (given mid.walk) rest (standing now.walk more) f ends) whole in
+      (none_in_front (given_by mid.walk) rest (standing now.walk more) f ends) whole in
       goes_there plant lines fuel j all run mid.walk now.walk before more rest there stood
       (subst (λ (t : Tables). Walks t mid.walk before now.walk more) there.wiring walks) none is ends whole js grew
 
   -- at each call the source stands in the run
   pub stands_there : (first now : TimedLines) (js : Seen) → Asked Goes (Stood plant fuel) first now js → Begins plant.wiring lines first.walk
-      → (rest : List Line) → all ≡ given now.walk ++ rest → messages_in_front rest ≡ 0 → Grew js (seen_in j) → Stands plant lines fuel j all run now.walk js
+      → (rest : List Line) → all ≡ given_by now.walk ++ rest → messages_in_front rest ≡ 0 → Grew js (seen_in j) → Stands plant lines fuel j all run now.walk js
   stands_there first now js (never _) begins rest is ends grew = at_start plant lines fuel j all run first.walk js begins
   stands_there first now js (once_more mid _ before _ a stood goes more) begins rest is ends grew =
       step mid now before js goes.2.0 rest (mid.ends goes.0) stood goes.2.1 is ends more grew
@@ -87,16 +87,16 @@ record Final (t : Tables) (lines : List Line) (j : Journals) (merge : List Place
 
 module _ (plant : Plant) (lines : List Line) (fuel : ℕ) (j : Journals) (first end : TimedLines) (begins : Begins plant.wiring lines first.walk)
     (fresh : first.failed ≡ false) (asked : Asked Goes (Stood plant fuel) first end (seen_in j))
-    (ran : RanThrough plant (given end.walk) (numbers_of (drop end.walk.to end.walk.lines.now)) fuel j) where
-  run : IsRun plant (given end.walk) fuel (record j { unposted = [] })
-  run = subst (λ (z : List Line). IsRun plant z fuel (record j { unposted = [] })) (append-nil (given end.walk)) (ran.runs [] nothing)
+    (ran : RanThrough plant (given_by end.walk) (numbers_of (drop end.walk.to end.walk.lines.now)) fuel j) where
+  run : IsRun plant (given_by end.walk) fuel (record j { unposted = [] })
+  run = subst (λ (z : List Line). IsRun plant z fuel (record j { unposted = [] })) (append-nil (given_by end.walk)) (ran.runs [] nothing)
 
-  there : Stands plant lines fuel j (given end.walk) run end.walk (seen_in j)
-  there = stands_there plant lines fuel j (given end.walk) run first end (seen_in j) asked begins [] (sym (append-nil (given end.walk))) refl (grew_none (seen_in j))
+  there : Stands plant lines fuel j (given_by end.walk) run end.walk (seen_in j)
+  there = stands_there plant lines fuel j (given_by end.walk) run first end (seen_in j) asked begins [] (sym (append-nil (given_by end.walk))) refl (grew_none (seen_in j))
 
   no_more : NoMore plant.wiring (stands there.back end.walk)
   no_more =
-      let posts = all_posts plant (given end.walk) fuel (record j { unposted = [] }) run refl in
+      let posts = all_posts plant (given_by end.walk) fuel (record j { unposted = [] }) run refl in
       let both = ap (entries_of (length plant.wiring.controllers)) there.whole ∙ entries_append (length plant.wiring.controllers) there.front there.back in
       omega (arith, posts, ap length both, length-append (entries_of (length plant.wiring.controllers) there.front) (entries_of (length plant.wiring.controllers) there.back),
       there.sent, there.part, messages_both end.walk.gone.items end.walk.part.items)
@@ -107,10 +107,10 @@ module _ (plant : Plant) (lines : List Line) (fuel : ℕ) (j : Journals) (first 
   ends : messages_in_front (drop end.walk.to lines) ≡ 0
   ends = ap messages_in_front (sym behind_is) ∙ end.ends (works plant fuel first end (seen_in j) asked fresh)
 
-  final : Final plant.wiring lines j run.lawful.run.merge (given end.walk) (drop end.walk.to lines)
+  final : Final plant.wiring lines j run.lawful.run.merge (given_by end.walk) (drop end.walk.to lines)
   final = go j.done refl
     where
-      go : (d : Bool) → j.done ≡ d → Final plant.wiring lines j run.lawful.run.merge (given end.walk) (drop end.walk.to lines)
+      go : (d : Bool) → j.done ≡ d → Final plant.wiring lines j run.lawful.run.merge (given_by end.walk) (drop end.walk.to lines)
       go true e =
           let none : drop end.walk.to lines ≡ [] = sym behind_is ∙ no_numbers (drop end.walk.to end.walk.lines.now) (ran.whole e) in
           record {
@@ -143,19 +143,19 @@ module _ (plant : Plant) (lines : List Line) (fuel : ℕ) (j : Journals) (first 
   told : j.unposted ≡ numbers_of final.left
   told = ran.unposted ∙ ap numbers_of behind_is ∙ ap numbers_of (sym final.left_is)
 
-  expansion_is : IsExpansion plant.wiring lines j (given end.walk ++ final.xs) final.left
+  expansion_is : IsExpansion plant.wiring lines j (given_by end.walk ++ final.xs) final.left
   expansion_is = record {
     merge = run.lawful.run.merge;
-    is = is_merge plant (given end.walk) fuel (record j { unposted = [] }) run;
+    is = is_merge plant (given_by end.walk) fuel (record j { unposted = [] }) run;
     expands = final.expands;
   }
 
   pub timed : LinesFit plant.wiring lines → IsTimedRun plant lines fuel j
   timed fit = record {
-    expansion = given end.walk ++ final.xs;
+    expansion = given_by end.walk ++ final.xs;
     left = final.left;
     is = expansion_is;
-    fits = expands_fit plant.wiring j.done (beginning run.lawful.run.merge) lines (given end.walk ++ final.xs) final.left fit tt final.expands;
+    fits = expands_fit plant.wiring j.done (beginning run.lawful.run.merge) lines (given_by end.walk ++ final.xs) final.left fit tt final.expands;
     unposted_of_it = numbers_of final.xs;
     run = ran.runs final.xs final.may;
     unposted = told;
@@ -164,11 +164,11 @@ module _ (plant : Plant) (lines : List Line) (fuel : ℕ) (j : Journals) (first 
 
   pub plain_run : AllByRecursion IsPlain lines → IsRun plant lines fuel j
   plain_run h =
-      let whole : given end.walk ++ final.xs ≡ lines =
-      plain plant.wiring j.done (beginning run.lawful.run.merge) lines (given end.walk ++ final.xs) final.left h final.expands in
+      let whole : given_by end.walk ++ final.xs ≡ lines =
+      plain plant.wiring j.done (beginning run.lawful.run.merge) lines (given_by end.walk ++ final.xs) final.left h final.expands in
       let numbers : numbers_of final.xs ≡ j.unposted = ap numbers_of (final.plain_is h) ∙ sym told in
       subst (λ (z : List Line). IsRun plant z fuel j) whole
-      (subst (λ (z : List ℕ). IsRun plant (given end.walk ++ final.xs) fuel (record j { unposted = z })) numbers (ran.runs final.xs final.may))
+      (subst (λ (z : List ℕ). IsRun plant (given_by end.walk ++ final.xs) fuel (record j { unposted = z })) numbers (ran.runs final.xs final.may))
 
 -- what follows from two clauses of a call that ends well, and from a fact
 pub if_ok_both : {T E : Type 0} {P Q R : T → Type 0} (r : Result T E) → ((x : T) → P x → Q x → R x) → IfOk r P → IfOk r Q → IfOk r R

@@ -13,8 +13,8 @@ use Rattle.timed_runs.specs.Unseen.{journal_at, Sees}
 use Rattle.timed_runs.specs.Passed.{Standing, passed_on, messages_in_front}
 
 -- all lines that were given so far
-abbrev pub given : Walk → List Line
-given w = w.gone.items ++ w.part.items
+abbrev pub given_by : Walk → List Line
+given_by w = w.gone.items ++ w.part.items
 
 -- where it stands
 abbrev pub standing : Walk → Bool → Standing
@@ -56,7 +56,7 @@ pub record Walks (t : Tables) (old : Walk) (js : Seen) (new : Walk) (more : Bool
   pub lines : new.lines.now ≡ old.lines.now
   pub found : List Placed
   pub sees : Sees (length t.controllers + 1) (journal_at t js) old.seen.items found new.seen.items
-  pub goes : passed_on old.left (drop old.to old.lines.now) (given old) (saw_all t old.timers found) ≡ standing new more
+  pub goes : passed_on old.left (drop old.to old.lines.now) (given_by old) (saw_all t old.timers found) ≡ standing new more
 
 -- its lines and its part name what this wiring has, and timeouts come in where its timers were armed
 pub record Fits (t : Tables) (w : Walk) : Type 0 where

@@ -25,6 +25,7 @@ pub(crate) fn messages_in_front(lines: &[Line]) -> usize
 }
 
 /// The lines behind so many.
+#[tactic(auto, using(std::proofs::lemmas::List::drop_min))]
 pub(crate) fn lines_behind(lines: &[Line], to: usize) -> &[Line]
     ensures { result.now ≡ drop to lines.now }
 {
@@ -42,25 +43,35 @@ pub(crate) fn settle(number: u32) -> Line
     }
 }
 
-/// A line equal to this one.
-fn copy_of(alloc: Global, line: &Line) -> Result<Line, AllocError>
-    ensures { IfOk result (λ l. l ≡ line.now) }
+/// What a line asks for, once more.
+fn copy_of_what(alloc: Global, what: &What) -> Result<What, AllocError>
+    ensures { IfOk result (λ w. w ≡ what.now) }
 {
-    let what = match &line.what {
-        What::Settle => What::Settle,
-        What::Advance(time) => What::Advance(*time),
+    match what {
+        What::Settle => Ok(What::Settle),
+        What::Advance(time) => Ok(What::Advance(*time)),
         What::Message {
             target,
             signal,
             payload,
             prio,
-        } => What::Message {
-            target: *target,
-            signal: *signal,
-            payload: payload.copy(alloc)?,
-            prio: *prio,
-        },
-    };
+        } => {
+            let payload = payload.copy(alloc)?;
+            Ok(What::Message {
+                target: *target,
+                signal: *signal,
+                payload,
+                prio: *prio,
+            })
+        }
+    }
+}
+
+/// A line equal to this one.
+fn copy_of(alloc: Global, line: &Line) -> Result<Line, AllocError>
+    ensures { IfOk result (λ l. l ≡ line.now) }
+{
+    let what = copy_of_what(alloc, &line.what)?;
     Ok(Line {
         number: line.number,
         what,

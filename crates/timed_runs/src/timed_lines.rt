@@ -48,9 +48,9 @@ impl<'l> TimedLines<'l> {
 impl<'l> PartSource for TimedLines<'l> {
     ghost use Rattle.std.specs.Prelude.{map, true, Bool};
     ghost use Rattle.inject_reader.specs.declared.inject_lines.accepted.Line.{Line as Accepted};
-    ghost use Rattle.timed_runs.specs.Walks.{given, Fits, Walks};
+    ghost use Rattle.timed_runs.specs.Walks.{given_by, Fits, Walks};
 
-    ghost given = { λ s. given s.walk };
+    ghost given = { λ s. given_by s.walk };
 
     ghost stands_at = { λ s. s.walk.part.items };
 

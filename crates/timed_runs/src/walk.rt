@@ -1,5 +1,5 @@
 //! A walk over lines that move virtual time on, part by part.
-ghost use Rattle.std.specs.Prelude.{◌≡◌, ◌+◌, ◌≤◌, ◌<◌, [], length, slice_get, Some, None, IfOk, OnOk};
+ghost use Rattle.std.specs.Prelude.{◌≡◌, ◌+◌, ◌≤◌, ◌<◌, [], replicate, length, slice_get, Some, None, IfOk, OnOk};
 ghost use Rattle.model_run.specs.part_source.Calls.{seen};
 ghost use Rattle.timed_runs.specs.Walks.{Steps, GoesOn, Walks, Passes, Advances, Takes, Begins};
 
@@ -22,6 +22,13 @@ fn later_by(time: u64, by: u64) -> Result<u64, AllocError>
     ensures bound { IfOk result (λ until. until ≤ 4611686018427387904) }
 {
     if by <= LATEST - time { Ok(time + by) } else { Err(AllocError) }
+}
+
+/// Of no party an entry was seen.
+fn none_seen(alloc: Global, wiring: &Wiring) -> Result<Vec<usize>, AllocError>
+    ensures { IfOk result (λ counts. counts.items ≡ replicate (length wiring.now.controllers + 1) 0) }
+{
+    vec![in alloc; 0usize; usize::from(wiring.controller_count()) + 1]
 }
 
 /// Where a walk over lines stands.
@@ -50,17 +57,19 @@ impl<'l> Walk<'l> {
     ) -> Result<Walk<'l>, AllocError>
         ensures { IfOk result (λ w. Begins wiring.now lines.now w) }
     {
-        let (messages, _) = lines.split_at(messages_in_front(lines));
-        let parties = usize::from(wiring.controller_count()) + 1;
+        let to = messages_in_front(lines);
+        let (messages, _) = lines.split_at(to);
+        let part = copies_of(alloc, messages)?;
+        let seen = none_seen(alloc, wiring)?;
         Ok(Walk {
             wiring,
             lines,
-            to: messages.len(),
+            to,
             left: None,
             timers: TimerTable::new(alloc),
-            seen: vec![in alloc; 0usize; parties]?,
+            seen,
             gone: Vec::new(alloc),
-            part: copies_of(alloc, messages)?,
+            part,
         })
     }
 
