@@ -12,5 +12,6 @@ pub mod Fronts
 pub mod Fitting
 pub mod Ending
 pub mod Path
+pub mod Sourcing
 pub mod Whole
 pub mod Later
