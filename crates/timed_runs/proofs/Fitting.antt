@@ -59,18 +59,18 @@ module _ (t : Tables) where
   advance_stands : (gone : List Line) (number until : ℕ) (ts : Timers) (lines : List Line) (rest : List Line → Timers → Standing) → AllHear t ts
       → ((front : List Line) (us : Timers) → AllHear t us → StandsFit t (rest front us))
       → (o : Option (List Line × Timers)) → moment number ts until ≡ o → StandsFit t (advancing rest gone number until ts lines o)
-  advance_stands gone number until ts lines rest h more None is = more (gone ++ settle number ∷ []) (record ts { time = until }) h
-  advance_stands gone number until ts lines rest h more (Some m) is =
+  advance_stands gone number until ts lines rest h behind None is = behind (gone ++ settle number ∷ []) (record ts { time = until }) h
+  advance_stands gone number until ts lines rest h behind (Some m) is =
       let here : AllHear t m.1 × LinesFit t m.0 = moment_fits t number ts m.1 until m.0 h is in
       record { part = here.1; hears = here.0 }
 
   line_stands : (gone : List Line) (ts : Timers) (l : Line) (lines : List Line) → LinesFit t (l ∷ lines) → AllHear t ts
       → ((front : List Line) (us : Timers) → AllHear t us → StandsFit t (passed lines front us))
       → (w : What) → StandsFit t (line_passed (passed lines) gone ts (l ∷ lines) l.number w)
-  line_stands gone ts l lines f h more whats.Settle = more (gone ++ settle l.number ∷ []) ts h
-  line_stands gone ts l lines f h more (whats.Advance time) =
-      advance_stands gone l.number (ts.time + time) ts (l ∷ lines) (passed lines) h more (moment l.number ts (ts.time + time)) refl
-  line_stands gone ts l lines f h more (whats.Message target signal payload prio) =
+  line_stands gone ts l lines f h behind whats.Settle = behind (gone ++ settle l.number ∷ []) ts h
+  line_stands gone ts l lines f h behind (whats.Advance time) =
+      advance_stands gone l.number (ts.time + time) ts (l ∷ lines) (passed lines) h behind (moment l.number ts (ts.time + time)) refl
+  line_stands gone ts l lines f h behind (whats.Message target signal payload prio) =
       record { part = fit_take t (messages_in_front (l ∷ lines)) (l ∷ lines) f; hears = h }
 
   passed_fits : (lines gone : List Line) (ts : Timers) → LinesFit t lines → AllHear t ts → StandsFit t (passed lines gone ts)

@@ -1,7 +1,7 @@
 -- What a run has when all is quiet is the front of what it has in the end.
 -- Of a run over lines, the part up to the environment's next post is cut off. If that post begins a part, all was quiet
 -- before it; so a run that is done, with the same posts and in front of it, has the same entries.
-use Rattle.std.proofs.Common.{◌≡◌, ℕ, zero, suc, ◌+◌, ◌<◌, ◌≤◌, List, [], ◌∷◌, ◌++◌, length, Option, Some, None, refl, sym, ap, ◌∙◌, subst, arith, append_assoc, append-nil, ◌⊎◌, inl, inr}
+use Rattle.std.proofs.Common.{◌≡◌, ℕ, zero, suc, ◌+◌, ◌<◌, ◌≤◌, true, List, [], ◌∷◌, ◌++◌, length, Option, Some, None, refl, sym, ap, ◌∙◌, subst, arith, append_assoc, append-nil, ◌⊎◌, inl, inr}
 use Rattle.std.proofs.lemmas.Bool.{cases_eq}
 use Rattle.std.proofs.lemmas.List.{length-append}
 use Rattle.room_kinds.specs.declared.message.Msg.{Msg}
@@ -188,8 +188,12 @@ module _ (plant : Plant) (lines others : List Posted) (whole done : List Placed)
 
   enough : posts ≤ length (entries_of (length plant.wiring.controllers) whole)
   enough =
-      omega (arith, count, ap length (grew (length plant.wiring.controllers)).1,
-      length-append (entries_of (length plant.wiring.controllers) done) (grew (length plant.wiring.controllers)).0)
+      omega (
+        arith,
+        count,
+        ap length (grew (length plant.wiring.controllers)).1,
+        length-append (entries_of (length plant.wiring.controllers) done) (grew (length plant.wiring.controllers)).0,
+      )
 
   front_count : length (entries_of (length plant.wiring.controllers) (cut_at (length plant.wiring.controllers) posts whole).0) ≡ posts
   front_count = cut_count (length plant.wiring.controllers) posts whole enough
@@ -247,8 +251,13 @@ module _ (plant : Plant) (lines others : List Posted) (whole done : List Placed)
           let entries = entries_both (length plant.wiring.controllers) in
           let behind : entries_of (length plant.wiring.controllers) (cut_at (length plant.wiring.controllers) posts whole).1 ≡ x.entry ∷ entries_of (length plant.wiring.controllers) xs =
           ap (entries_of (length plant.wiring.controllers)) is ∙ own_first (length plant.wiring.controllers) x xs own in
-          omega (arith, front_count, ap length entries, ap length behind,
-          length-append (entries_of (length plant.wiring.controllers) (cut_at (length plant.wiring.controllers) posts whole).0) (entries_of (length plant.wiring.controllers) (cut_at (length plant.wiring.controllers) posts whole).1))
+          omega (
+            arith,
+            front_count,
+            ap length entries,
+            ap length behind,
+            length-append (entries_of (length plant.wiring.controllers) (cut_at (length plant.wiring.controllers) posts whole).0) (entries_of (length plant.wiring.controllers) (cut_at (length plant.wiring.controllers) posts whole).1),
+          )
 
       still : IsQuiet (run_plant plant lines) parts.mid
       still = parts.second.1 own (ap (begins (run_plant plant lines)) posted ∙ part more)

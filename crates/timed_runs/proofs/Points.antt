@@ -36,32 +36,32 @@ abbrev pub cut_twice : ℕ → ℕ → Cut → Cut
 cut_twice party k cut = (cut.0 ++ (cut_at party k cut.1).0, (cut_at party k cut.1).1)
 
 -- a cut of so many and so many more
-pub cut_more : (party k more : ℕ) (xs : List Placed) → cut_at party (k + more) xs ≡ cut_twice party more (cut_at party k xs)
-cut_more party k more [] = refl
-cut_more party zero more (x ∷ xs) = by (cases_eq x.party party) (cut_more party zero more xs)
+pub cut_more : (party k extra : ℕ) (xs : List Placed) → cut_at party (k + extra) xs ≡ cut_twice party extra (cut_at party k xs)
+cut_more party k extra [] = refl
+cut_more party zero extra (x ∷ xs) = by (cases_eq x.party party) (cut_more party zero extra xs)
   where
-    count : zero + more ≡ more
+    count : zero + extra ≡ extra
     count = omega arith
 
-    by : (x.party ≡ party) ⊎ (x.party ≡ party → ⊥) → cut_at party (zero + more) xs ≡ cut_twice party more (cut_at party zero xs)
-        → cut_at party (zero + more) (x ∷ xs) ≡ cut_twice party more (cut_at party zero (x ∷ xs))
+    by : (x.party ≡ party) ⊎ (x.party ≡ party → ⊥) → cut_at party (zero + extra) xs ≡ cut_twice party extra (cut_at party zero xs)
+        → cut_at party (zero + extra) (x ∷ xs) ≡ cut_twice party extra (cut_at party zero (x ∷ xs))
     by (inl own) rest =
-        ap (λ (n : ℕ). cut_at party n (x ∷ xs)) count ∙ sym (ap (cut_twice party more) (cut_own party x xs own))
+        ap (λ (n : ℕ). cut_at party n (x ∷ xs)) count ∙ sym (ap (cut_twice party extra) (cut_own party x xs own))
     by (inr apart) rest =
-        cut_other party (zero + more) x xs apart ∙ ap (before x) rest ∙ sym (ap (cut_twice party more) (cut_other party zero x xs apart))
-cut_more party (suc k) more (x ∷ xs) = by (cases_eq x.party party) (cut_more party k more xs) (cut_more party (suc k) more xs)
+        cut_other party (zero + extra) x xs apart ∙ ap (before x) rest ∙ sym (ap (cut_twice party extra) (cut_other party zero x xs apart))
+cut_more party (suc k) extra (x ∷ xs) = by (cases_eq x.party party) (cut_more party k extra xs) (cut_more party (suc k) extra xs)
   where
-    count : suc k + more ≡ suc (k + more)
+    count : suc k + extra ≡ suc (k + extra)
     count = omega arith
 
-    by : (x.party ≡ party) ⊎ (x.party ≡ party → ⊥) → cut_at party (k + more) xs ≡ cut_twice party more (cut_at party k xs)
-        → cut_at party (suc k + more) xs ≡ cut_twice party more (cut_at party (suc k) xs)
-        → cut_at party (suc k + more) (x ∷ xs) ≡ cut_twice party more (cut_at party (suc k) (x ∷ xs))
+    by : (x.party ≡ party) ⊎ (x.party ≡ party → ⊥) → cut_at party (k + extra) xs ≡ cut_twice party extra (cut_at party k xs)
+        → cut_at party (suc k + extra) xs ≡ cut_twice party extra (cut_at party (suc k) xs)
+        → cut_at party (suc k + extra) (x ∷ xs) ≡ cut_twice party extra (cut_at party (suc k) (x ∷ xs))
     by (inl own) fewer rest =
-        ap (λ (n : ℕ). cut_at party n (x ∷ xs)) count ∙ cut_own_more party (k + more) x xs own ∙ ap (before x) fewer
-        ∙ sym (ap (cut_twice party more) (cut_own_more party k x xs own))
+        ap (λ (n : ℕ). cut_at party n (x ∷ xs)) count ∙ cut_own_more party (k + extra) x xs own ∙ ap (before x) fewer
+        ∙ sym (ap (cut_twice party extra) (cut_own_more party k x xs own))
     by (inr apart) fewer rest =
-        cut_other party (suc k + more) x xs apart ∙ ap (before x) rest ∙ sym (ap (cut_twice party more) (cut_other party (suc k) x xs apart))
+        cut_other party (suc k + extra) x xs apart ∙ ap (before x) rest ∙ sym (ap (cut_twice party extra) (cut_other party (suc k) x xs apart))
 
 -- both parts of a cut are the whole
 pub cut_whole : (party k : ℕ) (xs : List Placed) → (cut_at party k xs).0 ++ (cut_at party k xs).1 ≡ xs
@@ -206,11 +206,11 @@ module _ (t : Tables) where
       at : Timers → List Placed → Point
       at ts xs = record { timers = ts; ahead = xs; since = 0 }
 
-  same_further : (p q : Point) (more : ℕ) → Same t p q → Same t (further more p) (further more q)
-  same_further p q more same count =
-      let left : (p.since + more) + count ≡ p.since + (more + count) = omega arith in
-      let right : q.since + (more + count) ≡ (q.since + more) + count = omega arith in
-      ap (λ (k : ℕ). caught_up t (record p { since = k })) left ∙ same (more + count)
+  same_further : (p q : Point) (extra : ℕ) → Same t p q → Same t (further extra p) (further extra q)
+  same_further p q extra same count =
+      let left : (p.since + extra) + count ≡ p.since + (extra + count) = omega arith in
+      let right : q.since + (extra + count) ≡ (q.since + extra) + count = omega arith in
+      ap (λ (k : ℕ). caught_up t (record p { since = k })) left ∙ same (extra + count)
       ∙ ap (λ (k : ℕ). caught_up t (record q { since = k })) right
 
   pub same_now : (p q : Point) → Same t p q → caught_up t p ≡ caught_up t q

@@ -189,14 +189,14 @@ messages_both (l ∷ a) b = let rest : messages (a ++ b) ≡ messages a + messag
 pub all_messages : (lines : List Line) → AllByRecursion (λ (l : Line). is_message l.what ≡ true) lines → messages lines ≡ length lines
 all_messages [] h = refl
 all_messages (l ∷ lines) h =
-    let one : (if is_message l.what then 1 else 0) ≡ 1 = ap (λ (b : Bool). if b then 1 else 0) h.0 in
+    let one : ◌≡◌ {A = ℕ} (if is_message l.what then 1 else 0) 1 = ap (λ (b : Bool). if b then 1 else 0) h.0 in
     let rest : messages lines ≡ length lines = all_messages lines h.1 in
     omega (arith, one, rest)
 
 pub no_messages : (lines : List Line) → AllByRecursion (λ (l : Line). is_message l.what ≡ false) lines → messages lines ≡ 0
 no_messages [] h = refl
 no_messages (l ∷ lines) h =
-    let none : (if is_message l.what then 1 else 0) ≡ 0 = ap (λ (b : Bool). if b then 1 else 0) h.0 in
+    let none : ◌≡◌ {A = ℕ} (if is_message l.what then 1 else 0) 0 = ap (λ (b : Bool). if b then 1 else 0) h.0 in
     let rest : messages lines ≡ 0 = no_messages lines h.1 in
     omega (arith, none, rest)
 

@@ -175,7 +175,6 @@ module _ (n : ℕ) (journals : ℕ → List Entry) where
   module _ (counts : List ℕ) (stamp party : ℕ) (e : Entry) (ys : List Placed) (after : List ℕ) (long : length counts ≡ n)
       (rise : (p : ℕ) → p < n → Rise (filter is_event (unseen journals counts p))) (first : IsFirst (stamp_at journals counts) n stamp party)
       (there : entry_at journals counts party ≡ Some e) (tail : AreSeen n journals (seen_more counts party) after ys) where
-
     abbrev placed : Placed
     placed = record { party = party; entry = e }
 

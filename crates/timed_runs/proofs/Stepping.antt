@@ -117,7 +117,6 @@ module _ (old new : Walk) where
       fewer = λ e. absurd cc;
     }
       where
-
         to_messages : (v : What) → is_message v ≡ true
             → line_passed (passed (drop (old.to + 1) old.lines.now)) old.gone.items old.timers (l ∷ drop (old.to + 1) old.lines.now) l.number v
             ≡ at_messages old.gone.items old.timers (l ∷ drop (old.to + 1) old.lines.now)

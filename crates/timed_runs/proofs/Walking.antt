@@ -118,7 +118,7 @@ module _ (t : Tables) (done : Bool) where
       → moment l.number p.timers until ≡ Some (ms, ts)
       → Finishes t done (record { timers = ts; ahead = p.ahead; since = length ms }) l until lines xs left
       → Finishes t done p l until lines (settle l.number ∷ ms ++ xs) left
-  moment_then p l until lines xs left ms ts h goes some f = go f
+  moment_then p l until lines xs left ms ts h goes some f = go xs left f
     where
       here : caught_up t p ≡ p
       here = seen_already p h
@@ -140,12 +140,12 @@ module _ (t : Tables) (done : Bool) where
           more p q ms ns ts b (subst (λ (z : Point). moment l.number z.timers until ≡ Some (ms, ts)) (sym here) some) goes
           (subst (λ (z : Point). Advances t l.number until z ns q b) (sym at_moment) a)
 
-      go : Finishes t done (record { timers = ts; ahead = p.ahead; since = length ms }) l until lines xs left
-          → Finishes t done p l until lines (settle l.number ∷ ms ++ xs) left
-      go (finished q ns ys behind a e) =
+      go : (zs rest : List Line) → Finishes t done (record { timers = ts; ahead = p.ahead; since = length ms }) l until lines zs rest
+          → Finishes t done p l until lines (settle l.number ∷ ms ++ zs) rest
+      go zs rest (finished q ns ys behind a e) =
           subst (λ (z : List Line). Finishes t done p l until lines z (left_from t done q (l ∷ lines) behind)) (append_assoc (settle l.number ∷ ms) ns ys)
           (finished q (settle l.number ∷ ms ++ ns) ys behind (goes_further q ns true a) e)
-      go (broken_off q ns a) = broken_off q (settle l.number ∷ ms ++ ns) (goes_further q ns false a)
+      go zs rest (broken_off q ns a) = broken_off q (settle l.number ∷ ms ++ ns) (goes_further q ns false a)
 
   -- ---- lines
 
@@ -181,7 +181,7 @@ module _ (t : Tables) (done : Bool) where
         → (o : Option (List Line × Timers)) → moment l.number ts (ts.time + time) ≡ o
         → (s : Standing) → s ≡ advancing (passed lines) gone l.number (ts.time + time) ts (l ∷ lines) o
         → Leads ts (Some time) (l ∷ lines) gone s
-    advance_leads l time lines gone ts rest None is s e goes xs left r =
+    advance_leads l time lines gone ts rest None is s e = λ goes xs left r.
         let until : ℕ = ts.time + time in
         let tail : Rest t done (now (record ts { time = until })) None lines (gone ++ settle l.number ∷ []) s xs left =
         subst (λ (z : Standing). Leads (record ts { time = until }) None lines (gone ++ settle l.number ∷ []) z) (sym e)
@@ -227,11 +227,11 @@ module _ (t : Tables) (done : Bool) where
         let s = advance_on (passed lines) gone l.number time ts (l ∷ lines) in
         let tail : Rest t done (now ts) (Some time) (l ∷ lines) gone s xs left =
         advance_leads l time lines gone ts rest (moment l.number ts (ts.time + time)) refl s refl goes xs left r in
-        record { ys = tail.ys; is = tail.is; resumes = fresh tail.ys tail.resumes }
+        record { ys = tail.ys; is = tail.is; resumes = fresh tail.ys left tail.resumes }
       where
-        fresh : (ys : List Line) → Finishes t done (now ts) l (ts.time + time) lines ys left → Expands t done (now ts) (l ∷ lines) ys left
-        fresh ys (finished q ms zs behind a e) = advanced (now ts) q l time lines ms zs behind is a e
-        fresh ys (broken_off q ms a) = cut_off (now ts) q l time lines ms is a
+        fresh : (ys rest : List Line) → Finishes t done (now ts) l (ts.time + time) lines ys rest → Expands t done (now ts) (l ∷ lines) ys rest
+        fresh ys rest (finished q ms zs behind a e) = advanced (now ts) q l time lines ms zs behind is a e
+        fresh ys rest (broken_off q ms a) = cut_off (now ts) q l time lines ms is a
     line_leads l lines gone ts rest (whats.Message target signal payload prio) is goes xs left r =
         let part : List Line = take (messages_in_front (l ∷ lines)) (l ∷ lines) in
         let count : 0 + length part ≡ length part = omega arith in
@@ -243,13 +243,13 @@ module _ (t : Tables) (done : Bool) where
         }
 
     passed_leads : (lines gone : List Line) (ts : Timers) → Leads ts None lines gone (passed lines gone ts)
-    passed_leads [] gone ts goes xs left r = record { ys = xs; is = ap (λ (z : List Line). z ++ xs) (append-nil gone); resumes = r }
+    passed_leads [] gone ts = λ goes xs left r. record { ys = xs; is = ap (λ (z : List Line). z ++ xs) (append-nil gone); resumes = r }
     passed_leads (l ∷ lines) gone ts = line_leads l lines gone ts (λ front us. passed_leads lines front us) l.what refl
 
     -- all lines, the first of which may be an `advance` of which so much is left
     pub all_lead : (hand : Option ℕ) (lines gone : List Line) (ts : Timers) → Leads ts hand lines gone (passed_on hand lines gone ts)
     all_lead None lines gone ts = passed_leads lines gone ts
-    all_lead (Some time) [] gone ts goes xs left r = record { ys = xs; is = ap (λ (z : List Line). z ++ xs) (append-nil gone); resumes = r }
+    all_lead (Some time) [] gone ts = λ goes xs left r. record { ys = xs; is = ap (λ (z : List Line). z ++ xs) (append-nil gone); resumes = r }
     all_lead (Some time) (l ∷ lines) gone ts =
         advance_leads l time lines gone ts (λ front us. passed_leads lines front us) (moment l.number ts (ts.time + time)) refl
         (advance_on (passed lines) gone l.number time ts (l ∷ lines)) refl
@@ -260,9 +260,9 @@ pub resumes_same : (t : Tables) (done : Bool) (p q : Point) (hand : Option ℕ) 
 resumes_same t done p q None lines xs left same r = expands_same t done p q lines xs left same r
 resumes_same t done p q (Some time) [] xs left same r = expands_same t done p q [] xs left same r
 resumes_same t done p q (Some time) (l ∷ lines) xs left same r =
-    subst (λ (z : ℕ). Finishes t done p l (z + time) lines xs left) (sym (time_same t p q (same_now t p q same))) (go r)
+    subst (λ (z : ℕ). Finishes t done p l (z + time) lines xs left) (sym (time_same t p q (same_now t p q same))) (go xs left r)
   where
-    go : Finishes t done q l (q.timers.time + time) lines xs left → Finishes t done p l (q.timers.time + time) lines xs left
-    go (finished r ms ys behind a e) =
+    go : (zs rest : List Line) → Finishes t done q l (q.timers.time + time) lines zs rest → Finishes t done p l (q.timers.time + time) lines zs rest
+    go zs rest (finished r ms ys behind a e) =
         finished r ms ys behind (advance_same t l.number (q.timers.time + time) p q r ms true (same_now t p q same) a) e
-    go (broken_off r ms a) = broken_off r ms (advance_same t l.number (q.timers.time + time) p q r ms false (same_now t p q same) a)
+    go zs rest (broken_off r ms a) = broken_off r ms (advance_same t l.number (q.timers.time + time) p q r ms false (same_now t p q same) a)

@@ -98,8 +98,15 @@ module _ (plant : Plant) (lines : List Line) (fuel : ℕ) (j : Journals) (first 
   no_more =
       let posts = all_posts plant (given_by end.walk) fuel (record j { unposted = [] }) run refl in
       let both = ap (entries_of (length plant.wiring.controllers)) there.whole ∙ entries_append (length plant.wiring.controllers) there.front there.back in
-      omega (arith, posts, ap length both, length-append (entries_of (length plant.wiring.controllers) there.front) (entries_of (length plant.wiring.controllers) there.back),
-      there.sent, there.part, messages_both end.walk.gone.items end.walk.part.items)
+      omega (
+        arith,
+        posts,
+        ap length both,
+        length-append (entries_of (length plant.wiring.controllers) there.front) (entries_of (length plant.wiring.controllers) there.back),
+        there.sent,
+        there.part,
+        messages_both end.walk.gone.items end.walk.part.items,
+      )
 
   behind_is : drop end.walk.to end.walk.lines.now ≡ drop end.walk.to lines
   behind_is = ap (λ (ls : List Line). drop end.walk.to ls) there.lines_are

@@ -19,9 +19,7 @@ use std::alloc::{AllocError, Global};
 pub struct TimedLines<'l> {
     walk: Walk<'l>,
     failed: bool,
-    ghost ends: {
-        failed ≡ false → prefix_len message_line (drop walk.to walk.lines.now) ≡ 0
-    },
+    ghost ends: { failed ≡ false → prefix_len message_line (drop walk.to walk.lines.now) ≡ 0 },
 }
 
 impl<'l> TimedLines<'l> {

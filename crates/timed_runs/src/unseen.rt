@@ -1,5 +1,5 @@
 //! What happened since one looked last, in the order of the merge of the journals.
-ghost use Rattle.std.specs.Prelude.{◌≡◌, ◌+◌, true, false, map, length, slice_get, slice_index_or, option_copied, IfOk, OnOk};
+ghost use Rattle.std.specs.Prelude.{◌≡◌, ◌+◌, [], true, false, map, length, slice_get, slice_index_or, option_copied, IfOk, OnOk};
 ghost use Rattle.actor_merge.specs.Mail.{stamp_of};
 ghost use Rattle.controller.specs.View.{Controller as Shown};
 ghost use Rattle.model_run.specs.part_source.Calls.{seen};
@@ -102,7 +102,11 @@ fn earlier(first: Option<(u64, u8)>, party: u8, stamp: Option<u64>) -> Option<(u
     match first {
         None => Some((stamp, party)),
         Some((least, other)) => {
-            if stamp < least { Some((stamp, party)) } else { Some((least, other)) }
+            if stamp < least {
+                Some((stamp, party))
+            } else {
+                Some((least, other))
+            }
         }
     }
 }

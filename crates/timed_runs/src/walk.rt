@@ -21,7 +21,11 @@ fn later_by(time: u64, by: u64) -> Result<u64, AllocError>
     ensures sum { IfOk result (λ until. until ≡ time + by) }
     ensures bound { IfOk result (λ until. until ≤ 4611686018427387904) }
 {
-    if by <= LATEST - time { Ok(time + by) } else { Err(AllocError) }
+    if by <= LATEST - time {
+        Ok(time + by)
+    } else {
+        Err(AllocError)
+    }
 }
 
 /// Of no party an entry was seen.
