@@ -1,4 +1,4 @@
--- Where a run ends: what lines come to where the environment posts idle more, and where they lead.
+-- Where a run ends: what lines come to where the environment posts no more.
 use Rattle.std.proofs.Common.{◌≡◌, ℕ, zero, suc, ◌+◌, ◌<◌, ◌≤◌, nat_lt, Bool, true, false, ◌||◌, if◌then◌else◌, cond, List, [], ◌∷◌, ◌++◌, length, Option, Some, None, refl, sym, ap, ◌∙◌, subst, arith}
 use Rattle.room_wiring.specs.declared.tables.Tables.{Tables}
 use Rattle.inject_reader.specs.declared.inject_lines.accepted.Line.{Line}

@@ -1,12 +1,9 @@
-pub mod Journals
 pub mod Earliest
 pub mod Moments
 pub mod Points
 pub mod Seeing
-pub mod Looking
 pub mod Passing
 pub mod Walking
-pub mod Stepping
 pub mod Runs
 pub mod Fronts
 pub mod Fitting

@@ -30,10 +30,9 @@ use Rattle.model_run.specs.run_ends.Runs.{IsRun}
 use Rattle.room_timer.specs.Timers.{Timers, no_timers}
 use Rattle.room_timer.specs.Expansion.{is_event, events_of, Point, beginning, cut_at, saw_all, caught_up, Expands}
 use Rattle.room_timer.specs.Laws.{IsPlain}
-use Rattle.timed_runs.specs.declared.walk.Walk.{Walk}
 use Rattle.timed_runs.specs.Unseen.{journal_at}
 use Rattle.timed_runs.specs.Passed.{Standing, messages_in_front, passed_on}
-use Rattle.timed_runs.specs.Walks.{given_by, standing, Walks, Begins}
+use Rattle.timed_runs.specs.Walks.{Walk, given_by, standing, Walks, Begins}
 use Rattle.timed_runs.proofs.Ending.{NoMore}
 use Rattle.timed_runs.proofs.Fronts.{front_is, end_is_quiet, order_front, order_back, order_rises}
 use Rattle.timed_runs.proofs.Passing.{FollowsLater, all_follow, all_plain, FirstIsNone, no_line, first, first_is_none, none_in_front}
@@ -44,7 +43,7 @@ use Rattle.timed_runs.proofs.Walking.{Resumes, Rest, messages_then, all_lead, re
 
 -- the point at which a walk stands, before these entries
 abbrev pub stands : List Placed → Walk → Point
-stands back w = record { timers = w.timers; ahead = back; since = length w.part.items }
+stands back w = record { timers = w.timers; ahead = back; since = length w.part }
 
 -- what a walk saw of a party's journal
 pub record SawOf (journal seen : List Entry) (count : ℕ) : Type 0 where
@@ -70,17 +69,17 @@ nothing_there [] b h = h
 nothing_there (x ∷ a) b h = absurd cc
 
 -- what was given meanwhile
-pub follows_of : (t : Tables) (mid now : Walk) (before : Seen) (more : Bool) → Walks t mid before now more → messages_in_front (drop mid.to mid.lines.now) ≡ 0
+pub follows_of : (t : Tables) (mid now : Walk) (before : Seen) (more : Bool) → Walks t mid before now more → messages_in_front (drop mid.to mid.lines) ≡ 0
     → FollowsLater (given_by mid) (standing now more)
 follows_of t mid now before more w ends =
-    subst (FollowsLater (given_by mid)) w.goes (all_follow mid.left (drop mid.to mid.lines.now) (given_by mid) (saw_all t mid.timers w.found) ends)
+    subst (FollowsLater (given_by mid)) w.goes (all_follow mid.left (drop mid.to mid.lines) (given_by mid) (saw_all t mid.timers w.found) ends)
 
 -- and what comes behind what was given before
 pub behind_of : (all rest : List Line) (mid now : Walk) (more : Bool) (f : FollowsLater (given_by mid) (standing now more)) → all ≡ given_by now ++ rest
-    → all ≡ given_by mid ++ (f.follows.settles ++ (now.part.items ++ rest))
+    → all ≡ given_by mid ++ (f.follows.settles ++ (now.part ++ rest))
 behind_of all rest mid now more f is =
-    is ∙ ap (λ (z : List Line). (z ++ now.part.items) ++ rest) f.follows.is ∙ append_assoc (given_by mid ++ f.follows.settles) now.part.items rest
-    ∙ append_assoc (given_by mid) f.follows.settles (now.part.items ++ rest)
+    is ∙ ap (λ (z : List Line). (z ++ now.part) ++ rest) f.follows.is ∙ append_assoc (given_by mid ++ f.follows.settles) now.part rest
+    ∙ append_assoc (given_by mid) f.follows.settles (now.part ++ rest)
 
 module _ (plant : Plant) (lines : List Line) (fuel : ℕ) (j : Journals) (all : List Line) (run : IsRun plant all fuel (record j { unposted = [] })) where
   abbrev pub t : Tables
@@ -97,12 +96,12 @@ module _ (plant : Plant) (lines : List Line) (fuel : ℕ) (j : Journals) (all : 
     pub front : List Placed
     pub back : List Placed
     pub whole : run.lawful.run.merge ≡ front ++ back
-    pub wiring : w.wiring.now ≡ plant.wiring
-    pub lines_are : w.lines.now ≡ lines
-    pub count : length w.seen.items ≡ length plant.wiring.controllers + 1
-    pub sent : length (entries_of (length plant.wiring.controllers) front) ≡ messages w.gone.items
-    pub part : messages w.part.items ≡ length w.part.items
-    pub saw : (p : ℕ) → p < length plant.wiring.controllers + 1 → SawOf (journal_at plant.wiring js p) (entries_of p front) (slice_index_or w.seen.items p 0)
+    pub wiring : w.wiring ≡ plant.wiring
+    pub lines_are : w.lines ≡ lines
+    pub count : length w.seen ≡ length plant.wiring.controllers + 1
+    pub sent : length (entries_of (length plant.wiring.controllers) front) ≡ messages w.gone
+    pub part : messages w.part ≡ length w.part
+    pub saw : (p : ℕ) → p < length plant.wiring.controllers + 1 → SawOf (journal_at plant.wiring js p) (entries_of p front) (slice_index_or w.seen p 0)
     pub fresh : AllByRecursion IsPlain lines → w.left ≡ None
     pub path : (xs left : List Line) → Resumes plant.wiring j.done (stands back w) w.left (drop w.to lines) xs left
         → Expands plant.wiring j.done (beginning run.lawful.run.merge) lines (given_by w ++ xs) left
@@ -132,13 +131,13 @@ module _ (plant : Plant) (lines : List Line) (fuel : ℕ) (j : Journals) (all : 
         subst (λ (h : Option ℕ). Resumes plant.wiring j.done (stands run.lawful.run.merge w) h (drop w.to lines) xs left) b.left r in
         let to : Expands plant.wiring j.done (stands run.lawful.run.merge w) (drop (messages_in_front lines) lines) xs left =
         subst (λ (k : ℕ). Expands plant.wiring j.done (stands run.lawful.run.merge w) (drop k lines) xs left) b.to fresh in
-        let count : length w.part.items ≡ 0 + length (take (messages_in_front lines) lines) = ap length b.part ∙ none_more (length (take (messages_in_front lines) lines)) in
-        let timers : Expands plant.wiring j.done (record { timers = no_timers; ahead = run.lawful.run.merge; since = length w.part.items }) (drop (messages_in_front lines) lines) xs left =
-        subst (λ (ts : Timers). Expands plant.wiring j.done (record { timers = ts; ahead = run.lawful.run.merge; since = length w.part.items }) (drop (messages_in_front lines) lines) xs left) b.timers to in
+        let count : length w.part ≡ 0 + length (take (messages_in_front lines) lines) = ap length b.part ∙ none_more (length (take (messages_in_front lines) lines)) in
+        let timers : Expands plant.wiring j.done (record { timers = no_timers; ahead = run.lawful.run.merge; since = length w.part }) (drop (messages_in_front lines) lines) xs left =
+        subst (λ (ts : Timers). Expands plant.wiring j.done (record { timers = ts; ahead = run.lawful.run.merge; since = length w.part }) (drop (messages_in_front lines) lines) xs left) b.timers to in
         let here : Expands plant.wiring j.done (record { timers = no_timers; ahead = run.lawful.run.merge; since = 0 + length (take (messages_in_front lines) lines) }) (drop (messages_in_front lines) lines) xs left =
         subst (λ (k : ℕ). Expands plant.wiring j.done (record { timers = no_timers; ahead = run.lawful.run.merge; since = k }) (drop (messages_in_front lines) lines) xs left) count timers in
         let gone : take (messages_in_front lines) lines ≡ given_by w =
-        sym (ap (λ (g : List Line). g ++ take (messages_in_front lines) lines) b.gone) ∙ ap (λ (part : List Line). w.gone.items ++ part) (sym b.part) in
+        sym (ap (λ (g : List Line). g ++ take (messages_in_front lines) lines) b.gone) ∙ ap (λ (part : List Line). w.gone ++ part) (sym b.part) in
         subst (λ (z : List Line). Expands plant.wiring j.done (beginning run.lawful.run.merge) lines (z ++ xs) left) gone
         (messages_then plant.wiring j.done lines xs left (beginning run.lawful.run.merge) here);
   }
@@ -152,13 +151,13 @@ module _ (plant : Plant) (lines : List Line) (fuel : ℕ) (j : Journals) (all : 
   -- ---- from part to part
 
   module _ (mid now : Walk) (before : Seen) (more : Bool) (rest : List Line) (s : Stands mid before) (st : StoodQuiet plant (given_by mid) fuel before)
-      (w : Walks plant.wiring mid before now more) (ends : messages_in_front (drop mid.to mid.lines.now) ≡ 0) (is : all ≡ given_by now ++ rest)
+      (w : Walks plant.wiring mid before now more) (ends : messages_in_front (drop mid.to mid.lines) ≡ 0) (is : all ≡ given_by now ++ rest)
       (ends_rest : messages_in_front rest ≡ 0) (grew : Grew before (seen_in j)) where
     abbrev found_then : List Placed
-    found_then = (cut_at (length plant.wiring.controllers) (length mid.part.items) s.back).0
+    found_then = (cut_at (length plant.wiring.controllers) (length mid.part) s.back).0
 
     abbrev back_then : List Placed
-    back_then = (cut_at (length plant.wiring.controllers) (length mid.part.items) s.back).1
+    back_then = (cut_at (length plant.wiring.controllers) (length mid.part) s.back).1
 
     then_posts : length (entries_of (length plant.wiring.controllers) st.run.lawful.run.merge) ≡ messages (given_by mid)
     then_posts = all_posts plant (given_by mid) fuel (told_done before) st.run refl
@@ -170,16 +169,16 @@ module _ (plant : Plant) (lines : List Line) (fuel : ℕ) (j : Journals) (all : 
     follows : FollowsLater (given_by mid) (standing now more)
     follows = follows_of plant.wiring mid now before more w ends
 
-    is_behind : all ≡ given_by mid ++ (follows.follows.settles ++ (now.part.items ++ rest))
+    is_behind : all ≡ given_by mid ++ (follows.follows.settles ++ (now.part ++ rest))
     is_behind = behind_of all rest mid now more follows is
 
-    ends_behind : messages_in_front (follows.follows.settles ++ (now.part.items ++ rest)) ≡ 0
+    ends_behind : messages_in_front (follows.follows.settles ++ (now.part ++ rest)) ≡ 0
     ends_behind = none_in_front (given_by mid) rest (standing now more) follows ends_rest
 
     -- if the environment posts more, then it begins a part
     begins_then : messages (given_by mid) < length (entries_of (length plant.wiring.controllers) run.lawful.run.merge)
         → begins (run_plant plant (lines_of (items_of plant.wiring all))) (messages (given_by mid)) ≡ true
-    begins_then less = go (follows.follows.settles ++ (now.part.items ++ rest)) is_behind (first_is_none (follows.follows.settles ++ (now.part.items ++ rest)) ends_behind)
+    begins_then less = go (follows.follows.settles ++ (now.part ++ rest)) is_behind (first_is_none (follows.follows.settles ++ (now.part ++ rest)) ends_behind)
       where
         go : (tail : List Line) → all ≡ given_by mid ++ tail → FirstIsNone tail → begins (run_plant plant (lines_of (items_of plant.wiring all))) (messages (given_by mid)) ≡ true
         go tail e no_line =
@@ -216,11 +215,11 @@ module _ (plant : Plant) (lines : List Line) (fuel : ℕ) (j : Journals) (all : 
     -- the cut, seen from where the walk stood
     cut_is : cut_at (length plant.wiring.controllers) (messages (given_by mid)) run.lawful.run.merge ≡ (s.front ++ found_then, back_then)
     cut_is =
-        let count : messages (given_by mid) ≡ length (entries_of (length plant.wiring.controllers) s.front) + length mid.part.items =
-        omega (arith, messages_both mid.gone.items mid.part.items, s.sent, s.part) in
+        let count : messages (given_by mid) ≡ length (entries_of (length plant.wiring.controllers) s.front) + length mid.part =
+        omega (arith, messages_both mid.gone mid.part, s.sent, s.part) in
         ap (λ (k : ℕ). cut_at (length plant.wiring.controllers) k run.lawful.run.merge) count
-        ∙ ap (cut_at (length plant.wiring.controllers) (length (entries_of (length plant.wiring.controllers) s.front) + length mid.part.items)) s.whole
-        ∙ cut_over (length plant.wiring.controllers) (length mid.part.items) s.front s.back
+        ∙ ap (cut_at (length plant.wiring.controllers) (length (entries_of (length plant.wiring.controllers) s.front) + length mid.part)) s.whole
+        ∙ cut_over (length plant.wiring.controllers) (length mid.part) s.front s.back
 
     then_is : st.run.lawful.run.merge ≡ s.front ++ found_then
     then_is = sym front_then ∙ ap (λ (c : Cut). c.0) cut_is
@@ -239,24 +238,24 @@ module _ (plant : Plant) (lines : List Line) (fuel : ℕ) (j : Journals) (all : 
     found_of : (p : ℕ) → entries_of p st.run.lawful.run.merge ≡ entries_of p s.front ++ entries_of p found_then
     found_of p = ap (entries_of p) then_is ∙ entries_append p s.front found_then
 
-    unseen_is : (p : ℕ) → (below : p < length plant.wiring.controllers + 1) → entries_of p found_then ≡ filter is_event (unseen (journal_at plant.wiring before) mid.seen.items p)
+    unseen_is : (p : ℕ) → (below : p < length plant.wiring.controllers + 1) → entries_of p found_then ≡ filter is_event (unseen (journal_at plant.wiring before) mid.seen p)
     unseen_is p below =
         let o = s.saw p below in
         let mine : entries_of p s.front ++ entries_of p found_then ≡ entries_of p s.front ++ filter is_event o.more =
         sym (found_of p) ∙ events_are plant (given_by mid) fuel (told_done before) st.run p ∙ ap (filter is_event) o.is ∙ filter_both o.old o.more
         ∙ ap (λ (z : List Entry). z ++ filter is_event o.more) (sym o.events) in
-        let behind : unseen (journal_at plant.wiring before) mid.seen.items p ≡ o.more =
+        let behind : unseen (journal_at plant.wiring before) mid.seen p ≡ o.more =
         ap (λ (k : ℕ). drop k (journal_at plant.wiring before p)) o.counted ∙ ap (drop (length o.old)) o.is ∙ drop_at o.old o.more (length o.old) refl in
         append_cancel_left (entries_of p s.front) (entries_of p found_then) (filter is_event o.more) mine ∙ ap (filter is_event) (sym behind)
 
     found_order : InOrder found_then
     found_order = order_back s.front found_then (subst InOrder then_is st.run.lawful.run.is.ordered)
 
-    rises : (p : ℕ) → p < length plant.wiring.controllers + 1 → Rise (filter is_event (unseen (journal_at plant.wiring before) mid.seen.items p))
+    rises : (p : ℕ) → p < length plant.wiring.controllers + 1 → Rise (filter is_event (unseen (journal_at plant.wiring before) mid.seen p))
     rises p below = subst Rise (unseen_is p below) (order_rises p found_then found_order)
 
-    seen_then : AreSeen (length plant.wiring.controllers + 1) (journal_at plant.wiring before) mid.seen.items now.seen.items w.found
-    seen_then = are_seen (length plant.wiring.controllers + 1) (journal_at plant.wiring before) mid.seen.items now.seen.items w.found w.sees s.count rises
+    seen_then : AreSeen (length plant.wiring.controllers + 1) (journal_at plant.wiring before) mid.seen now.seen w.found
+    seen_then = are_seen (length plant.wiring.controllers + 1) (journal_at plant.wiring before) mid.seen now.seen w.found w.sees s.count rises
 
     found_is : events w.found ≡ found_then
     found_is = one_merge (events w.found) found_then seen_then.ordered found_order (λ p. same p (cases_lt p (length plant.wiring.controllers + 1)))
@@ -286,11 +285,11 @@ module _ (plant : Plant) (lines : List Line) (fuel : ℕ) (j : Journals) (all : 
         some : (back : List Placed) → back_then ≡ back → 0 < length back_then
         some (x ∷ xs) b = let long : 0 < length (x ∷ xs) = omega arith in omega (arith, long, ap length b)
         some [] b =
-            let one : 0 < length now.part.items = follows.follows.begins e in
-            let asked : messages now.part.items ≡ length now.part.items =
-            all_messages now.part.items (recursion_from_All (λ (l : Line). is_message l.what ≡ true) now.part.items follows.follows.of) in
-            let now_sent : messages (given_by now) ≡ messages now.gone.items + messages now.part.items = messages_both now.gone.items now.part.items in
-            let gone_sent : messages now.gone.items ≡ messages (given_by mid) + messages follows.follows.settles =
+            let one : 0 < length now.part = follows.follows.begins e in
+            let asked : messages now.part ≡ length now.part =
+            all_messages now.part (recursion_from_All (λ (l : Line). is_message l.what ≡ true) now.part follows.follows.of) in
+            let now_sent : messages (given_by now) ≡ messages now.gone + messages now.part = messages_both now.gone now.part in
+            let gone_sent : messages now.gone ≡ messages (given_by mid) + messages follows.follows.settles =
             ap messages follows.follows.is ∙ messages_both (given_by mid) follows.follows.settles in
             let whole : messages all ≡ messages (given_by now) + messages rest = ap messages is ∙ messages_both (given_by now) rest in
             let posts : entries_of (length plant.wiring.controllers) run.lawful.run.merge ≡ entries_of (length plant.wiring.controllers) st.run.lawful.run.merge =
@@ -320,20 +319,20 @@ module _ (plant : Plant) (lines : List Line) (fuel : ℕ) (j : Journals) (all : 
             let long : 0 < length (x ∷ xs) = omega arith in
             or_right j.done (nat_lt 0 (length back_then)) (lt-ltb 0 (length back_then) (omega (arith, long, ap length b)))
 
-    leads : (xs left : List Line) → Resumes plant.wiring j.done (stands back_then now) now.left (drop now.to now.lines.now) xs left
-        → Rest plant.wiring j.done (record { timers = saw_all plant.wiring mid.timers w.found; ahead = back_then; since = 0 }) mid.left (drop mid.to mid.lines.now) (given_by mid) (standing now more) xs left
+    leads : (xs left : List Line) → Resumes plant.wiring j.done (stands back_then now) now.left (drop now.to now.lines) xs left
+        → Rest plant.wiring j.done (record { timers = saw_all plant.wiring mid.timers w.found; ahead = back_then; since = 0 }) mid.left (drop mid.to mid.lines) (given_by mid) (standing now more) xs left
     leads =
         subst (λ (z : Standing). (z.more ≡ true → nat_lt 0 (length back_then) ≡ true) → (xs left : List Line)
         → Resumes plant.wiring j.done (record { timers = z.timers; ahead = back_then; since = length z.part }) z.left z.behind xs left
-        → Rest plant.wiring j.done (record { timers = saw_all plant.wiring mid.timers w.found; ahead = back_then; since = 0 }) mid.left (drop mid.to mid.lines.now) (given_by mid) z xs left)
+        → Rest plant.wiring j.done (record { timers = saw_all plant.wiring mid.timers w.found; ahead = back_then; since = 0 }) mid.left (drop mid.to mid.lines) (given_by mid) z xs left)
         w.goes
-        (all_lead plant.wiring j.done back_then (cut_stops (length plant.wiring.controllers) (length mid.part.items) s.back) ok_then mid.left (drop mid.to mid.lines.now) (given_by mid) (saw_all plant.wiring mid.timers w.found))
+        (all_lead plant.wiring j.done back_then (cut_stops (length plant.wiring.controllers) (length mid.part) s.back) ok_then mid.left (drop mid.to mid.lines) (given_by mid) (saw_all plant.wiring mid.timers w.found))
         goes_then
 
     path_then : (xs left : List Line) → Resumes plant.wiring j.done (stands back_then now) now.left (drop now.to lines) xs left
         → Expands plant.wiring j.done (beginning run.lawful.run.merge) lines (given_by now ++ xs) left
     path_then xs left r =
-        let lines_now : lines ≡ now.lines.now = sym (w.lines ∙ s.lines_are) in
+        let lines_now : lines ≡ now.lines = sym (w.lines ∙ s.lines_are) in
         let tail = leads xs left (subst (λ (ls : List Line). Resumes plant.wiring j.done (stands back_then now) now.left (drop now.to ls) xs left) lines_now r) in
         let over : Resumes plant.wiring j.done (caught_up plant.wiring (stands s.back mid)) mid.left (drop mid.to lines) tail.ys left =
         subst (λ (p : Point). Resumes plant.wiring j.done p mid.left (drop mid.to lines) tail.ys left) (sym caught)
@@ -353,11 +352,11 @@ module _ (plant : Plant) (lines : List Line) (fuel : ℕ) (j : Journals) (all : 
       lines_are = w.lines ∙ s.lines_are;
       count = seen_then.long ∙ s.count;
       sent =
-          let gone_sent : messages now.gone.items ≡ messages (given_by mid) + messages follows.follows.settles =
+          let gone_sent : messages now.gone ≡ messages (given_by mid) + messages follows.follows.settles =
           ap messages follows.follows.is ∙ messages_both (given_by mid) follows.follows.settles in
           let none : messages follows.follows.settles ≡ 0 = no_messages follows.follows.settles follows.follows.are in
           omega (arith, then_posts, gone_sent, none);
-      part = all_messages now.part.items (recursion_from_All (λ (l : Line). is_message l.what ≡ true) now.part.items follows.follows.of);
+      part = all_messages now.part (recursion_from_All (λ (l : Line). is_message l.what ≡ true) now.part follows.follows.of);
       saw = λ p below.
           let m = grew_at plant.wiring before js g p in
           let o = s.saw p below in
@@ -370,7 +369,7 @@ module _ (plant : Plant) (lines : List Line) (fuel : ℕ) (j : Journals) (all : 
           };
       fresh = λ plain.
           ap (λ (z : Standing). z.left) (sym w.goes)
-          ∙ all_plain mid.left (drop mid.to mid.lines.now) (given_by mid) (saw_all plant.wiring mid.timers w.found)
+          ∙ all_plain mid.left (drop mid.to mid.lines) (given_by mid) (saw_all plant.wiring mid.timers w.found)
           (subst (λ (ls : List Line). AllByRecursion IsPlain (drop mid.to ls)) (sym s.lines_are) (plain_behind mid.to lines plain)) (s.fresh plain);
       path = path_then;
     }

@@ -16,26 +16,19 @@ use Rattle.model_run.specs.run_ends.Runs.MayBeLeft.{nothing, from_settle}
 use Rattle.model_run.proofs.part_source.CallsLaw.{grew_then, grew_none}
 use Rattle.room_timer.specs.Expansion.{IsExpansion, Expands, beginning}
 use Rattle.room_timer.specs.Laws.{IsPlain}
+use Rattle.model_run.specs.fixed_lines.Fixed.{message_line}
+use Rattle.model_run.proofs.fixed_lines.FixedLaw.{behind as ends_behind}
 use Rattle.room_timer.proofs.Once.{plain}
-use Rattle.timed_runs.specs.declared.timed_lines.TimedLines.{TimedLines}
-use Rattle.timed_runs.specs.declared.walk.Walk.{Walk}
 use Rattle.timed_runs.specs.Passed.{messages_in_front}
 use Rattle.timed_runs.specs.Timed.{numbers_of, IsTimedRun}
-use Rattle.timed_runs.specs.Walks.{given_by, standing, Walks, Begins}
+use Rattle.timed_runs.specs.Walks.{Walk, given_by, standing, Walks, Begins, Goes, Stood}
 use Rattle.timed_runs.proofs.Ending.{NoMore, AreLeft, are_left, none_resumes}
 use Rattle.timed_runs.proofs.Fitting.{expands_fit}
 use Rattle.timed_runs.proofs.Passing.{none_in_front}
 use Rattle.timed_runs.proofs.Path.{stands, Stands, follows_of, behind_of, at_start, goes_there}
+use Rattle.timed_runs.proofs.Sourcing.{ends_again}
 use Rattle.timed_runs.proofs.Runs.{messages, messages_both, all_posts, is_merge}
 use Rattle.timed_runs.proofs.Walking.{Resumes}
-
--- what a source of timed lines may become
-abbrev pub Goes : TimedLines → Seen → TimedLines → Type 0
-Goes old js new = (old.failed ≡ false) × (new.failed ≡ false) × ((more : Bool) × Walks old.walk.wiring.now old.walk js new.walk more)
-
--- the journals of a run that was done with all lines so far
-abbrev pub Stood : Plant → ℕ → TimedLines → Seen → Type 0
-Stood plant fuel s js = StoodQuiet plant (given_by s.walk) fuel js
 
 no_numbers : (lines : List Line) → numbers_of lines ≡ [] → lines ≡ []
 no_numbers [] h = refl
@@ -46,34 +39,37 @@ plain_behind zero lines h = h
 plain_behind (suc k) [] h = tt
 plain_behind (suc k) (l ∷ lines) h = plain_behind k lines h.1
 
+-- where it stands, the next line isn't a message
+ends_there : (plant : Plant) (lines : List Line) (fuel : ℕ) (first now : Walk) (js : Seen) → Asked Goes (Stood plant fuel) first now js → Begins plant.wiring lines first
+    → messages_in_front (drop now.to now.lines) ≡ 0
+ends_there plant lines fuel first now js (never _) b =
+    ap (λ (ls : List Line). messages_in_front (drop first.to ls)) b.lines_are ∙ ap (λ (k : ℕ). messages_in_front (drop k lines)) b.to ∙ ends_behind message_line lines
+ends_there plant lines fuel first now js (once_more mid _ before _ a stood goes more) b =
+    ends_again mid now before goes.0 goes.1 (ends_there plant lines fuel first mid before a b)
+
 module _ (plant : Plant) (lines : List Line) (fuel : ℕ) (j : Journals) (all : List Line) (run : IsRun plant all fuel (record j { unposted = [] })) where
   -- from one call to the next
-  step : (mid now : TimedLines) (before js : Seen) (more : Bool) (rest : List Line) → messages_in_front (drop mid.walk.to mid.walk.lines.now) ≡ 0
-      → StoodQuiet plant (given_by mid.walk) fuel before → Walks mid.walk.wiring.now mid.walk before now.walk more → all ≡ given_by now.walk ++ rest
+  step : (mid now : Walk) (before js : Seen) (more : Bool) (rest : List Line) → messages_in_front (drop mid.to mid.lines) ≡ 0
+      → StoodQuiet plant (given_by mid) fuel before → Walks mid.wiring mid before now more → all ≡ given_by now ++ rest
       → messages_in_front rest ≡ 0 → Grew before js → Grew js (seen_in j)
-      → ((behind : List Line) → all ≡ given_by mid.walk ++ behind → messages_in_front behind ≡ 0 → Grew before (seen_in j) → Stands plant lines fuel j all run mid.walk before)
-      → Stands plant lines fuel j all run now.walk js
+      → ((behind : List Line) → all ≡ given_by mid ++ behind → messages_in_front behind ≡ 0 → Grew before (seen_in j) → Stands plant lines fuel j all run mid before)
+      → Stands plant lines fuel j all run now js
   step mid now before js more rest none stood walks is ends grew onward earlier =
-      let f = follows_of mid.walk.wiring.now mid.walk now.walk before more walks none in
+      let f = follows_of mid.wiring mid now before more walks none in
       let whole : Grew before (seen_in j) = grew_then before js (seen_in j) grew onward in
-      let there : Stands plant lines fuel j all run mid.walk before =
-      earlier (f.follows.settles ++ (now.walk.part.items ++ rest)) (behind_of all rest mid.walk now.walk more f is)
-      (none_in_front (given_by mid.walk) rest (standing now.walk more) f ends) whole in
-      goes_there plant lines fuel j all run mid.walk now.walk before more rest there stood
-      (subst (λ (t : Tables). Walks t mid.walk before now.walk more) there.wiring walks) none is ends whole js grew
+      let there : Stands plant lines fuel j all run mid before =
+      earlier (f.follows.settles ++ (now.part ++ rest)) (behind_of all rest mid now more f is)
+      (none_in_front (given_by mid) rest (standing now more) f ends) whole in
+      goes_there plant lines fuel j all run mid now before more rest there stood
+      (subst (λ (t : Tables). Walks t mid before now more) there.wiring walks) none is ends whole js grew
 
-  -- at each call the source stands in the run
-  pub stands_there : (first now : TimedLines) (js : Seen) → Asked Goes (Stood plant fuel) first now js → Begins plant.wiring lines first.walk
-      → (rest : List Line) → all ≡ given_by now.walk ++ rest → messages_in_front rest ≡ 0 → Grew js (seen_in j) → Stands plant lines fuel j all run now.walk js
-  stands_there first now js (never _) begins rest is ends grew = at_start plant lines fuel j all run first.walk js begins
+  -- at each call the walk stands in the run
+  pub stands_there : (first now : Walk) (js : Seen) → Asked Goes (Stood plant fuel) first now js → Begins plant.wiring lines first
+      → (rest : List Line) → all ≡ given_by now ++ rest → messages_in_front rest ≡ 0 → Grew js (seen_in j) → Stands plant lines fuel j all run now js
+  stands_there first now js (never _) begins rest is ends grew = at_start plant lines fuel j all run first js begins
   stands_there first now js (once_more mid _ before _ a stood goes more) begins rest is ends grew =
-      step mid now before js goes.2.0 rest (mid.ends goes.0) stood goes.2.1 is ends more grew
+      step mid now before js goes.0 rest (ends_there plant lines fuel first mid before a begins) stood goes.1 is ends more grew
       (λ behind all_is none_ahead before_grew. stands_there first mid before a begins behind all_is none_ahead before_grew)
-
--- it has not failed, wherever it stands
-works : (plant : Plant) (fuel : ℕ) (first now : TimedLines) (js : Seen) → Asked Goes (Stood plant fuel) first now js → first.failed ≡ false → now.failed ≡ false
-works plant fuel first now js (never _) h = h
-works plant fuel first now js (once_more mid _ before _ a stood goes more) h = goes.1
 
 -- what the rest of the lines comes to, where a run has ended
 record Final (t : Tables) (lines : List Line) (j : Journals) (merge : List Placed) (given behind : List Line) : Type 0 where
@@ -85,18 +81,18 @@ record Final (t : Tables) (lines : List Line) (j : Journals) (merge : List Place
   over : j.done ≡ true → left ≡ []
   plain_is : AllByRecursion IsPlain lines → xs ≡ left
 
-module _ (plant : Plant) (lines : List Line) (fuel : ℕ) (j : Journals) (first end : TimedLines) (begins : Begins plant.wiring lines first.walk)
-    (fresh : first.failed ≡ false) (asked : Asked Goes (Stood plant fuel) first end (seen_in j))
-    (ran : RanThrough plant (given_by end.walk) (numbers_of (drop end.walk.to end.walk.lines.now)) fuel j) where
-  run : IsRun plant (given_by end.walk) fuel (record j { unposted = [] })
-  run = subst (λ (z : List Line). IsRun plant z fuel (record j { unposted = [] })) (append-nil (given_by end.walk)) (ran.runs [] nothing)
+module _ (plant : Plant) (lines : List Line) (fuel : ℕ) (j : Journals) (first end : Walk) (begins : Begins plant.wiring lines first)
+    (asked : Asked Goes (Stood plant fuel) first end (seen_in j))
+    (ran : RanThrough plant (given_by end) (numbers_of (drop end.to end.lines)) fuel j) where
+  run : IsRun plant (given_by end) fuel (record j { unposted = [] })
+  run = subst (λ (z : List Line). IsRun plant z fuel (record j { unposted = [] })) (append-nil (given_by end)) (ran.runs [] nothing)
 
-  there : Stands plant lines fuel j (given_by end.walk) run end.walk (seen_in j)
-  there = stands_there plant lines fuel j (given_by end.walk) run first end (seen_in j) asked begins [] (sym (append-nil (given_by end.walk))) refl (grew_none (seen_in j))
+  there : Stands plant lines fuel j (given_by end) run end (seen_in j)
+  there = stands_there plant lines fuel j (given_by end) run first end (seen_in j) asked begins [] (sym (append-nil (given_by end))) refl (grew_none (seen_in j))
 
-  no_more : NoMore plant.wiring (stands there.back end.walk)
+  no_more : NoMore plant.wiring (stands there.back end)
   no_more =
-      let posts = all_posts plant (given_by end.walk) fuel (record j { unposted = [] }) run refl in
+      let posts = all_posts plant (given_by end) fuel (record j { unposted = [] }) run refl in
       let both = ap (entries_of (length plant.wiring.controllers)) there.whole ∙ entries_append (length plant.wiring.controllers) there.front there.back in
       omega (
         arith,
@@ -105,64 +101,64 @@ module _ (plant : Plant) (lines : List Line) (fuel : ℕ) (j : Journals) (first 
         length-append (entries_of (length plant.wiring.controllers) there.front) (entries_of (length plant.wiring.controllers) there.back),
         there.sent,
         there.part,
-        messages_both end.walk.gone.items end.walk.part.items,
+        messages_both end.gone end.part,
       )
 
-  behind_is : drop end.walk.to end.walk.lines.now ≡ drop end.walk.to lines
-  behind_is = ap (λ (ls : List Line). drop end.walk.to ls) there.lines_are
+  behind_is : drop end.to end.lines ≡ drop end.to lines
+  behind_is = ap (λ (ls : List Line). drop end.to ls) there.lines_are
 
-  ends : messages_in_front (drop end.walk.to lines) ≡ 0
-  ends = ap messages_in_front (sym behind_is) ∙ end.ends (works plant fuel first end (seen_in j) asked fresh)
+  ends : messages_in_front (drop end.to lines) ≡ 0
+  ends = ap messages_in_front (sym behind_is) ∙ ends_there plant lines fuel first end (seen_in j) asked begins
 
-  final : Final plant.wiring lines j run.lawful.run.merge (given_by end.walk) (drop end.walk.to lines)
+  final : Final plant.wiring lines j run.lawful.run.merge (given_by end) (drop end.to lines)
   final = go j.done refl
     where
-      go : (d : Bool) → j.done ≡ d → Final plant.wiring lines j run.lawful.run.merge (given_by end.walk) (drop end.walk.to lines)
+      go : (d : Bool) → j.done ≡ d → Final plant.wiring lines j run.lawful.run.merge (given_by end) (drop end.to lines)
       go true e =
-          let none : drop end.walk.to lines ≡ [] = sym behind_is ∙ no_numbers (drop end.walk.to end.walk.lines.now) (ran.whole e) in
+          let none : drop end.to lines ≡ [] = sym behind_is ∙ no_numbers (drop end.to end.lines) (ran.whole e) in
           record {
             xs = [];
             left = [];
             may = nothing;
             expands = there.path [] []
-                (subst (λ (ls : List Line). Resumes plant.wiring j.done (stands there.back end.walk) end.walk.left ls [] []) (sym none)
-                (none_resumes plant.wiring j.done (stands there.back end.walk) end.walk.left));
+                (subst (λ (ls : List Line). Resumes plant.wiring j.done (stands there.back end) end.left ls [] []) (sym none)
+                (none_resumes plant.wiring j.done (stands there.back end) end.left));
             left_is = sym none;
             over = λ d. refl;
             plain_is = λ h. refl;
           }
       go false e =
-          let rest : AreLeft plant.wiring (stands there.back end.walk) end.walk.left (drop end.walk.to lines) =
-          are_left plant.wiring (stands there.back end.walk) end.walk.left (drop end.walk.to lines) no_more ends in
+          let rest : AreLeft plant.wiring (stands there.back end) end.left (drop end.to lines) =
+          are_left plant.wiring (stands there.back end) end.left (drop end.to lines) no_more ends in
           record {
             xs = rest.xs;
-            left = drop end.walk.to lines;
+            left = drop end.to lines;
             may = subst (λ (d : Bool). MayBeLeft d rest.xs) (sym e) rest.may;
-            expands = there.path rest.xs (drop end.walk.to lines)
-                (subst (λ (d : Bool). Resumes plant.wiring d (stands there.back end.walk) end.walk.left (drop end.walk.to lines) rest.xs (drop end.walk.to lines)) (sym e) rest.resumes);
+            expands = there.path rest.xs (drop end.to lines)
+                (subst (λ (d : Bool). Resumes plant.wiring d (stands there.back end) end.left (drop end.to lines) rest.xs (drop end.to lines)) (sym e) rest.resumes);
             left_is = refl;
             over = λ d. let both : true ≡ false = sym d ∙ e in absurd cc;
             plain_is = λ h.
-                plain plant.wiring false (stands there.back end.walk) (drop end.walk.to lines) rest.xs (drop end.walk.to lines) (plain_behind end.walk.to lines h)
-                (subst (λ (hand : Option ℕ). Resumes plant.wiring false (stands there.back end.walk) hand (drop end.walk.to lines) rest.xs (drop end.walk.to lines)) (there.fresh h) rest.resumes);
+                plain plant.wiring false (stands there.back end) (drop end.to lines) rest.xs (drop end.to lines) (plain_behind end.to lines h)
+                (subst (λ (hand : Option ℕ). Resumes plant.wiring false (stands there.back end) hand (drop end.to lines) rest.xs (drop end.to lines)) (there.fresh h) rest.resumes);
           }
 
   told : j.unposted ≡ numbers_of final.left
   told = ran.unposted ∙ ap numbers_of behind_is ∙ ap numbers_of (sym final.left_is)
 
-  expansion_is : IsExpansion plant.wiring lines j (given_by end.walk ++ final.xs) final.left
+  expansion_is : IsExpansion plant.wiring lines j (given_by end ++ final.xs) final.left
   expansion_is = record {
     merge = run.lawful.run.merge;
-    is = is_merge plant (given_by end.walk) fuel (record j { unposted = [] }) run;
+    is = is_merge plant (given_by end) fuel (record j { unposted = [] }) run;
     expands = final.expands;
   }
 
   pub timed : LinesFit plant.wiring lines → IsTimedRun plant lines fuel j
   timed fit = record {
-    expansion = given_by end.walk ++ final.xs;
+    expansion = given_by end ++ final.xs;
     left = final.left;
     is = expansion_is;
-    fits = expands_fit plant.wiring j.done (beginning run.lawful.run.merge) lines (given_by end.walk ++ final.xs) final.left fit tt final.expands;
+    fits = expands_fit plant.wiring j.done (beginning run.lawful.run.merge) lines (given_by end ++ final.xs) final.left fit tt final.expands;
     unposted_of_it = numbers_of final.xs;
     run = ran.runs final.xs final.may;
     unposted = told;
@@ -171,13 +167,8 @@ module _ (plant : Plant) (lines : List Line) (fuel : ℕ) (j : Journals) (first 
 
   pub plain_run : AllByRecursion IsPlain lines → IsRun plant lines fuel j
   plain_run h =
-      let whole : given_by end.walk ++ final.xs ≡ lines =
-      plain plant.wiring j.done (beginning run.lawful.run.merge) lines (given_by end.walk ++ final.xs) final.left h final.expands in
+      let whole : given_by end ++ final.xs ≡ lines =
+      plain plant.wiring j.done (beginning run.lawful.run.merge) lines (given_by end ++ final.xs) final.left h final.expands in
       let numbers : numbers_of final.xs ≡ j.unposted = ap numbers_of (final.plain_is h) ∙ sym told in
       subst (λ (z : List Line). IsRun plant z fuel j) whole
-      (subst (λ (z : List ℕ). IsRun plant (given_by end.walk ++ final.xs) fuel (record j { unposted = z })) numbers (ran.runs final.xs final.may))
-
--- what follows from two clauses of a call that ends well, and from a fact
-pub if_ok_both : {T E : Type 0} {P Q R : T → Type 0} (r : Result T E) → ((x : T) → P x → Q x → R x) → IfOk r P → IfOk r Q → IfOk r R
-if_ok_both (Ok x) f h k = f x h k
-if_ok_both (Err e) f h k = tt
+      (subst (λ (z : List ℕ). IsRun plant (given_by end ++ final.xs) fuel (record j { unposted = z })) numbers (ran.runs final.xs final.may))
