@@ -2,8 +2,5 @@ pub mod Timed
 pub mod Unseen
 pub mod Passed
 pub mod Walks
-pub mod Steps
-pub mod Looks
-pub mod Shown
 pub mod Laws
 pub mod Examples
