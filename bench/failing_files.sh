@@ -1,0 +1,155 @@
+#!/usr/bin/env bash
+# Whether every failing read and write is answered as docs/STATUSES.md says. For each command, and for
+# words, models, injections and journals that are refused, each call that opens, seeks or reads a file
+# is refused, one in a call of the program, once alone and once with all that come behind it; and so is
+# each write, to a file, which gets long pieces, and to what seems to be a terminal, which gets each line
+# by itself. A row tells the model, the words, how many calls of the program were tried, what was
+# refused, and how often came
+#
+#   right      the answer that comes where nothing fails
+#   unread     status 6, no output, and `room: read fault`
+#   unwritten  status 7, with a front of the right output and of the right notes
+#   !          anything else, which is told with the number of what was refused; the script then fails
+#
+# Then come a full device, closed streams and a pipe without a reader, for output and for notes; reads
+# and writes of one byte each; a reader that goes away; and files that can't be read.
+#
+#   bench/failing_files.sh              all processors, some minutes
+#   LANES=1 bench/failing_files.sh      one call of the program at a time
+#   EACH=10 bench/failing_files.sh      each tenth call to the system
+set -eu
+. "$(dirname "${BASH_SOURCE[0]}")/timing.sh"
+. "$top/bench/refusing.sh"
+
+judge_right() {
+    if is_right "$1"; then echo right; else wrong "$1"; fi
+}
+
+judge_read() {
+    if is_right "$1"; then echo right
+    elif is_refusal "$1" 6 'room: read fault'; then echo unread
+    else wrong "$1"
+    fi
+}
+
+judge_write() {
+    if [ "$status" = 7 ] && is_front "$1" out && is_front "$1" notes; then echo unwritten; else wrong "$1"; fi
+}
+
+# At a terminal the lines before the one that was refused stand there.
+judge_line() {
+    if [ "$(wc -l <"$work/$1.out")" = "$(($2 - 1))" ]; then judge_write "$1"; else wrong "$1"; fi
+}
+
+# The program reads models and injections again where it couldn't read them beforehand. So a failing call
+# alone is told of journals only, and where all fail none of them is passed over, if all files are needed.
+judge_together() {
+    local unwanted=
+    case "$1 $2 ${words[0]:-} $right" in
+    'files alone convert '*) ;;
+    'files alone '*) unwanted=unread ;;
+    'files behind '*' '[04]) unwanted=right ;;
+    esac
+    [ -z "$unwanted" ] || sed -i "s/ $unwanted\$/ ! $unwanted/" "$work/verdicts"
+}
+
+# The answer where a stream goes nowhere in one of three ways.
+answer_to() {
+    case "$1" in
+    'output to a full device') run_words >/dev/full ;;
+    'closed output') run_words >&- ;;
+    'output without a reader') run_words >&"$unread" ;;
+    'notes to a full device') run_words 2>/dev/full ;;
+    'closed notes') run_words 2>&- ;;
+    'notes without a reader') run_words 2>&"$unread" ;;
+    'closed streams') run_words <&- >&- 2>&- ;;
+    esac >"$work/stream.out" 2>"$work/stream.notes"
+}
+
+run_words() {
+    "$program" "${words[@]}" || status=$?
+}
+
+# The statuses where streams go nowhere: 7 where there is something to be told there, else the right one.
+try_streams() {
+    local stream told
+    for stream in 'output to a full device' 'closed output' 'output without a reader' \
+        'notes to a full device' 'closed notes' 'notes without a reader' 'closed streams'; do
+        case "$stream" in
+        *output*) told="$work/right.out" ;;
+        *notes*) told="$work/right.notes" ;;
+        *) told="$work/right.both" ;;
+        esac
+        status=0
+        answer_to "$stream"
+        if [ -s "$told" ]; then judge_write stream; else judge_right stream; fi | sed 's/^/1 /'
+    done >"$work/verdicts"
+    tell_verdicts 'streams that go nowhere'
+}
+
+# Everything that is tried with some words in a folder.
+try_words() {
+    ask "$@"
+    cat "$work/right.out" "$work/right.notes" >"$work/right.both"
+    sweep judge_read files alone
+    sweep judge_read files behind
+    sweep judge_write output alone
+    sweep judge_write output behind
+    if [ -s "$work/right.out" ]; then
+        TERMINAL=1 sweep judge_line output alone
+        TERMINAL=1 sweep judge_line output behind
+    fi
+    try_streams
+    answer short short 0 0
+    judge_right short | sed 's/^/1 /' >"$work/verdicts"
+    tell_verdicts 'one byte each time'
+}
+
+# A long answer whose reader goes away behind its first byte.
+try_going_reader() {
+    cd "$1"
+    words=("${@:2}")
+    "$program" "${words[@]}" 2>"$work/stream.notes" | head -c 1 >"$work/stream.out"
+    status="${PIPESTATUS[0]}"
+    judge_write stream | sed 's/^/1 /' >"$work/verdicts"
+    tell_verdicts 'a reader that goes away'
+}
+
+# A file that can't be read, in the place of each: a folder, none, a pipe.
+try_unreadable() {
+    local path="$1"
+    for words in "check $path" "tree $path" "run $path inject.txt" "run model.room $path" \
+        "convert $path out" "convert model.room $path"; do
+        read -r -a words <<<"$words"
+        status=0
+        cat model.room | "$program" "${words[@]}" >"$work/stream.out" 2>"$work/stream.notes" || status=$?
+        if is_refusal stream 6 'room: read fault'; then echo '1 unread'; else echo "1 $(wrong stream)"; fi
+    done >"$work/verdicts"
+    words=("$path")
+    tell_verdicts 'a file that is unreadable'
+}
+
+mkfifo "$work/pipe"
+exec {reader}<>"$work/pipe" {unread}>"$work/pipe" {reader}<&-
+begin_measuring
+for model in runs/ping-pong services/import-and-second-plug-refused runs/ping-pong-two-controllers; do
+    try_words "$top/cases/$model" check model.room
+    try_words "$top/cases/$model" tree model.room
+    try_words "$top/cases/$model" run model.room inject.txt
+    try_words "$top/cases/$model" convert model.room out
+done
+for case in examples/broken-chart-6 injections/injection-unknown-signal journals/cut-before-the-last-line-refused \
+    program/made-four program/fuel-of-zero-refused program/no-words-refused program/missing-injections \
+    program/run-without-injections-refused services/made-and-ended-spent-in-a-duty; do
+    mapfile -t case_words <"$top/cases/$case/words"
+    try_words "$top/cases/$case" "${case_words[@]}"
+done
+mkdir "$work/long"
+one_actor 'Transition i: initial -> A State A
+Transition k: A -> A { triggers { <kick: go> } action { "n = n + data;" } }' >"$work/long/model.room"
+kicks 1500 >"$work/long/inject.txt"
+try_words "$work/long" run model.room inject.txt
+try_going_reader "$work/long" run model.room inject.txt
+cd "$top/cases/runs/ping-pong"
+for path in . nowhere /dev/stdin; do try_unreadable "$path"; done
+tell_tried
