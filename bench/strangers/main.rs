@@ -1,0 +1,321 @@
+//! Strangers: texts that nobody wrote. Makes and changes models, injections and journals from a seed, calls
+//! the program on them, and tells each answer that is wrong. bench/strangers.sh says what is asked of them.
+//! usage: strangers PROGRAM LIBRARY FOLDER KEPT SEED FIRST COUNT LANES SLOWER <SEEDS
+//! A line of SEEDS is `model FILE`, `run MODEL INJECTIONS` or `convert MODEL JOURNALS`, with tabs between.
+
+mod calls;
+mod changes;
+mod judging;
+mod making;
+mod random;
+
+use calls::{Answer, Lane};
+use judging::{Limits, Named, judge, judge_cost};
+use random::Random;
+use std::collections::BTreeMap;
+use std::path::PathBuf;
+use std::sync::Mutex;
+use std::sync::atomic::{AtomicU64, Ordering};
+use std::{env, fs, io, thread};
+
+type Text = Vec<u8>;
+
+/// The texts that are changed.
+#[derive(Default)]
+struct Seeds {
+    models: Vec<Text>,
+    injections: Vec<(Text, Text)>,
+    journals: Vec<(Text, Text)>,
+}
+
+/// What is shared by all lanes.
+struct Search {
+    seeds: Seeds,
+    seed: u64,
+    limits: Limits,
+    kept: PathBuf,
+    /// How often each kind of stranger had each status, or another end.
+    seen: Mutex<BTreeMap<String, u64>>,
+    wrong: AtomicU64,
+}
+
+/// A stranger on its way: the lane in which its calls are made, and its number.
+struct Stranger<'a> {
+    search: &'a Search,
+    lane: &'a Lane,
+    number: u64,
+    kind: &'static str,
+}
+
+fn read_seeds() -> Seeds {
+    let mut seeds = Seeds::default();
+    let read = |path: &str| fs::read(path).unwrap_or_default();
+    for line in io::stdin().lines() {
+        let line = line.expect("seeds are text");
+        match line.split('\t').collect::<Vec<&str>>().as_slice() {
+            ["model", model] => seeds.models.push(read(model)),
+            ["run", model, injections] => seeds.injections.push((read(model), read(injections))),
+            ["convert", model, journals] => seeds.journals.push((read(model), read(journals))),
+            _ => eprintln!("a line of seeds has another form: {line}"),
+        }
+    }
+    seeds
+}
+
+/// A status, with what its note says beside places in the text.
+fn summary(answer: &Answer) -> String {
+    let status = answer.status.map_or("none".to_string(), |status| status.to_string());
+    let notes = String::from_utf8_lossy(&answer.notes);
+    let told = match notes.split_whitespace().skip(3).collect::<Vec<&str>>().as_slice() {
+        ["rule", number] => format!(" rule {number}"),
+        ["wiring", number] => format!(" wiring {number}"),
+        ["chart", _, number] => format!(" chart {number}"),
+        ["line", _, code] => format!(" code {code}"),
+        [what, ..] => format!(" {what}"),
+        [] => String::new(),
+    };
+    status + &told
+}
+
+fn words(all: &[&str]) -> Vec<String> {
+    all.iter().map(|word| word.to_string()).collect()
+}
+
+impl Stranger<'_> {
+    /// Tells of something wrong, and keeps the texts.
+    fn tell(&self, what: &str) {
+        self.search.wrong.fetch_add(1, Ordering::Relaxed);
+        println!("    stranger {} ({}): {what}", self.number, self.kind);
+        let folder = self.search.kept.join(format!("{}.{}", self.number, what.replace(' ', "-")));
+        let _ = fs::create_dir_all(&folder);
+        for name in ["model", "inject", "journals"] {
+            let _ = fs::copy(self.lane.folder.join(name), folder.join(name));
+        }
+    }
+
+    fn count(&self, what: String) {
+        *self.search.seen.lock().expect("nobody panicked").entry(what).or_insert(0) += 1;
+    }
+
+    /// The answer to some words, which is judged alone.
+    fn ask(&self, all: &[&str], named: &Named, tree: &[u8]) -> Answer {
+        let answer = self.lane.answer(&words(all));
+        let told = judge(all[0], &answer, named).or_else(|| judge_cost(all[0], &answer, named, tree, &self.search.limits));
+        if let Some(what) = told {
+            self.tell(&what);
+        }
+        answer
+    }
+
+    /// What the commands answer of a model; the tree of an accepted one. They agree on a refusal.
+    fn ask_of_model(&self, model: &[u8]) -> Option<Text> {
+        self.lane.put("model", model);
+        let named = Named { model, second: &[] };
+        let tree = self.ask(&["tree", "model"], &named, &[]);
+        let check = self.ask(&["check", "model"], &named, &tree.out);
+        if check.status != tree.status || check.notes != tree.notes {
+            self.tell("check and tree differ");
+        }
+        if check.status == Some(0) && check.out != b"ok\n" {
+            self.tell("check isn't ok");
+        }
+        self.count(format!("{}, check: {}", self.kind, summary(&check)));
+        (tree.status == Some(0)).then_some(tree.out)
+    }
+
+    /// A run, whose journals are read back as they are.
+    fn ask_for_run(&self, model: &[u8], injections: &[u8], tree: Option<&[u8]>, fuel: usize) {
+        self.lane.put("model", model);
+        self.lane.put("inject", injections);
+        let fuel = fuel.to_string();
+        let named = Named { model, second: injections };
+        let run = self.ask(&["run", "model", "inject", "--fuel", &fuel], &named, tree.unwrap_or_default());
+        if tree.is_some() && run.status == Some(2) {
+            self.tell("run refuses what tree accepts");
+        }
+        self.count(format!("{}, run: {}", self.kind, summary(&run)));
+        if matches!(run.status, Some(0 | 4)) && self.ask_for_journals(model, &run.out, "run, convert") != Some(run.out) {
+            self.tell("a run's journals aren't read back");
+        }
+    }
+
+    /// What is converted of journals: those in form 2 stay as they are, and so does what comes out.
+    fn ask_for_journals(&self, model: &[u8], journals: &[u8], how: &str) -> Option<Text> {
+        self.lane.put("model", model);
+        self.lane.put("journals", journals);
+        let named = Named { model, second: journals };
+        let answer = self.ask(&["convert", "model", "journals"], &named, &[]);
+        self.count(format!("{}, {how}: {}", self.kind, summary(&answer)));
+        if answer.status != Some(0) {
+            return None;
+        }
+        if journals.starts_with(b"room-journal 2\n") {
+            if answer.out != journals {
+                self.tell("journals in form 2 are converted to others");
+            }
+        } else {
+            self.lane.put("journals", &answer.out);
+            let again = self.ask(&["convert", "model", "journals"], &Named { model, second: &answer.out }, &[]);
+            if again.out != answer.out {
+                self.tell("what was converted is converted to others");
+            }
+        }
+        Some(answer.out)
+    }
+}
+
+fn one<'a, T>(random: &mut Random, items: &'a [T]) -> &'a T {
+    &items[random.below(items.len())]
+}
+
+impl Stranger<'_> {
+    /// A model that was changed, with its injections if it has some.
+    fn changed_model(&mut self, random: &mut Random) {
+        let seeds = &self.search.seeds;
+        let (mut model, injections) = if random.percent(50) {
+            (one(random, &seeds.models).clone(), Text::new())
+        } else {
+            one(random, &seeds.injections).clone()
+        };
+        let other = one(random, &seeds.models);
+        if random.below(300) == 0 {
+            self.kind = "grown model";
+            let most = [100_000, 300_000, 1_000_000][random.below(3)];
+            changes::grow(random, &mut model, most);
+        } else {
+            self.kind = "changed model";
+            changes::change_model(random, &mut model, other);
+        }
+        let tree = self.ask_of_model(&model);
+        if tree.is_some() || random.percent(5) {
+            let fuel = 1 + random.below(60);
+            self.ask_for_run(&model, &injections, tree.as_deref(), fuel);
+        }
+    }
+
+    fn made_model(&mut self, random: &mut Random) {
+        self.kind = "made model";
+        let mut model = making::model(random).into_bytes();
+        if random.percent(15) {
+            self.kind = "made and changed model";
+            let other = one(random, &self.search.seeds.models);
+            changes::change_model(random, &mut model, other);
+        }
+        if let Some(tree) = self.ask_of_model(&model) {
+            let injections = making::injections(random, &String::from_utf8_lossy(&tree));
+            let fuel = 1 + random.below(60);
+            self.ask_for_run(&model, injections.as_bytes(), Some(&tree), fuel);
+        }
+    }
+
+    fn changed_injections(&mut self, random: &mut Random) {
+        self.kind = "changed injections";
+        let seeds = &self.search.seeds;
+        let (model, mut injections) = one(random, &seeds.injections).clone();
+        let other = &one(random, &seeds.injections).1;
+        changes::change_lines(random, &mut injections, other);
+        let fuel = 1 + random.below(60);
+        self.ask_for_run(&model, &injections, None, fuel);
+    }
+
+    fn changed_journals(&mut self, random: &mut Random) {
+        self.kind = "changed journals";
+        let seeds = &self.search.seeds;
+        let (model, mut journals) = one(random, &seeds.journals).clone();
+        let other = if random.percent(50) { journals.clone() } else { one(random, &seeds.journals).1.clone() };
+        changes::change_lines(random, &mut journals, &other);
+        self.ask_for_journals(&model, &journals, "convert");
+    }
+
+    /// Words that nobody would write, over files that are there.
+    fn strange_words(&mut self, random: &mut Random) {
+        self.kind = "strange words";
+        let (model, injections) = one(random, &self.search.seeds.injections).clone();
+        self.lane.put("model", &model);
+        self.lane.put("inject", &injections);
+        self.lane.put("journals", b"");
+        let count = 1 + random.below(6);
+        let some = ["run", "check", "tree", "convert", "made", "--fuel", "model", "model", "inject", "3", "0", "007", "-1", "", "--", "é", "100001"];
+        let all: Vec<&str> = (0..count).map(|_| some[random.below(some.len())]).collect();
+        let answer = self.lane.answer(&words(&all));
+        let second = if all[0] == "convert" { Vec::new() } else { injections };
+        let told = if all.contains(&"inject") || !matches!(answer.status, Some(1 | 6)) {
+            // What the second file is can't be told here of each list of words.
+            answer.signal.map(|signal| format!("signal {signal}"))
+        } else if answer.status == Some(6) {
+            (answer.notes != b"room: read fault\n" || !answer.out.is_empty()).then(|| "notes of status 6".to_string())
+        } else {
+            judge("", &answer, &Named { model: &model, second: &second })
+        };
+        if let Some(what) = told {
+            self.tell(&format!("{what} of {}", all.join(" ")));
+        }
+        self.count(format!("{}: {}", self.kind, summary(&answer)));
+    }
+
+    fn try_out(&mut self) {
+        let mut random = Random::new(self.search.seed, self.number);
+        match random.below(100) {
+            0..=34 => self.changed_model(&mut random),
+            35..=59 => self.made_model(&mut random),
+            60..=74 => self.changed_injections(&mut random),
+            75..=97 => self.changed_journals(&mut random),
+            _ => self.strange_words(&mut random),
+        }
+    }
+}
+
+/// What the smallest model takes; anything may take as much.
+fn least_cost(lane: &Lane) -> (u64, u64) {
+    lane.put("model", b"RoomModel M { LogicalSystem L { SubSystemRef s: S } SubSystemClass S { ActorRef a: A } ActorClass A { } }");
+    lane.put("inject", b"");
+    let run = lane.answer(&words(&["run", "model", "inject"]));
+    (run.most, run.microseconds)
+}
+
+fn lane(folder: &str, number: u64, program: &str, library: &str) -> Lane {
+    let folder = PathBuf::from(folder).join(format!("lane.{number}"));
+    fs::create_dir_all(&folder).expect("the folder can be written");
+    Lane { folder, program: program.into(), library: library.into() }
+}
+
+fn main() {
+    let given: Vec<String> = env::args().skip(1).collect();
+    let [program, library, folder, kept, numbers @ ..] = given.as_slice() else {
+        panic!("too few words");
+    };
+    let numbers: Vec<u64> = numbers.iter().map(|word| word.parse().expect("a number")).collect();
+    let [seed, first, count, lanes, slower] = numbers[..] else {
+        panic!("another number of numbers");
+    };
+    let (memory, microseconds) = least_cost(&lane(folder, 0, program, library));
+    println!("the smallest model takes {memory} bytes, {microseconds} microseconds");
+    let search = Search {
+        seeds: read_seeds(),
+        seed,
+        limits: Limits { memory: memory + 100_000, microseconds: microseconds * 4 + 50_000, slower },
+        kept: kept.into(),
+        seen: Mutex::default(),
+        wrong: AtomicU64::new(0),
+    };
+    let next = AtomicU64::new(first);
+    thread::scope(|scope| {
+        for number in 0..lanes {
+            let lane = lane(folder, number, program, library);
+            let (search, next) = (&search, &next);
+            scope.spawn(move || {
+                loop {
+                    let number = next.fetch_add(1, Ordering::Relaxed);
+                    if number >= first + count {
+                        return;
+                    }
+                    Stranger { search, lane: &lane, number, kind: "" }.try_out();
+                }
+            });
+        }
+    });
+    for (what, times) in search.seen.lock().expect("nobody panicked").iter() {
+        println!("{times:8} {what}");
+    }
+    println!("{count} strangers of seed {seed}, {} wrong", search.wrong.load(Ordering::Relaxed));
+}
