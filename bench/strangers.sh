@@ -5,7 +5,8 @@
 #
 #   a changed model          `check`, `tree` and, where it is accepted, `run`, whose journals are converted
 #   a made model             the same, with injections that are made for it
-#   a grown model            a part of it again and again, up to a megabyte
+#   a grown model            a part of it again and again, up to a megabyte, each with a name of its own
+#   a nested model           what stands around a part again and again, up to a megabyte
 #   changed injections       `run`
 #   changed journals         `convert`
 #   strange words            whatever they ask for

@@ -165,6 +165,44 @@ pub fn grow(random: &mut Random, text: &mut Text, most: usize) {
     drop(text.splice(part.start..part.start, grown));
 }
 
+/// The places between an opening byte and the one that closes it, for each pair of these.
+fn insides(text: &[u8], open: u8, close: u8) -> Vec<Range<usize>> {
+    let mut found = Vec::new();
+    let mut opened = Vec::new();
+    for (at, byte) in text.iter().enumerate() {
+        if *byte == open {
+            opened.push(at + 1);
+        } else if *byte == close && let Some(start) = opened.pop() {
+            found.push(start..at);
+        }
+    }
+    found
+}
+
+/// What stands around a part inside of another one, again and again, until the text has so many bytes.
+pub fn nest(random: &mut Random, text: &mut Text, most: usize) {
+    let is_inside = |inner: &Range<usize>, outer: &Range<usize>| outer.start < inner.start && inner.end < outer.end;
+    let all = parts(text);
+    let outer = pick(random, &all);
+    let within: Vec<Range<usize>> = all.into_iter().filter(|inner| is_inside(inner, &outer)).collect();
+    let (outer, inner) = if within.is_empty() || random.percent(30) {
+        let (open, close) = [(b'(', b')'), (b'{', b'}'), (b'[', b']')][random.below(3)];
+        let inner = pick(random, &insides(text, open, close));
+        if inner.start == 0 {
+            return;
+        }
+        (inner.start - 1..inner.end + 1, inner)
+    } else {
+        (outer, pick(random, &within))
+    };
+    let around = (outer.end - outer.start) - (inner.end - inner.start);
+    let times = most.saturating_sub(text.len()) / around;
+    let ends = text[inner.end..outer.end].repeat(times);
+    drop(text.splice(outer.end..outer.end, ends));
+    let begins = text[outer.start..inner.start].repeat(times);
+    drop(text.splice(outer.start..outer.start, begins));
+}
+
 /// A few changes of a model; the other text is a model too.
 pub fn change_model(random: &mut Random, text: &mut Text, other: &[u8]) {
     for _ in 0..1 + random.below(4) {

@@ -178,13 +178,20 @@ impl Stranger<'_> {
             one(random, &seeds.injections).clone()
         };
         let other = one(random, &seeds.models);
-        if random.below(300) == 0 {
-            self.kind = "grown model";
-            let most = [100_000, 300_000, 1_000_000][random.below(3)];
-            changes::grow(random, &mut model, most);
-        } else {
-            self.kind = "changed model";
-            changes::change_model(random, &mut model, other);
+        let most = [20_000, 100_000, 300_000, 1_000_000][random.below(4)];
+        match random.below(300) {
+            0 => {
+                self.kind = "grown model";
+                changes::grow(random, &mut model, most);
+            }
+            1 => {
+                self.kind = "nested model";
+                changes::nest(random, &mut model, most);
+            }
+            _ => {
+                self.kind = "changed model";
+                changes::change_model(random, &mut model, other);
+            }
         }
         let tree = self.ask_of_model(&model);
         if tree.is_some() || random.percent(5) {
