@@ -119,6 +119,57 @@ fn change_pieces(random: &mut Random, text: &mut Text, other: &[u8], pieces: fn(
     }
 }
 
+/// The word that a part begins with.
+fn head_of(part: &[u8]) -> &[u8] {
+    part.split(|byte| !is_word(*byte)).next().unwrap_or_default()
+}
+
+/// Numbers are alike, strings, and names; every other token is like itself alone.
+fn kind_of(token: &[u8]) -> &[u8] {
+    match token.first() {
+        Some(b'0'..=b'9') => b"0",
+        Some(b'"') => b"\"",
+        Some(first) if is_word(*first) && !HEADS.iter().any(|head| head.as_bytes() == token) => b"a",
+        _ => token,
+    }
+}
+
+/// A piece becomes one that is like it, of the text itself or of another one. Mostly it stays a model.
+fn change_for_alike(
+    random: &mut Random,
+    text: &mut Text,
+    other: &[u8],
+    pieces: fn(&[u8]) -> Vec<Range<usize>>,
+    like: fn(&[u8]) -> &[u8],
+) {
+    let own = pieces(text);
+    let place = pick(random, &own);
+    let kind = like(&text[place.clone()]);
+    let from: &[u8] = if random.percent(70) { text } else { other };
+    let alike: Vec<Range<usize>> = pieces(from).into_iter().filter(|piece| like(&from[piece.clone()]) == kind).collect();
+    let piece = from[pick(random, &alike)].to_vec();
+    drop(text.splice(place, piece));
+}
+
+/// A part is left out, doubled, or gets one that is like it behind it.
+fn change_parts(random: &mut Random, text: &mut Text, other: &[u8]) {
+    let place = pick(random, &parts(text));
+    let head = head_of(&text[place.clone()]);
+    let alike: Vec<Range<usize>> = parts(other).into_iter().filter(|part| head_of(&other[part.clone()]) == head).collect();
+    match random.below(4) {
+        0 => drop(text.splice(place, [])),
+        1 => {
+            let again = with_blanks(&text[place.clone()]);
+            drop(text.splice(place.end..place.end, again));
+        }
+        2 => {
+            let stranger = with_blanks(&other[pick(random, &alike)]);
+            drop(text.splice(place.end..place.end, stranger));
+        }
+        _ => change_for_alike(random, text, other, parts, head_of),
+    }
+}
+
 /// A token becomes one of the rare ones.
 fn put_rare(random: &mut Random, text: &mut Text) {
     let place = pick(random, &tokens(text));
@@ -206,12 +257,14 @@ pub fn nest(random: &mut Random, text: &mut Text, most: usize) {
 /// A few changes of a model; the other text is a model too.
 pub fn change_model(random: &mut Random, text: &mut Text, other: &[u8]) {
     for _ in 0..1 + random.below(4) {
-        match random.below(10) {
+        match random.below(20) {
             0 => change_bytes(random, text),
-            1 | 2 => put_rare(random, text),
-            3 | 4 => change_pieces(random, text, other, tokens),
-            5 => change_pieces(random, text, other, lines),
-            _ => change_pieces(random, text, other, parts),
+            1 => put_rare(random, text),
+            2 => change_pieces(random, text, other, tokens),
+            3 => change_pieces(random, text, other, lines),
+            4 => change_pieces(random, text, other, parts),
+            5..=12 => change_for_alike(random, text, other, tokens, kind_of),
+            _ => change_parts(random, text, other),
         }
     }
 }
@@ -219,10 +272,11 @@ pub fn change_model(random: &mut Random, text: &mut Text, other: &[u8]) {
 /// A few changes of injections or journals; the other text is one of these too.
 pub fn change_lines(random: &mut Random, text: &mut Text, other: &[u8]) {
     for _ in 0..1 + random.below(3) {
-        match random.below(8) {
-            0 | 1 => change_bytes(random, text),
-            2 => put_rare(random, text),
-            3 | 4 => change_pieces(random, text, other, tokens),
+        match random.below(10) {
+            0 => change_bytes(random, text),
+            1 => put_rare(random, text),
+            2 => change_pieces(random, text, other, tokens),
+            3..=6 => change_for_alike(random, text, other, tokens, kind_of),
             _ => change_pieces(random, text, other, lines),
         }
     }
