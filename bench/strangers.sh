@@ -37,6 +37,8 @@ seeds() {
         [ -f "$folder${words[1]:-.}" ] || continue
         [ -f "$folder${words[2]:-.}" ] || words[2]=
         [ "$(cat "$folder${words[1]}" "$folder${words[2]:-words}" | wc -c)" -lt 60000 ] || continue
+        # What is no tree can hardly become one.
+        ! grep -qsE 'refused: (byte|syntax)' "$folder/notes" || continue
         case "${words[0]}" in
         check | tree) printf 'model\t%s\n' "$folder${words[1]}" ;;
         run | convert)

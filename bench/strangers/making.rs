@@ -135,7 +135,9 @@ impl Maker<'_> {
         let count = if self.classes.is_empty() { 0 } else { 1 + self.random.below(4) };
         for number in 0..count {
             let class = self.random.below(self.classes.len());
-            let kind = self.random.one_of(&["", "", "", "", "optional ", "optional ", "imported "]);
+            let may_be_lent = !self.classes[class].ports.iter().any(|port| matches!(port.role, Role::Relay | Role::Provision));
+            let kind = self.random.one_of(&["", "", "", "optional ", "optional ", "imported ", "imported "]);
+            let kind = if kind == "imported " && !may_be_lent { "" } else { kind };
             let ports = self.classes[class].ports.iter().filter(|port| port.name.starts_with('p')).cloned().collect();
             made.push(Reference { name: format!("r{number}"), kind, class, ports });
         }
@@ -186,7 +188,7 @@ impl Maker<'_> {
         for left in 0..sides.len() {
             for right in left + 1..sides.len() {
                 let (one, other) = (&sides[left], &sides[right]);
-                let opposite = (one.1.conjugated != other.1.conjugated) != (one.2 || other.2);
+                let opposite = (one.1.conjugated != other.1.conjugated) != (one.2 != other.2);
                 let fits = one.1.protocol == other.1.protocol && opposite && !one.1.bound && !other.1.bound;
                 if if fits { self.random.percent(70) } else { self.random.below(2000) == 0 } {
                     let _ = write!(text, " Binding {} and {}", one.0, other.0);
