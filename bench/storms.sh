@@ -119,7 +119,7 @@ MODEL
 # What is wrong with the journals in `journals`, beyond what is asked of them line by line: whatever is
 # handed on keeps its order; whoever is spent has taken just as many turns as the fuel allows.
 judge_lines() {
-    awk '/ post .* kick / && $2 == "post" { if ($1 && from == $4 && $NF <= last) print "order at " $0; from = $4; last = $NF }' \
+    awk '$2 == "post" && $5 != "-" { if (from == $5 && $NF <= last) print "out of order: " $0; from = $5; last = $NF }' \
         "$storm/journals"
 }
 
