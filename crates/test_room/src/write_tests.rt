@@ -115,3 +115,13 @@ fn a_note_is_written_in_one_piece(rt: HostRuntime) -> Result<(), Fail> {
     };
     tells(&rt, &case, Status::WriteFault, "", "")
 }
+
+#[test]
+fn a_note_on_refused_words_may_fail(rt: HostRuntime) -> Result<(), Fail> {
+    let case = Case {
+        words: &["run", "model.room"],
+        failing_notes: &[1],
+        ..RUN
+    };
+    tells(&rt, &case, Status::WriteFault, "", "")
+}
