@@ -5,8 +5,7 @@
 # goes down, in milliseconds, least of five; the instructions of both for a creation with its
 # destruction (from 20 of them to 40), and of these the duties of the run: the frame service, with the
 # machines that start and end. The duties of a slot should cost the same whatever the body's size. Last
-# stands the time of the duties alone, which is their part of the run's instructions times its time;
-# the mark is under 50 ms for 10,000 bodies of 100 slots.
+# stands the time of the duties alone, which is their part of the run's instructions times its time.
 #
 # Where rustc is installed, the same work in plain Rust (peers/bodies.rs) is told beside it: its run in
 # milliseconds, its instructions a slot, and how many times the run here takes of both. It keeps the
