@@ -11,10 +11,11 @@ set -eu
 runs="${RUNS:-200}"
 busy="${BUSY:-$(nproc)}"
 
-# The cases that run a model with more than one thread.
+# The cases of the program `room` that run a model with more than one thread.
 threaded_cases() {
     local folder
     for folder in "$top"/cases/*/*/; do
+        case "$folder" in "$top"/cases/views/* | "$top"/cases/launcher/*) continue ;; esac
         [ "$(head -n 1 "$folder/words")" = run ] || continue
         cat "$folder"/* | awk '{ threads += gsub(/LogicalThread/, "") } END { exit !(threads > 1) }' &&
             echo "${folder%/}"
