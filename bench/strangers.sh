@@ -16,7 +16,7 @@
 # beside a refusal; that `check`, `tree` and `run` don't agree; that journals which a run printed, or which
 # were converted, aren't converted to the same bytes; more than 60 bytes of memory for each byte that came
 # in or went out, and more than a second for each 100 KB, beyond what the smallest model takes (4 times its
-# time, and 50 ms).
+# time, and 50 ms) and, where output is gathered, 256 KiB of memory, and of a run 4 MiB for its mail.
 #
 #   bench/strangers.sh                        100,000 strangers of the seed 1, on all processors
 #   COUNT=1000 SEED=7 bench/strangers.sh      the first 1,000 of the seed 7

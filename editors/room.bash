@@ -32,7 +32,7 @@ _room_next() {
 
 # The words and files that are what a word of a form stands for.
 _room_offers() {
-    local options='--actor --signal --from --to --only-trouble'
+    local options='--actor --signal --from --to --only-trouble --no-system'
     case "$1" in
     MODEL | INJECT | JOURNALS) compgen -f -- "$2" ;;
     PREFIX) compgen -d -- "$2" ;;

@@ -124,12 +124,18 @@ fn count_of(word: &[u8], text: &[u8]) -> u64 {
 
 /// Whether an answer took more memory than 60 bytes for each byte that came in or went out, or more time
 /// than a second for each 100 KB of them. Classes that extend others stand for the text of these, and large
-/// numbers in brackets for up to 65,536 places. What a run takes beyond that depends on its actions.
+/// numbers in brackets for up to 65,536 places. A run has room for its mail and its gathered output besides, and
+/// what it takes beyond that depends on its actions; who converts has room for output alone.
 pub fn judge_cost(word: &str, answer: &Answer, named: &Named, tree: &[u8], limits: &Limits) -> Option<String> {
     let second = if word == "run" || word == "convert" { named.second.len() } else { 0 };
     let bytes = (named.model.len() + second + answer.out.len() + tree.len()) as u64 * (1 + count_of(b"extends", named.model));
     let places = if has_a_large_number_in_brackets(named.model) { 65_536 * 60 } else { 0 };
-    if answer.most > 60 * bytes + places + limits.memory {
+    let room = match word {
+        "run" => 4 << 20,
+        "convert" => 1 << 18,
+        _ => 0,
+    };
+    if answer.most > 60 * bytes + places + room + limits.memory {
         return Some(format!("{} bytes of memory of {word} for {bytes} bytes", answer.most));
     }
     let most = limits.slower * (bytes * 10 + limits.microseconds);

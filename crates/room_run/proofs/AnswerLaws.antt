@@ -28,7 +28,7 @@ use Rattle.room_run.specs.Words.{Files, Record, Asked, Check, Tree, Run, Convert
 use Rattle.room_run.specs.MadeShelf.{made_files, made_shelf}
 use Rattle.room_run.specs.Models.{most_bytes, HasTokens, IsWritten, HasTree, IsSound, IsModel, IsUncut, HasNoTree, BreaksBaseRule, BreaksRule, HasBadWiring, HasBadChart, SoundCauses, uncut, no_tree, breaks_base_rule, breaks_rule, bad_wiring, bad_chart, no_memory}
 use Rattle.room_run.specs.Conversions.{most_journal_bytes, HasJournals, HasTiedJournals, HasNoJournals, HasUntiedJournals}
-use Rattle.room_run.specs.Causes.{IsInjections, HasBadLine, TextIs, AreOf, model_unread, model_long, model_no_memory, ModelCauses, no_text, model_refused, told_code, InjectionsCauses, injections_unread, injections_long, bad_line, injections_no_memory, RunCauses, of_model, of_injections, run_no_memory, JournalsCauses, journals_unread, journals_long, journals_malformed, journals_untied, journals_no_memory, ConvertCauses, of_its_model, of_journals, Causes, no_such_words, of_check, of_tree, of_run, of_convert, of_made, status_of}
+use Rattle.room_run.specs.Causes.{IsInjections, HasBadLine, TextIs, AreOf, model_unread, model_long, model_no_memory, ModelCauses, no_text, model_refused, InjectionsCauses, injections_unread, injections_long, bad_line, injections_no_memory, RunCauses, of_model, of_injections, run_no_memory, JournalsCauses, journals_unread, journals_long, journals_malformed, journals_untied, journals_no_memory, ConvertCauses, of_its_model, of_journals, Causes, no_such_words, of_check, of_tree, of_run, of_convert, of_made, status_of}
 use Rattle.binding_expand.specs.tree_text.Text.{tree_text}
 use Rattle.room_run.specs.Outcome.{accepted, Answers, says_ok, says_tree, says_run, says_converted, says_made, AreRecorded, status_of_run, whole, cut_short, refused, refused_unheard}
 use Rattle.room_run.specs.OneAnswer.{IsRead, AreRead, IsMemory, SameRefusal, AskForNoRun, CallsHaveOneAnswer, HasModel, HasFiles, HasRecord, AreAccepted, IsEnd, AcceptedCallsEnd}
@@ -280,7 +280,7 @@ sound_model text wiring why s (says_fault f h is) = memory_is f why (sound_has_n
 data LinesSay (wiring : Tables) (text : List ℕ) (why : Refusal) : Type 0 where
   lines_memory : IsMemory why → LinesSay wiring text why
   lines_long : most_bytes < length text → why ≡ refusals.InjectionsTooLong → LinesSay wiring text why
-  lines_faulty : (n code : ℕ) → HasBadLine wiring text n code → why ≡ refusals.InjectionsLine n (told_code code) → LinesSay wiring text why
+  lines_faulty : (n code : ℕ) → HasBadLine wiring text n code → why ≡ refusals.InjectionsLine n code → LinesSay wiring text why
 
 lines_say : (before after : Shown) (name : List ℕ) (wiring : Tables) (why : Refusal) → (read : IsRead before after name)
     → InjectionsCauses before after name wiring why → LinesSay wiring read.text why
@@ -304,7 +304,7 @@ lines_once wiring text why other (lines_faulty n c h is) (lines_memory e) = inr 
 lines_once wiring text why other (lines_faulty n c h is) (lines_long long are) = let short = h.short in absurd (omega (arith, long, short))
 lines_once wiring text why other (lines_faulty n c h is) (lines_faulty m d k are) =
     let same = err_pair (n, c) (m, d) (sym h.faulty ∙ k.faulty) in
-    inr (inr (inl (is ∙ ap (λ (z : ℕ × ℕ). refusals.InjectionsLine z.0 (told_code z.1)) same ∙ sym are)))
+    inr (inr (inl (is ∙ ap (λ (z : ℕ × ℕ). refusals.InjectionsLine z.0 z.1) same ∙ sym are)))
 
 -- accepted injections are refused for want of memory alone
 sound_lines : (wiring : Tables) (text : List ℕ) (lines : List Line) (why : Refusal) → IsInjections wiring text lines

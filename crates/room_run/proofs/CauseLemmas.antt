@@ -10,7 +10,7 @@ use Rattle.room_wiring.specs.declared.tables.Tables.{Tables}
 use Rattle.room_run.specs.Models.{IsModel, IsSound, SoundCauses, most_bytes}
 use Rattle.inject_reader.specs.declared.inject_lines.accepted.Line.{Line}
 use Rattle.inject_reader.specs.Answer.{answer}
-use Rattle.inject_reader.specs.declared.inject_lines.accepted.Advances.TheVariants.{Refused}
+use Rattle.inject_reader.specs.declared.inject_lines.accepted.Advances.TheVariants.{Taken}
 use Rattle.inject_reader.specs.Gives.{Fails}
 use Rattle.inject_reader.specs.declared.fault.InjectFault.{InjectFault}
 use Rattle.inject_reader.specs.declared.fault.InjectFault.TheVariants as inject_faults
@@ -53,7 +53,7 @@ lines_cause before after name bytes w (Err _) is (faulty_line number code h) =
 lines_cause before after name bytes w (Err _) is no_memory_for_lines = injections_no_memory refl
 
 -- a line is faulty
-pub line_told : (w : Tables) (bytes : List ℕ) (e : InjectFault) → length bytes ≤ most_bytes → Fails e (answer Refused w bytes) → LinesCauses w bytes (refusal_of_lines e)
+pub line_told : (w : Tables) (bytes : List ℕ) (e : InjectFault) → length bytes ≤ most_bytes → Fails e (answer Taken w bytes) → LinesCauses w bytes (refusal_of_lines e)
 line_told w bytes (inject_faults.Code n code) short h = faulty_line n code (record { short = short; faulty = h })
 line_told w bytes inject_faults.Memory short h = no_memory_for_lines
 

@@ -7,5 +7,7 @@ pub mod settled
 pub mod JudgeLemmas
 pub mod CauseLemmas
 pub mod ConvertLemmas
+pub mod Retold
+pub mod Untimed
 pub mod OutcomeLemmas
 pub mod MadeLemmas

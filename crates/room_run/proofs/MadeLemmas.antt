@@ -3,7 +3,6 @@ use Rattle.std.proofs.Common.{◌≡◌, ℕ, List, refl, ap, subst}
 use Rattle.journal.specs.declared.entry.Journals.{Journals}
 use Rattle.inject_reader.specs.declared.inject_lines.accepted.Line.{Line}
 use Rattle.controller_actors.specs.declared.plant.Plant.{Plant}
-use Rattle.model_run.specs.run_ends.Runs.{IsRun}
 use Rattle.made_model.specs.Texts.{model_text, injections_text}
 use Rattle.made_model.specs.Counts.{counts_of}
 use Rattle.made_model.specs.declared.counts.Counts.{Counts}
@@ -11,9 +10,7 @@ use Rattle.made_model.specs.declared.summary.Summary.{Summary}
 use Rattle.room_run.specs.Words.{usual_fuel}
 use Rattle.room_run.specs.MadeShelf.{made_files, made_shelf}
 use Rattle.room_run.specs.Models.{IsModel}
-use Rattle.room_run.specs.Finished.{Summarizes}
-use Rattle.room_run.specs.fitting_plants.Plants.{PlantFits}
-use Rattle.inject_reader.proofs.EndPlaces.{read_fit}
+use Rattle.room_run.specs.Finished.{HasRun, Summarizes}
 use Rattle.room_run.specs.Causes.{IsInjections, no_text, model_long, model_refused, injections_long, bad_line, injections_no_memory, faulty_line, no_memory_for_lines, RunCauses, of_model, of_injections, PlantCauses, long_model, unfit_model, InjectedCauses, long_injections, unfit_lines}
 use Rattle.room_run.specs.declared.refusal.Refusal.{Refusal}
 
@@ -37,16 +34,14 @@ made_lines_refused actors model injections p why is are h causes =
     lines_cause actors p why (subst (λ text. IsModel text p) is h) (subst (λ text. InjectedCauses p.wiring text why) are causes)
 
 -- both were accepted, and the run has ended
-pub summarized : (actors : ℕ) (model injections : List ℕ) (p : Plant) (handed lines : List Line) (j : Journals) (counts : Counts) → model ≡ model_text actors → injections ≡ injections_text actors → handed ≡ lines
-    → IsModel model p → PlantFits p → IsInjections p.wiring injections lines → IsRun p handed usual_fuel j → counts ≡ counts_of j → Summarizes actors (record { actors = actors; counts = counts; done = j.done })
-summarized actors model injections p handed lines j counts is are same h fits read run counted = record {
+pub summarized : (actors : ℕ) (model injections : List ℕ) (p : Plant) (lines : List Line) (j : Journals) (counts : Counts) → model ≡ model_text actors → injections ≡ injections_text actors
+    → IsModel model p → IsInjections p.wiring injections lines → HasRun p lines usual_fuel j → counts ≡ counts_of j → Summarizes actors (record { actors = actors; counts = counts; done = j.done })
+summarized actors model injections p lines j counts is are h read run counted = record {
   plant = p;
   lines = lines;
   journals = j;
   texts = record { model_accepted = subst (λ text. IsModel text p) is h; lines_accepted = subst (λ text. IsInjections p.wiring text lines) are read };
-  plant_fits = fits;
-  lines_fit = read_fit p.wiring lines read.fit;
-  run = subst (λ ls. IsRun p ls usual_fuel j) same run;
+  run = run;
   is = ap (summary actors j) counted;
 }
   where

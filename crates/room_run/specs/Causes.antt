@@ -3,7 +3,7 @@
 -- ask for nothing; that the count of read faults of a named file rose; that a text is too long;
 -- what its tokens or its tree lack; that a line of the injections is faulty; that no journals have a
 -- text, or untied ones. Want of memory may come wherever the words ask for something.
-use Rattle.std.specs.Prelude.{◌≡◌, ℕ, ◌<◌, ◌≤◌, ◌==◌, if◌then◌else◌, List, ◌∷◌, [], length, Some, None, IfSome, Ok, Err, codes, decimal}
+use Rattle.std.specs.Prelude.{◌≡◌, ℕ, ◌<◌, ◌≤◌, List, ◌∷◌, [], length, Some, None, IfSome, Ok, Err, codes, decimal}
 use Rattle.room_outside.specs.Faults.{Rose}
 use Rattle.room_outside.specs.Shown.{Shown}
 use Rattle.room_outside.specs.line_text.Lines.{line}
@@ -12,7 +12,7 @@ use Rattle.room_kinds.specs.declared.numbers.Stamp.{Stamp}
 use Rattle.room_wiring.specs.declared.tables.Tables.{Tables}
 use Rattle.controller_actors.specs.declared.plant.Plant.{Plant}
 use Rattle.inject_reader.specs.Fitting.{FitLines}
-use Rattle.inject_reader.specs.declared.inject_lines.accepted.Advances.TheVariants.{Refused}
+use Rattle.inject_reader.specs.declared.inject_lines.accepted.Advances.TheVariants.{Taken}
 use Rattle.inject_reader.specs.declared.inject_lines.accepted.Line.{Line}
 use Rattle.inject_reader.specs.Answer.{answer}
 use Rattle.inject_reader.specs.declared.fault.InjectFault.{InjectFault}
@@ -30,16 +30,16 @@ use Rattle.room_run.specs.declared.refusal.Refusal.TheVariants as refusals
 use Rattle.room_run.specs.declared.status.Status.{Status}
 use Rattle.room_run.specs.declared.status.Status.TheVariants as statuses
 
--- the text is that of injections, and these are its lines over the names of this wiring, which name what it has
+-- the text is that of injections, which may move virtual time on, and these are its lines over the names of this wiring, which name what it has
 pub record IsInjections (wiring : Tables) (text : List ℕ) (lines : List Line) : Type 0 where
   pub short : length text ≤ most_bytes
-  pub accepted : answer Refused wiring text ≡ Ok lines
+  pub accepted : answer Taken wiring text ≡ Ok lines
   pub fit : FitLines wiring lines
 
 -- over the names of this wiring, the line of this number is the first faulty one of the text, and this is its lowest code
 pub record HasBadLine (wiring : Tables) (text : List ℕ) (number code : ℕ) : Type 0 where
   pub short : length text ≤ most_bytes
-  pub faulty : answer Refused wiring text ≡ Err (number, code)
+  pub faulty : answer Taken wiring text ≡ Err (number, code)
 
 -- where the shelf tells the text under a name, it is so
 abbrev pub TextIs : Shown → List ℕ → (List ℕ → Type 0) → Type 0
@@ -65,26 +65,21 @@ pub data ModelCauses (before after : Shown) (name : List ℕ) : Refusal → Type
   no_text : {why : Refusal} → UnreadCauses before after name why → ModelCauses before after name why
   model_refused : (fault : ModelFault) → TextIs before name (λ text. SoundCauses text fault) → ModelCauses before after name (refusals.Model fault)
 
--- the code that is told of a faulty line: a run knows no virtual time, so that a line which moves it on, code 7,
--- is told as one of no form, code 1
-abbrev pub told_code : ℕ → ℕ
-told_code code = if code == 7 then 1 else code
-
 -- why injections are refused whose lines have this fault
 abbrev pub refusal_of_lines : InjectFault → Refusal
-refusal_of_lines (inject_faults.Code number code) = refusals.InjectionsLine number (told_code code)
+refusal_of_lines (inject_faults.Code number code) = refusals.InjectionsLine number code
 refusal_of_lines inject_faults.Memory = refusals.Memory
 
 -- why a text of injections may be refused
 pub data LinesCauses (wiring : Tables) (text : List ℕ) : Refusal → Type 0 where
-  faulty_line : (number code : ℕ) → HasBadLine wiring text number code → LinesCauses wiring text (refusals.InjectionsLine number (told_code code))
+  faulty_line : (number code : ℕ) → HasBadLine wiring text number code → LinesCauses wiring text (refusals.InjectionsLine number code)
   no_memory_for_lines : LinesCauses wiring text refusals.Memory
 
 -- why the injections may be refused, whose text is looked for under a name
 pub data InjectionsCauses (before after : Shown) (name : List ℕ) (wiring : Tables) (why : Refusal) : Type 0 where
   injections_unread : RoseAt before after name → why ≡ refusals.ReadFault → InjectionsCauses before after name wiring why
   injections_long : TextIs before name (λ text. most_bytes < length text) → why ≡ refusals.InjectionsTooLong → InjectionsCauses before after name wiring why
-  bad_line : (number code : ℕ) → TextIs before name (λ text. HasBadLine wiring text number code) → why ≡ refusals.InjectionsLine number (told_code code) → InjectionsCauses before after name wiring why
+  bad_line : (number code : ℕ) → TextIs before name (λ text. HasBadLine wiring text number code) → why ≡ refusals.InjectionsLine number code → InjectionsCauses before after name wiring why
   injections_no_memory : why ≡ refusals.Memory → InjectionsCauses before after name wiring why
 
 -- Why the run of two files may be refused. The order is: reading the model, the model, reading the

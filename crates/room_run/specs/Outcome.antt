@@ -5,19 +5,21 @@
 -- shelf doesn't tell a text, nothing is said of that text; the words and the causes of faults are
 -- spoken of over every shelf and sink.
 -- The answer is `ok` of a model that keeps all rules and whose wiring and charts have no fault,
--- the text of its wiring, the text of journals that are a run of the model over the lines, or the
--- summary of such journals of a made model, with status done or spent as the run ended; or the text of
--- journals that a text of them has. The text of journals is that of form 2, wherever one is written.
+-- the text of its wiring, the text of journals that are a run of the model over what the lines come to,
+-- which may move virtual time on, or the summary of such journals of a made model, with status done or
+-- spent as the run ended; or the text of journals that a text of them has. The text of journals is that
+-- of form 2, wherever one is written.
 use Rattle.std.specs.Prelude.{◌≡◌, ℕ, List, [], ◌∷◌, Bool, true, Option, Some, codes, if◌then◌else◌}
 use Rattle.room_outside.specs.Shown.{Shown}
 use Rattle.room_outside.specs.Written.{Written, Appends, BreaksOff}
 use Rattle.room_outside.specs.line_text.Lines.{line}
 use Rattle.journal.specs.Fits.{Fits}
 use Rattle.journal.specs.declared.entry.Journals.{Journals}
-use Rattle.inject_reader.specs.Fitting.{LinesFit}
+use Rattle.inject_reader.specs.Fitting.{LinesFit, AreUntimed}
 use Rattle.inject_reader.specs.declared.inject_lines.accepted.Line.{Line}
 use Rattle.controller_actors.specs.declared.plant.Plant.{Plant}
 use Rattle.model_run.specs.run_ends.Runs.{IsRun}
+use Rattle.timed_runs.specs.Timed.{IsTimedRun, NoneIsDue}
 use Rattle.chart_model.specs.Chart.{Chart}
 use Rattle.law_charts.specs.Charts.{IsRunByCharts}
 use Rattle.law_runs.specs.Promises.{RunPromises}
@@ -32,6 +34,7 @@ use Rattle.room_run.specs.MadeShelf.{made_files, made_shelf}
 use Rattle.law_runs.specs.run_journals.InPlace.{AreInPlace}
 use Rattle.tied_journals.specs.Tied.{Tied}
 use Rattle.tied_journals.specs.Text.{tied_text_of}
+use Rattle.journal_reader.specs.journal_texts.InRange.{IsInRange}
 use Rattle.room_run.specs.Models.{IsSound, IsSoundText}
 use Rattle.room_run.specs.Conversions.{HasTiedJournals}
 use Rattle.room_run.specs.Causes.{Causes, AreOf, TextIs, status_of, note_of}
@@ -53,9 +56,8 @@ abbrev pub IsByCharts : Shown → Files → Plant → List Line → ℕ → Jour
 IsByCharts shelf files plant lines fuel j =
     TextIs shelf files.model (λ text. (charts : List (Option Chart)) × IsSoundText text plant.wiring charts × IsRunByCharts plant.wiring charts lines fuel j)
 
--- Plant, lines and journals are those of a run of the model of two files over the injections of the other, with so much fuel: the texts are those of a model which runs as this plant, and of injections with these lines; and the journals, one for each controller and one for the environment, are those of a run of the plant over the lines (`IsRun`: each controller's journal is the replay of its own fetches, run to completion; merged by stamp they are one run of the world; what is taken in each lane is a prefix of what was sent, and all of it where the run is done). Whatever the shelf tells, the plant is that of some model that keeps all rules and has no fault, and the lines name what its wiring has; so all below is said without a premise. What a reader may rely on is said sentence by sentence (`RunPromises`). The run is one of the charts of the plant's model, and of those of the model whose text the shelf tells (`IsByCharts`). Where it is done all controllers agree on who lives, on imports, links by name and peers (`AllAgree`); what it fetches fits (`FetchesFit`), and its text tells it (`TextTells`). What is so of every run of a plant that fits is so of it (`Settles`), and so is what is so of the journals of each: they are in place, the environment's fits the wiring, and what they tell of actors, places and signals is so of it (`JournalsInPlace`); so they fit the wiring (`Fits`). Each entry stands where it belongs (`AreInPlace`), and each fetch is that of the one post that it names (`Tied`).
+-- The journals, one for each controller and one for the environment, are those of a run of a plant over lines with so much fuel (`IsRun`: each controller's journal is the replay of its own fetches, run to completion; merged by stamp they are one run of the world; what is taken in each lane is a prefix of what was sent, and all of it where the run is done). Whatever the shelf tells, the plant is that of some model that keeps all rules and has no fault, and the lines name what its wiring has; so all below is said without a premise. What a reader may rely on is said sentence by sentence (`RunPromises`). The run is one of the charts of the plant's model, and of those of the model whose text the shelf tells (`IsByCharts`). Where it is done all controllers agree on who lives, on imports, links by name and peers (`AllAgree`); what it fetches fits (`FetchesFit`), and its text tells it (`TextTells`). What is so of every run of a plant that fits is so of it (`Settles`), and so is what is so of the journals of each: they are in place, the environment's fits the wiring, and what they tell of actors, places and signals is so of it (`JournalsInPlace`); so they fit the wiring (`Fits`). Each entry stands where it belongs (`AreInPlace`), and each fetch is that of the one post that it names (`Tied`).
 pub record IsRunOfFiles (shelf : Shown) (files : Files) (fuel : ℕ) (plant : Plant) (lines : List Line) (journals : Journals) : Type 0 where
-  pub texts : AreOf shelf files plant lines
   pub plant_fits : PlantFits plant
   pub lines_fit : LinesFit plant.wiring lines
   pub run : IsRun plant lines fuel journals
@@ -71,6 +73,25 @@ pub record IsRunOfFiles (shelf : Shown) (files : Files) (fuel : ℕ) (plant : Pl
   pub in_place : AreInPlace plant.wiring journals
   pub tied : Tied journals
 
+-- no other run of this plant over these lines, which may move the time on, has the text of these journals, whatever its fuel, where its numbers are in the ranges of their types
+abbrev pub TextTellsTimed : Plant → List Line → Journals → Type 0
+TextTellsTimed plant lines j =
+    (fuel : ℕ) (other : Journals) → IsInRange other → IsTimedRun plant lines fuel other
+    → tied_text_of plant.wiring other ≡ tied_text_of plant.wiring j → other ≡ j
+
+-- Plant, lines and journals are those of a run of the model of one file over the injections of the other, with so much fuel: the texts are those of a model which runs as this plant, and of injections with these lines, which may move virtual time on; and the journals are those of one run over what the lines come to, with each timeout where it is due (`IsTimedRun`). All that is said of runs is said of it over what the lines come to (`IsRunOfFiles`); only what wasn't posted is told in the numbers of the lines that were given. Where it is done no armed timer is due (`NoneIsDue`). The journals fit the wiring (`Fits`), each fetch is that of the one post that it names (`Tied`), their numbers are in the ranges of their types (`IsInRange`), and their text tells them (`TextTellsTimed`). Where no line moves the time on, what they come to are the lines: all that is said of runs is said of these journals over the lines themselves.
+pub record IsTimedRunOfFiles (shelf : Shown) (files : Files) (fuel : ℕ) (plant : Plant) (lines : List Line) (journals : Journals) : Type 0 where
+  pub texts : AreOf shelf files plant lines
+  pub lines_fit : LinesFit plant.wiring lines
+  pub timed : IsTimedRun plant lines fuel journals
+  pub expanded : IsRunOfFiles shelf files fuel plant timed.expansion (record journals { unposted = timed.unposted_of_it })
+  pub none_due : journals.done ≡ true → NoneIsDue plant.wiring lines journals
+  pub fits : Fits plant.wiring journals
+  pub tied : Tied journals
+  pub in_range : IsInRange journals
+  pub determined : TextTellsTimed plant lines journals
+  pub untimed : AreUntimed lines → IsRunOfFiles shelf files fuel plant lines journals
+
 -- the texts of two files are those of a model without a fault, with this wiring, and, over its names, of these journals, which are tied
 pub record AreRecorded (shelf : Shown) (files : Record) (wiring : Tables) (journals : Journals) : Type 0 where
   pub model_accepted : TextIs shelf files.model (λ text. IsSound text wiring)
@@ -80,15 +101,15 @@ pub record AreRecorded (shelf : Shown) (files : Record) (wiring : Tables) (journ
 abbrev pub status_of_run : Bool → Status
 status_of_run done = if done then statuses.Done else statuses.Spent
 
--- THE HEADLINE. What the words ask for, as a text with the status of a call that writes it whole: `ok` of a model that keeps all rules and whose wiring and charts have no fault; the slots and joined places of such a model; the text of the journals of a run of the model over the lines (`IsRunOfFiles`); the text of the journals of which a text of journals is; or the summary of the journals of a run of the made model of so many actors over its injections, of which all is said that is said of the run of two files with these texts.
+-- THE HEADLINE. What the words ask for, as a text with the status of a call that writes it whole: `ok` of a model that keeps all rules and whose wiring and charts have no fault; the slots and joined places of such a model; the text of the journals of a run of the model over the lines (`IsTimedRunOfFiles`); the text of the journals of which a text of journals is; or the summary of the journals of a run of the made model of so many actors over its injections, of which all is said that is said of the run of two files with these texts.
 pub data Answers (shelf : Shown) (words : List (List ℕ)) (text : List ℕ) (status : Status) : Type 0 where
   says_ok : (name : List ℕ) → asked_by words ≡ Some (Check name) → TextIs shelf name (λ bytes. (wiring : Tables) × IsSound bytes wiring) → text ≡ accepted → status ≡ statuses.Done → Answers shelf words text status
   says_tree : (name : List ℕ) (wiring : Tables) → asked_by words ≡ Some (Tree name) → TextIs shelf name (λ bytes. IsSound bytes wiring) → text ≡ tree_text wiring → status ≡ statuses.Done → Answers shelf words text status
-  says_run : (files : Files) (fuel : ℕ) (plant : Plant) (lines : List Line) (journals : Journals) → asked_by words ≡ Some (Run files fuel) → IsRunOfFiles shelf files fuel plant lines journals
+  says_run : (files : Files) (fuel : ℕ) (plant : Plant) (lines : List Line) (journals : Journals) → asked_by words ≡ Some (Run files fuel) → IsTimedRunOfFiles shelf files fuel plant lines journals
       → text ≡ tied_text_of plant.wiring journals → status ≡ status_of_run journals.done → Answers shelf words text status
   says_converted : (files : Record) (wiring : Tables) (journals : Journals) → asked_by words ≡ Some (Convert files) → AreRecorded shelf files wiring journals
       → text ≡ tied_text_of wiring journals → status ≡ statuses.Done → Answers shelf words text status
-  says_made : (actors : ℕ) (plant : Plant) (lines : List Line) (journals : Journals) → asked_by words ≡ Some (Made actors) → IsRunOfFiles (made_shelf actors) made_files usual_fuel plant lines journals
+  says_made : (actors : ℕ) (plant : Plant) (lines : List Line) (journals : Journals) → asked_by words ≡ Some (Made actors) → IsTimedRunOfFiles (made_shelf actors) made_files usual_fuel plant lines journals
       → text ≡ summary_text (summary_of actors journals) → status ≡ status_of_run journals.done → Answers shelf words text status
 
 -- the text of what the program has found out

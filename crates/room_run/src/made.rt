@@ -9,13 +9,12 @@ ghost use Rattle.inject_reader.specs.Fitting.{LinesFit};
 
 use crate::asked::USUAL_FUEL;
 use crate::judge::read_plant;
+use crate::plant_runs::run_over;
 use crate::prepare::judge_lines;
 use crate::refusal::Refusal;
 use controller::Plant;
 use inject_reader::inject_lines::Line;
 use made_model::{Summary, counts_of, made_model};
-use mail_lanes::MailLanes;
-use model_run::run_model;
 use room_outside::Gate;
 use room_wiring::Wiring;
 use std::alloc::{AllocError, Global};
@@ -73,7 +72,7 @@ pub(crate) fn run_made<G: Gate + Sync, R: Threads + Sync>(
         Ok(lines) => lines,
         Err(why) => return Err(why),
     };
-    match run_model::<MailLanes, G, R>(rt, alloc, &plant, lines.as_slice(), USUAL_FUEL, gate) {
+    match run_over(rt, alloc, &plant, lines.as_slice(), USUAL_FUEL, gate) {
         Ok(journals) => Ok(Summary {
             actors,
             counts: counts_of(&journals),

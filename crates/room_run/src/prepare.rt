@@ -18,14 +18,13 @@ use crate::convert::convert;
 use crate::fitting_journals::fitting_runs_journals;
 use crate::judge::{read_plant, sound_model};
 use crate::made::run_made;
-use crate::refusal::{Refusal, told_code};
+use crate::plant_runs::run_over;
+use crate::refusal::Refusal;
 use controller::Plant;
 use inject_reader::InjectFault;
 use inject_reader::inject_lines::Line;
 use journal::Journals;
 use made_model::Summary;
-use mail_lanes::MailLanes;
-use model_run::run_model;
 use room_outside::{Gate, ReadRefused, Shelf, read_whole};
 use room_wiring::Wiring;
 use std::alloc::{AllocError, Global};
@@ -117,10 +116,7 @@ fn refusal_of_lines(fault: InjectFault) -> Refusal
     ensures { result ≡ refusal_of_lines fault }
 {
     match fault {
-        InjectFault::Code { line, code } => Refusal::InjectionsLine {
-            line,
-            code: told_code(code),
-        },
+        InjectFault::Code { line, code } => Refusal::InjectionsLine { line, code },
         InjectFault::Memory => Refusal::Memory,
     }
 }
@@ -132,7 +128,7 @@ pub(crate) fn judge_lines(alloc: Global, text: &[u8], wiring: &Wiring) -> Result
     ensures fit { IfOk result (λ lines. LinesFit wiring.now lines.items) }
     ensures err { IfErr result (λ why. LinesCauses wiring.now text.now why) }
 {
-    match inject_reader::read_untimed(alloc, text, wiring) {
+    match inject_reader::read_injections(alloc, text, wiring) {
         Ok(lines) => Ok(lines),
         Err(fault) => Err(refusal_of_lines(fault)),
     }
@@ -161,8 +157,7 @@ fn read_injections<S: Shelf>(
     judge_lines(alloc, text.as_slice(), wiring)
 }
 
-/// The run of a plant over lines, which the words named: all controllers at once, with a deque for each
-/// sender and receiver.
+/// The run of a plant over lines, which the words named.
 fn run<G: Gate + Sync, R: Threads + Sync>(
     rt: &R,
     alloc: Global,
@@ -177,7 +172,7 @@ fn run<G: Gate + Sync, R: Threads + Sync>(
     requires lines_fit { LinesFit plant.wiring lines.now }
     ensures { IfOk result (λ f. Finishes plant lines.now fuel f) }
 {
-    let journals = run_model::<MailLanes, G, R>(rt, alloc, &plant, lines, fuel, gate)?;
+    let journals = run_over(rt, alloc, &plant, lines, fuel, gate)?;
     Ok(Recorded {
         wiring: plant.wiring,
         journals,

@@ -1,6 +1,6 @@
 //! Why a call was refused.
 ghost use Rattle.std.specs.Prelude.{◌≡◌};
-ghost use Rattle.room_run.specs.Causes.{status_of, told_code};
+ghost use Rattle.room_run.specs.Causes.{status_of};
 
 use crate::model_fault::ModelFault;
 use crate::status::Status;
@@ -34,14 +34,6 @@ pub enum Refusal {
     },
     ReadFault,
     Memory,
-}
-
-/// The code that is told of a faulty line of injections. A run knows no virtual time: a line that moves
-/// it on, code 7, is told as one of no form, code 1.
-pub fn told_code(code: u8) -> u8
-    ensures { result ≡ told_code code }
-{
-    if code == 7 { 1 } else { code }
 }
 
 impl Refusal {

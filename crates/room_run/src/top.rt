@@ -65,15 +65,16 @@ fn print<K: Sink>(answer: &Answer, out: &mut K) -> Status
 
 /// The program over a shelf of texts, standard output and standard error.
 ///
-/// The words `check MODEL` ask whether a model keeps all rules and its wiring and charts have no fault,
-/// `tree MODEL` for the slots and the joined places of such a model, `run MODEL INJECT` for the run of a
-/// model over injections, in which each controller takes 10,000 turns at most, or N with `--fuel N` behind
-/// it, 1 to 100,000, `convert MODEL JOURNALS` for journals of a model, in form 1 or in form 2, to be written in
-/// form 2, and `made N` for the summary of the run of a made model of N actors, 1 to 4,000; every
-/// other list of words is refused. No file is read for a made model. The order is: the words, reading
-/// the model, the model (its text, its rules, its wiring, its charts), reading the injections or the
-/// journals, the injections or the journals (their text, whether they are tied), the run, writing. After a
-/// failed read nothing more is read, and want of memory never comes once something was written.
+/// The words `check MODEL` ask whether a model keeps all rules and its wiring and charts have no fault, `tree
+/// MODEL` for the slots and the joined places of such a model, `run MODEL INJECT` for the run of a model over
+/// injections, which may move virtual time on, so that timers expire, and in which each controller takes 10,000
+/// turns at most, or N with `--fuel N` behind it, 1 to 100,000, `convert MODEL JOURNALS` for journals of a
+/// model, in form 1 or in form 2, to be written in form 2, and `made N` for the summary of the run of a made
+/// model of N actors, 1 to 4,000; every other list of words is refused. No file is read for a made model. The
+/// order is: the words, reading the model, the model (its text, its rules, its wiring, its charts), reading the
+/// injections or the journals, the injections or the journals (their text, whether they are tied), the run,
+/// writing. After a failed read nothing more is read, and want of memory never comes once something was
+/// written.
 ///
 /// The text of journals may have 268,435,456 bytes, each other one 1,048,576.
 ///

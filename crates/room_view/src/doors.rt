@@ -1,7 +1,8 @@
 //! Where messages from outside can come in.
+use crate::timing::has_timers;
 use room_kinds::{ReferenceKind, SlotId};
 use room_wiring::{PortNames, SignalNames, Slot, Wiring};
-use std::alloc::AllocError;
+use std::alloc::{AllocError, Global};
 use view_journals::view_pages::Page;
 use view_journals::{incoming, is_end, place_count, type_name};
 
@@ -62,13 +63,20 @@ fn tell_slot(page: &mut Page, wiring: &Wiring, id: SlotId, slot: &Slot) -> Resul
 }
 
 /// Every place at which a message can be injected, with the messages that come in there and the types of their
-/// numbers, a line each, in order of slot, port and message.
-pub(crate) fn tell_doors(page: &mut Page, wiring: &Wiring) -> Result<(), AllocError> {
+/// numbers, a line each, in order of slot, port and message; and how far the time moves, where actors have timers.
+pub(crate) fn tell_doors(
+    alloc: Global,
+    page: &mut Page,
+    wiring: &Wiring,
+) -> Result<(), AllocError> {
     for number in 0..wiring.slot_count() {
         let id = SlotId(number as u16);
         if let Some(slot) = wiring.get_slot(id) {
             tell_slot(page, wiring, id, slot)?;
         }
+    }
+    if has_timers(alloc, wiring)? {
+        page.put_line(b"advance 1..2147483647")?;
     }
     Ok(())
 }

@@ -1,8 +1,16 @@
 //! Whether a fault is gone from a text.
+use room_inherit::{InheritFault, flatten};
+use room_lexer::{LexFault, lex};
 use room_outside::MAX_TEXT;
+use room_parser::{ParseFault, parse};
 use room_run::{ModelFault, read_wiring};
 use std::alloc::{AllocError, Global};
-use view_faults::Judge;
+use view_causes::Judge;
+
+/// Whether a rule is one on classes that extend others. These are asked before all others, of the text as it is written.
+fn is_of_bases(rule: u8) -> bool {
+    rule > 25
+}
 
 /// Where in the order of the faults a fault stands, and which of its kind it is.
 fn rank(fault: &ModelFault) -> (u8, u8) {
@@ -10,8 +18,7 @@ fn rank(fault: &ModelFault) -> (u8, u8) {
         ModelFault::Memory => (0, 0),
         ModelFault::Byte(_) => (1, 0),
         ModelFault::Syntax { .. } => (2, 0),
-        // the rules on bases are told before all others
-        ModelFault::Rule(number) if *number > 25 => (3, *number),
+        ModelFault::Rule(number) if is_of_bases(*number) => (3, *number),
         ModelFault::Rule(number) => (4, *number),
         ModelFault::Wiring(number) => (5, *number),
         ModelFault::Chart { number, .. } => (6, *number),
@@ -40,15 +47,63 @@ pub(crate) struct FaultOf<'a> {
     pub fault: &'a ModelFault,
 }
 
+/// How far a text gets that has a fault, in the order of the faults.
+fn reached(fault: &ModelFault) -> u32 {
+    let (kind, number) = rank(fault);
+    u32::from(kind)
+        .saturating_mul(1_000)
+        .saturating_add(u32::from(number))
+}
+
+/// How far a text gets whose fault comes after the one that is looked at; no answer where it doesn't.
+fn reached_behind(other: &ModelFault, fault: &ModelFault) -> Option<u32> {
+    if comes_after(other, fault) {
+        Some(reached(other))
+    } else {
+        None
+    }
+}
+
+/// Whether a text breaks no rule on bases but those that are told after this one.
+fn keeps_bases(alloc: Global, text: &[u8], rule: u8) -> Result<bool, AllocError> {
+    let tokens = match lex(alloc, text) {
+        Ok(tokens) => tokens,
+        Err(LexFault::Memory) => return Err(AllocError),
+        Err(
+            LexFault::BadByte(_)
+            | LexFault::OpenString(_)
+            | LexFault::OpenComment(_)
+            | LexFault::NumberTooLarge(_),
+        ) => return Ok(false),
+    };
+    let written = match parse(alloc, text, tokens.as_slice()) {
+        Ok(written) => written,
+        Err(ParseFault::Memory) => return Err(AllocError),
+        Err(ParseFault::Syntax { .. }) => return Ok(false),
+    };
+    match flatten(alloc, written) {
+        Ok(_) => Ok(true),
+        Err(InheritFault::Memory) => Err(AllocError),
+        Err(InheritFault::Rule(other)) => Ok(other > rule),
+    }
+}
+
 impl<'a> Judge for FaultOf<'a> {
     fn is_mended(&self, text: &[u8]) -> Result<bool, AllocError> {
+        match self.fault {
+            ModelFault::Rule(rule) if is_of_bases(*rule) => keeps_bases(self.alloc, text, *rule),
+            _ => Ok(self.reached(text)?.is_some()),
+        }
+    }
+
+    fn reached(&self, text: &[u8]) -> Result<Option<u32>, AllocError> {
         if text.len() as u64 > MAX_TEXT {
-            return Ok(false);
+            return Ok(None);
         }
         match read_wiring(self.alloc, text) {
-            Ok(_) => Ok(true),
+            Ok(_) => Ok(Some(u32::MAX)),
             Err(ModelFault::Memory) => Err(AllocError),
-            Err(other) => Ok(comes_after(&other, self.fault)),
+            Err(other) => Ok(reached_behind(&other, self.fault)),
         }
     }
 }

@@ -1,12 +1,12 @@
 //! Why a line of injections is refused, and what would be right there.
+use crate::line_forms::wrong_part;
 use crate::texts::{Kind, read};
-use crate::why::tell_meaning;
-use inject_reader::{InjectFault, read_untimed};
+use inject_reader::{InjectFault, read_injections};
 use room_kinds::{ReferenceKind, SlotId};
-use room_run::{Status, told_code};
+use room_run::Status;
 use room_wiring::{ClassNames, SignalNames, Wiring};
 use std::alloc::{AllocError, Global};
-use view_faults::line_meaning;
+use view_causes::line_meaning;
 use view_journals::view_pages::{Named, Page};
 use view_journals::{incoming, is_end, place_count, type_name};
 
@@ -213,20 +213,43 @@ fn tell_lines(
     let InjectFault::Code { line, code } = fault else {
         return Err(AllocError);
     };
-    let code = told_code(code);
     page.put(named.name.as_bytes())?;
     page.put(b" is refused: line ")?;
     page.put_number(u64::from(line))?;
     page.put(b", code ")?;
     page.put_number(u64::from(code))?;
     page.end_line()?;
-    tell_meaning(page, line_meaning(code))?;
+    page.put_meaning(line_meaning(code))?;
     page.end_line()?;
     let (start, end) = span_of(named.text, line);
     let bytes = named.text.get(start..end).unwrap_or(&[]);
+    if code == 1 {
+        return tell_form(alloc, page, named, start, bytes);
+    }
     let (from, to) = marked(bytes, code);
     page.put_part(named, start.saturating_add(from), start.saturating_add(to))?;
     tell_right(alloc, page, wiring, bytes, code)
+}
+
+/// Which part of a line is not of the form of lines. It begins at a byte of the text.
+fn tell_form(
+    alloc: Global,
+    page: &mut Page,
+    named: Named<'_>,
+    start: usize,
+    line: &[u8],
+) -> Result<(), AllocError> {
+    let line = line.strip_suffix(b"\r").unwrap_or(line);
+    let Some(part) = wrong_part(alloc, line)? else {
+        return page.put_part(named, start, start.saturating_add(line.len()));
+    };
+    page.put_part(
+        named,
+        start.saturating_add(part.start),
+        start.saturating_add(part.end),
+    )?;
+    page.put(b"    ")?;
+    page.put_line(part.why.as_bytes())
 }
 
 /// The text of injections that aren't refused over a wiring, or what is told of it and the status.
@@ -244,7 +267,7 @@ pub(crate) fn injections_of(
         name,
         text: lines.as_slice(),
     };
-    match read_untimed(rt.alloc(), named.text, wiring) {
+    match read_injections(rt.alloc(), named.text, wiring) {
         Ok(_) => Ok(Ok(lines)),
         Err(fault) => {
             tell_lines(rt.alloc(), page, named, wiring, fault)?;

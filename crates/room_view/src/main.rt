@@ -1,23 +1,25 @@
 //! The program `room_view`: tells people why a text is refused, and where; where messages can come in; what the
 //! journals of a run tell; and draws pictures of models and of runs.
 //!
-//! `why MODEL [INJECT]`, `doors MODEL`, `lint MODEL [INJECT]`, `story MODEL JOURNALS ..`, `end MODEL JOURNALS`,
-//! `explain MODEL INJECT JOURNALS MESSAGE`, `wiring MODEL [FORM]`, `chart MODEL CLASS [FORM]` and
-//! `run MODEL JOURNALS [FORM] ..` write a page to standard output; of a model that is refused all tell why. The
-//! status is that of
-//! `room` for these files: 0 where nothing is refused, 1 where the words have another form, or name what the model or
-//! the journals don't have, 2 where the model is refused, 3 where the injections or the journals are, 5 for want of
-//! memory, 6 where a file wasn't read, 7 where the page wasn't written.
+//! `why MODEL [INJECT]`, `doors MODEL`, `lint MODEL [INJECT]`, `story MODEL JOURNALS ..`, `outputs MODEL JOURNALS`,
+//! `end MODEL JOURNALS`, `explain MODEL INJECT JOURNALS MESSAGE`, `wiring MODEL [FORM]`, `chart MODEL CLASS [FORM]` and
+//! `run MODEL JOURNALS [FORM] ..` write a page to standard output; of a model that is refused all tell why. The status
+//! is that of `room` for these files: 0 where nothing is refused, 1 where the words have another form, or name what the
+//! model or the journals don't have, 2 where the model is refused, 3 where the injections or the journals are, 5 for
+//! want of memory, 6 where a file wasn't read, 7 where the page wasn't written.
 #![tactic(auto)]
 
 mod accepted;
 mod doors;
 mod judge;
+mod line_forms;
 mod lines;
 mod messages;
 mod pictures;
 mod runs;
 mod texts;
+mod timing;
+mod titles;
 mod why;
 mod words;
 
@@ -25,7 +27,7 @@ use crate::doors::tell_doors;
 use crate::lines::injections_of;
 use crate::messages::tell_message_of;
 use crate::pictures::{tell_picture, tell_run_picture};
-use crate::runs::{tell_end_of, tell_story_of};
+use crate::runs::{tell_end_of, tell_outputs_of, tell_story_of};
 use crate::texts::read_model;
 use crate::why::tell_model;
 use crate::words::{Asked, FORMS, Question, question_of};
@@ -90,10 +92,11 @@ fn tell_lint(
     Ok(Status::Done)
 }
 
-/// The page for a question, and the status. The model may have been read before.
+/// The page for a question, which these words ask, and the status. The model may have been read before.
 fn tell(
     rt: HostRuntime,
     page: &mut Page,
+    words: &[String],
     question: Question<'_>,
     model: Vec<TextFile>,
 ) -> Result<Status, AllocError> {
@@ -111,15 +114,18 @@ fn tell(
     let wiring = accepted.wiring();
     match question.asked {
         Asked::Nothing => page.put_line(b"ok")?,
-        Asked::Doors => tell_doors(page, wiring)?,
+        Asked::Doors => tell_doors(rt.alloc(), page, wiring)?,
         Asked::Lint(injections) => return tell_lint(rt, page, model, wiring, injections),
         Asked::Injections(name) => return tell_injections(rt, page, wiring, name),
-        Asked::Story(name, options) => return tell_story_of(rt, page, wiring, name, options),
+        Asked::Story(name, options) => return tell_story_of(rt, page, &accepted, name, options),
         Asked::Explain(message) => return tell_message_of(rt, page, &accepted, message),
-        Asked::End(name) => return tell_end_of(rt, page, wiring, name),
-        Asked::Picture(picture) => return tell_picture(rt.alloc(), page, &accepted, picture),
+        Asked::End(name) => return tell_end_of(rt, page, &accepted, name),
+        Asked::Outputs(name) => return tell_outputs_of(rt, page, &accepted, name),
+        Asked::Picture(picture) => {
+            return tell_picture(rt.alloc(), page, model.text, &accepted, words, picture);
+        }
         Asked::Run(name, form, options) => {
-            return tell_run_picture(rt, page, wiring, name, form, options);
+            return tell_run_picture(rt, page, &accepted, words, name, form, options);
         }
     }
     Ok(Status::Done)
@@ -145,7 +151,7 @@ fn work(rt: HostRuntime, words: &[String], model: Vec<TextFile>) -> Status {
         return Status::WordsRefused;
     };
     let mut page = Page::new(rt.alloc());
-    let Ok(status) = tell(rt, &mut page, question, model) else {
+    let Ok(status) = tell(rt, &mut page, words, question, model) else {
         let _ = write_whole(&mut notes, b"room_view: memory\n");
         return Status::Memory;
     };

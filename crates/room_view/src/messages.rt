@@ -9,6 +9,7 @@ use room_run::Status;
 use room_wiring::Wiring;
 use std::alloc::{AllocError, Global};
 use view_journals::view_pages::{Named, Page};
+use view_journals::{Name, Redone};
 use view_messages::chart_replays::replays_of;
 use view_messages::{Explained, tell_message};
 
@@ -33,9 +34,11 @@ fn tell(
     let sent = Stamp(name.sent);
     let is_told = match sender_of(told.wiring, name) {
         Some(sender) => {
-            let replays = replays_of(alloc, plant, told.journals, sender, sent)?;
+            let wanted = Some(Name::new(sender, sent));
+            let replays = replays_of(alloc, plant, told.journals, wanted)?;
             let told = Explained {
-                replays: replays.as_slice(),
+                redone: &replays.redone,
+                replays: replays.of_message.as_slice(),
                 ..told
             };
             tell_message(alloc, page, told, sender, sent)?
@@ -65,6 +68,7 @@ pub(crate) fn tell_message_of<'a>(
         Ok(journals) => journals,
         Err(status) => return Ok(status),
     };
+    let nothing = Redone::nothing(rt.alloc());
     let told = Explained {
         wiring,
         model: &model.tree,
@@ -73,6 +77,7 @@ pub(crate) fn tell_message_of<'a>(
             text: lines.as_slice(),
         },
         journals: &journals,
+        redone: &nothing,
         replays: &[],
     };
     tell(rt.alloc(), page, told, &model.plant, message.name)

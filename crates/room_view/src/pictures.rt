@@ -1,11 +1,13 @@
 //! Pictures of a model and its runs: actors with their bindings, charts of classes, and who sent what to whom.
 use crate::accepted::Accepted;
-use crate::runs::{journals_of, knows, wanted_of};
+use crate::runs::{knows, run_of, wanted_of};
+use crate::titles::title_of;
 use crate::words::Options;
 use room_ast::Model;
+use room_lexer::{LexFault, lex};
 use room_run::Status;
-use room_wiring::Wiring;
 use std::alloc::{AllocError, Global};
+use view_charts::Source;
 use view_drawing::{
     Diagram, Sequence, put_dot, put_mermaid, put_sequence_dot, put_sequence_mermaid,
     put_sequence_svg, put_svg,
@@ -75,21 +77,40 @@ fn tell_no_chart(page: &mut Page, model: &Model, class: &str) -> Result<Status, 
     Ok(Status::WordsRefused)
 }
 
-/// Puts a picture of a model.
+/// The picture of the actors of a model with this text.
+fn wiring_of(alloc: Global, text: &[u8], model: &Accepted) -> Result<Diagram, AllocError> {
+    let tokens = match lex(alloc, text) {
+        Ok(tokens) => tokens,
+        Err(LexFault::Memory) => return Err(AllocError),
+        // the text of an accepted model has tokens
+        Err(_) => Vec::new(alloc),
+    };
+    let source = Source {
+        alloc,
+        text,
+        tokens: tokens.as_slice(),
+    };
+    wiring_picture(source, &model.tree, model.wiring())
+}
+
+/// Puts a picture of a model with this text, for which these words ask.
 pub(crate) fn tell_picture(
     alloc: Global,
     page: &mut Page,
+    text: &[u8],
     model: &Accepted,
+    words: &[String],
     picture: Picture<'_>,
 ) -> Result<Status, AllocError> {
     let tree = &model.tree;
-    let diagram = match picture.shown {
-        Shown::Wiring => wiring_picture(alloc, tree, model.wiring())?,
+    let mut diagram = match picture.shown {
+        Shown::Wiring => wiring_of(alloc, text, model)?,
         Shown::Chart(class) => match machine_of(tree, class.as_bytes()) {
             Some(machine) => chart_picture(alloc, class.as_bytes(), machine)?,
             None => return tell_no_chart(page, tree, class),
         },
     };
+    diagram.title = title_of(alloc, tree, words)?;
     put_picture(page, &diagram, picture.form)?;
     Ok(Status::Done)
 }
@@ -102,24 +123,27 @@ fn put_run(page: &mut Page, sequence: &Sequence, form: Form) -> Result<(), Alloc
     }
 }
 
-/// Puts a picture of what options ask for of the run of the journals of a file.
+/// Puts a picture of what options ask for of the run of the journals of a file, for which these words ask.
 pub(crate) fn tell_run_picture(
     rt: HostRuntime,
     page: &mut Page,
-    wiring: &Wiring,
+    model: &Accepted,
+    words: &[String],
     name: &str,
     form: Form,
     options: Options<'_>,
 ) -> Result<Status, AllocError> {
+    let wiring = model.wiring();
     if !knows(page, wiring, options)? {
         return Ok(Status::WordsRefused);
     }
-    let journals = match journals_of(rt, page, wiring, name)? {
-        Ok(journals) => journals,
+    let run = match run_of(rt, page, model, name)? {
+        Ok(run) => run,
         Err(status) => return Ok(status),
     };
     let wanted = wanted_of(wiring, options);
-    let sequence = run_picture(rt.alloc(), wiring, &journals, wanted)?;
+    let mut sequence = run_picture(rt.alloc(), wiring, &run.journals, &run.redone, wanted)?;
+    sequence.title = title_of(rt.alloc(), &model.tree, words)?;
     put_run(page, &sequence, form)?;
     Ok(Status::Done)
 }

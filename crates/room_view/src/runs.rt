@@ -1,4 +1,5 @@
 //! Views of the journals of a run.
+use crate::accepted::Accepted;
 use crate::texts::{Kind, read};
 use crate::why::tell_refused;
 use crate::words::Options;
@@ -9,7 +10,8 @@ use room_run::Status;
 use room_wiring::Wiring;
 use std::alloc::AllocError;
 use view_journals::view_pages::{Named, Page};
-use view_journals::{Wanted, find_signal, tell_end, tell_story};
+use view_journals::{Redone, Wanted, find_signal, tell_end, tell_outputs, tell_story};
+use view_messages::chart_replays::{Replays, replays_of};
 
 /// Whether a text has the last line of journals.
 fn ends_whole(text: &[u8]) -> bool {
@@ -142,23 +144,47 @@ pub(crate) fn wanted_of<'a>(wiring: &Wiring, options: Options<'a>) -> Wanted<'a>
         from: options.from.unwrap_or(0),
         to: options.to.unwrap_or(u64::MAX),
         only_trouble: options.only_trouble,
+        no_system: options.no_system,
     }
+}
+
+/// The journals of a run, and what was done of it again by the charts of the model.
+#[derive(Drop)]
+pub(crate) struct RunOf {
+    pub(crate) journals: Journals,
+    pub(crate) redone: Redone,
+}
+
+/// The run of a model whose journals a file has, or what is told of it and the status.
+pub(crate) fn run_of(
+    rt: HostRuntime,
+    page: &mut Page,
+    model: &Accepted,
+    name: &str,
+) -> Result<Result<RunOf, Status>, AllocError> {
+    let journals = match journals_of(rt, page, model.wiring(), name)? {
+        Ok(journals) => journals,
+        Err(status) => return Ok(Err(status)),
+    };
+    let Replays { redone, .. } = replays_of(rt.alloc(), &model.plant, &journals, None)?;
+    Ok(Ok(RunOf { journals, redone }))
 }
 
 /// The story of the journals of a file.
 pub(crate) fn tell_story_of(
     rt: HostRuntime,
     page: &mut Page,
-    wiring: &Wiring,
+    model: &Accepted,
     name: &str,
     options: Options<'_>,
 ) -> Result<Status, AllocError> {
+    let wiring = model.wiring();
     if !knows(page, wiring, options)? {
         return Ok(Status::WordsRefused);
     }
     let wanted = wanted_of(wiring, options);
-    match journals_of(rt, page, wiring, name)? {
-        Ok(journals) => tell_story(rt.alloc(), page, wiring, &journals, wanted)?,
+    match run_of(rt, page, model, name)? {
+        Ok(run) => tell_story(rt.alloc(), page, wiring, &run.journals, &run.redone, wanted)?,
         Err(status) => return Ok(status),
     }
     Ok(Status::Done)
@@ -168,11 +194,25 @@ pub(crate) fn tell_story_of(
 pub(crate) fn tell_end_of(
     rt: HostRuntime,
     page: &mut Page,
-    wiring: &Wiring,
+    model: &Accepted,
     name: &str,
 ) -> Result<Status, AllocError> {
-    match journals_of(rt, page, wiring, name)? {
-        Ok(journals) => tell_end(rt.alloc(), page, wiring, &journals)?,
+    match run_of(rt, page, model, name)? {
+        Ok(run) => tell_end(rt.alloc(), page, model.wiring(), &run.journals, &run.redone)?,
+        Err(status) => return Ok(status),
+    }
+    Ok(Status::Done)
+}
+
+/// What nobody hears in the run of the journals of a file.
+pub(crate) fn tell_outputs_of(
+    rt: HostRuntime,
+    page: &mut Page,
+    model: &Accepted,
+    name: &str,
+) -> Result<Status, AllocError> {
+    match run_of(rt, page, model, name)? {
+        Ok(run) => tell_outputs(rt.alloc(), page, model.wiring(), &run.journals, &run.redone)?,
         Err(status) => return Ok(status),
     }
     Ok(Status::Done)

@@ -11,19 +11,12 @@ use room_parser::{ParseFault, parse};
 use room_run::{ModelFault, read_plant};
 use std::alloc::{AllocError, Global};
 use structure_check::{CheckFault, Checked, check};
-use view_charts::{ChartFault, chart_cause};
-use view_faults::{
-    Item, Meaning, Unread, chart_meaning, could_stand, find_causes, head_of, named_by,
-    rule_meaning, wiring_meaning,
+use view_causes::{
+    Cause, ChartFault, Unread, chart_causes, chart_meaning, could_stand, find_causes, named_by,
+    rule_cause, rule_meaning, system_causes, wiring_meaning, word_meaning,
 };
-use view_journals::view_pages::{Named, Page};
-
-/// What a fault is and how it is mended.
-pub(crate) fn tell_meaning(page: &mut Page, meaning: Meaning) -> Result<(), AllocError> {
-    page.put_line(meaning.fault.as_bytes())?;
-    page.put(b"cure: ")?;
-    page.put_line(meaning.cure.as_bytes())
-}
+use view_charts::{Item, Source, head_of};
+use view_journals::view_pages::{Meaning, Named, Page};
 
 pub(crate) fn tell_refused(page: &mut Page, named: Named<'_>, by: &[u8]) -> Result<(), AllocError> {
     page.put(named.name.as_bytes())?;
@@ -44,17 +37,38 @@ fn tell_numbered(
     page.put(what)?;
     page.put_number(u64::from(number))?;
     page.end_line()?;
-    tell_meaning(page, meaning)
+    page.put_meaning(meaning)
+}
+
+/// What a byte is with which no token begins, and the cure.
+fn bad_byte(bytes: &[u8]) -> (&'static [u8], &'static [u8]) {
+    match bytes {
+        [0xEF, 0xBB, 0xBF, ..] => (
+            b"this is a byte order mark, three bytes that some editors write before a text and don't show",
+            b"cure: save the text without it, as UTF-8 without BOM",
+        ),
+        [0xFF, 0xFE, ..] | [0xFE, 0xFF, ..] => (
+            b"this is the byte order mark of a text in UTF-16",
+            b"cure: save the text as UTF-8 without BOM",
+        ),
+        [first, ..] if *first > 127 => (
+            b"letters beyond ASCII stand in comments, documentation, strings and blocks alone",
+            b"cure: write it in letters of ASCII, or in a comment",
+        ),
+        _ => (
+            b"no token begins with this byte",
+            b"cure: take it away; a comment begins with // or /*",
+        ),
+    }
 }
 
 /// A text that can't be cut into tokens.
 fn tell_bytes(page: &mut Page, named: Named<'_>, fault: LexFault) -> Result<(), AllocError> {
     let (at, what, cure): (usize, &[u8], &[u8]) = match fault {
-        LexFault::BadByte(at) => (
-            at,
-            b"no token begins with this byte",
-            b"cure: take it away; a comment begins with // or /*",
-        ),
+        LexFault::BadByte(at) => {
+            let (what, cure) = bad_byte(named.text.get(at..).unwrap_or(&[]));
+            (at, what, cure)
+        }
         LexFault::OpenString(at) => (
             at,
             b"what is opened here isn't closed: a string ends on its line, a block with ''', documentation with ]",
@@ -79,6 +93,9 @@ fn tell_bytes(page: &mut Page, named: Named<'_>, fault: LexFault) -> Result<(), 
     page.put_part(named, at, at.saturating_add(1))
 }
 
+/// What stands for a name among what could stand in a place.
+const NAME: &[u8] = b"name";
+
 /// What could have stood in a place.
 fn tell_could_stand(page: &mut Page, could_stand: &[&'static [u8]]) -> Result<(), AllocError> {
     page.put(b"here could stand:")?;
@@ -87,6 +104,26 @@ fn tell_could_stand(page: &mut Page, could_stand: &[&'static [u8]]) -> Result<()
         page.put(token)?;
     }
     page.end_line()
+}
+
+/// That a word of the language stands where a name could, if it is so.
+fn tell_misread(
+    page: &mut Page,
+    named: Named<'_>,
+    token: &Token,
+    could_stand: &[&'static [u8]],
+) -> Result<(), AllocError> {
+    let bytes = named.text.get(token.start..token.end).unwrap_or(&[]);
+    let is_wanted = could_stand.iter().any(|other| *other == NAME);
+    match word_meaning(token, bytes) {
+        Some(what) if is_wanted => {
+            page.put(b"    `")?;
+            page.put(bytes)?;
+            page.put(b"` ")?;
+            page.put_line(what)
+        }
+        _ => Ok(()),
+    }
 }
 
 /// Where a text stops being a model, and what could have stood there.
@@ -100,7 +137,10 @@ fn tell_unread(
     tell_could_stand(page, unread.could_stand.as_slice())?;
     page.end_line()?;
     match tokens.get(unread.token) {
-        Some(token) => page.put_part(named, token.start, token.end),
+        Some(token) => {
+            page.put_part(named, token.start, token.end)?;
+            tell_misread(page, named, token, unread.could_stand.as_slice())
+        }
         None => {
             page.put_line(b"at the end of the text, behind")?;
             match tokens.last() {
@@ -143,26 +183,39 @@ fn tell_items(
     Ok(())
 }
 
-/// A part of a text in which the cause of a fault of a chart stands, and which cause it is, if that is seen.
-fn tell_chart_cause(
-    alloc: Global,
+/// The declarations that causes name, if they name any.
+fn tell_named(
     page: &mut Page,
     named: Named<'_>,
     tokens: &[Token],
-    fault: ChartFault<'_>,
-    item: Item,
+    declared: &[Item],
 ) -> Result<(), AllocError> {
-    match chart_cause(alloc, named.text, tokens, fault, item)? {
-        Some(cause) => {
-            page.put_part(named, cause.start, cause.end)?;
-            page.put(b"    ")?;
-            page.put_line(cause.what.as_bytes())
-        }
-        None => tell_items(page, named, tokens, &[item]),
+    if declared.is_empty() {
+        return Ok(());
     }
+    page.end_line()?;
+    page.put_line(b"what it names:")?;
+    tell_items(page, named, tokens, declared)
 }
 
-/// What the actions of an actor class can name.
+/// A place at which a cause stands, and what is wrong there.
+fn tell_cause(page: &mut Page, named: Named<'_>, cause: &Cause) -> Result<(), AllocError> {
+    page.put_part(named, cause.start, cause.end)?;
+    page.put(b"    ")?;
+    page.put_line(cause.what.as_slice())
+}
+
+/// Adds declarations that aren't among those already.
+fn add_declared(all: &mut Vec<Item>, more: &[Item]) -> Result<(), AllocError> {
+    for item in more {
+        if !all.contains(item) {
+            all.push(*item)?;
+        }
+    }
+    Ok(())
+}
+
+/// What actions of an actor class can name.
 fn scope_in<'a>(checked: &'a Checked<'_>, class: &[u8]) -> Option<&'a Scope> {
     let place = checked
         .classes
@@ -171,76 +224,98 @@ fn scope_in<'a>(checked: &'a Checked<'_>, class: &[u8]) -> Option<&'a Scope> {
     checked.scopes.get(place)
 }
 
-/// A fault of the chart of a class.
-fn fault_in<'a>(checked: &'a Checked<'_>, class: &'a [u8], number: u8) -> ChartFault<'a> {
+/// What is wrong with the chart of a class that has a fault, in a model that keeps all rules.
+fn seen_within<'f>(
+    source: Source<'_>,
+    checked: &'f Checked<'_>,
+    class: &'f [u8],
+    number: u8,
+) -> Result<Vec<Cause>, AllocError> {
     let scope = scope_in(checked, class);
-    ChartFault {
+    let fault = ChartFault {
         class,
         number,
         scope,
-    }
-}
-
-/// The parts of a text in which the causes of a fault of a chart stand.
-fn tell_chart_causes(
-    alloc: Global,
-    page: &mut Page,
-    named: Named<'_>,
-    tokens: &[Token],
-    fault: ChartFault<'_>,
-    found: &[Item],
-) -> Result<(), AllocError> {
-    for item in found {
-        tell_chart_cause(alloc, page, named, tokens, fault, *item)?;
-    }
-    Ok(())
-}
-
-/// Where the causes of a fault stand. The tree is that of the text, where its bases keep the rules on them.
-fn tell_places(
-    alloc: Global,
-    page: &mut Page,
-    named: Named<'_>,
-    tokens: &[Token],
-    fault: &ModelFault,
-    tree: Option<&Model>,
-    found: &[Item],
-) -> Result<(), AllocError> {
-    let (ModelFault::Chart { class, number }, Some(tree)) = (fault, tree) else {
-        return tell_items(page, named, tokens, found);
     };
-    match check(alloc, tree) {
-        Ok(checked) => {
-            let fault = fault_in(&checked, class.as_bytes(), *number);
-            tell_chart_causes(alloc, page, named, tokens, fault, found)
+    chart_causes(source, fault)
+}
+
+/// What is wrong with the chart of a class that has a fault, as far as the text shows it. The tree is that of the text.
+fn seen_in_chart(
+    source: Source<'_>,
+    tree: &Model,
+    class: &[u8],
+    number: u8,
+) -> Result<Vec<Cause>, AllocError> {
+    let checked = match check(source.alloc, tree) {
+        Ok(checked) => checked,
+        Err(CheckFault::Memory) => return Err(AllocError),
+        Err(CheckFault::Rule(_)) => return Ok(Vec::new(source.alloc)),
+    };
+    seen_within(source, &checked, class, number)
+}
+
+/// What is wrong where a model is refused, as far as the text shows it by itself.
+fn seen(
+    source: Source<'_>,
+    fault: &ModelFault,
+    tree: Option<&Model>,
+) -> Result<Vec<Cause>, AllocError> {
+    match (fault, tree) {
+        (ModelFault::Chart { class, number }, Some(tree)) => {
+            seen_in_chart(source, tree, class.as_bytes(), *number)
         }
-        Err(CheckFault::Memory) => Err(AllocError),
-        Err(CheckFault::Rule(_)) => tell_items(page, named, tokens, found),
+        (ModelFault::Rule(1), _) => system_causes(source),
+        _ => Ok(Vec::new(source.alloc)),
     }
 }
 
-/// Where the causes of a fault stand, and what they name.
-fn tell_causes(
-    alloc: Global,
+/// Where causes stand, what is wrong there, and what they name.
+fn tell_seen(
     page: &mut Page,
     named: Named<'_>,
-    tokens: &[Token],
+    source: Source<'_>,
+    causes: &[Cause],
+) -> Result<(), AllocError> {
+    let mut declared = Vec::new(source.alloc);
+    for cause in causes {
+        tell_cause(page, named, cause)?;
+        add_declared(&mut declared, cause.declared.as_slice())?;
+    }
+    tell_named(page, named, source.tokens, declared.as_slice())
+}
+
+/// What is wrong with a part that was found to be a cause, as far as the text shows it.
+fn seen_at(
+    source: Source<'_>,
     fault: &ModelFault,
-    tree: Option<&Model>,
+    item: Item,
+) -> Result<Option<Cause>, AllocError> {
+    match fault {
+        ModelFault::Rule(rule) => rule_cause(source, *rule, item),
+        _ => Ok(None),
+    }
+}
+
+/// Where the causes stand that were found, and what they name.
+fn tell_found(
+    page: &mut Page,
+    named: Named<'_>,
+    source: Source<'_>,
+    fault: &ModelFault,
     found: &[Item],
 ) -> Result<(), AllocError> {
-    page.end_line()?;
     if found.is_empty() {
         return page.put_line(b"no single part of the text is its cause");
     }
-    tell_places(alloc, page, named, tokens, fault, tree, found)?;
-    let declared = named_by(alloc, named.text, tokens, found)?;
-    if !declared.is_empty() {
-        page.end_line()?;
-        page.put_line(b"what it names:")?;
-        tell_items(page, named, tokens, declared.as_slice())?;
+    for item in found {
+        match seen_at(source, fault, *item)? {
+            Some(cause) => tell_cause(page, named, &cause)?,
+            None => tell_items(page, named, source.tokens, &[*item])?,
+        }
     }
-    Ok(())
+    let declared = named_by(source.alloc, named.text, source.tokens, found)?;
+    tell_named(page, named, source.tokens, declared.as_slice())
 }
 
 /// What is told of a fault first: which it is, what it means, and its cure.
@@ -282,7 +357,8 @@ fn class_of(fault: &ModelFault) -> Option<&[u8]> {
     }
 }
 
-/// Why a model is refused that breaks a rule, or whose wiring or chart has a fault.
+/// Why a model is refused that breaks a rule, or whose wiring or chart has a fault. What the text shows by itself is told
+/// first; where it shows nothing, the parts whose absence mends the fault are.
 fn tell_fault(
     alloc: Global,
     page: &mut Page,
@@ -291,10 +367,20 @@ fn tell_fault(
     fault: &ModelFault,
     tree: Option<&Model>,
 ) -> Result<(), AllocError> {
+    let source = Source {
+        alloc,
+        text: named.text,
+        tokens,
+    };
     tell_head(alloc, page, named, fault)?;
+    page.end_line()?;
+    let causes = seen(source, fault, tree)?;
+    if !causes.is_empty() {
+        return tell_seen(page, named, source, causes.as_slice());
+    }
     let judge = FaultOf { alloc, fault };
     let found = find_causes(alloc, named.text, tokens, class_of(fault), &judge)?;
-    tell_causes(alloc, page, named, tokens, fault, tree, found.as_slice())
+    tell_found(page, named, source, fault, found.as_slice())
 }
 
 /// The tree of a text that has these tokens, as it is written; none where no model has them, which is told.

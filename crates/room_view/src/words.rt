@@ -4,7 +4,7 @@ use text_reading::{are_digits, value};
 
 /// What is told where words have another form.
 pub(crate) const FORMS: &[u8] =
-    b"room_view: words refused; why MODEL [INJECT], doors MODEL, lint MODEL [INJECT], story MODEL JOURNALS [--actor PATH] [--signal NAME] [--from STAMP] [--to STAMP] [--only-trouble], end MODEL JOURNALS, explain MODEL INJECT JOURNALS MESSAGE, wiring MODEL [FORM], chart MODEL CLASS [FORM] or run MODEL JOURNALS [FORM] with the options of story; FORM is --svg, --dot or --mermaid\n";
+    b"room_view: words refused; why MODEL [INJECT], doors MODEL, lint MODEL [INJECT], story MODEL JOURNALS [--actor PATH] [--signal NAME] [--from STAMP] [--to STAMP] [--only-trouble] [--no-system], end MODEL JOURNALS, outputs MODEL JOURNALS, explain MODEL INJECT JOURNALS MESSAGE, wiring MODEL [FORM], chart MODEL CLASS [FORM] or run MODEL JOURNALS [FORM] with the options of story; FORM is --svg, --dot or --mermaid\n";
 
 /// Which lines of a story the words ask for.
 #[derive(Clone, Copy)]
@@ -14,6 +14,7 @@ pub(crate) struct Options<'a> {
     pub(crate) from: Option<u64>,
     pub(crate) to: Option<u64>,
     pub(crate) only_trouble: bool,
+    pub(crate) no_system: bool,
 }
 
 /// What journals call a message: its sender, the environment where none is named, and the stamp of its post.
@@ -47,6 +48,8 @@ pub(crate) enum Asked<'a> {
     Story(&'a str, Options<'a>),
     /// What was still open where the run of the journals of this file ended.
     End(&'a str),
+    /// What nobody hears in the run of the journals of this file.
+    Outputs(&'a str),
     /// The way of one message of a run.
     Explain(Message<'a>),
     /// A picture of the model.
@@ -117,6 +120,7 @@ struct Places {
     from: Option<u64>,
     to: Option<u64>,
     only_trouble: bool,
+    no_system: bool,
 }
 
 impl Places {
@@ -127,6 +131,7 @@ impl Places {
             from: None,
             to: None,
             only_trouble: false,
+            no_system: false,
         }
     }
 
@@ -153,6 +158,16 @@ impl Places {
         places.only_trouble = true;
         Some(places)
     }
+
+    /// What options say where duties are left out; none where they were before.
+    fn without_system(self) -> Option<Places> {
+        if self.no_system {
+            return None;
+        }
+        let mut places = self;
+        places.no_system = true;
+        Some(places)
+    }
 }
 
 /// What options say; none where they have another form.
@@ -166,6 +181,7 @@ fn places_of(words: &[String]) -> Option<Places> {
                 open = None;
             }
             None if word.as_str() == "--only-trouble" => places = places.with_trouble()?,
+            None if word.as_str() == "--no-system" => places = places.without_system()?,
             None => open = Some(flag_of(word.as_str())?),
         }
     }
@@ -190,6 +206,7 @@ fn options_of(words: &[String]) -> Option<Options<'_>> {
         from: places.from,
         to: places.to,
         only_trouble: places.only_trouble,
+        no_system: places.no_system,
     })
 }
 
@@ -220,6 +237,7 @@ pub(crate) fn question_of(words: &[String]) -> Option<Question<'_>> {
         ("lint", [model]) => ask(model, Asked::Lint(None)),
         ("lint", [model, injections]) => ask(model, Asked::Lint(Some(injections.as_str()))),
         ("end", [model, journals]) => ask(model, Asked::End(journals.as_str())),
+        ("outputs", [model, journals]) => ask(model, Asked::Outputs(journals.as_str())),
         ("explain", [model, injections, journals, message]) => {
             let name = message_of(message.as_str())?;
             let message = Message {

@@ -1,5 +1,5 @@
 -- Where a run ends: what lines come to where the environment posts no more.
-use Rattle.std.proofs.Common.{◌≡◌, ℕ, zero, suc, ◌+◌, ◌<◌, ◌≤◌, nat_lt, Bool, true, false, ◌||◌, if◌then◌else◌, cond, List, [], ◌∷◌, ◌++◌, length, Option, Some, None, refl, sym, ap, ◌∙◌, subst, arith}
+use Rattle.std.proofs.Common.{◌≡◌, ℕ, ◌+◌, ◌≤◌, nat_lt, Bool, true, false, if◌then◌else◌, cond, List, [], ◌∷◌, ◌++◌, length, Option, Some, None, refl, ap, subst, arith}
 use Rattle.room_wiring.specs.declared.tables.Tables.{Tables}
 use Rattle.inject_reader.specs.declared.inject_lines.accepted.Line.{Line}
 use Rattle.inject_reader.specs.declared.inject_lines.accepted.What.{What}
@@ -11,7 +11,7 @@ use Rattle.model_run.specs.part_source.Parts.{is_message as asks_message}
 use Rattle.model_run.specs.run_ends.Runs.{MayBeLeft}
 use Rattle.model_run.specs.run_ends.Runs.MayBeLeft.{nothing as none_left, from_settle}
 use Rattle.room_timer.specs.Timers.{Timers, moment}
-use Rattle.room_timer.specs.Expansion.{Point, saw_all, cut_of, caught_up, goes_on, further, with_timers, is_message, settle, Advances, over, more, last, left_from, Expands, nothing, message, settled, advanced, cut_off}
+use Rattle.room_timer.specs.Expansion.{Point, cut_of, caught_up, goes_on, further, with_timers, is_message, settle, over, last, left_from, Expands, nothing, message, settled, advanced, cut_off}
 use Rattle.timed_runs.specs.Passed.{messages_in_front}
 use Rattle.timed_runs.proofs.Points.{Cut, cut_all}
 use Rattle.timed_runs.proofs.Walking.{Finishes, finished, broken_off, Resumes}

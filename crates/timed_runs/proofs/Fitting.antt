@@ -1,18 +1,17 @@
 -- What lines come to names what the wiring has, as they do.
-use Rattle.std.proofs.Common.{◌≡◌, ℕ, ◌+◌, Bool, List, [], ◌∷◌, ◌++◌, take, drop, length, Option, Some, None, refl, sym, ap, ◌∙◌, subst}
-use Rattle.std.specs.List.{AllByRecursion}
+use Rattle.std.proofs.Common.{◌≡◌, ℕ, ◌+◌, Bool, List, [], ◌∷◌, ◌++◌, Option, Some, None, refl}
 use Rattle.room_wiring.specs.declared.tables.Tables.{Tables}
 use Rattle.inject_reader.specs.declared.inject_lines.accepted.Line.{Line}
 use Rattle.inject_reader.specs.declared.inject_lines.accepted.What.{What}
 use Rattle.inject_reader.specs.declared.inject_lines.accepted.What.TheVariants as whats
-use Rattle.inject_reader.specs.Fitting.{WhatFits, LinesFit}
+use Rattle.inject_reader.specs.Fitting.{LinesFit}
 use Rattle.actor_merge.specs.World.{Placed}
 use Rattle.model_run.proofs.part_posts.FitLaw.{fit_take}
 use Rattle.room_timer.specs.Timers.{Timers, saw, moment}
 use Rattle.room_timer.specs.Expansion.{Point, saw_all, cut_of, caught_up, settle, Advances, over, more, last, Expands, nothing, message, settled, advanced, cut_off}
 use Rattle.room_timer.specs.Laws.{AllHear}
 use Rattle.room_timer.proofs.Fits.{seen_hears, moment_fits}
-use Rattle.timed_runs.specs.Passed.{Standing, at_end, messages_in_front, at_messages, advancing, advance_on, line_passed, passed, passed_on}
+use Rattle.timed_runs.specs.Passed.{Standing, messages_in_front, advancing, line_passed, passed, passed_on}
 
 fit_both : (t : Tables) (a b : List Line) → LinesFit t a → LinesFit t b → LinesFit t (a ++ b)
 fit_both t [] b h k = k

@@ -1,16 +1,15 @@
 -- The next part of a source of timed lines: some lines without a message, and then messages.
-use Rattle.std.proofs.Common.{◌≡◌, ℕ, zero, suc, ◌+◌, ◌<◌, Bool, true, false, not, cond, List, [], ◌∷◌, ◌++◌, map, length, take, drop, Option, Some, None, refl, sym, ap, ◌∙◌, subst, arith, append_assoc, append-nil}
-use Rattle.std.specs.Prelude.{filter}
-use Rattle.std.specs.List.{AllByRecursion, prefix_len}
+use Rattle.std.proofs.Common.{◌≡◌, ℕ, suc, ◌+◌, ◌<◌, ◌≤◌, Bool, true, false, cond, List, [], ◌∷◌, ◌++◌, length, take, Option, Some, None, refl, sym, ap, ◌∙◌, subst, arith, append_assoc, append-nil}
+use Rattle.std.specs.List.{AllByRecursion}
 use Rattle.std.proofs.lemmas.List.Elements.{All-from_recursion}
+use Rattle.std.proofs.lemmas.List.Sums.{prefix_len-le-length}
 use Rattle.inject_reader.specs.declared.inject_lines.accepted.Line.{Line}
 use Rattle.inject_reader.specs.declared.inject_lines.accepted.What.{What}
 use Rattle.inject_reader.specs.declared.inject_lines.accepted.What.TheVariants as whats
 use Rattle.model_run.specs.fixed_lines.Fixed.{message_line}
-use Rattle.model_run.specs.part_source.Parts.{is_message, IsPart, AreSettles, NextPart}
+use Rattle.model_run.specs.part_source.Parts.{is_message, IsPart, NextPart}
 use Rattle.model_run.proofs.fixed_lines.FixedLaw.{messages_in_front as in_front, behind as ends_behind}
-use Rattle.room_timer.specs.declared.timer.Timer.{Timer}
-use Rattle.room_timer.specs.Timers.{Timers, timeout_line, moment}
+use Rattle.room_timer.specs.Timers.{Timers, moment}
 use Rattle.room_timer.specs.Expansion.{settle}
 use Rattle.room_timer.specs.Laws.{IsPlain}
 use Rattle.timed_runs.specs.Passed.{Standing, at_end, messages_in_front, at_messages, advancing, advance_on, line_passed, passed, passed_on}
@@ -34,6 +33,9 @@ pub record FollowsLater (gone : List Line) (s : Standing) : Type 0 where
 
 no_lines : IsPart []
 no_lines = All-from_recursion (λ (l : Line). is_message l.what ≡ true) [] tt
+
+pub front_within : (lines : List Line) → messages_in_front lines ≤ length lines
+front_within lines = prefix_len-le-length message_line lines
 
 -- a line without a message is no part
 no_front : (l : Line) (lines : List Line) → message_line l ≡ false → messages_in_front (l ∷ lines) ≡ 0

@@ -1,9 +1,9 @@
 -- A source of timed lines over a whole run: what it gave so far, and then what the rest of the lines comes to over the
 -- journals of the whole run, is what all lines come to. So it is at each call of the source, as it was asked in a run.
-use Rattle.std.proofs.Common.{◌≡◌, ℕ, zero, suc, ◌+◌, ◌<◌, ◌≤◌, ◌==◌, nat_lt, Bool, true, false, ◌||◌, if◌then◌else◌, List, [], ◌∷◌, ◌++◌, map, length, take, drop, replicate, slice_index_or, Option, Some, None, refl, sym, ap, ◌∙◌, subst, arith, append_assoc, append-nil, lt-ltb, ◌⊎◌, inl, inr}
+use Rattle.std.proofs.Common.{◌≡◌, ℕ, zero, suc, ◌+◌, ◌<◌, ◌≤◌, ◌==◌, nat_lt, Bool, true, false, ◌||◌, if◌then◌else◌, List, [], ◌∷◌, ◌++◌, length, take, drop, slice_index_or, Option, None, refl, sym, ap, ◌∙◌, subst, arith, append_assoc, append-nil, lt-ltb, ◌⊎◌, inl, inr}
 use Rattle.std.specs.Prelude.{filter}
 use Rattle.std.specs.List.{AllByRecursion}
-use Rattle.std.proofs.lemmas.Bool.{cases_eq, cases_lt, or_left, or_right}
+use Rattle.std.proofs.lemmas.Bool.{cases_lt, or_left, or_right}
 use Rattle.std.proofs.lemmas.List.{length-append, append_cancel_left, drop_at, get_or-replicate, length-replicate}
 use Rattle.std.proofs.lemmas.List.Elements.{recursion_from_All}
 use Rattle.model_run.proofs.fixed_lines.FixedLaw.{messages_in_front as in_front}
@@ -12,7 +12,7 @@ use Rattle.journal.specs.declared.entry.Journals.{Journals}
 use Rattle.room_wiring.specs.declared.tables.Tables.{Tables}
 use Rattle.inject_reader.specs.declared.inject_lines.accepted.Line.{Line}
 use Rattle.actor_merge.specs.Parties.{State, begins}
-use Rattle.actor_merge.specs.World.{World, Placed, start, IsQuiet}
+use Rattle.actor_merge.specs.World.{Placed, start, IsQuiet}
 use Rattle.actor_merge.specs.Merge.{InOrder, entries_of}
 use Rattle.actor_merge.proofs.Extend.{entries_append}
 use Rattle.actor_world.specs.Body.{Body}
@@ -28,13 +28,12 @@ use Rattle.model_run.specs.part_source.Calls.{Seen, seen_in, Grew, told_done, St
 use Rattle.model_run.specs.part_source.Parts.{is_message}
 use Rattle.model_run.specs.run_ends.Runs.{IsRun}
 use Rattle.room_timer.specs.Timers.{Timers, no_timers}
-use Rattle.room_timer.specs.Expansion.{is_event, events_of, Point, beginning, cut_at, saw_all, caught_up, Expands}
+use Rattle.room_timer.specs.Expansion.{is_event, Point, beginning, cut_at, saw_all, caught_up, Expands}
 use Rattle.room_timer.specs.Laws.{IsPlain}
 use Rattle.timed_runs.specs.Unseen.{journal_at}
-use Rattle.timed_runs.specs.Passed.{Standing, messages_in_front, passed_on}
+use Rattle.timed_runs.specs.Passed.{Standing, messages_in_front}
 use Rattle.timed_runs.specs.Walks.{Walk, given_by, standing, Walks, Begins}
-use Rattle.timed_runs.proofs.Ending.{NoMore}
-use Rattle.timed_runs.proofs.Fronts.{front_is, end_is_quiet, order_front, order_back, order_rises}
+use Rattle.timed_runs.proofs.Fronts.{front_is, end_is_quiet, order_back, order_rises}
 use Rattle.timed_runs.proofs.Passing.{FollowsLater, all_follow, all_plain, FirstIsNone, no_line, first, first_is_none, none_in_front}
 use Rattle.timed_runs.proofs.Points.{Cut, cut_over, cut_whole, cut_stops, same_caught}
 use Rattle.timed_runs.proofs.Runs.{filter_both, no_others, messages, messages_both, all_messages, no_messages, line_count, begins_there, events_are, all_posts, is_quiet}

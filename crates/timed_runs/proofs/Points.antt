@@ -1,6 +1,6 @@
 -- Points of an expansion: what is seen at two of them at once, or one after another.
-use Rattle.std.proofs.Common.{◌≡◌, ℕ, zero, suc, ◌+◌, ◌<◌, ◌≤◌, ◌==◌, nat_lt, Bool, true, false, ◌||◌, if◌then◌else◌, List, [], ◌∷◌, ◌++◌, length, Option, Some, None, refl, sym, ap, ap₂, ◌∙◌, subst, arith, append_assoc, eq-eqb, ◌⊎◌, inl, inr}
-use Rattle.std.specs.Prelude.{ℤ, filter}
+use Rattle.std.proofs.Common.{◌≡◌, ℕ, zero, suc, ◌+◌, ◌≤◌, ◌==◌, nat_lt, Bool, true, false, ◌||◌, if◌then◌else◌, List, [], ◌∷◌, ◌++◌, length, Option, Some, None, refl, sym, ap, ◌∙◌, subst, arith, eq-eqb, ◌⊎◌, inl, inr}
+use Rattle.std.specs.Prelude.{ℤ}
 use Rattle.std.proofs.lemmas.Bool.{cases_eq, ne_eqb}
 use Rattle.room_kinds.specs.declared.numbers.Endpoint.{Endpoint}
 use Rattle.journal.specs.declared.entry.Entry.{Entry}
@@ -10,8 +10,8 @@ use Rattle.inject_reader.specs.declared.inject_lines.accepted.Line.{Line}
 use Rattle.actor_merge.specs.World.{Placed}
 use Rattle.actor_merge.specs.Merge.{entries_of}
 use Rattle.room_timer.specs.Services.{start_timer, kill_timer}
-use Rattle.room_timer.specs.Timers.{Timers, armed_at, disarmed, asked, is_request, sent_at, saw, moment}
-use Rattle.room_timer.specs.Expansion.{Point, before, cut_at, saw_all, cut_of, caught_up, goes_on, further, with_timers, is_message, settle, Advances, over, more, last, left_from, Expands, nothing, message, settled, advanced, cut_off}
+use Rattle.room_timer.specs.Timers.{Timers, disarmed, asked, is_request, sent_at, saw, moment}
+use Rattle.room_timer.specs.Expansion.{Point, before, cut_at, saw_all, cut_of, caught_up, goes_on, further, with_timers, settle, Advances, over, more, last, left_from, Expands, nothing, message, settled, advanced, cut_off}
 
 -- ---- cuts
 

@@ -1,5 +1,5 @@
 -- A walk as a source of parts, from one part to the next.
-use Rattle.std.proofs.Common.{◌≡◌, Bool, true, false, List, [], ◌∷◌, ◌++◌, map, length, drop, refl, sym, ap, ◌∙◌, subst}
+use Rattle.std.proofs.Common.{◌≡◌, Bool, false, List, [], map, drop, refl, sym, ap, ◌∙◌, subst}
 use Rattle.room_wiring.specs.declared.tables.Tables.{Tables}
 use Rattle.inject_reader.specs.declared.inject_lines.accepted.Line.{Line}
 use Rattle.inject_reader.specs.Fitting.{LinesFit}
@@ -8,7 +8,7 @@ use Rattle.model_run.specs.part_source.Parts.{NextPart}
 use Rattle.model_run.proofs.part_posts.FitLaw.{fit_drop}
 use Rattle.room_timer.specs.Expansion.{saw_all}
 use Rattle.room_timer.specs.Laws.{AllHear}
-use Rattle.timed_runs.specs.Passed.{Standing, messages_in_front, passed_on}
+use Rattle.timed_runs.specs.Passed.{messages_in_front}
 use Rattle.timed_runs.specs.Walks.{Walk, given_by, standing, Walks, Fits}
 use Rattle.timed_runs.proofs.Fitting.{StandsFit, all_fit, all_hear}
 use Rattle.timed_runs.proofs.Passing.{FollowsLater, next_part}

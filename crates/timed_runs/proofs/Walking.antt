@@ -1,9 +1,7 @@
 -- What a source of timed lines gives is what the lines come to.
 -- From a point at which all that happened is seen, lines are passed until a part begins. What was given for them, and
 -- then what the rest comes to from the part on, is what all of them come to from that point.
-use Rattle.std.proofs.Common.{◌≡◌, ℕ, zero, suc, ◌+◌, ◌-◌, ◌<◌, nat_lt, Bool, true, false, ◌||◌, if◌then◌else◌, cond, List, [], ◌∷◌, ◌++◌, length, take, drop, Option, Some, None, refl, sym, ap, ap₂, ◌∙◌, subst, arith, append_assoc, append-nil}
-use Rattle.std.specs.List.{prefix_len}
-use Rattle.std.proofs.lemmas.Bool.{or_left, or_right}
+use Rattle.std.proofs.Common.{◌≡◌, ℕ, suc, ◌+◌, ◌-◌, nat_lt, Bool, true, false, ◌||◌, if◌then◌else◌, cond, List, [], ◌∷◌, ◌++◌, length, take, drop, Option, Some, None, refl, sym, ap, ◌∙◌, subst, arith, append_assoc, append-nil}
 use Rattle.room_wiring.specs.declared.tables.Tables.{Tables}
 use Rattle.inject_reader.specs.declared.inject_lines.accepted.Line.{Line}
 use Rattle.inject_reader.specs.declared.inject_lines.accepted.What.{What}
@@ -12,8 +10,8 @@ use Rattle.actor_merge.specs.World.{Placed}
 use Rattle.model_run.specs.fixed_lines.Fixed.{message_line}
 use Rattle.model_run.specs.part_source.Parts.{is_message as asks_message}
 use Rattle.room_timer.specs.Timers.{Timers, moment}
-use Rattle.room_timer.specs.Expansion.{Point, saw_all, cut_of, caught_up, goes_on, further, with_timers, is_message, settle, Advances, over, more, last, left_from, Expands, nothing, message, settled, advanced, cut_off}
-use Rattle.timed_runs.specs.Passed.{Standing, at_end, messages_in_front, at_messages, advancing, advance_on, line_passed, passed, passed_on}
+use Rattle.room_timer.specs.Expansion.{Point, saw_all, cut_of, caught_up, goes_on, further, with_timers, is_message, settle, Advances, over, more, left_from, Expands, message, settled, advanced, cut_off}
+use Rattle.timed_runs.specs.Passed.{Standing, messages_in_front, advancing, advance_on, line_passed, passed, passed_on}
 use Rattle.timed_runs.proofs.Moments.{comes_to}
 use Rattle.timed_runs.proofs.Points.{Cut, Stops, stops_there, Same, same_now, time_same, advance_same, expands_same}
 

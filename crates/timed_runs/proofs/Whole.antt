@@ -1,5 +1,5 @@
 -- A timed run, from what a run over a source of timed lines answers.
-use Rattle.std.proofs.Common.{◌≡◌, ℕ, zero, suc, ◌+◌, ◌≤◌, Bool, true, false, List, [], ◌∷◌, ◌++◌, map, length, drop, Option, Some, None, Result, Ok, Err, IfOk, refl, sym, ap, ◌∙◌, subst, arith, append-nil, append_assoc}
+use Rattle.std.proofs.Common.{◌≡◌, ℕ, zero, suc, Bool, true, false, List, [], ◌∷◌, ◌++◌, length, drop, Option, refl, sym, ap, ◌∙◌, subst, arith, append-nil}
 use Rattle.std.specs.List.{AllByRecursion}
 use Rattle.std.proofs.lemmas.List.{length-append}
 use Rattle.journal.specs.declared.entry.Journals.{Journals}
@@ -12,7 +12,7 @@ use Rattle.actor_merge.proofs.Extend.{entries_append}
 use Rattle.controller_actors.specs.declared.plant.Plant.{Plant}
 use Rattle.model_run.specs.part_source.Calls.{Seen, seen_in, Grew, StoodQuiet, Asked, never, once_more}
 use Rattle.model_run.specs.run_ends.Runs.{IsRun, MayBeLeft, RanThrough}
-use Rattle.model_run.specs.run_ends.Runs.MayBeLeft.{nothing, from_settle}
+use Rattle.model_run.specs.run_ends.Runs.MayBeLeft.{nothing}
 use Rattle.model_run.proofs.part_source.CallsLaw.{grew_then, grew_none}
 use Rattle.room_timer.specs.Expansion.{IsExpansion, Expands, beginning}
 use Rattle.room_timer.specs.Laws.{IsPlain}
@@ -27,7 +27,7 @@ use Rattle.timed_runs.proofs.Fitting.{expands_fit}
 use Rattle.timed_runs.proofs.Passing.{none_in_front}
 use Rattle.timed_runs.proofs.Path.{stands, Stands, follows_of, behind_of, at_start, goes_there}
 use Rattle.timed_runs.proofs.Sourcing.{ends_again}
-use Rattle.timed_runs.proofs.Runs.{messages, messages_both, all_posts, is_merge}
+use Rattle.timed_runs.proofs.Runs.{messages_both, all_posts, is_merge}
 use Rattle.timed_runs.proofs.Walking.{Resumes}
 
 no_numbers : (lines : List Line) → numbers_of lines ≡ [] → lines ≡ []

@@ -1,8 +1,7 @@
 -- Worked examples: where a source of timed lines comes when all is quiet, over the model of `room_timer`'s examples.
-use Rattle.std.specs.Prelude.{◌≡◌, ℕ, true, false, List, [], ◌∷◌, Option, Some, None}
+use Rattle.std.specs.Prelude.{◌≡◌, ℕ, true, List, [], ◌∷◌, Option, Some, None}
 use Rattle.inject_reader.specs.declared.inject_lines.accepted.Line.{Line}
 use Rattle.actor_duties.specs.Words.{endpoint}
-use Rattle.room_timer.specs.declared.timer.Timer.{Timer}
 use Rattle.room_timer.specs.Timers.{Timers}
 use Rattle.room_timer.specs.Expansion.{settle}
 use Rattle.room_timer.specs.Examples.{advance, timeout_under}

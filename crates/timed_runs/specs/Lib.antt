@@ -2,5 +2,8 @@ pub mod Timed
 pub mod Unseen
 pub mod Passed
 pub mod Walks
+pub mod Steps
+pub mod Looks
+pub mod Shown
 pub mod Laws
 pub mod Examples

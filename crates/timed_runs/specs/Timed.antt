@@ -4,7 +4,7 @@
 -- `advance` are. What wasn't posted is told in the numbers of the lines that were given: from the first `settle` or
 -- `advance` on that wasn't finished. A `settle` is finished when all is quiet there, and an `advance` when all is quiet
 -- at the `settle` with which its expansion ends.
-use Rattle.std.specs.Prelude.{◌≡◌, ℕ, ◌+◌, Bool, true, List, [], ◌∷◌, map}
+use Rattle.std.specs.Prelude.{◌≡◌, ℕ, ◌+◌, true, List, [], ◌∷◌, map}
 use Rattle.journal.specs.declared.entry.Journals.{Journals}
 use Rattle.room_wiring.specs.declared.tables.Tables.{Tables}
 use Rattle.inject_reader.specs.declared.inject_lines.accepted.Line.{Line}

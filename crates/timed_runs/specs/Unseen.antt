@@ -1,7 +1,7 @@
 -- What happened since one looked last, in the order of the merge: by stamp, and at one stamp the lower party first.
 -- Of each party so many entries of its journal were seen. The entries behind them are seen one after another, the
 -- earliest first. It is told by what the parties' next entries are, and nothing is sorted.
-use Rattle.std.specs.Prelude.{◌≡◌, ℕ, zero, suc, ◌+◌, ◌<◌, nat_lt, ◌==◌, set, List, [], ◌∷◌, length, slice_get, slice_index_or, Option, Some, None, option_map, option_and_then, if◌then◌else◌}
+use Rattle.std.specs.Prelude.{◌≡◌, ℕ, zero, suc, ◌+◌, nat_lt, ◌==◌, set, List, [], ◌∷◌, length, slice_get, slice_index_or, Option, Some, None, option_map, option_and_then, if◌then◌else◌}
 use Rattle.journal.specs.declared.entry.Entry.{Entry}
 use Rattle.room_wiring.specs.declared.tables.Tables.{Tables}
 use Rattle.actor_merge.specs.Mail.{stamp_of}

@@ -1,11 +1,11 @@
 //! What the chart of a class has, at its places in the text: states, transitions and codes, those of its bases first.
 use crate::by_port::ByPort;
+use crate::items::Item;
 use crate::keys::named;
 use crate::source::Source;
 use indexmap::{IndexMap, IndexSet};
 use room_lexer::{Mark, Token, TokenKind, Word};
 use std::alloc::{AllocError, Global};
-use view_faults::Item;
 
 /// How deep states nest at most, with the top graph.
 const MOST_DEEP: usize = 17;
@@ -34,6 +34,8 @@ pub struct Chart {
     /// The keys of the transition points.
     doors: IndexSet<Vec<u8>>,
     arrows: Vec<Part>,
+    /// The states that have a graph, as their numbers.
+    composite: IndexSet<usize>,
     /// The entry, exit and action codes.
     codes: Vec<Item>,
     /// The messages that transitions name, by ports.
@@ -45,7 +47,7 @@ fn is_mark(token: &Token, mark: Mark) -> bool {
 }
 
 /// The message and the port of an event that begins behind a token: `<` or `|`.
-pub(crate) fn event_in(tokens: &[Token]) -> Option<(&Token, &Token)> {
+pub fn event_in(tokens: &[Token]) -> Option<(&Token, &Token)> {
     match tokens {
         [before, message, colon, port, ..]
             if is_mark(colon, Mark::Colon)
@@ -79,6 +81,7 @@ impl Chart {
             points: Vec::new(alloc),
             doors: IndexSet::new(alloc),
             arrows: Vec::new(alloc),
+            composite: IndexSet::new(alloc),
             codes: Vec::new(alloc),
             taken: ByPort::new(alloc),
         }
@@ -90,7 +93,7 @@ impl Chart {
     }
 
     /// The points and choice points.
-    pub(crate) fn points(&self) -> &[Part] {
+    pub fn points(&self) -> &[Part] {
         self.points.as_slice()
     }
 
@@ -120,6 +123,16 @@ impl Chart {
         }
     }
 
+    /// Whether a state has a graph, by its number.
+    pub fn is_composite(&self, state: usize) -> bool {
+        self.composite.contains(&state)
+    }
+
+    /// The number of the state of a key.
+    pub fn state_of(&self, key: &[u8]) -> Option<usize> {
+        self.by_key.get(key).copied()
+    }
+
     pub(crate) fn has_state(&self, key: &[u8]) -> bool {
         self.by_key.contains_key(key)
     }
@@ -139,10 +152,13 @@ impl Chart {
         for part in source.parts(item)?.as_slice() {
             match source.word(*part) {
                 Some(Word::Entry | Word::Exit) => self.codes.push(*part)?,
-                Some(Word::Subgraph) => below.push(Part {
-                    owner: Some(number),
-                    item: *part,
-                })?,
+                Some(Word::Subgraph) => {
+                    self.composite.insert(number)?;
+                    below.push(Part {
+                        owner: Some(number),
+                        item: *part,
+                    })?
+                }
                 _ => (),
             }
         }

@@ -1,9 +1,9 @@
 //! Where the text declares actor classes, and which are their bases.
+use crate::items::Item;
 use crate::source::Source;
 use indexmap::IndexMap;
 use room_lexer::{TokenKind, Word};
 use std::alloc::AllocError;
-use view_faults::Item;
 
 /// The actor and subsystem classes of a text, by name.
 #[derive(Drop)]

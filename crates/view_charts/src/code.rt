@@ -1,8 +1,8 @@
 //! Codes of a model: their texts joined, and where each byte stands in the model's text.
+use crate::items::Item;
 use crate::source::Source;
 use room_lexer::{LexFault, Token, TokenKind, lex};
 use std::alloc::{AllocError, Global};
-use view_faults::Item;
 
 /// A code: the bytes of its texts, joined by line feeds, where each of them stands in the model's text, and its
 /// tokens.

@@ -3,11 +3,11 @@
 //! The codes of an accepted model are programs (docs/ACTIONS.md), so the first tokens of a statement tell which it is.
 use crate::by_port::ByPort;
 use crate::code::Code;
+use crate::items::Item;
 use crate::source::Source;
 use indexmap::IndexSet;
 use room_lexer::{Mark, Token, TokenKind};
 use std::alloc::{AllocError, Global};
-use view_faults::Item;
 
 /// Where at a port a message is sent.
 #[derive(Clone, Copy, Drop, PartialEq, Eq, Hash)]
@@ -53,10 +53,10 @@ pub struct Deeds {
 
 /// What a statement sends: a message at a port.
 #[derive(Clone, Copy)]
-struct Sent<'a> {
-    port: &'a Token,
-    message: &'a Token,
-    index: Index,
+pub struct Sent<'a> {
+    pub port: &'a Token,
+    pub message: &'a Token,
+    pub index: Index,
 }
 
 fn is_mark(token: &Token, mark: Mark) -> bool {
@@ -106,7 +106,7 @@ fn index_of(tokens: &[Token]) -> Index {
 }
 
 /// What is sent where a statement begins with these tokens.
-fn sent_in(tokens: &[Token]) -> Option<Sent<'_>> {
+pub fn sent_in(tokens: &[Token]) -> Option<Sent<'_>> {
     let (port, rest) = tokens.split_first()?;
     if !is_name(port) {
         return None;

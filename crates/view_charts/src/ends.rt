@@ -5,7 +5,7 @@ use room_lexer::{Mark, Token, TokenKind, Word};
 
 /// The tokens between `:` and `->`, and those between `->` and the body, of a transition.
 #[derive(Clone, Copy)]
-pub(crate) struct Ends<'a> {
+pub struct Ends<'a> {
     pub source: &'a [Token],
     pub target: &'a [Token],
 }
@@ -24,7 +24,8 @@ fn before_body(tokens: &[Token]) -> &[Token] {
     }
 }
 
-pub(crate) fn ends_of<'a>(source: Source<'a>, arrow: Part) -> Option<Ends<'a>> {
+/// Where a transition begins and leads to, if it has an arrow.
+pub fn ends_of<'a>(source: Source<'a>, arrow: Part) -> Option<Ends<'a>> {
     let head = before_body(source.tokens_of(arrow.item));
     let colon = position_of(head, Mark::Colon)?;
     let mark = position_of(head, Mark::Arrow)?;
@@ -34,6 +35,7 @@ pub(crate) fn ends_of<'a>(source: Source<'a>, arrow: Part) -> Option<Ends<'a>> {
     })
 }
 
-pub(crate) fn is_word(token: &Token, word: Word) -> bool {
+/// Whether a token is a word of the language.
+pub fn is_word(token: &Token, word: Word) -> bool {
     token.kind == TokenKind::Ident(Some(word))
 }

@@ -18,12 +18,7 @@ pub(crate) fn marked(alloc: Global, key: &[u8], mark: u8) -> Result<Vec<u8>, All
 }
 
 /// The key of what has a name in a graph: that of the graph, a mark and the name.
-pub(crate) fn named(
-    alloc: Global,
-    graph: &[u8],
-    mark: u8,
-    name: &[u8],
-) -> Result<Vec<u8>, AllocError> {
+pub fn named(alloc: Global, graph: &[u8], mark: u8, name: &[u8]) -> Result<Vec<u8>, AllocError> {
     let mut whole = marked(alloc, graph, mark)?;
     whole.extend_from_slice(name)?;
     Ok(whole)

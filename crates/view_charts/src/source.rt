@@ -1,7 +1,7 @@
 //! The text of a model as its tokens and its parts.
+use crate::items::{Item, head_of, parts_of, tokens_of};
 use room_lexer::{Token, TokenKind, Word};
 use std::alloc::{AllocError, Global};
-use view_faults::{Item, head_of, parts_of, tokens_of};
 
 /// The text of a model and its tokens, and where memory for what is read of them comes from.
 #[derive(Clone, Copy)]

@@ -34,6 +34,17 @@ pub enum Mark {
     Door,
 }
 
+/// Where a point leads whose places aren't all joined.
+#[derive(Clone, Copy, Debug, PartialEq, Eq)]
+pub enum Leads {
+    /// Those that aren't joined lead to nothing, if there are any.
+    Within,
+    /// Out of all blocks.
+    Outside,
+    /// To points that aren't drawn as joined: they come together only later.
+    Later,
+}
+
 /// A block of a picture.
 #[derive(Drop)]
 pub struct Block {
@@ -59,9 +70,12 @@ pub struct Block {
 pub struct Point {
     pub mark: Mark,
     pub name: Vec<u8>,
-    /// How many places stand there, and how many of them are joined to nothing.
+    /// How many places stand there.
     pub places: u32,
+    /// How many places are joined, and how many to nothing, over all that the block stands for.
+    pub joined: u32,
     pub unjoined: u32,
+    pub leads: Leads,
 }
 
 /// Where a link ends: at a block, or at a point of it.
@@ -94,7 +108,8 @@ pub enum Sign {
     Colour(u8),
     Point(Mark),
     Dashes,
-    Unjoined,
+    /// The colour of points with places that aren't joined, and lead there.
+    Leads(Leads),
     History,
 }
 
@@ -102,6 +117,8 @@ pub enum Sign {
 #[derive(Drop)]
 pub struct Diagram {
     pub alloc: Global,
+    /// What stands above the picture.
+    pub title: Vec<u8>,
     pub blocks: Vec<Block>,
     pub points: Vec<Point>,
     pub links: Vec<Link>,
@@ -127,10 +144,34 @@ impl Block {
     }
 }
 
+impl Point {
+    /// A point of one place at which nothing is counted.
+    pub fn new(mark: Mark, name: Vec<u8>) -> Point {
+        Point {
+            mark,
+            name,
+            places: 1,
+            joined: 0,
+            unjoined: 0,
+            leads: Leads::Within,
+        }
+    }
+
+    /// How many places there lead to nothing.
+    pub fn lost(&self) -> u32 {
+        match self.leads {
+            Leads::Within => self.unjoined,
+            Leads::Outside | Leads::Later => 0,
+        }
+    }
+}
+
 impl Diagram {
+    /// A picture of nothing, without a title.
     pub fn new(alloc: Global, is_directed: bool) -> Diagram {
         Diagram {
             alloc,
+            title: Vec::new(alloc),
             blocks: Vec::new(alloc),
             points: Vec::new(alloc),
             links: Vec::new(alloc),

@@ -1,6 +1,6 @@
 //! A picture as a graph for Graphviz.
 use crate::colours::light;
-use crate::diagram::{Block, Diagram, End, Link, Mark, Point, Shape, Sign};
+use crate::diagram::{Block, Diagram, End, Leads, Link, Mark, Point, Shape, Sign};
 use crate::nesting::{Blocks, Step, blocks_of, is_set, steps_of};
 use std::alloc::AllocError;
 use view_journals::view_pages::Page;
@@ -109,12 +109,24 @@ fn put_point(page: &mut Page, number: usize, point: &Point) -> Result<(), AllocE
         page.put(b"]")?;
     }
     page.put(b"\"")?;
-    if point.unjoined > 0 {
-        page.put(b" color=\"#cc0000\" tooltip=\"")?;
-        page.put_number(u64::from(point.unjoined))?;
-        page.put(b" unjoined\"")?;
-    }
+    put_leads(page, point)?;
     page.put_line(b"]")
+}
+
+/// Where a point leads whose places aren't all joined.
+fn put_leads(page: &mut Page, point: &Point) -> Result<(), AllocError> {
+    if point.unjoined == 0 {
+        return Ok(());
+    }
+    match point.leads {
+        Leads::Within => {
+            page.put(b" color=\"#cc0000\" tooltip=\"")?;
+            page.put_number(u64::from(point.unjoined))?;
+            page.put(b" unjoined\"")
+        }
+        Leads::Outside => page.put(b" color=\"#1f8a3a\" tooltip=\"leads outside\""),
+        Leads::Later => page.put(b" color=\"#6b3fa0\" tooltip=\"joined later\""),
+    }
 }
 
 /// The node at which links end that end at a block in which something stands.
@@ -196,7 +208,9 @@ pub fn put_dot(page: &mut Page, diagram: &Diagram) -> Result<(), AllocError> {
         (b"graph picture {", b" -- ")
     };
     page.put_line(head)?;
-    page.put_line(b"graph [rankdir=LR fontname=monospace]")?;
+    page.put(b"graph [rankdir=LR fontname=monospace labelloc=t label=\"")?;
+    put_letters(page, diagram.title.as_slice())?;
+    page.put_line(b"\"]")?;
     page.put_line(b"node [fontname=monospace fontsize=10]")?;
     page.put_line(b"edge [fontname=monospace fontsize=10]")?;
     let blocks = blocks_of(diagram)?;

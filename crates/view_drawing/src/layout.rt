@@ -3,61 +3,17 @@
 //! Blocks stand in a column, right edges in one line. To the right of the column come the labels of links, then the
 //! tracks on which links run up and down, then the names of the points on the container's own border. A link leaves
 //! the right edge of a block in a row of its own, so that no link runs over a block or a text.
-use crate::diagram::{Block, Diagram, End, Mark, Point, Shape};
+//!
+//! Where links lead from one end to the other one, and there is room, a second column stands behind the tracks, with
+//! labels of its own before it: links leave the left edges of its blocks, and the points of these stand there. Its rows
+//! are half a row off those of the first column, so that lines from both sides never run into one.
+use crate::diagram::{Block, Diagram, End, Link, Mark, Point, Shape};
+use crate::place::{GAP, LETTER, NOWHERE, OFF, PAD, Place, ROW, sum, text_width};
+use crate::sides::{is_right, sides_of};
 use std::alloc::AllocError;
-
-/// The width of a letter.
-pub const LETTER: usize = 7;
-
-/// The height of a row.
-pub const ROW: usize = 20;
-
-/// How far below the top of its row a link runs.
-pub const LINE: usize = 15;
-
-/// The space inside of a border, and around the picture.
-pub const PAD: usize = 16;
-
-/// The space between two blocks, and between two parts of a row.
-const GAP: usize = 14;
-
-const TRACK: usize = 10;
 
 /// The space that a mark takes before the name of a point.
 const MARK_SPACE: usize = 12;
-
-const LEAST_WIDTH: usize = 56;
-
-/// The most that the width of a block or its height can be.
-const MOST: usize = 1 << 40;
-
-/// Where a block stands, how large it is, and how wide its parts are.
-#[derive(Clone, Copy)]
-pub struct Place {
-    pub x: usize,
-    pub y: usize,
-    pub width: usize,
-    pub height: usize,
-    /// The rows below the title.
-    pub rows: usize,
-    /// The first row of links that leave the block itself.
-    pub first_row: usize,
-    /// The width of the column of the blocks in it.
-    pub column: usize,
-    /// The height of the blocks in it.
-    pub inside: usize,
-    /// The width of the labels of the links in it.
-    pub labels: usize,
-    /// How many tracks there are in it.
-    pub tracks: usize,
-    /// The width of the names of its points.
-    pub names: usize,
-    /// How many links leave the block itself.
-    pub leaving: usize,
-    /// The track of the links that lead to it.
-    pub track: Option<usize>,
-    pub has_blocks: bool,
-}
 
 /// The rows of a point, and the track of the links that lead to it.
 #[derive(Clone, Copy)]
@@ -86,69 +42,11 @@ pub struct Layout {
     pub height: usize,
 }
 
-impl Place {
-    /// Whether something stands in the block.
-    pub fn is_open(&self) -> bool {
-        self.has_blocks || self.tracks > 0
-    }
-
-    /// The row of a link among those of a block.
-    pub fn line(&self, row: usize) -> usize {
-        sum(&[self.y, row.saturating_mul(ROW), LINE])
-    }
-
-    /// Where the labels of the links in the block begin.
-    pub fn labels_from(&self) -> usize {
-        sum(&[self.x, PAD, self.column, GAP])
-    }
-
-    /// Where a track of the block runs.
-    pub fn track(&self, track: usize) -> usize {
-        let before = track.saturating_mul(TRACK);
-        sum(&[self.labels_from(), self.labels, before])
-    }
-
-    pub fn right(&self) -> usize {
-        sum(&[self.x, self.width])
-    }
-}
-
-const NOWHERE: Place = Place {
-    x: 0,
-    y: 0,
-    width: 0,
-    height: 0,
-    rows: 0,
-    first_row: 0,
-    column: 0,
-    inside: 0,
-    labels: 0,
-    tracks: 0,
-    names: 0,
-    leaving: 0,
-    track: None,
-    has_blocks: false,
-};
-
 const NO_ROW: PointPlace = PointPlace {
     row: 0,
     leaving: 0,
     track: None,
 };
-
-/// The width of a text.
-pub fn text_width(text: &[u8]) -> usize {
-    text.len().saturating_mul(LETTER)
-}
-
-/// A sum that stays in bounds.
-pub fn sum(parts: &[usize]) -> usize {
-    let mut whole = 0usize;
-    for part in parts {
-        whole = whole.saturating_add(*part).min(MOST);
-    }
-    whole
-}
 
 impl Layout {
     /// The place of a block; the one of no width where there is no such block.
@@ -236,12 +134,35 @@ impl Layout {
             let order = self.leave(link.from);
             let track = self.track_of(diagram.is_directed, link.inside, link.to);
             self.links.push(LinkPlace { order, track })?;
-            let width = text_width(link.label.shown.as_slice()).saturating_add(LETTER);
-            if let Some(place) = self.places.as_mut_slice().get_mut(link.inside) {
-                place.labels = place.labels.max(width);
-            }
+            self.place_label(link);
         }
         Ok(())
+    }
+
+    /// Whether the label of a link stands before the second column: it leaves a block there, or comes in over it.
+    pub fn is_leftward(&self, link: &Link) -> bool {
+        let from = self.place(link.from.block);
+        if link.from.block == link.inside {
+            from.has_columns && !from.is_right
+        } else {
+            from.is_right
+        }
+    }
+
+    /// Makes room for the label of a link. On which side its block stands is known only later.
+    fn place_label(&mut self, link: &Link) {
+        let width = text_width(link.label.shown.as_slice()).saturating_add(LETTER);
+        let is_over = link.from.block == link.inside;
+        let is_leftward = self.place(link.from.block).is_right;
+        if let Some(place) = self.places.as_mut_slice().get_mut(link.inside) {
+            place.only.labels = place.only.labels.max(width);
+            if is_over || is_leftward {
+                place.right.labels = place.right.labels.max(width);
+            }
+            if is_over == is_leftward {
+                place.left.labels = place.left.labels.max(width);
+            }
+        }
     }
 
     /// The rows of the points of a block, from a row on; gives the row behind them.
@@ -290,69 +211,119 @@ impl Layout {
             return;
         };
         place.names = names;
-        let own = title_width(block).max(notes_width(block));
-        place.width = sum(&[own.max(inside_width(place)), PAD, PAD]).max(LEAST_WIDTH);
-        let rows = place.rows.saturating_mul(ROW).min(MOST);
-        place.height = if block.shape == Shape::Start {
-            ROW
-        } else if place.is_open() {
-            sum(&[rows, place.inside, PAD])
-        } else {
-            sum(&[rows, 6])
-        };
-        let (width, height) = (place.width, place.height);
-        self.hold(block.container, width, height);
+        place.measure(
+            title_width(block).max(notes_width(block)),
+            diagram.is_directed,
+        );
+        let measured = *place;
+        self.hold(block, measured);
     }
 
-    /// Makes room for a block in the one that it stands in.
-    fn hold(&mut self, container: Option<usize>, width: usize, height: usize) {
-        if let Some(container) = container
-            && let Some(place) = self.places.as_mut_slice().get_mut(container)
-        {
-            place.has_blocks = true;
-            place.column = place.column.max(width);
-            place.inside = sum(&[place.inside, height, GAP]);
+    /// Makes room for a block in the one that it stands in. Where a graph begins the second column has nothing.
+    fn hold(&mut self, block: &Block, measured: Place) {
+        let (width, height) = (measured.width, measured.height);
+        let Some(container) = block.container else {
+            return;
+        };
+        let Some(place) = self.places.as_mut_slice().get_mut(container) else {
+            return;
+        };
+        place.has_blocks = true;
+        place.only.hold(width, height);
+        if measured.is_right {
+            place.right.hold(width, height);
+        } else {
+            place.left.hold(width, height);
         }
+        if block.shape == Shape::Start {
+            place.right.pass(height);
+        }
+    }
+
+    /// Where a block stands in its container, below those that stand there already.
+    fn spot(&self, container: usize, place: Place) -> (usize, usize) {
+        let around = self.place(container);
+        let rows = around.rows.saturating_mul(ROW);
+        if place.is_right {
+            let top = sum(&[around.y, rows, OFF, around.right.height, GAP]);
+            return (sum(&[around.labels_to(), GAP]), top);
+        }
+        let right = sum(&[around.x, PAD, around.left.width]);
+        let top = sum(&[around.y, rows, around.left.height, GAP]);
+        (right.saturating_sub(place.width), top)
+    }
+
+    /// Where a block stands that stands in no other one.
+    fn put_outermost(&mut self, place: Place) -> (usize, usize) {
+        let y = sum(&[PAD, self.height]);
+        self.height = sum(&[y, place.height]);
+        self.width = self.width.max(sum(&[PAD, place.width, PAD]));
+        (PAD, y)
     }
 
     /// Puts a block below the ones that stand already in its container, whose room is counted anew meanwhile.
     fn put(&mut self, number: usize, block: &Block) {
-        let place = self.place(number);
-        let (x, y) = match block.container {
-            None => (PAD, sum(&[PAD, self.height])),
+        let mut place = self.place(number);
+        let spot = match block.container {
+            None => self.put_outermost(place),
             Some(container) => {
-                let around = self.place(container);
-                let right = sum(&[around.x, PAD, around.column]);
-                let top = sum(&[around.y, around.rows.saturating_mul(ROW), around.inside]);
-                self.take(container, place.height);
-                (right.saturating_sub(place.width), sum(&[top, GAP]))
+                place.is_right = place.is_right && self.place(container).has_columns;
+                let spot = self.spot(container, place);
+                self.take(container, block, place);
+                spot
             }
         };
-        if block.container.is_none() {
-            self.height = sum(&[y, place.height]);
-            self.width = self.width.max(sum(&[x, place.width, PAD]));
-        }
-        if let Some(place) = self.places.as_mut_slice().get_mut(number) {
-            place.x = x;
-            place.y = y;
+        place.x = spot.0;
+        place.y = spot.1;
+        if let Some(kept) = self.places.as_mut_slice().get_mut(number) {
+            *kept = place;
         }
     }
 
     /// Counts the room of a block in the one that it stands in.
-    fn take(&mut self, container: usize, height: usize) {
-        if let Some(place) = self.places.as_mut_slice().get_mut(container) {
-            place.inside = sum(&[place.inside, height, GAP]);
+    fn take(&mut self, container: usize, block: &Block, taken: Place) {
+        let Some(place) = self.places.as_mut_slice().get_mut(container) else {
+            return;
+        };
+        if taken.is_right {
+            place.right.pass(taken.height);
+        } else {
+            place.left.pass(taken.height);
+        }
+        if block.shape == Shape::Start {
+            place.right.pass(taken.height);
         }
     }
-}
 
-/// The width of what stands in a block.
-fn inside_width(place: &Place) -> usize {
-    if !place.is_open() {
-        return place.names;
+    /// Says of each block on which side it stands, where its container has two columns.
+    fn choose_sides(&mut self, diagram: &Diagram) -> Result<(), AllocError> {
+        let sides = sides_of(diagram)?;
+        for (number, block) in diagram.blocks.as_slice().iter().enumerate() {
+            self.choose_side(number, block.container, is_right(&sides, number));
+        }
+        Ok(())
     }
-    let tracks = place.tracks.saturating_mul(TRACK).min(MOST);
-    sum(&[place.column, GAP, place.labels, tracks, GAP, place.names])
+
+    fn choose_side(&mut self, number: usize, container: Option<usize>, is_right: bool) {
+        if let Some(place) = self.places.as_mut_slice().get_mut(number) {
+            place.is_right = is_right;
+            place.is_outermost = container.is_none();
+        }
+        if is_right
+            && let Some(container) = container
+            && let Some(place) = self.places.as_mut_slice().get_mut(container)
+        {
+            place.has_columns = true;
+        }
+    }
+
+    /// Leaves room for the title of the picture.
+    fn put_title(&mut self, title: &[u8]) {
+        if !title.is_empty() {
+            self.height = ROW;
+            self.width = sum(&[PAD, text_width(title), PAD]);
+        }
+    }
 }
 
 fn title_width(block: &Block) -> usize {
@@ -391,11 +362,11 @@ fn letters_behind(point: &Point) -> usize {
     } else {
         digits(point.places).saturating_add(2)
     };
-    if point.unjoined == 0 {
+    if point.lost() == 0 {
         return places;
     }
     // a blank, the number and ` unjoined`
-    sum(&[places, digits(point.unjoined), 10])
+    sum(&[places, digits(point.lost()), 10])
 }
 
 /// The width of the names of the points of a block.
@@ -422,6 +393,7 @@ pub fn lay_out(diagram: &Diagram) -> Result<Layout, AllocError> {
         width: 0,
         height: 0,
     };
+    layout.choose_sides(diagram)?;
     layout.place_links(diagram)?;
     for (number, block) in diagram.blocks.as_slice().iter().enumerate() {
         layout.place_rows(diagram, number, block);
@@ -430,8 +402,10 @@ pub fn lay_out(diagram: &Diagram) -> Result<Layout, AllocError> {
         layout.measure(diagram, number, block);
     }
     for place in layout.places.as_mut_slice() {
-        place.inside = 0;
+        place.left.height = 0;
+        place.right.height = 0;
     }
+    layout.put_title(diagram.title.as_slice());
     for (number, block) in diagram.blocks.as_slice().iter().enumerate() {
         layout.put(number, block);
     }

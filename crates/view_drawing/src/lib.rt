@@ -12,18 +12,21 @@
 mod colours;
 mod diagram;
 mod dot;
+mod grid;
 mod layout;
 mod mermaid;
 mod nesting;
+mod place;
 mod plain;
 mod sequence;
 mod sequence_dot;
 mod sequence_mermaid;
 mod sequence_svg;
 mod shapes;
+mod sides;
 mod svg;
 
-pub use diagram::{Block, Diagram, End, Key, Link, Mark, Point, Shape, Sign};
+pub use diagram::{Block, Diagram, End, Key, Leads, Link, Mark, Point, Shape, Sign};
 pub use dot::put_dot;
 pub use mermaid::put_mermaid;
 pub use plain::{Label, add_name, add_plain, name_of, tail_of};

@@ -1,6 +1,7 @@
 //! A picture as a flowchart for Mermaid.
 use crate::colours::light;
 use crate::diagram::{Block, Diagram, End, Link, Mark, Point, Shape, Sign};
+use crate::dot;
 use crate::nesting::{Step, blocks_of, steps_of};
 use std::alloc::AllocError;
 use view_journals::view_pages::Page;
@@ -81,9 +82,9 @@ fn put_point(page: &mut Page, number: usize, point: &Point) -> Result<(), AllocE
         page.put_number(u64::from(point.places))?;
         page.put(b"#93;")?;
     }
-    if point.unjoined > 0 {
+    if point.lost() > 0 {
         page.put(b"<br/>")?;
-        page.put_number(u64::from(point.unjoined))?;
+        page.put_number(u64::from(point.lost()))?;
         page.put(b" unjoined")?;
     }
     page.put_line(behind)
@@ -161,8 +162,21 @@ fn put_legend(page: &mut Page, diagram: &Diagram) -> Result<(), AllocError> {
     Ok(())
 }
 
+/// The title above a picture, if it has one, between quotation marks as YAML has them.
+pub fn put_title(page: &mut Page, title: &[u8]) -> Result<(), AllocError> {
+    if title.is_empty() {
+        return Ok(());
+    }
+    page.put_line(b"---")?;
+    page.put(b"title: \"")?;
+    dot::put_letters(page, title)?;
+    page.put_line(b"\"")?;
+    page.put_line(b"---")
+}
+
 /// Puts a picture as a text of which Mermaid makes one.
 pub fn put_mermaid(page: &mut Page, diagram: &Diagram) -> Result<(), AllocError> {
+    put_title(page, diagram.title.as_slice())?;
     page.put_line(b"flowchart LR")?;
     let blocks = blocks_of(diagram)?;
     for step in steps_of(diagram, &blocks)?.as_slice() {

@@ -4,6 +4,9 @@ use std::alloc::{AllocError, Global};
 /// The most letters of a label.
 const MOST_LETTERS: usize = 40;
 
+/// The most letters of a label that says several things one after another.
+const MOST_LONG: usize = 56;
+
 /// A text as a picture shows it, and as a whole.
 #[derive(Drop)]
 pub struct Label {
@@ -45,13 +48,18 @@ pub fn add_plain(to: &mut Vec<u8>, text: &[u8]) -> Result<(), AllocError> {
     Ok(())
 }
 
+/// Adds a text, cut after so many letters.
+fn add_cut(to: &mut Vec<u8>, text: &[u8], most: usize) -> Result<(), AllocError> {
+    if text.len() <= most {
+        return to.extend_from_slice(text);
+    }
+    to.extend_from_slice(text.get(..most.saturating_sub(2)).unwrap_or(&[]))?;
+    to.extend_from_slice(b"..")
+}
+
 /// Adds a name, cut after so many letters that fit into a picture.
 pub fn add_name(to: &mut Vec<u8>, name: &[u8]) -> Result<(), AllocError> {
-    if name.len() <= MOST_LETTERS {
-        return to.extend_from_slice(name);
-    }
-    to.extend_from_slice(name.get(..MOST_LETTERS.saturating_sub(2)).unwrap_or(&[]))?;
-    to.extend_from_slice(b"..")
+    add_cut(to, name, MOST_LETTERS)
 }
 
 /// The last letters of a name, as many as fit into a picture.
@@ -70,6 +78,13 @@ pub fn name_of(alloc: Global, name: &[u8]) -> Result<Vec<u8>, AllocError> {
 impl Label {
     pub fn of(alloc: Global, whole: Vec<u8>) -> Result<Label, AllocError> {
         let shown = name_of(alloc, whole.as_slice())?;
+        Ok(Label { shown, whole })
+    }
+
+    /// A label that says several things one after another.
+    pub fn long(alloc: Global, whole: Vec<u8>) -> Result<Label, AllocError> {
+        let mut shown = Vec::new(alloc);
+        add_cut(&mut shown, whole.as_slice(), MOST_LONG)?;
         Ok(Label { shown, whole })
     }
 

@@ -78,6 +78,8 @@ pub struct Row {
 #[derive(Drop)]
 pub struct Sequence {
     pub alloc: Global,
+    /// What stands above the picture.
+    pub title: Vec<u8>,
     pub groups: Vec<Group>,
     /// The lifelines, those of one group side by side.
     pub lifelines: Vec<Lifeline>,
@@ -85,10 +87,11 @@ pub struct Sequence {
 }
 
 impl Sequence {
-    /// A run in which nothing happens.
+    /// A run in which nothing happens, without a title.
     pub fn new(alloc: Global) -> Sequence {
         Sequence {
             alloc,
+            title: Vec::new(alloc),
             groups: Vec::new(alloc),
             lifelines: Vec::new(alloc),
             rows: Vec::new(alloc),

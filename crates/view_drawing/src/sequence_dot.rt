@@ -144,7 +144,9 @@ fn put_way(page: &mut Page, number: usize, lead: Lead) -> Result<(), AllocError>
 /// messages between rows.
 pub fn put_sequence_dot(page: &mut Page, sequence: &Sequence) -> Result<(), AllocError> {
     page.put_line(b"digraph run {")?;
-    page.put_line(b"graph [rankdir=TB ranksep=0.1 fontname=monospace newrank=true]")?;
+    page.put(b"graph [rankdir=TB ranksep=0.1 fontname=monospace newrank=true labelloc=t label=\"")?;
+    put_letters(page, sequence.title.as_slice())?;
+    page.put_line(b"\"]")?;
     page.put_line(b"node [fontname=monospace fontsize=10 height=0.25]")?;
     page.put(b"{rank=same; clock")?;
     for number in 0..sequence.lifelines.len() {

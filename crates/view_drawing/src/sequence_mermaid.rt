@@ -1,6 +1,6 @@
 //! A run as a sequence diagram for Mermaid.
 use crate::colours::light;
-use crate::mermaid::{put_letters, put_name};
+use crate::mermaid::{put_letters, put_name, put_title};
 use crate::sequence::{Event, Lead, Row, Sequence, Way};
 use std::alloc::AllocError;
 use view_journals::view_pages::Page;
@@ -105,6 +105,7 @@ fn put_row(page: &mut Page, sequence: &Sequence, row: &Row) -> Result<(), AllocE
 /// Puts a run as a text of which Mermaid makes a sequence diagram: a message as an arrow in the row of its post, and
 /// its turn as a note.
 pub fn put_sequence_mermaid(page: &mut Page, sequence: &Sequence) -> Result<(), AllocError> {
+    put_title(page, sequence.title.as_slice())?;
     page.put_line(b"sequenceDiagram")?;
     put_lifelines(page, sequence)?;
     for row in sequence.rows.as_slice() {

@@ -1,199 +1,21 @@
 //! A run as SVG: lifelines in bands of the colours of their groups, time from above to below.
 use crate::colours::light;
-use crate::layout::{LETTER, PAD, ROW, sum, text_width};
+use crate::grid::{CLOCK, Grid, HEAD, LOOP, TOP, grid_of};
+use crate::place::{PAD, ROW, sum, text_width};
 use crate::sequence::{Event, Lead, Row, Sequence, Way};
 use crate::shapes::{
     Anchor, Area, BLACK, Ink, RED, WHITE, before, behind, plain_ink, put_area, put_circle,
-    put_corners, put_head, put_line_to, put_path, put_tooltip, put_words,
+    put_corners, put_head, put_line_to, put_path, put_title, put_tooltip, put_words,
 };
-use std::alloc::{AllocError, Global};
+use std::alloc::AllocError;
 use view_journals::view_pages::Page;
 
-/// The width of the column of stamps.
-const CLOCK: usize = 14 * LETTER + PAD;
-
-/// Where the title of a group, the head of a lifeline, and the first row begin.
-const TITLE: usize = PAD + 15;
-
-const HEAD: usize = PAD + 24;
-
-const FIRST: usize = HEAD + 2 * ROW + 6;
-
-/// The least width of a lifeline's column.
-const LEAST: usize = 110;
-
-/// How far a message leaves a lifeline to which it comes back.
-const LOOP: usize = 18;
-
-/// How far from a lifeline its texts stand.
-const ASIDE: usize = 8;
+/// Where the title of a group stands.
+const TITLE: usize = TOP + 15;
 
 const BLUE: &[u8] = b"#1f4e79";
 
 const GREY: &[u8] = b"#777777";
-
-/// Where the columns and the rows of a run stand.
-#[derive(Drop)]
-struct Grid {
-    /// The middle of each lifeline, and half the width of its column.
-    columns: Vec<(usize, usize)>,
-    /// The line of each row.
-    lines: Vec<usize>,
-    width: usize,
-    height: usize,
-}
-
-/// The widths of the columns: wide enough for the titles and the states.
-fn widths_of(sequence: &Sequence) -> Result<Vec<usize>, AllocError> {
-    let mut widths = Vec::new(sequence.alloc);
-    for lifeline in sequence.lifelines.as_slice() {
-        widths.push(sum(&[text_width(lifeline.title.as_slice()), PAD, PAD]).max(LEAST))?;
-    }
-    for row in sequence.rows.as_slice() {
-        if row.event == Event::State
-            && let Some(width) = widths.as_mut_slice().get_mut(row.lifeline)
-        {
-            let state = sum(&[text_width(row.text.shown.as_slice()), PAD, PAD]);
-            *width = state.max(*width);
-        }
-    }
-    Ok(widths)
-}
-
-/// The columns side by side from a place on.
-fn columns_of(
-    alloc: Global,
-    widths: &[usize],
-    from: usize,
-) -> Result<Vec<(usize, usize)>, AllocError> {
-    let mut columns = Vec::new(alloc);
-    let mut left = from;
-    for width in widths {
-        columns.push((sum(&[left, *width / 2]), *width / 2))?;
-        left = sum(&[left, *width]);
-    }
-    Ok(columns)
-}
-
-/// The lines of the rows.
-fn lines_of(sequence: &Sequence) -> Result<Vec<usize>, AllocError> {
-    let mut lines = Vec::new(sequence.alloc);
-    let mut line = FIRST;
-    for (number, row) in sequence.rows.as_slice().iter().enumerate() {
-        if number > 0 && !row.is_beside {
-            line = sum(&[line, ROW]);
-        }
-        lines.push(line)?;
-    }
-    Ok(lines)
-}
-
-/// Whether the text of a row stands to the left of its lifeline: its message goes there.
-fn is_leftward(row: &Row) -> bool {
-    match row.lead {
-        Some(lead) => row.event == Event::Post && lead.lifeline < row.lifeline,
-        None => false,
-    }
-}
-
-/// Whether the message of a row comes back to its lifeline.
-fn comes_back(row: &Row) -> bool {
-    match row.lead {
-        Some(lead) => lead.lifeline == row.lifeline,
-        None => false,
-    }
-}
-
-/// How far from its lifeline the text of a row stands.
-fn aside(row: &Row) -> usize {
-    if comes_back(row) {
-        LOOP + ASIDE
-    } else if row.event == Event::Discarded {
-        ASIDE + 4
-    } else {
-        ASIDE
-    }
-}
-
-fn middle_of(columns: &[(usize, usize)], lifeline: usize) -> usize {
-    match columns.get(lifeline) {
-        Some((middle, _)) => *middle,
-        None => CLOCK,
-    }
-}
-
-/// How far to the right the columns have to stand, so that texts to the left of a lifeline end behind the clock.
-fn first_column(sequence: &Sequence, columns: &[(usize, usize)]) -> usize {
-    let mut first = CLOCK;
-    for row in sequence.rows.as_slice() {
-        if is_leftward(row) {
-            let text = sum(&[text_width(row.text.shown.as_slice()), ASIDE, CLOCK]);
-            first = first.max(text.saturating_sub(middle_of(columns, row.lifeline)));
-        }
-    }
-    first
-}
-
-/// How wide a run is with all its texts.
-fn width_of(sequence: &Sequence, columns: &[(usize, usize)]) -> usize {
-    let mut width = CLOCK;
-    for (middle, half) in columns {
-        width = width.max(sum(&[*middle, *half]));
-    }
-    for row in sequence.rows.as_slice() {
-        let text = text_width(row.text.shown.as_slice());
-        let end = if row.event == Event::Divider {
-            sum(&[CLOCK, text])
-        } else if is_leftward(row) {
-            0
-        } else {
-            sum(&[middle_of(columns, row.lifeline), aside(row), text])
-        };
-        width = width.max(end);
-    }
-    sum(&[width, PAD])
-}
-
-/// Lays a run out. It takes time and memory linear in its parts.
-fn grid_of(sequence: &Sequence) -> Result<Grid, AllocError> {
-    let alloc = sequence.alloc;
-    let widths = widths_of(sequence)?;
-    let narrow = columns_of(alloc, widths.as_slice(), 0)?;
-    let first = first_column(sequence, narrow.as_slice());
-    let columns = columns_of(alloc, widths.as_slice(), first)?;
-    let lines = lines_of(sequence)?;
-    let last = lines.as_slice().last().copied().unwrap_or(FIRST);
-    let width = width_of(sequence, columns.as_slice());
-    Ok(Grid {
-        columns,
-        lines,
-        width,
-        height: sum(&[last, ROW, PAD]),
-    })
-}
-
-impl Grid {
-    fn middle(&self, lifeline: usize) -> usize {
-        middle_of(self.columns.as_slice(), lifeline)
-    }
-
-    /// Where the column of a lifeline begins, and where it ends.
-    fn sides(&self, lifeline: usize) -> (usize, usize) {
-        match self.columns.as_slice().get(lifeline) {
-            Some((middle, half)) => (before(*middle, *half), behind(*middle, *half)),
-            None => (CLOCK, CLOCK),
-        }
-    }
-
-    fn line(&self, row: usize) -> usize {
-        self.lines.as_slice().get(row).copied().unwrap_or(FIRST)
-    }
-
-    /// Where a lifeline is in a row.
-    fn place(&self, lifeline: usize, row: usize) -> (usize, usize) {
-        (self.middle(lifeline), self.line(row))
-    }
-}
 
 /// The arrows' tips.
 fn put_tips(page: &mut Page) -> Result<(), AllocError> {
@@ -220,9 +42,9 @@ fn put_band(
     let (left, right) = grid.sides(lifeline);
     let area = Area {
         x: left,
-        y: PAD,
+        y: TOP,
         width: before(right, left),
-        height: before(grid.height, PAD + PAD),
+        height: before(grid.height, TOP + PAD),
         rounding: 0,
     };
     put_area(page, area, plain_ink(colour, colour))
@@ -359,7 +181,7 @@ fn colour_of(event: Event) -> &'static [u8] {
 }
 
 /// The text of a row beside its lifeline, above the way of its message.
-fn put_text(page: &mut Page, at: (usize, usize), row: &Row) -> Result<(), AllocError> {
+fn put_text(page: &mut Page, grid: &Grid, number: usize, row: &Row) -> Result<(), AllocError> {
     if row.event == Event::State || row.text.shown.is_empty() {
         return Ok(());
     }
@@ -367,29 +189,44 @@ fn put_text(page: &mut Page, at: (usize, usize), row: &Row) -> Result<(), AllocE
     let text = row.text.shown.as_slice();
     page.put_line(b"<g>")?;
     put_tooltip(page, row.text.whole.as_slice())?;
+    let line = grid.line(number);
     let y = if row.event == Event::Post {
-        before(at.1, 4)
+        before(line, 4)
     } else {
-        behind(at.1, 4)
+        behind(line, 4)
     };
-    if is_leftward(row) {
-        put_words(page, (before(at.0, ASIDE), y), Anchor::End, colour, text)?;
+    let (x, is_leftward) = grid.text_from(number, row);
+    let anchor = if is_leftward {
+        Anchor::End
     } else {
-        let x = behind(at.0, aside(row));
-        put_words(page, (x, y), Anchor::Begin, colour, text)?;
-    }
+        Anchor::Begin
+    };
+    put_words(page, (x, y), anchor, colour, text)?;
     page.put_line(b"</g>")
 }
 
-/// A line of text over all lifelines.
-fn put_divider(page: &mut Page, grid: &Grid, line: usize, text: &[u8]) -> Result<(), AllocError> {
+/// A line over all lifelines.
+fn put_divider(page: &mut Page, grid: &Grid, line: usize) -> Result<(), AllocError> {
     let drawn = Ink {
         fill: b"none",
         stroke: BLACK,
         dashes: b"1 3",
     };
-    put_path(page, &[(PAD, line), (before(grid.width, PAD), line)], drawn)?;
-    put_words(page, (CLOCK, before(line, 4)), Anchor::Begin, BLACK, text)
+    put_path(page, &[(PAD, line), (before(grid.width, PAD), line)], drawn)
+}
+
+/// The texts of the rows, which cover what runs below them; that of a divider stands above its line.
+fn put_texts(page: &mut Page, sequence: &Sequence, grid: &Grid) -> Result<(), AllocError> {
+    page.put_line(b"<g paint-order=\"stroke\" stroke=\"#ffffff\" stroke-width=\"3\">")?;
+    for (number, row) in sequence.rows.as_slice().iter().enumerate() {
+        if row.event == Event::Divider {
+            let at = (CLOCK, before(grid.line(number), 4));
+            put_words(page, at, Anchor::Begin, BLACK, row.text.shown.as_slice())?;
+        } else {
+            put_text(page, grid, number, row)?;
+        }
+    }
+    page.put_line(b"</g>")
 }
 
 /// The times of the rows.
@@ -417,7 +254,7 @@ fn put_ground(page: &mut Page, sequence: &Sequence, grid: &Grid) -> Result<(), A
     }
     for (number, row) in sequence.rows.as_slice().iter().enumerate() {
         if row.event == Event::Divider {
-            put_divider(page, grid, grid.line(number), row.text.shown.as_slice())?;
+            put_divider(page, grid, grid.line(number))?;
         }
     }
     Ok(())
@@ -427,6 +264,7 @@ fn put_ground(page: &mut Page, sequence: &Sequence, grid: &Grid) -> Result<(), A
 pub fn put_sequence_svg(page: &mut Page, sequence: &Sequence) -> Result<(), AllocError> {
     let grid = grid_of(sequence)?;
     put_head(page, grid.width, grid.height)?;
+    put_title(page, sequence.title.as_slice())?;
     put_tips(page)?;
     put_ground(page, sequence, &grid)?;
     for (number, row) in sequence.rows.as_slice().iter().enumerate() {
@@ -438,12 +276,6 @@ pub fn put_sequence_svg(page: &mut Page, sequence: &Sequence) -> Result<(), Allo
     for (number, row) in sequence.rows.as_slice().iter().enumerate() {
         put_sign(page, grid.place(row.lifeline, number), row)?;
     }
-    page.put_line(b"<g paint-order=\"stroke\" stroke=\"#ffffff\" stroke-width=\"3\">")?;
-    for (number, row) in sequence.rows.as_slice().iter().enumerate() {
-        if row.event != Event::Divider {
-            put_text(page, grid.place(row.lifeline, number), row)?;
-        }
-    }
-    page.put_line(b"</g>")?;
+    put_texts(page, sequence, &grid)?;
     page.put_line(b"</svg>")
 }

@@ -1,11 +1,15 @@
 //! The shapes of which an SVG is made.
-use crate::layout::LETTER;
+use crate::place::{LETTER, LINE, PAD};
 use std::alloc::AllocError;
 use view_journals::view_pages::Page;
 
 pub const BLACK: &[u8] = b"#222222";
 
 pub const RED: &[u8] = b"#cc0000";
+
+pub const GREEN: &[u8] = b"#1f8a3a";
+
+pub const VIOLET: &[u8] = b"#6b3fa0";
 
 pub const WHITE: &[u8] = b"#ffffff";
 
@@ -240,4 +244,12 @@ pub fn put_head(page: &mut Page, width: usize, height: usize) -> Result<(), Allo
         rounding: 0,
     };
     put_area(page, whole, plain_ink(WHITE, WHITE))
+}
+
+/// The title above a picture, if it has one.
+pub fn put_title(page: &mut Page, title: &[u8]) -> Result<(), AllocError> {
+    if title.is_empty() {
+        return Ok(());
+    }
+    put_words(page, (PAD, PAD + LINE - 4), Anchor::Begin, BLACK, title)
 }

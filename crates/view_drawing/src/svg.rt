@@ -1,10 +1,12 @@
 //! A picture as SVG.
 use crate::colours::{dark, light};
-use crate::diagram::{Block, Diagram, End, Key, Link, Mark, Point, Shape, Sign};
-use crate::layout::{LETTER, LINE, Layout, LinkPlace, PAD, Place, ROW, lay_out, text_width};
+use crate::diagram::{Block, Diagram, End, Key, Leads, Link, Mark, Point, Shape, Sign};
+use crate::layout::{Layout, LinkPlace, lay_out};
+use crate::place::{LINE, PAD, Place, ROW, text_width};
 use crate::shapes::{
-    Anchor, Area, BLACK, Ink, RED, WHITE, before, begin_text, behind, plain_ink, put_area,
-    put_circle, put_corners, put_head, put_path, put_text, put_tooltip, put_words,
+    Anchor, Area, BLACK, GREEN, Ink, RED, VIOLET, WHITE, before, begin_text, behind, plain_ink,
+    put_area, put_circle, put_corners, put_head, put_path, put_text, put_title, put_tooltip,
+    put_words,
 };
 use std::alloc::AllocError;
 use view_journals::view_pages::Page;
@@ -66,7 +68,7 @@ fn put_mark(
 /// Where the points of a block have their names.
 fn name_line(place: Place, line: usize) -> usize {
     if place.is_open() {
-        before(line, 5)
+        before(line, 6)
     } else {
         behind(line, 4)
     }
@@ -79,9 +81,9 @@ fn put_places(page: &mut Page, point: &Point) -> Result<(), AllocError> {
         page.put_number(u64::from(point.places))?;
         page.put(b"]")?;
     }
-    if point.unjoined > 0 {
+    if point.lost() > 0 {
         page.put(b" <tspan fill=\"#cc0000\">")?;
-        page.put_number(u64::from(point.unjoined))?;
+        page.put_number(u64::from(point.lost()))?;
         page.put(b" unjoined</tspan>")?;
     }
     Ok(())
@@ -100,10 +102,26 @@ fn put_bar(
     }
     let last = rows.row.saturating_add(rows.leaving).saturating_sub(1);
     let bar = [
-        (place.right(), place.line(rows.row)),
-        (place.right(), place.line(last)),
+        (place.edge(), place.line(rows.row)),
+        (place.edge(), place.line(last)),
     ];
     put_path(page, &bar, plain_ink(b"none", BLACK))
+}
+
+/// The colour of what leads there.
+fn colour_of_leads(leads: Leads) -> &'static [u8] {
+    match leads {
+        Leads::Within => RED,
+        Leads::Outside => GREEN,
+        Leads::Later => VIOLET,
+    }
+}
+
+fn colour_of(point: &Point) -> &'static [u8] {
+    if point.unjoined == 0 {
+        return BLACK;
+    }
+    colour_of_leads(point.leads)
 }
 
 /// A point of a block, in its row.
@@ -119,10 +137,15 @@ fn put_point(
     }
     let rows = layout.point(number);
     let line = place.line(rows.row);
-    let colour = if point.unjoined > 0 { RED } else { BLACK };
-    put_mark(page, point.mark, (place.right(), line), colour)?;
-    let at = (before(place.right(), HALF + 4), name_line(place, line));
-    begin_text(page, at, Anchor::End, BLACK)?;
+    put_mark(page, point.mark, (place.edge(), line), colour_of(point))?;
+    let line = name_line(place, line);
+    if place.is_right {
+        let at = (behind(place.x, HALF + 4), line);
+        begin_text(page, at, Anchor::Begin, BLACK)?;
+    } else {
+        let at = (before(place.right(), HALF + 4), line);
+        begin_text(page, at, Anchor::End, BLACK)?;
+    }
     put_text(page, point.name.as_slice())?;
     put_places(page, point)?;
     page.put_line(b"</text>")
@@ -229,10 +252,10 @@ fn put_block(page: &mut Page, place: Place, block: &Block) -> Result<(), AllocEr
     }
 }
 
-/// Where the border of a block is in a row.
+/// Where the border of a block is in a row, on the side that links leave.
 fn border(place: Place, shape: Shape, line: usize) -> usize {
     if shape != Shape::Choice {
-        return place.right();
+        return place.edge();
     }
     let (_, y) = middle(place);
     let off = line.abs_diff(y);
@@ -241,7 +264,16 @@ fn border(place: Place, shape: Shape, line: usize) -> usize {
         .saturating_mul(off)
         .checked_div(place.height / 2)
         .unwrap_or(0);
-    before(place.right(), back.min(half))
+    outwards(place, place.edge(), false, back.min(half))
+}
+
+/// So far off a place on the side of a block that links leave: away from the block, or into it.
+fn outwards(place: Place, x: usize, is_out: bool, by: usize) -> usize {
+    if place.is_right == is_out {
+        before(x, by)
+    } else {
+        behind(x, by)
+    }
 }
 
 /// Where a link begins or ends.
@@ -255,10 +287,10 @@ fn place_of_end(
     let place = layout.place(end.block);
     let line = place.line(row);
     if end.block == inside {
-        return (before(place.right(), HALF), line);
+        return (outwards(place, place.edge(), false, HALF), line);
     }
     if end.point.is_some() {
-        return (behind(place.right(), HALF), line);
+        return (outwards(place, place.edge(), true, HALF), line);
     }
     let shape = match diagram.blocks.as_slice().get(end.block) {
         Some(block) => block.shape,
@@ -284,7 +316,7 @@ fn last_row(layout: &Layout, link: &Link) -> usize {
     }
 }
 
-/// The tip of an arrow that comes from the right, or from the left where it ends at the border from inside.
+/// The tip of an arrow that comes from the left, or from the right.
 fn put_tip(
     page: &mut Page,
     at: (usize, usize),
@@ -301,6 +333,49 @@ fn put_tip(
     put_corners(page, &corners, plain_ink(colour, colour))
 }
 
+/// Whether a link comes to its end from the left: to a block of the second column, or to the right border around it.
+fn comes_from_left(layout: &Layout, link: &Link) -> bool {
+    let is_inside = link.to.block == link.inside;
+    layout.place(link.to.block).is_right != is_inside
+}
+
+/// The label of a link that begins in this line, and runs on along a track.
+fn put_label(
+    page: &mut Page,
+    layout: &Layout,
+    link: &Link,
+    line: usize,
+    track: usize,
+    drawn: Ink<'_>,
+) -> Result<(), AllocError> {
+    let around = layout.place(link.inside);
+    let text = link.label.shown.as_slice();
+    let y = before(line, 3);
+    if layout.is_leftward(link) {
+        return put_words(
+            page,
+            (around.labels_to(), y),
+            Anchor::End,
+            drawn.stroke,
+            text,
+        );
+    }
+    let from = around.labels_from();
+    if link.from.block == link.inside && !around.is_right {
+        put_path(page, &[(from, line), (track, line)], drawn)?;
+    }
+    put_words(page, (from, y), Anchor::Begin, drawn.stroke, text)
+}
+
+/// How a link on a track is drawn.
+fn ink_of(link: &Link, track: usize) -> Ink<'static> {
+    Ink {
+        fill: b"none",
+        stroke: dark(track),
+        dashes: if link.is_dashed { b"6 3" } else { b"" },
+    }
+}
+
 /// A link with its label, which stands at its beginning.
 fn put_link(
     page: &mut Page,
@@ -309,38 +384,22 @@ fn put_link(
     link: &Link,
     lane: LinkPlace,
 ) -> Result<(), AllocError> {
-    let around = layout.place(link.inside);
-    let colour = dark(lane.track);
     let row = first_row(diagram, layout, link, lane.order);
     let first = place_of_end(diagram, layout, link.inside, link.from, row);
-    let last = place_of_end(
-        diagram,
-        layout,
-        link.inside,
-        link.to,
-        last_row(layout, link),
-    );
-    let track = around.track(lane.track);
-    let drawn = Ink {
-        fill: b"none",
-        stroke: colour,
-        dashes: if link.is_dashed { b"6 3" } else { b"" },
-    };
+    let end_row = last_row(layout, link);
+    let last = place_of_end(diagram, layout, link.inside, link.to, end_row);
+    let track = layout.place(link.inside).track(lane.track);
+    let drawn = ink_of(link, lane.track);
     page.put_line(b"<g>")?;
     put_tooltip(page, link.label.whole.as_slice())?;
     let corners = [first, (track, first.1), (track, last.1), last];
     put_path(page, &corners, drawn)?;
     let is_repeated = !diagram.is_directed && lane.order > 0;
     if !link.label.shown.is_empty() && !is_repeated {
-        let from = around.labels_from();
-        if link.from.block == link.inside {
-            put_path(page, &[(from, first.1), (track, first.1)], drawn)?;
-        }
-        let at = (from, before(first.1, 3));
-        put_words(page, at, Anchor::Begin, colour, link.label.shown.as_slice())?;
+        put_label(page, layout, link, first.1, track, drawn)?;
     }
     if diagram.is_directed {
-        put_tip(page, last, link.to.block == link.inside, colour)?;
+        put_tip(page, last, comes_from_left(layout, link), drawn.stroke)?;
     }
     page.put_line(b"</g>")
 }
@@ -360,7 +419,7 @@ fn put_key(page: &mut Page, key: &Key, y: usize) -> Result<(), AllocError> {
             put_area(page, area, plain_ink(light(Some(number)), BLACK))?;
         }
         Sign::Point(mark) => put_mark(page, mark, at, BLACK)?,
-        Sign::Unjoined => put_mark(page, Mark::Port, at, RED)?,
+        Sign::Leads(leads) => put_mark(page, Mark::Port, at, colour_of_leads(leads))?,
         Sign::History => put_history(page, at)?,
         Sign::Dashes => {
             let drawn = Ink {
@@ -410,6 +469,7 @@ pub fn put_svg(page: &mut Page, diagram: &Diagram) -> Result<(), AllocError> {
     let legend = layout.height.saturating_add(PAD);
     let width = layout.width.max(legend_width(diagram));
     put_head(page, width, legend.saturating_add(keys).saturating_add(PAD))?;
+    put_title(page, diagram.title.as_slice())?;
     for (number, block) in diagram.blocks.as_slice().iter().enumerate() {
         put_block(page, layout.place(number), block)?;
     }

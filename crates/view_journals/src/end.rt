@@ -1,7 +1,10 @@
 //! What was still open where a run ended.
+use crate::attributes::put_attributes;
+use crate::differs::tell_difference;
 use crate::fetched::{Fetched, Name};
 use crate::lines::{end_word, is_untaken, put_head, put_left};
 use crate::names::{put_actor, put_state};
+use crate::redone::Redone;
 use crate::standing::Actors;
 use crate::turns::{Turn, turns_of};
 use crate::view_pages::Page;
@@ -28,6 +31,7 @@ enum Fate {
 #[derive(Drop)]
 struct Ended<'a> {
     wiring: &'a Wiring,
+    redone: &'a Redone,
     fetched: Fetched<'a>,
     turns: Vec<Turn<'a>>,
     /// For each message the place of its last turn among all.
@@ -72,12 +76,14 @@ impl<'a> Ended<'a> {
         alloc: Global,
         wiring: &'a Wiring,
         journals: &'a Journals,
+        redone: &'a Redone,
     ) -> Result<Ended<'a>, AllocError> {
-        let turns = turns_of(alloc, journals)?;
+        let turns = turns_of(alloc, journals, redone)?;
         let last = last_turns(alloc, turns.as_slice())?;
         let actors = actors_of(alloc, wiring, journals, turns.as_slice())?;
         Ok(Ended {
             wiring,
+            redone,
             fetched: Fetched::of(alloc, journals)?,
             turns,
             last,
@@ -133,7 +139,22 @@ impl<'a> Ended<'a> {
         tell_none(page, has_some)
     }
 
-    /// Who stands where in the end.
+    /// The attributes of the actor that stands in a slot, where they are known.
+    fn put_attributes(&self, page: &mut Page, slot: SlotId) -> Result<(), AllocError> {
+        let (Some(class), Some(numbers)) = (
+            self.wiring.class_of(slot),
+            self.redone.attributes_of(slot),
+        ) else {
+            return Ok(());
+        };
+        if class.attributes.is_empty() {
+            return Ok(());
+        }
+        page.put(b"; ")?;
+        put_attributes(page, class, numbers, numbers)
+    }
+
+    /// Who stands where in the end, in which state, and with which attributes.
     fn tell_actors(&self, page: &mut Page) -> Result<(), AllocError> {
         page.put_line(b"who stands where:")?;
         let mut has_some = false;
@@ -145,6 +166,7 @@ impl<'a> Ended<'a> {
                 put_actor(page, self.wiring, incarnation(slot, standing.generation))?;
                 page.put(b": ")?;
                 put_state(page, self.wiring, slot, standing.state)?;
+                self.put_attributes(page, slot)?;
                 page.end_line()?;
             }
         }
@@ -187,14 +209,17 @@ fn tell_unposted(page: &mut Page, journals: &Journals) -> Result<(), AllocError>
 }
 
 /// Tells what was still open where a run ended: what is deferred and since when, what was lost with its actor, what
-/// was never handled, what no turn took and which lines were not posted; then who stands where.
+/// was never handled, what no turn took and which lines were not posted; then who stands where, with which attributes.
+/// That the journals are those of another model is told before all.
 pub fn tell_end(
     alloc: Global,
     page: &mut Page,
     wiring: &Wiring,
     journals: &Journals,
+    redone: &Redone,
 ) -> Result<(), AllocError> {
-    let ended = Ended::of(alloc, wiring, journals)?;
+    tell_difference(page, wiring, redone)?;
+    let ended = Ended::of(alloc, wiring, journals, redone)?;
     page.put_line(end_word(journals.done))?;
     ended.tell_fate(page, b"deferred, and since when:", Fate::Deferred)?;
     ended.tell_fate(page, b"deferred, and lost with their actors:", Fate::Lost)?;

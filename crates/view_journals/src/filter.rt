@@ -1,5 +1,5 @@
 //! Which lines of a story are wanted.
-use journal::naming;
+use journal::{Did, naming};
 use room_kinds::{Msg, SlotId};
 use room_wiring::Wiring;
 
@@ -16,6 +16,8 @@ pub struct Wanted<'a> {
     pub to: u64,
     /// Lines that tell of something that their author hardly meant.
     pub only_trouble: bool,
+    /// No duties of controllers.
+    pub no_system: bool,
 }
 
 impl<'a> Wanted<'a> {
@@ -47,12 +49,22 @@ impl<'a> Wanted<'a> {
         is_trouble || !self.only_trouble
     }
 
-    /// Whether lines with this message are wanted.
-    pub fn wants_message(&self, wiring: &Wiring, msg: &Msg) -> bool {
+    /// Whether turns that come to this are wanted.
+    pub fn wants_did(&self, did: Did) -> bool {
+        !self.no_system || !did.is_duty()
+    }
+
+    /// Whether lines with a signal of this name are wanted.
+    pub fn wants_signal(&self, signal: &[u8]) -> bool {
         match self.signal {
-            Some(name) => naming::signal_name(wiring, msg) == name,
+            Some(name) => signal == name,
             None => true,
         }
+    }
+
+    /// Whether lines with this message are wanted.
+    pub fn wants_message(&self, wiring: &Wiring, msg: &Msg) -> bool {
+        self.wants_signal(naming::signal_name(wiring, msg))
     }
 
     /// Whether lines are wanted that tell of no message.

@@ -33,7 +33,7 @@ pub fn is_untaken(did: Did) -> bool {
 
 /// Whether a turn tells of something that its author hardly meant.
 pub fn is_trouble(turn: &Turn<'_>) -> bool {
-    is_untaken(turn.did) || have_trouble(turn.notes)
+    is_untaken(turn.did) || have_trouble(turn.notes, turn.said)
 }
 
 /// What stands before a line: whether it tells of something that its author hardly meant.
@@ -140,8 +140,14 @@ pub fn tell_turn(
     put_mark(page, is_trouble(turn))?;
     put_head(page, wiring, fetched, turn)?;
     put_outcome(page, wiring, actors, turn.did)?;
-    let is_duty = turn.did.is_duty();
-    put_notes(page, wiring, is_duty, turn.did.speaker(), turn.notes)?;
+    put_notes(
+        page,
+        wiring,
+        turn.did.is_duty(),
+        turn.did.speaker(),
+        turn.notes,
+        turn.said,
+    )?;
     put_sends(page, wiring, turn.slot(fetched), turn.behind)?;
     page.end_line()
 }

@@ -29,7 +29,7 @@ pub fn put_end(page: &mut Page, wiring: &Wiring, end: Endpoint) -> Result<(), Al
 }
 
 /// Numbers with commas between them.
-fn put_plain_numbers(page: &mut Page, numbers: &[i64]) -> Result<(), AllocError> {
+pub(crate) fn put_plain_numbers(page: &mut Page, numbers: &[i64]) -> Result<(), AllocError> {
     let mut is_first = true;
     for number in numbers {
         if !is_first {

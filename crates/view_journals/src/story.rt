@@ -1,8 +1,11 @@
 //! The story of a run: a line a turn.
+use crate::differs::tell_difference;
 use crate::filter::Wanted;
 use crate::lines::{end_word, put_left, put_mark, put_sends, tell_turn};
+use crate::moments::{Dividers, moments_of};
 use crate::names::{put_actor, put_controller, put_state};
 use crate::notes::{have_trouble, put_notes};
+use crate::redone::Redone;
 use crate::standing::Actors;
 use crate::told::{Start, Told, starts_of};
 use crate::turns::{Turn, turns_of};
@@ -12,15 +15,16 @@ use room_wiring::Wiring;
 use std::alloc::{AllocError, Global};
 
 fn tell_start(page: &mut Page, wiring: &Wiring, start: &Start<'_>) -> Result<(), AllocError> {
-    put_mark(page, have_trouble(start.notes))?;
+    put_mark(page, have_trouble(start.notes, start.said))?;
     page.put(b"start ")?;
     put_controller(page, wiring, start.controller)?;
     page.put(b" ")?;
     put_actor(page, wiring, start.who)?;
     page.put(b": ")?;
     put_state(page, wiring, start.who.slot, start.state)?;
-    put_notes(page, wiring, false, Some(start.who.slot), start.notes)?;
-    put_sends(page, wiring, Some(start.who.slot), start.sends)?;
+    let slot = Some(start.who.slot);
+    put_notes(page, wiring, false, slot, start.notes, start.said)?;
+    put_sends(page, wiring, slot, start.sends)?;
     page.end_line()
 }
 
@@ -40,16 +44,19 @@ fn tell_starts(
     Ok(())
 }
 
-/// The line of a turn, where it is wanted.
+/// The line of a turn, where it is wanted, and before it that of a moment between it and the line before.
 fn tell_wanted_turn(
     page: &mut Page,
     told: &Told<'_>,
     actors: &Actors,
+    dividers: &mut Dividers<'_>,
     turn: &Turn<'_>,
 ) -> Result<(), AllocError> {
+    dividers.pass(turn.stamp.0);
     if !told.wants_turn(turn) {
         return Ok(());
     }
+    dividers.tell(page, told.wiring)?;
     tell_turn(page, told.wiring, &told.fetched, actors, turn)
 }
 
@@ -84,21 +91,26 @@ fn tell_rest(page: &mut Page, told: &Told<'_>) -> Result<(), AllocError> {
 
 /// Tells the story of a run: first the starts, then a line a turn over all controllers by stamp and controller, then
 /// what no turn took, what was not posted, and how the run ended. A line that begins with `!` tells of something
-/// that its author hardly meant.
+/// that its author hardly meant. That the journals are those of another model is told before all. A moment at which timers
+/// expired has a line of its own.
 pub fn tell_story(
     alloc: Global,
     page: &mut Page,
     wiring: &Wiring,
     journals: &Journals,
+    redone: &Redone,
     wanted: Wanted<'_>,
 ) -> Result<(), AllocError> {
-    let told = Told::of(alloc, wiring, journals, wanted)?;
+    tell_difference(page, wiring, redone)?;
+    let told = Told::of(alloc, wiring, journals, redone, wanted)?;
     let mut actors = Actors::nobody(alloc, wiring)?;
-    let starts = starts_of(alloc, journals)?;
+    let starts = starts_of(alloc, journals, redone)?;
     tell_starts(page, &told, &mut actors, starts.as_slice())?;
-    let turns = turns_of(alloc, journals)?;
+    let turns = turns_of(alloc, journals, redone)?;
+    let moments = moments_of(alloc, wiring, journals)?;
+    let mut dividers = Dividers::of(moments.as_slice());
     for turn in turns.as_slice() {
-        tell_wanted_turn(page, &told, &actors, turn)?;
+        tell_wanted_turn(page, &told, &actors, &mut dividers, turn)?;
         actors.turn(turn.did, turn.notes);
     }
     tell_rest(page, &told)

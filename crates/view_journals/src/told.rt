@@ -3,8 +3,10 @@ use crate::fetched::Fetched;
 use crate::filter::Wanted;
 use crate::lines::is_trouble;
 use crate::notes::have_trouble;
+use crate::redone::{Redone, Said, Sayings};
 use crate::turns::{Turn, before_turn};
-use journal::{Entry, Journals, Left};
+use crate::unheard::said_signal;
+use journal::{Entry, Journals, Left, speaker_after};
 use room_kinds::{Incarnation, Note, SlotId};
 use room_wiring::Wiring;
 use std::alloc::{AllocError, Global};
@@ -14,6 +16,8 @@ use std::alloc::{AllocError, Global};
 pub struct Told<'a> {
     pub wiring: &'a Wiring,
     pub journals: &'a Journals,
+    /// What the charts of the model do.
+    pub redone: &'a Redone,
     pub fetched: Fetched<'a>,
     pub wanted: Wanted<'a>,
 }
@@ -25,6 +29,8 @@ pub struct Start<'a> {
     pub who: Incarnation,
     pub state: u16,
     pub notes: &'a [Note],
+    /// What was said with the notes `unbound`, where it is known.
+    pub said: &'a [Said],
     /// The entries among which are its posts.
     pub sends: &'a [Entry],
 }
@@ -53,6 +59,7 @@ fn end_of_posts(entries: &[Entry], start: usize, slot: SlotId) -> usize {
 /// Adds the starts of a controller, each with what it sent: the posts of its slot that come next.
 fn add_starts<'a>(
     starts: &mut Vec<Start<'a>>,
+    sayings: &mut Sayings<'a>,
     controller: usize,
     entries: &'a [Entry],
 ) -> Result<(), AllocError> {
@@ -65,6 +72,7 @@ fn add_starts<'a>(
                 who: *who,
                 state: *state,
                 notes: notes.as_slice(),
+                said: sayings.with_all(notes.as_slice()),
                 sends: entries.get(sent..end).unwrap_or(&[]),
             })?;
             sent = end;
@@ -73,26 +81,34 @@ fn add_starts<'a>(
     Ok(())
 }
 
-/// The starts of all controllers, in order of these.
-pub fn starts_of<'a>(alloc: Global, journals: &'a Journals) -> Result<Vec<Start<'a>>, AllocError> {
+/// The starts of all controllers, in order of these, with what was said at them as far as it was done again.
+pub fn starts_of<'a>(
+    alloc: Global,
+    journals: &'a Journals,
+    redone: &'a Redone,
+) -> Result<Vec<Start<'a>>, AllocError> {
     let mut starts = Vec::new(alloc);
+    let mut sayings = Sayings::of(redone.at_starts.as_slice());
     for (controller, journal) in journals.controllers.as_slice().iter().enumerate() {
-        add_starts(&mut starts, controller, before_turn(journal.as_slice()))?;
+        let entries = before_turn(journal.as_slice());
+        add_starts(&mut starts, &mut sayings, controller, entries)?;
     }
     Ok(starts)
 }
 
 impl<'a> Told<'a> {
-    /// A run with these journals, and what of it is wanted.
+    /// A run with these journals, what was done of it again, and what of it is wanted.
     pub fn of(
         alloc: Global,
         wiring: &'a Wiring,
         journals: &'a Journals,
+        redone: &'a Redone,
         wanted: Wanted<'a>,
     ) -> Result<Told<'a>, AllocError> {
         Ok(Told {
             wiring,
             journals,
+            redone,
             fetched: Fetched::of(alloc, journals)?,
             wanted,
         })
@@ -107,12 +123,50 @@ impl<'a> Told<'a> {
             })
     }
 
+    /// Whether what is said with one of the notes is wanted, where nobody hears it.
+    fn wants_said(
+        &self,
+        is_duty: bool,
+        speaker: Option<SlotId>,
+        notes: &[Note],
+        said: &[Said],
+    ) -> bool {
+        let mut sayings = Sayings::of(said);
+        let mut speaking = speaker;
+        for note in notes {
+            if let (Some(slot), Some(one)) = (speaking, sayings.with(note))
+                && self
+                    .wanted
+                    .wants_signal(said_signal(self.wiring, slot, one))
+            {
+                return true;
+            }
+            speaking = speaker_after(is_duty, speaking, *note);
+        }
+        false
+    }
+
+    /// Whether something that is said at a start is wanted, or nothing needs to be.
+    fn wants_start_saying(&self, start: &Start<'_>) -> bool {
+        let speaker = Some(start.who.slot);
+        self.wants_some(start.sends) || self.wants_said(false, speaker, start.notes, start.said)
+    }
+
+    /// Whether something that is said in a turn is wanted, or nothing needs to be.
+    fn wants_turn_saying(&self, turn: &Turn<'_>) -> bool {
+        let is_duty = turn.did.is_duty();
+        self.wants_some(turn.behind)
+            || self.wants_said(is_duty, turn.did.speaker(), turn.notes, turn.said)
+    }
+
     /// Whether a start is wanted.
     pub fn wants_start(&self, start: &Start<'_>) -> bool {
         self.wanted.wants_starts()
             && self.wanted.wants_slot(Some(start.who.slot))
-            && self.wanted.wants_trouble(have_trouble(start.notes))
-            && self.wants_some(start.sends)
+            && self
+                .wanted
+                .wants_trouble(have_trouble(start.notes, start.said))
+            && self.wants_start_saying(start)
     }
 
     /// Whether a turn is wanted.
@@ -122,9 +176,10 @@ impl<'a> Told<'a> {
             None => false,
         };
         self.wanted.wants_stamp(turn.stamp.0)
+            && self.wanted.wants_did(turn.did)
             && self.wanted.wants_slot(turn.slot(&self.fetched))
             && self.wanted.wants_trouble(is_trouble(turn))
-            && (has_message || self.wants_some(turn.behind))
+            && (has_message || self.wants_turn_saying(turn))
     }
 
     /// Whether a message that no turn took is wanted.

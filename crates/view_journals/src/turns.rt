@@ -1,5 +1,6 @@
 //! The turns of all controllers in one order: by stamp, and those of one stamp by controller.
 use crate::fetched::{Fetched, Name};
+use crate::redone::{Redone, Said, Sayings};
 use journal::{Did, Entry, Journals};
 use room_kinds::{ControllerId, Note, SlotId, Stamp};
 use std::alloc::{AllocError, Global};
@@ -21,6 +22,8 @@ pub struct Turn<'a> {
     pub sent: Stamp,
     pub did: Did,
     pub notes: &'a [Note],
+    /// What was said with the notes `unbound`, where it is known.
+    pub said: &'a [Said],
     pub behind: &'a [Entry],
 }
 
@@ -96,20 +99,33 @@ fn turn_at<'a>(journals: &'a Journals, place: Place) -> Option<Turn<'a>> {
         sent: *sent,
         did: *did,
         notes: notes.as_slice(),
+        said: &[],
         behind: before_turn(behind),
     })
 }
 
-/// The turns of all controllers, in order.
-pub fn turns_of<'a>(alloc: Global, journals: &'a Journals) -> Result<Vec<Turn<'a>>, AllocError> {
+/// The places of the turns of all controllers, in order.
+fn places_of(alloc: Global, journals: &Journals) -> Result<Vec<Place>, AllocError> {
     let mut places = Vec::new(alloc);
     for (controller, journal) in journals.controllers.as_slice().iter().enumerate() {
         add_places(&mut places, controller, journal.as_slice())?;
     }
     places.sort()?;
+    Ok(places)
+}
+
+/// The turns of all controllers, in order, with what was said in them as far as it was done again.
+pub fn turns_of<'a>(
+    alloc: Global,
+    journals: &'a Journals,
+    redone: &'a Redone,
+) -> Result<Vec<Turn<'a>>, AllocError> {
+    let places = places_of(alloc, journals)?;
+    let mut sayings = Sayings::of(redone.in_turns.as_slice());
     let mut turns = Vec::new(alloc);
     for place in places.as_slice() {
-        if let Some(turn) = turn_at(journals, *place) {
+        if let Some(mut turn) = turn_at(journals, *place) {
+            turn.said = sayings.with_all(turn.notes);
             turns.push(turn)?;
         }
     }

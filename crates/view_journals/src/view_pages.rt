@@ -2,4 +2,4 @@
 
 mod page;
 
-pub use page::{Named, Page};
+pub use page::{Meaning, Named, Page};

@@ -2,8 +2,7 @@
 use indexmap::IndexMap;
 use room_lexer::Word;
 use std::alloc::AllocError;
-use view_charts::{Chart, ClassItems, Deeds, Source};
-use view_faults::Item;
+use view_charts::{Chart, ClassItems, Deeds, Item, Source};
 
 /// Where the ports, service points and references of a class are declared, by name.
 #[derive(Drop)]

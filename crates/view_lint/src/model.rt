@@ -6,8 +6,7 @@ use room_kinds::{ReferenceKind, SlotId};
 use room_lexer::Word;
 use room_wiring::{ClassNames, Path, Wiring};
 use std::alloc::{AllocError, Global};
-use view_charts::{ClassItems, Source};
-use view_faults::Item;
+use view_charts::{ClassItems, Item, Source};
 
 /// A port of a class, by their numbers.
 #[derive(Clone, Copy, Drop, PartialEq, Eq, Hash)]

@@ -107,9 +107,7 @@ fn in_order(alloc: Global, findings: &[Finding]) -> Result<Vec<Place>, AllocErro
 fn tell_kind(page: &mut Page, kind: Kind) -> Result<(), AllocError> {
     let meaning = kind.meaning();
     page.put_line(kind.title().as_bytes())?;
-    page.put_line(meaning.fault.as_bytes())?;
-    page.put(b"cure: ")?;
-    page.put_line(meaning.cure.as_bytes())?;
+    page.put_meaning(meaning)?;
     page.end_line()
 }
 

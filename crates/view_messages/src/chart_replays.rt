@@ -1,10 +1,11 @@
-//! The turns of one message at its actor, done again by the actor's chart: what the journals don't tell, the values
-//! of guards and attributes (`replays_of`).
+//! The turns of a run, done again by the charts of its actors (`replays_of`): what the journals don't tell, as the values
+//! of guards and attributes and what is said to nobody, and where the journals first tell something else.
 
+mod hearing;
 mod machine;
 mod replay;
 mod sound;
 mod trace;
 
-pub use replay::replays_of;
+pub use replay::{Replays, replays_of};
 pub use trace::Passed;

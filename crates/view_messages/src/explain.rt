@@ -1,9 +1,8 @@
 //! The way of one message through a run.
 use crate::chain::Chain;
-use crate::injected::{Line, posted_line};
-use crate::posted::{
-    entries_of, is_of_a_line, lines_before, place_of_post, posted_at, turn_before,
-};
+use crate::dated::{Dated, dated_posts};
+use crate::injected::moves_time;
+use crate::posted::{entries_of, first_together, place_of_post, posted_at, turn_before};
 use crate::replayed::{Replayed, tell_attributes};
 use crate::takers::tell_takers;
 use crate::transitions::Incoming;
@@ -15,8 +14,9 @@ use room_wiring::Wiring;
 use std::alloc::{AllocError, Global};
 use view_journals::view_pages::{Named, Page};
 use view_journals::{
-    Actors, Fetched, Name, Turn, actor_at, put_actor, put_controller, put_end, put_left, put_name,
-    put_received, tell_turn, turns_of,
+    Actors, Fetched, Name, Redone, Turn, actor_at, arming_before, is_timeout, put_actor,
+    put_arming, put_controller, put_end, put_left, put_name, put_received, tell_difference,
+    tell_turn, turns_of,
 };
 
 /// What a message is explained by.
@@ -27,6 +27,8 @@ pub struct Explained<'a> {
     pub model: &'a Model,
     pub injections: Named<'a>,
     pub journals: &'a Journals,
+    /// The run, done again by the charts of the model.
+    pub redone: &'a Redone,
     /// The turns of the message at its actor, replayed; none where they are not known.
     pub replays: &'a [Replayed],
 }
@@ -65,26 +67,66 @@ impl<'a> Explained<'a> {
         page.put_line(self.class_name(msg.target.slot))
     }
 
-    /// The line of the injections that made the message which the environment posted at a place.
-    fn line_of(&self, msg: &Msg, place: usize) -> Option<Line<'a>> {
-        if !is_of_a_line(self.wiring, msg) {
-            return None;
+    /// The line of the injections for which the environment posted a message at a place of its journal, and the time then.
+    fn dated(
+        &self,
+        alloc: Global,
+        msg: &Msg,
+        place: usize,
+    ) -> Result<Option<Dated<'a>>, AllocError> {
+        let dated = dated_posts(alloc, self.wiring, self.journals, self.injections.text)?;
+        let expires = is_timeout(self.wiring, msg);
+        Ok(match dated.as_slice().get(place) {
+            Some(dated) if dated.is_timeout == expires => Some(*dated),
+            _ => None,
+        })
+    }
+
+    /// The virtual time at which the environment posted a message, and of a timeout what armed its timer.
+    fn tell_time(
+        &self,
+        alloc: Global,
+        page: &mut Page,
+        msg: &Msg,
+        place: usize,
+        dated: Dated<'_>,
+    ) -> Result<(), AllocError> {
+        page.put(b"    at the time ")?;
+        page.put_number(dated.time)?;
+        if dated.is_timeout {
+            let first = first_together(self.journals.environment.as_slice(), place);
+            let target = msg.target;
+            let arming = arming_before(alloc, self.wiring, self.journals, target, first)?;
+            if let Some(arming) = arming {
+                page.put(b", ")?;
+                put_arming(page, self.wiring, arming)?;
+                page.put(b", which armed the timer")?;
+            }
         }
-        let before = lines_before(self.wiring, self.journals.environment.as_slice(), place);
-        posted_line(self.injections.text, before)
+        page.end_line()
     }
 
     /// The line of the injections from which the environment posted a message, at a place of its journal.
-    fn tell_line(&self, page: &mut Page, msg: &Msg, place: usize) -> Result<(), AllocError> {
-        let Some(line) = self.line_of(msg, place) else {
+    fn tell_line(
+        &self,
+        alloc: Global,
+        page: &mut Page,
+        msg: &Msg,
+        place: usize,
+    ) -> Result<(), AllocError> {
+        let Some(dated) = self.dated(alloc, msg, place)? else {
             return page.put_line(b"    the injections have no line for it");
         };
         page.put(b"    line ")?;
-        page.put_number(line.number as u64)?;
+        page.put_number(dated.line.number as u64)?;
         page.put(b" of ")?;
         page.put(self.injections.name.as_bytes())?;
         page.put(b": ")?;
-        page.put_line(line.text)
+        page.put_line(dated.line.text)?;
+        if moves_time(self.injections.text) {
+            self.tell_time(alloc, page, msg, place, dated)?;
+        }
+        Ok(())
     }
 
     /// In which turn a message was posted, or at which start.
@@ -115,13 +157,19 @@ impl<'a> Explained<'a> {
     }
 
     /// Where a message was posted, at a place among the entries of its sender.
-    fn tell_posted(&self, page: &mut Page, msg: &Msg, place: usize) -> Result<(), AllocError> {
+    fn tell_posted(
+        &self,
+        alloc: Global,
+        page: &mut Page,
+        msg: &Msg,
+        place: usize,
+    ) -> Result<(), AllocError> {
         page.put(b"posted at ")?;
         page.put_number(msg.stamp.0)?;
         page.put(b" by ")?;
         let Some(source) = msg.source else {
             page.put_line(b"environment")?;
-            return self.tell_line(page, msg, place);
+            return self.tell_line(alloc, page, msg, place);
         };
         put_end(page, self.wiring, source)?;
         page.put(b" on ")?;
@@ -216,7 +264,7 @@ impl<'a> Explained<'a> {
         name: Name,
     ) -> Result<(), AllocError> {
         let fetched = Fetched::of(alloc, self.journals)?;
-        let turns = turns_of(alloc, self.journals)?;
+        let turns = turns_of(alloc, self.journals, self.redone)?;
         let mut actors = Actors::started(alloc, self.wiring, self.journals)?;
         let mut place = 0usize;
         for turn in turns.as_slice() {
@@ -256,7 +304,8 @@ fn state_before(actors: &Actors, did: Did) -> Option<u16> {
 
 /// Tells the way of a message, by its sender and the stamp of its post: where it was posted, and from which line of
 /// the injections; where it was fetched; each of its turns, with the transition that took it, or those that were
-/// tried and the states in which it is taken; and where it was left. It says whether the journals have the message.
+/// tried and the states in which it is taken; and where it was left. That the journals are those of another model is
+/// told before all. It says whether the journals have the message.
 pub fn tell_message(
     alloc: Global,
     page: &mut Page,
@@ -272,8 +321,9 @@ pub fn tell_message(
         return Ok(false);
     };
     let name = Name::new(from, sent);
+    tell_difference(page, told.wiring, told.redone)?;
     told.tell_message(page, msg)?;
-    told.tell_posted(page, msg, place)?;
+    told.tell_posted(alloc, page, msg, place)?;
     told.tell_fetched(page, name)?;
     told.tell_turns(alloc, page, msg, name)?;
     told.tell_left(page, name)?;

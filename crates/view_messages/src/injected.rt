@@ -1,4 +1,6 @@
-//! The lines of injections that are posted.
+//! The lines of injections, and what each of them says.
+use std::alloc::{AllocError, Global};
+use text_reading::value;
 
 /// A line of a text, and its number from 1.
 #[derive(Clone, Copy, Drop)]
@@ -7,44 +9,71 @@ pub struct Line<'a> {
     pub text: &'a [u8],
 }
 
+/// What a line says, as far as it is asked here: nothing, a message, or how far the time moves. `settle` says nothing: that
+/// all was quiet is told by the journals.
+#[derive(Clone, Copy, Drop, PartialEq, Eq)]
+pub enum Says {
+    Nothing,
+    Message,
+    Advance(u64),
+}
+
 fn is_blank(byte: u8) -> bool {
     byte == b' ' || byte == b'\t'
 }
 
-/// The first word of a line.
-fn first_word(line: &[u8]) -> &[u8] {
+/// A word of a line, from 0.
+fn word_of(line: &[u8], number: usize) -> &[u8] {
     line.split(|byte| is_blank(*byte))
-        .find(|word| !word.is_empty())
+        .filter(|word| !word.is_empty())
+        .nth(number)
         .unwrap_or(&[])
 }
 
-/// Whether a line divides parts, as `settle` and `advance <time>` do. No target of a message has such a name.
-fn divides_parts(line: &[u8]) -> bool {
+/// What a line says. No target of a message is called as the words that divide parts.
+fn says_of(line: &[u8]) -> Says {
+    if line.is_empty() || line.starts_with(b"#") {
+        return Says::Nothing;
+    }
     let settle: &[u8] = b"settle";
     let advance: &[u8] = b"advance";
-    let word = first_word(line);
-    word == settle || word == advance
-}
-
-/// Whether a line is posted: it isn't empty, no comment, and divides no parts.
-fn is_posted(line: &[u8]) -> bool {
-    !line.is_empty() && !line.starts_with(b"#") && !divides_parts(line)
-}
-
-/// The line that is posted behind so many others.
-pub fn posted_line(text: &[u8], before: usize) -> Option<Line<'_>> {
-    let mut left = before;
-    for (place, line) in text.split(|byte| *byte == b'\n').enumerate() {
-        let line = line.strip_suffix(b"\r").unwrap_or(line);
-        if is_posted(line) {
-            if left == 0 {
-                return Some(Line {
-                    number: place.saturating_add(1),
-                    text: line,
-                });
-            }
-            left -= 1;
-        }
+    let word = word_of(line, 0);
+    if word == settle {
+        Says::Nothing
+    } else if word == advance {
+        Says::Advance(value(word_of(line, 1)))
+    } else {
+        Says::Message
     }
-    None
+}
+
+/// A line, and what it says.
+#[derive(Clone, Copy, Drop)]
+pub struct Spoken<'a> {
+    pub line: Line<'a>,
+    pub says: Says,
+}
+
+/// The lines of a text, in order.
+pub fn lines_of<'a>(alloc: Global, text: &'a [u8]) -> Result<Vec<Spoken<'a>>, AllocError> {
+    let mut lines = Vec::new(alloc);
+    for (place, whole) in text.split(|byte| *byte == b'\n').enumerate() {
+        let text = whole.strip_suffix(b"\r").unwrap_or(whole);
+        let line = Line {
+            number: place.saturating_add(1),
+            text,
+        };
+        lines.push(Spoken {
+            line,
+            says: says_of(text),
+        })?;
+    }
+    Ok(lines)
+}
+
+/// Whether a line of a text moves the time.
+pub fn moves_time(text: &[u8]) -> bool {
+    let advance: &[u8] = b"advance";
+    text.split(|byte| *byte == b'\n')
+        .any(|line| word_of(line, 0) == advance)
 }

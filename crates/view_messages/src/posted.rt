@@ -1,6 +1,6 @@
 //! Where messages were posted.
 use journal::{Entry, Journals};
-use room_kinds::{ControllerId, Msg, PortKind};
+use room_kinds::{ControllerId, Msg};
 use room_wiring::Wiring;
 
 fn is_post_at(entry: &Entry, stamp: u64) -> bool {
@@ -43,27 +43,18 @@ pub fn turn_before(entries: &[Entry], place: usize) -> Option<usize> {
         .rposition(|entry| matches!(entry, Entry::Turn { .. }))
 }
 
-/// Whether a line of injections can make a message: none goes to a service access point.
-pub fn is_of_a_line(wiring: &Wiring, msg: &Msg) -> bool {
-    match wiring.port_of(msg.target.slot, msg.target.port) {
-        Some(port) => port.kind != PortKind::Sap,
-        None => true,
+/// The stamp of the first of the messages that the environment posted together with the one at a place. In between their
+/// stamps there is none.
+pub fn first_together(entries: &[Entry], place: usize) -> u64 {
+    let mut first = 0u64;
+    let mut next = None;
+    for entry in entries.get(..place.saturating_add(1)).unwrap_or(&[]) {
+        if let Entry::Post { stamp, .. } = entry {
+            if next != Some(stamp.0) {
+                first = stamp.0;
+            }
+            next = Some(stamp.0.saturating_add(1));
+        }
     }
-}
-
-fn posts_of_a_line(wiring: &Wiring, entry: &Entry) -> bool {
-    match entry {
-        Entry::Post { msg, .. } => is_of_a_line(wiring, msg),
-        Entry::Start { .. } | Entry::Fetch { .. } | Entry::Turn { .. } => false,
-    }
-}
-
-/// How many messages that lines of injections can make are posted before a place.
-pub fn lines_before(wiring: &Wiring, entries: &[Entry], place: usize) -> usize {
-    entries
-        .get(..place)
-        .unwrap_or(&[])
-        .iter()
-        .filter(|entry| posts_of_a_line(wiring, entry))
-        .count()
+    first
 }

@@ -5,9 +5,6 @@ use room_ast::{
 use std::alloc::AllocError;
 use view_journals::view_pages::Page;
 
-/// The most bytes of a guard that are shown.
-const MOST_SHOWN: usize = 60;
-
 /// A message that comes in at a port, both by name.
 #[derive(Clone, Copy)]
 pub struct Incoming<'a> {
@@ -124,22 +121,30 @@ fn put_source(page: &mut Page, source: &Source) -> Result<(), AllocError> {
     }
 }
 
-/// A text of a code, as far as it is shown; a blank for each byte that ends lines or is no letter.
+/// A text of a code on one line: a blank for each byte that is no letter, and one for all between two lines.
 fn put_text(page: &mut Page, text: &CodeText) -> Result<(), AllocError> {
     let bytes = match text {
         CodeText::Str(text) => text.as_bytes(),
         CodeText::Block(text) => text.as_bytes(),
     };
-    for byte in bytes.iter().take(MOST_SHOWN) {
-        page.put(&[if *byte < 32 { 32 } else { *byte }])?;
-    }
-    if bytes.len() > MOST_SHOWN {
-        page.put(b"..")?;
+    let mut has_some = false;
+    let mut is_between = false;
+    for byte in bytes {
+        if *byte == b'\n' || *byte == b'\r' {
+            is_between = true;
+        } else if *byte > b' ' || !is_between {
+            if is_between && has_some {
+                page.put(b" ")?;
+            }
+            page.put(&[if *byte < b' ' { b' ' } else { *byte }])?;
+            is_between = false;
+            has_some = true;
+        }
     }
     Ok(())
 }
 
-/// A code, as far as it is shown.
+/// A code, on one line.
 pub(crate) fn put_code(page: &mut Page, code: &Code) -> Result<(), AllocError> {
     page.put(b"\"")?;
     match code {

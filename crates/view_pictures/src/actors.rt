@@ -1,7 +1,9 @@
 //! The blocks and points of a picture of actors: one block for all the slots that differ in indexes alone.
+use crate::leads::{joined_at, tell_all_leads};
+use crate::meetings::Meetings;
 use journal::naming;
 use room_kinds::{ControllerId, PortKind, ReferenceKind, SlotId};
-use room_wiring::{Partner, PortNames, Slot, Wiring};
+use room_wiring::{PortNames, Slot, Wiring};
 use std::alloc::{AllocError, Global};
 use view_drawing::{Block, Diagram, Label, Mark, Point, Shape, Sign, add_name, name_of};
 use view_journals::place_count;
@@ -72,24 +74,6 @@ fn mark_of(port: &PortNames) -> Mark {
         (PortKind::Sap, _) => Mark::Access,
         (PortKind::Spp, _) => Mark::Provision,
     }
-}
-
-/// How many places of a port of a slot are joined to nothing.
-fn unjoined_at(wiring: &Wiring, slot: SlotId, port: u16) -> u32 {
-    let mut unjoined = 0u32;
-    for place in 0..place_count(wiring, slot, usize::from(port)) {
-        if is_unjoined(wiring, slot, port, place) {
-            unjoined = unjoined.saturating_add(1);
-        }
-    }
-    unjoined
-}
-
-fn is_unjoined(wiring: &Wiring, slot: SlotId, port: u16, place: u32) -> bool {
-    u32::from(slot.0) < wiring.slot_count()
-        && usize::from(port) < wiring.port_count(slot)
-        && place < wiring.places(slot, port)
-        && wiring.partner(slot, port, place) == Partner::Nobody
 }
 
 impl Actors {
@@ -218,13 +202,10 @@ fn point_of(
     let places = place_count(wiring, id, number);
     // an imported slot has the places of the interface alone
     let is_away = slot.kind == ReferenceKind::Imported && places == 0;
-    let name = name_of(alloc, port.name.as_bytes())?;
-    Ok(Point {
-        mark: if is_away { Mark::Hidden } else { mark_of(port) },
-        name,
-        places,
-        unjoined: 0,
-    })
+    let mark = if is_away { Mark::Hidden } else { mark_of(port) };
+    let mut point = Point::new(mark, name_of(alloc, port.name.as_bytes())?);
+    point.places = places;
+    Ok(point)
 }
 
 /// Adds the points of a block, one for each port of its class.
@@ -286,27 +267,32 @@ fn add_actor(
 }
 
 /// The place of the first point of a block, and how many points it has.
-fn points_at(diagram: &Diagram, block: usize) -> (usize, usize) {
+pub fn points_at(diagram: &Diagram, block: usize) -> (usize, usize) {
     match diagram.blocks.as_slice().get(block) {
         Some(block) => (block.first_point, block.point_count),
         None => (0, 0),
     }
 }
 
-/// Counts the places of a port of a slot that are joined to nothing at the point of the port.
+/// Counts the places of a port of a slot at the point of the port.
 fn count_at(point: &mut Point, wiring: &Wiring, id: SlotId, port: usize) {
     let is_end = !matches!(
         point.mark,
         Mark::Hidden | Mark::Relay | Mark::ConjugatedRelay
     );
-    if is_end && let Ok(port) = u16::try_from(port) {
-        let unjoined = unjoined_at(wiring, id, port);
+    if is_end {
+        let joined = joined_at(wiring, id, port);
+        let unjoined = place_count(wiring, id, port).saturating_sub(joined);
+        point.joined = point.joined.saturating_add(joined);
         point.unjoined = point.unjoined.saturating_add(unjoined);
     }
 }
 
-/// Counts the places of a slot that are joined to nothing at the points of its block.
-fn count_unjoined(diagram: &mut Diagram, wiring: &Wiring, id: SlotId, block: usize) {
+/// Counts the places of a slot at the points of its block. An actor that is lent to a slot keeps those of its own one.
+fn count_places(diagram: &mut Diagram, wiring: &Wiring, id: SlotId, slot: &Slot, block: usize) {
+    if slot.kind == ReferenceKind::Imported {
+        return;
+    }
     let (first, count) = points_at(diagram, block);
     for number in 0..count {
         let points = diagram.points.as_mut_slice();
@@ -333,7 +319,7 @@ fn count_slot(
     if let Some(owners) = actors.owners.as_mut_slice().get_mut(block) {
         *owners |= bit_of(slot.owner);
     }
-    count_unjoined(diagram, wiring, id, block);
+    count_places(diagram, wiring, id, slot, block);
 }
 
 /// Adds a slot to a picture.
@@ -487,11 +473,13 @@ pub fn add_actors(
     diagram: &mut Diagram,
     actors: &mut Actors,
     wiring: &Wiring,
+    meetings: &Meetings,
     title: Vec<u8>,
     tops: usize,
 ) -> Result<(), AllocError> {
     add_frame(diagram, actors, title, tops)?;
     add_slots(diagram, actors, wiring)?;
     add_all_notes(diagram, actors, wiring)?;
+    tell_all_leads(diagram, actors, wiring, meetings);
     add_controllers(diagram, wiring)
 }

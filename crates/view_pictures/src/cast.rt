@@ -1,27 +1,35 @@
 //! Who has a lifeline in the picture of a run.
 use journal::naming;
-use room_kinds::{Endpoint, SlotId};
+use room_kinds::{Endpoint, Msg, SlotId};
 use room_wiring::Wiring;
 use std::alloc::{AllocError, Global};
 use view_drawing::{Group, Lifeline, Sequence, tail_of};
 
-/// The most slots that have lifelines.
-pub const MOST_LIFELINES: usize = 100;
+/// The most slots that have lifelines of their own.
+pub const MOST_LIFELINES: usize = 40;
 
 /// Who takes part in what is drawn of a run.
 #[derive(Drop)]
 pub struct Cast {
-    /// For each slot whether an actor of it takes part.
+    /// For each slot whether it has a lifeline of its own.
     slots: Vec<bool>,
+    /// How many have, and how many can have.
     count: usize,
+    most: usize,
+    /// Whether more take part than can have lifelines of their own.
+    pub is_crowded: bool,
     has_environment: bool,
+    /// Whether messages of those who have none of their own are drawn.
+    has_others: bool,
 }
 
 /// The lifelines of those who take part.
 #[derive(Drop)]
 pub struct Columns {
-    /// The lifeline of each slot that takes part.
+    /// The lifeline of each slot that has one of its own.
     slots: Vec<Option<usize>>,
+    /// The one lifeline of all others.
+    others: Option<usize>,
 }
 
 /// Where the lifeline of a slot stands among the others: by controller, and by number.
@@ -32,8 +40,8 @@ struct Seat {
 }
 
 impl Cast {
-    /// Nobody.
-    pub fn nobody(alloc: Global, wiring: &Wiring) -> Result<Cast, AllocError> {
+    /// Nobody, of whom so many can have lifelines of their own.
+    pub fn nobody(alloc: Global, wiring: &Wiring, most: usize) -> Result<Cast, AllocError> {
         let mut slots = Vec::new(alloc);
         for _slot in 0..wiring.slot_count() {
             slots.push(false)?;
@@ -41,31 +49,44 @@ impl Cast {
         Ok(Cast {
             slots,
             count: 0,
+            most,
+            is_crowded: false,
             has_environment: false,
+            has_others: false,
         })
     }
 
-    /// Whether the actors of a slot take part: from now on they do, where there is room.
+    /// Whether a slot has a lifeline of its own: from now on it has, where there is room.
     pub fn admit(&mut self, slot: SlotId) -> bool {
-        let Some(takes_part) = self.slots.as_mut_slice().get_mut(usize::from(slot.0)) else {
+        let Some(is_admitted) = self.slots.as_mut_slice().get_mut(usize::from(slot.0)) else {
             return false;
         };
-        if !*takes_part && self.count < MOST_LIFELINES {
-            *takes_part = true;
-            self.count = self.count.saturating_add(1);
+        if *is_admitted {
+            return true;
         }
-        *takes_part
+        if self.count >= self.most {
+            self.is_crowded = true;
+            return false;
+        }
+        *is_admitted = true;
+        self.count = self.count.saturating_add(1);
+        true
     }
 
-    /// Whether who sends at an end takes part; the environment sends at none.
-    pub fn admit_sender(&mut self, source: Option<Endpoint>) -> bool {
-        match source {
+    /// Whether a message is drawn: one of the slots between which it goes has a lifeline of its own.
+    pub fn admit_ends(&mut self, msg: &Msg) -> bool {
+        let sends = match msg.source {
             Some(source) => self.admit(source.slot),
-            None => {
-                self.has_environment = true;
-                true
-            }
+            None => false,
+        };
+        let gets = self.admit(msg.target.slot);
+        if !sends && !gets {
+            return false;
         }
+        let is_injected = msg.source.is_none();
+        self.has_environment = self.has_environment || is_injected;
+        self.has_others = self.has_others || !gets || !(sends || is_injected);
+        true
     }
 
     /// Where the lifelines of those who take part stand.
@@ -80,8 +101,8 @@ impl Cast {
         Ok(seats)
     }
 
-    /// Gives those who take part their lifelines: first the environment, then the slots by controller. Where nobody
-    /// takes part the environment has one.
+    /// Gives those who take part their lifelines: first the environment, then the slots by controller, then all others
+    /// together. Where nobody takes part the environment has one.
     pub fn take_seats(
         &self,
         sequence: &mut Sequence,
@@ -95,8 +116,14 @@ impl Cast {
         }
         let mut columns = Columns {
             slots: vec![in alloc; None; self.slots.len()]?,
+            others: None,
         };
         columns.sit_all(sequence, wiring, seats.as_slice())?;
+        if self.has_others {
+            columns.others = Some(sequence.lifelines.len());
+            add_group(sequence, b"", b"", None)?;
+            add_lifeline(sequence, b"others")?;
+        }
         Ok(columns)
     }
 }
@@ -128,7 +155,7 @@ impl Columns {
         Ok(())
     }
 
-    /// The lifeline of a slot, if it takes part.
+    /// The lifeline of a slot's own, if it has one.
     pub fn of(&self, slot: SlotId) -> Option<usize> {
         match self.slots.as_slice().get(usize::from(slot.0)) {
             Some(lifeline) => *lifeline,
@@ -136,10 +163,18 @@ impl Columns {
         }
     }
 
+    /// The lifeline at which messages of a slot end: its own, or that of all others.
+    pub fn at(&self, slot: SlotId) -> Option<usize> {
+        match self.of(slot) {
+            Some(lifeline) => Some(lifeline),
+            None => self.others,
+        }
+    }
+
     /// The lifeline of who sends at an end; that of the environment is the first one.
     pub fn of_sender(&self, source: Option<Endpoint>) -> Option<usize> {
         match source {
-            Some(source) => self.of(source.slot),
+            Some(source) => self.at(source.slot),
             None => Some(0),
         }
     }
@@ -179,7 +214,6 @@ fn add_controller(
     add_group(sequence, b"controller ", name, Some(controller))
 }
 
-/// Adds a lifeline to the group that was added last.
 /// The path of a slot.
 fn path_of(alloc: Global, wiring: &Wiring, slot: SlotId) -> Result<Vec<u8>, AllocError> {
     match wiring.get_slot(slot) {
@@ -188,6 +222,7 @@ fn path_of(alloc: Global, wiring: &Wiring, slot: SlotId) -> Result<Vec<u8>, Allo
     }
 }
 
+/// Adds a lifeline to the group that was added last.
 fn add_lifeline(sequence: &mut Sequence, title: &[u8]) -> Result<(), AllocError> {
     let group = sequence.groups.len().saturating_sub(1);
     let title = Vec::from_slice(sequence.alloc, tail_of(title))?;

@@ -121,12 +121,7 @@ impl<'a> Sketch<'a> {
         for item in items {
             if let GraphItem::Point(point) = item {
                 let name = point.name.as_bytes();
-                let drawn = Point {
-                    mark: mark_of(point.kind),
-                    name: name_of(self.alloc(), name)?,
-                    places: 1,
-                    unjoined: 0,
-                };
+                let drawn = Point::new(mark_of(point.kind), name_of(self.alloc(), name)?);
                 let number = self.diagram.add_point(block, drawn)?;
                 self.points.insert(Key { block, name }, number)?;
             }

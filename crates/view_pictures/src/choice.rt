@@ -23,15 +23,29 @@ pub enum Happening {
     Turn(usize),
 }
 
+/// Who is passed over where more take part than can have lifelines of their own.
+#[derive(Clone, Copy, Debug, PartialEq, Eq)]
+pub enum Crowd {
+    /// Nobody: there is room for all.
+    Seated,
+    /// Those to whom nothing happens once they have started.
+    Idle,
+    /// All but the one whose turns alone are wanted.
+    Unnamed,
+    /// Those who come last.
+    Late,
+}
+
 /// What of a run is drawn.
 #[derive(Drop)]
 pub struct Choice<'a> {
     pub cast: Cast,
+    pub crowd: Crowd,
     /// The messages that are drawn.
     pub messages: Vec<&'a Msg>,
     /// The number of each by what journals call it.
     pub numbers: IndexMap<Name, usize>,
-    /// How many messages aren't drawn since one of their ends has no lifeline.
+    /// How many messages aren't drawn since neither of their ends has a lifeline of its own.
     pub undrawn: usize,
     /// What is drawn, in the order in which it was chosen.
     happenings: Vec<Happening>,
@@ -39,10 +53,16 @@ pub struct Choice<'a> {
 }
 
 impl<'a> Choice<'a> {
-    /// Nothing of a run.
-    pub fn nothing(alloc: Global, told: &Told<'a>) -> Result<Choice<'a>, AllocError> {
+    /// Nothing of a run, of which these are passed over, and so many slots can have lifelines of their own.
+    pub fn nothing(
+        alloc: Global,
+        told: &Told<'a>,
+        crowd: Crowd,
+        most: usize,
+    ) -> Result<Choice<'a>, AllocError> {
         Ok(Choice {
-            cast: Cast::nobody(alloc, told.wiring)?,
+            cast: Cast::nobody(alloc, told.wiring, most)?,
+            crowd,
             messages: Vec::new(alloc),
             numbers: IndexMap::new(alloc),
             undrawn: 0,
@@ -66,7 +86,7 @@ impl<'a> Choice<'a> {
         if self.numbers.contains_key(&name) {
             return Ok(());
         }
-        if !self.cast.admit_sender(msg.source) || !self.cast.admit(msg.target.slot) {
+        if !self.cast.admit_ends(msg) {
             self.undrawn = self.undrawn.saturating_add(1);
             return Ok(());
         }
@@ -91,16 +111,20 @@ impl<'a> Choice<'a> {
     }
 
     /// Draws a start and what it sends, if its actor's slot has a lifeline. An actor without a chart has one only where
-    /// something happens to it.
+    /// something happens to it; so does any other one in a crowd.
     pub fn add_start(&mut self, told: &Told<'a>, start: &Start<'a>) -> Result<(), AllocError> {
         let has_chart = match told.wiring.class_of(start.who.slot) {
             Some(class) => !class.states.is_empty(),
             None => false,
         };
-        if has_chart && self.cast.admit(start.who.slot) {
-            self.add_posts(start.sends)?;
+        let takes_part = match self.crowd {
+            Crowd::Seated => has_chart,
+            Crowd::Idle | Crowd::Unnamed | Crowd::Late => !start.notes.is_empty(),
+        };
+        if takes_part {
+            let _has_line = self.cast.admit(start.who.slot);
         }
-        Ok(())
+        self.add_posts(start.sends)
     }
 
     /// Draws a turn with its message and what it sends, if its slot has a lifeline.

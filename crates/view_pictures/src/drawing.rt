@@ -5,9 +5,10 @@ use crate::run_texts::{message_label, note_label, state_label, turn_label};
 use indexmap::IndexMap;
 use journal::{Did, speaker_after};
 use room_kinds::{Incarnation, Msg, Note, SlotId};
+use room_wiring::Wiring;
 use std::alloc::{AllocError, Global};
 use view_drawing::{Event, Label, Lead, Row, Sequence, Way};
-use view_journals::{Name, Start, Told, Turn, is_trouble_note};
+use view_journals::{Name, Said, Sayings, Start, Told, Turn, is_trouble_note};
 
 /// The most rows that are drawn, but for those of the last turn and those that tell of the end.
 const MOST_ROWS: usize = 4_000;
@@ -94,6 +95,10 @@ impl<'a, 'b> Drawing<'a, 'b> {
         self.sequence.alloc
     }
 
+    pub fn wiring(&self) -> &Wiring {
+        self.told.wiring
+    }
+
     pub fn is_full(&self) -> bool {
         self.sequence.rows.len() >= MOST_ROWS
     }
@@ -156,9 +161,10 @@ impl<'a, 'b> Drawing<'a, 'b> {
         lifeline: usize,
         speaker: Option<SlotId>,
         note: &Note,
+        said: Option<&Said>,
     ) -> Result<(), AllocError> {
-        let spot = self.spot_of_note(lifeline, note);
-        let text = note_label(self.alloc(), self.told.wiring, speaker, note)?;
+        let spot = self.spot_of_note(lifeline, note, said);
+        let text = note_label(self.alloc(), self.told.wiring, speaker, note, said)?;
         let _row = self.add_row(spot, text)?;
         match note {
             Note::Up { who, state } => self.add_state(*who, *state),
@@ -167,15 +173,15 @@ impl<'a, 'b> Drawing<'a, 'b> {
     }
 
     /// Where a note stands that was told at a lifeline.
-    fn spot_of_note(&self, lifeline: usize, note: &Note) -> Spot {
+    fn spot_of_note(&self, lifeline: usize, note: &Note, said: Option<&Said>) -> Spot {
         let own = match note {
-            Note::Up { who, .. } | Note::Down { who, .. } => self.columns.of(who.slot),
+            Note::Up { who, .. } | Note::Down { who, .. } => self.columns.at(who.slot),
             _ => None,
         };
         Spot {
             lifeline: own.unwrap_or(lifeline),
             stamp: None,
-            event: if is_trouble_note(note) {
+            event: if is_trouble_note(note, said) {
                 Event::Trouble
             } else {
                 Event::Note
@@ -190,13 +196,15 @@ impl<'a, 'b> Drawing<'a, 'b> {
         is_duty: bool,
         speaker: Option<SlotId>,
         notes: &[Note],
+        said: &[Said],
     ) -> Result<(), AllocError> {
         let mut speaking = speaker;
+        let mut sayings = Sayings::of(said);
         for note in notes {
             if self.is_full() {
                 break;
             }
-            self.add_note(lifeline, speaking, note)?;
+            self.add_note(lifeline, speaking, note, sayings.with(note))?;
             speaking = speaker_after(is_duty, speaking, *note);
         }
         Ok(())
@@ -208,7 +216,7 @@ impl<'a, 'b> Drawing<'a, 'b> {
             return Ok(());
         };
         self.add_state(start.who, start.state)?;
-        self.add_notes(lifeline, false, Some(slot), start.notes)
+        self.add_notes(lifeline, false, Some(slot), start.notes, start.said)
     }
 
     /// Draws the starts that are wanted, those without notes beside each other.
@@ -308,13 +316,14 @@ impl<'a, 'b> Drawing<'a, 'b> {
         self.add_turn_row(turn, lifeline)?;
         self.add_state_after(turn.did)?;
         let is_duty = turn.did.is_duty();
-        self.add_notes(lifeline, is_duty, turn.did.speaker(), turn.notes)
+        let speaker = turn.did.speaker();
+        self.add_notes(lifeline, is_duty, speaker, turn.notes, turn.said)
     }
 
     /// Draws the ways of the messages that no turn took that is drawn.
     pub fn open_ways(&mut self) {
         for journey in self.journeys.as_slice() {
-            let lifeline = self.columns.of(journey.msg.target.slot);
+            let lifeline = self.columns.at(journey.msg.target.slot);
             if journey.is_open
                 && let (Some(row), Some(lifeline)) = (journey.row, lifeline)
             {

@@ -8,6 +8,8 @@ mod cast;
 mod charts;
 mod choice;
 mod drawing;
+mod leads;
+mod meetings;
 mod orders;
 mod run_texts;
 mod runs;

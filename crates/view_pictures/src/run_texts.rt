@@ -1,11 +1,16 @@
 //! The texts in the picture of a run.
+use crate::cast::MOST_LIFELINES;
+use crate::choice::Crowd;
 use journal::{Did, Journals, naming};
 use room_kinds::{Msg, Note, SlotId};
 use room_wiring::Wiring;
 use std::alloc::{AllocError, Global};
 use view_drawing::Label;
 use view_journals::view_pages::Page;
-use view_journals::{Turn, end_word, put_incoming, put_name, put_note, word_of};
+use view_journals::{
+    Difference, Moment, Said, Turn, end_word, put_difference, put_incoming, put_moment, put_name,
+    put_note, word_of,
+};
 
 /// A label with the bytes of a page.
 fn label_of(alloc: Global, page: &Page) -> Result<Label, AllocError> {
@@ -68,15 +73,16 @@ pub fn state_label(
     Ok(Some(Label::of(alloc, Vec::from_slice(alloc, name)?)?))
 }
 
-/// A note of actors of a slot.
+/// A note of actors of a slot, and what was said where nobody hears it.
 pub fn note_label(
     alloc: Global,
     wiring: &Wiring,
     speaker: Option<SlotId>,
     note: &Note,
+    said: Option<&Said>,
 ) -> Result<Label, AllocError> {
     let mut page = Page::new(alloc);
-    put_note(&mut page, wiring, speaker, note)?;
+    put_note(&mut page, wiring, speaker, note, said)?;
     label_of(alloc, &page)
 }
 
@@ -103,9 +109,34 @@ fn whole_label(alloc: Global, page: &Page) -> Result<Label, AllocError> {
 }
 
 /// A label with this text.
-pub fn plain_label(alloc: Global, text: &[u8]) -> Result<Label, AllocError> {
+fn plain_label(alloc: Global, text: &[u8]) -> Result<Label, AllocError> {
     let mut page = Page::new(alloc);
     page.put(text)?;
+    whole_label(alloc, &page)
+}
+
+/// Where all was quiet, and the environment went on: at a moment, when that was.
+pub fn settle_text(
+    alloc: Global,
+    wiring: &Wiring,
+    moment: Option<Moment>,
+) -> Result<Label, AllocError> {
+    let Some(moment) = moment else {
+        return plain_label(alloc, b"settle");
+    };
+    let mut page = Page::new(alloc);
+    put_moment(&mut page, wiring, moment)?;
+    whole_label(alloc, &page)
+}
+
+/// Where journals are those of another model.
+pub fn difference_text(
+    alloc: Global,
+    wiring: &Wiring,
+    difference: &Difference,
+) -> Result<Label, AllocError> {
+    let mut page = Page::new(alloc);
+    put_difference(&mut page, wiring, difference)?;
     whole_label(alloc, &page)
 }
 
@@ -117,13 +148,25 @@ pub fn gap_text(alloc: Global, turns: usize) -> Result<Label, AllocError> {
     counted(alloc, b"cut: ", turns, b" turns aren't drawn here")
 }
 
-/// That messages aren't drawn, since there is no room for who sends or gets them.
+/// Who is passed over, if anybody is.
+pub fn crowd_text(alloc: Global, crowd: Crowd) -> Result<Option<Label>, AllocError> {
+    let behind: &[u8] = match crowd {
+        Crowd::Seated => return Ok(None),
+        Crowd::Idle => b" actors: those to whom nothing happens aren't drawn",
+        Crowd::Unnamed => b" actors: only those that --actor names are drawn by themselves",
+        Crowd::Late => b" actors: the first are drawn by themselves; --actor PATH chooses",
+    };
+    let text = counted(alloc, b"more than ", MOST_LIFELINES, behind)?;
+    Ok(Some(text))
+}
+
+/// That messages aren't drawn that go between those who have no lifelines of their own.
 pub fn undrawn_text(alloc: Global, messages: usize) -> Result<Label, AllocError> {
     counted(
         alloc,
         b"cut: ",
         messages,
-        b" messages aren't drawn: more than 100 slots take part",
+        b" messages to others aren't drawn",
     )
 }
 

@@ -1,12 +1,16 @@
 //! The picture of a run: who took part, and what became of the messages.
-use crate::choice::{Choice, Happening};
+use crate::cast::MOST_LIFELINES;
+use crate::choice::{Choice, Crowd, Happening};
 use crate::drawing::Drawing;
-use crate::run_texts::{end_text, gap_text, plain_label, undrawn_text};
+use crate::run_texts::{
+    crowd_text, difference_text, end_text, gap_text, settle_text, undrawn_text,
+};
 use journal::{Entry, Journals};
+use room_kinds::SlotId;
 use room_wiring::Wiring;
 use std::alloc::{AllocError, Global};
 use view_drawing::Sequence;
-use view_journals::{Start, Told, Turn, Wanted, starts_of, turns_of};
+use view_journals::{Moment, Redone, Start, Told, Turn, Wanted, moments_of, starts_of, turns_of};
 
 /// A run, and its starts and turns.
 #[derive(Clone, Copy)]
@@ -38,16 +42,19 @@ struct Progress {
     settled: Vec<u64>,
     /// How many of them are passed.
     passed: usize,
+    /// The moments at which timers expired, each with such a stamp.
+    moments: Vec<Moment>,
     /// The first turn behind those that are drawn or passed over.
     next_turn: usize,
 }
 
 impl Progress {
     /// Nothing is drawn yet of a run.
-    fn none(alloc: Global, journals: &Journals) -> Result<Progress, AllocError> {
+    fn none(alloc: Global, wiring: &Wiring, journals: &Journals) -> Result<Progress, AllocError> {
         Ok(Progress {
             settled: settled_of(alloc, journals)?,
             passed: 0,
+            moments: moments_of(alloc, wiring, journals)?,
             next_turn: 0,
         })
     }
@@ -58,6 +65,17 @@ impl Progress {
         let count = rest.iter().take_while(|settled| **settled <= stamp).count();
         self.passed = self.passed.saturating_add(count);
         count > 0
+    }
+
+    /// The moment at which all was quiet last, if it was one.
+    fn moment(&self) -> Option<Moment> {
+        let last = self.passed.saturating_sub(1);
+        let stamp = self.settled.as_slice().get(last)?;
+        let moments = self.moments.as_slice();
+        moments
+            .iter()
+            .find(|moment| moment.stamp == *stamp)
+            .copied()
     }
 
     /// How many turns are passed over up to one that is drawn.
@@ -85,7 +103,7 @@ fn add_settle(
     if !progress.settles(stamp) {
         return Ok(());
     }
-    let text = plain_label(drawing.alloc(), b"settle")?;
+    let text = settle_text(drawing.alloc(), drawing.wiring(), progress.moment())?;
     drawing.add_divider(text)
 }
 
@@ -175,17 +193,60 @@ fn choose_left<'a>(choice: &mut Choice<'a>, told: &Told<'a>) -> Result<(), Alloc
     Ok(())
 }
 
+/// Chooses what is wanted. Those who act come before those who only start, should there be no room for all.
 fn choose<'a>(choice: &mut Choice<'a>, run: Run<'a, '_>) -> Result<(), AllocError> {
-    choose_starts(choice, run)?;
     choose_turns(choice, run)?;
-    choose_left(choice, run.told)
+    choose_left(choice, run.told)?;
+    choose_starts(choice, run)
 }
 
-/// What of a run is wanted.
-fn choice_of<'a>(alloc: Global, run: Run<'a, '_>) -> Result<Choice<'a>, AllocError> {
-    let mut choice = Choice::nothing(alloc, run.told)?;
+/// What of a run is wanted, where these are passed over, and all others have lifelines for whom there is room.
+fn usual_choice<'a>(
+    alloc: Global,
+    run: Run<'a, '_>,
+    crowd: Crowd,
+) -> Result<Choice<'a>, AllocError> {
+    let mut choice = Choice::nothing(alloc, run.told, crowd, MOST_LIFELINES)?;
     choose(&mut choice, run)?;
     Ok(choice)
+}
+
+/// What of a run is wanted, where one slot alone has a lifeline of its own.
+fn narrow_choice<'a>(
+    alloc: Global,
+    run: Run<'a, '_>,
+    actor: SlotId,
+) -> Result<Choice<'a>, AllocError> {
+    let mut choice = Choice::nothing(alloc, run.told, Crowd::Unnamed, 1)?;
+    let _has_line = choice.cast.admit(actor);
+    choose(&mut choice, run)?;
+    Ok(choice)
+}
+
+/// What of a run is wanted. Where more take part than there is room for, those are passed over to whom nothing happens,
+/// and then all but the one that options name.
+fn choice_of<'a>(alloc: Global, run: Run<'a, '_>) -> Result<Choice<'a>, AllocError> {
+    let whole = usual_choice(alloc, run, Crowd::Seated)?;
+    if !whole.cast.is_crowded {
+        return Ok(whole);
+    }
+    let mut acting = usual_choice(alloc, run, Crowd::Idle)?;
+    if !acting.cast.is_crowded {
+        return Ok(acting);
+    }
+    if let Some(actor) = run.told.wanted.actor {
+        return narrow_choice(alloc, run, actor);
+    }
+    acting.crowd = Crowd::Late;
+    Ok(acting)
+}
+
+/// Draws who is passed over.
+fn add_crowd(drawing: &mut Drawing<'_, '_>, crowd: Crowd) -> Result<(), AllocError> {
+    match crowd_text(drawing.alloc(), crowd)? {
+        Some(text) => drawing.add_divider(text),
+        None => Ok(()),
+    }
 }
 
 /// Draws how a run ended, and what isn't drawn.
@@ -203,17 +264,32 @@ fn add_end(drawing: &mut Drawing<'_, '_>, gap: usize, undrawn: usize) -> Result<
     Ok(())
 }
 
-/// Draws a run from its starts to its end; of messages and turns these happenings.
+/// Draws that the journals are those of another model, if they are.
+fn add_difference(drawing: &mut Drawing<'_, '_>) -> Result<(), AllocError> {
+    let told = drawing.told;
+    match &told.redone.differs {
+        Some(difference) => {
+            let text = difference_text(drawing.alloc(), told.wiring, difference)?;
+            drawing.add_divider(text)
+        }
+        None => Ok(()),
+    }
+}
+
+/// Draws what was chosen of a run from its starts to its end; of messages and turns these happenings.
 fn draw<'a>(
     drawing: &mut Drawing<'a, '_>,
     run: Run<'a, '_>,
+    choice: &Choice<'a>,
     happenings: &[Happening],
-    undrawn: usize,
 ) -> Result<(), AllocError> {
-    let mut progress = Progress::none(drawing.alloc(), run.told.journals)?;
+    let mut progress = Progress::none(drawing.alloc(), run.told.wiring, run.told.journals)?;
+    add_difference(drawing)?;
+    add_crowd(drawing, choice.crowd)?;
     drawing.add_starts(run.starts)?;
     add_happenings(drawing, &mut progress, run.turns, happenings)?;
-    add_end(drawing, progress.gap_before(run.turns.len()), undrawn)
+    let gap = progress.gap_before(run.turns.len());
+    add_end(drawing, gap, choice.undrawn)
 }
 
 /// The picture of what was chosen of a run.
@@ -224,7 +300,7 @@ fn picture_of_choice<'a, 'b>(
     happenings: &[Happening],
 ) -> Result<Sequence, AllocError> {
     let mut drawing = Drawing::of(alloc, run.told, choice)?;
-    draw(&mut drawing, run, happenings, choice.undrawn)?;
+    draw(&mut drawing, run, choice, happenings)?;
     Ok(drawing.into_sequence())
 }
 
@@ -236,8 +312,8 @@ fn picture_of_run(alloc: Global, run: Run<'_, '_>) -> Result<Sequence, AllocErro
 }
 
 fn picture_of_told(alloc: Global, told: &Told<'_>) -> Result<Sequence, AllocError> {
-    let starts = starts_of(alloc, told.journals)?;
-    let turns = turns_of(alloc, told.journals)?;
+    let starts = starts_of(alloc, told.journals, told.redone)?;
+    let turns = turns_of(alloc, told.journals, told.redone)?;
     let run = Run {
         told,
         starts: starts.as_slice(),
@@ -246,14 +322,16 @@ fn picture_of_told(alloc: Global, told: &Told<'_>) -> Result<Sequence, AllocErro
     picture_of_run(alloc, run)
 }
 
-/// The picture of what is wanted of a run. No more than some 4,000 rows and 100 lifelines are drawn; where something
-/// is cut, the picture says so.
+/// The picture of what is wanted of a run. No more than some 4,000 rows are drawn, and no more than 40 slots have
+/// lifelines of their own; where more take part, only the one has that is wanted alone. The picture says so, and where
+/// something is cut, or the journals are those of another model.
 pub fn run_picture(
     alloc: Global,
     wiring: &Wiring,
     journals: &Journals,
+    redone: &Redone,
     wanted: Wanted<'_>,
 ) -> Result<Sequence, AllocError> {
-    let told = Told::of(alloc, wiring, journals, wanted)?;
+    let told = Told::of(alloc, wiring, journals, redone, wanted)?;
     picture_of_told(alloc, &told)
 }

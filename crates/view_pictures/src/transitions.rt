@@ -1,4 +1,4 @@
-//! The labels of transitions: `event: port [guard] / action`.
+//! The labels of transitions: `name: <event: port> [guard] / action`.
 use crate::orders::message_of;
 use itoa::Buffer;
 use room_ast::{
@@ -39,11 +39,13 @@ fn add_event(text: &mut Vec<u8>, event: &Event) -> Result<(), AllocError> {
 }
 
 fn add_trigger(text: &mut Vec<u8>, trigger: &Trigger) -> Result<(), AllocError> {
+    text.push(b'<')?;
     add_event(text, &trigger.first)?;
     for event in trigger.others.as_slice() {
         text.extend_from_slice(b" | ")?;
         add_event(text, event)?;
     }
+    text.push(b'>')?;
     if let Some(guard) = &trigger.guard {
         text.extend_from_slice(b" [")?;
         add_code(text, guard)?;
@@ -86,8 +88,19 @@ fn add_body(text: &mut Vec<u8>, body: &TransitionBody) -> Result<(), AllocError>
 
 fn add_action(text: &mut Vec<u8>, body: &TransitionBody) -> Result<(), AllocError> {
     if let Some(action) = &body.action {
-        text.extend_from_slice(if text.is_empty() { b"/ " } else { b" / " })?;
+        add_gap(text)?;
+        text.extend_from_slice(b"/ ")?;
         add_code(text, action)?;
+    }
+    Ok(())
+}
+
+/// Adds a blank, if something stands before it and no blank does.
+fn add_gap(text: &mut Vec<u8>) -> Result<(), AllocError> {
+    if let Some(last) = text.as_slice().last()
+        && *last != b' '
+    {
+        text.push(b' ')?;
     }
     Ok(())
 }
@@ -113,15 +126,29 @@ fn add_shown(text: &mut Vec<u8>, transition: &Transition) -> Result<(), AllocErr
     Ok(())
 }
 
-/// The name of a transition; empty where it has none.
-fn name_of(transition: &Transition) -> &[u8] {
-    match &transition.name {
-        Some(name) => name.as_bytes(),
-        None => b"",
-    }
+/// Whether something is to be said of a transition beside its name.
+fn says_more(transition: &Transition) -> bool {
+    may_be_else(transition)
+        || match &transition.body {
+            Some(body) => {
+                body.triggers.is_some() || body.condition.is_some() || body.action.is_some()
+            }
+            None => false,
+        }
 }
 
-/// The label of a transition. It begins with its number, where it has one; its whole text with its name.
+/// Adds the name of a transition, if it has one.
+fn add_name(text: &mut Vec<u8>, transition: &Transition) -> Result<(), AllocError> {
+    if let Some(name) = &transition.name {
+        text.extend_from_slice(name.as_bytes())?;
+        if says_more(transition) {
+            text.extend_from_slice(b": ")?;
+        }
+    }
+    Ok(())
+}
+
+/// The label of a transition. It begins with its number, where it has one, and its name.
 pub fn label_of(
     alloc: Global,
     transition: &Transition,
@@ -129,6 +156,7 @@ pub fn label_of(
 ) -> Result<Label, AllocError> {
     let mut text = Vec::new(alloc);
     add_order(&mut text, order)?;
+    add_name(&mut text, transition)?;
     add_shown(&mut text, transition)?;
-    Label::named(alloc, name_of(transition), text.as_slice())
+    Label::long(alloc, text)
 }

@@ -22,6 +22,13 @@ pub struct Named<'a> {
     pub text: &'a [u8],
 }
 
+/// What a fault or a finding is, and its cure, in a sentence each.
+#[derive(Clone, Copy, Debug)]
+pub struct Meaning {
+    pub fault: &'static str,
+    pub cure: &'static str,
+}
+
 /// Where a byte of a text stands: its line and column, from 1, and its line's first byte and the one behind its last.
 #[derive(Clone, Copy)]
 struct Place {
@@ -104,6 +111,13 @@ impl Page {
     pub fn put_line(&mut self, bytes: &[u8]) -> Result<(), AllocError> {
         self.put(bytes)?;
         self.end_line()
+    }
+
+    /// What a fault or a finding is, and how it is mended.
+    pub fn put_meaning(&mut self, meaning: Meaning) -> Result<(), AllocError> {
+        self.put_line(meaning.fault.as_bytes())?;
+        self.put(b"cure: ")?;
+        self.put_line(meaning.cure.as_bytes())
     }
 
     /// So many times the byte that stands under a letter: a tab under a tab, so that marks stand in their place.

@@ -4,8 +4,7 @@ use crate::finding::{Finding, Kind};
 use indexmap::IndexMap;
 use room_lexer::Word;
 use std::alloc::{AllocError, Global};
-use view_charts::{Code, Part, Source, Ways};
-use view_faults::Item;
+use view_charts::{Code, Item, Part, Source, Ways};
 
 /// What is known of the branches of a choice point, in order, while they are looked at.
 #[derive(Drop)]

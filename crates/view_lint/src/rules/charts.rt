@@ -4,8 +4,7 @@ use crate::model::Class;
 use room_kinds::ReferenceKind;
 use room_wiring::RefNames;
 use std::alloc::{AllocError, Global};
-use view_charts::{Chart, Source, State, Ways, joined};
-use view_faults::Item;
+use view_charts::{Chart, Item, Source, State, Ways, joined};
 
 /// Whether a state is on a way from the initial transition.
 fn is_reached(ways: &Ways, reached: &[bool], key: &[u8]) -> bool {

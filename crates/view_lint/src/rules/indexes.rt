@@ -6,8 +6,7 @@ use crate::places::{has_joined, is_worked_at};
 use indexmap::IndexMap;
 use room_wiring::Wiring;
 use std::alloc::{AllocError, Global};
-use view_charts::Source;
-use view_faults::Item;
+use view_charts::{Item, Source};
 
 /// The first slot of a replicated reference, how many slots each of its actors stands for, and how many actors there
 /// are.

@@ -2,7 +2,7 @@
 use crate::finding::{Finding, Kind};
 use crate::listing::{Listing, decimal};
 use crate::model::{Class, LintedModel};
-use crate::places::{has_joined, is_joined};
+use crate::places::{has_joined, is_joined, is_outlet};
 use room_kinds::SlotId;
 use std::alloc::AllocError;
 use view_charts::{Index, Send};
@@ -84,7 +84,16 @@ fn add_unjoined(
     places.add_at(model.path(slot), &[b".", at.name])
 }
 
-/// Adds the places of a slot at which a send with an index gets to nobody.
+/// Whether a port of a slot has places to which an index leads.
+fn has_places(model: &LintedModel<'_>, slot: SlotId, port: usize, index: Index) -> bool {
+    let count = place_count(model.wiring, slot, port);
+    match index {
+        Index::Place(place) => place < u64::from(count),
+        Index::All | Index::Computed => count > 0,
+    }
+}
+
+/// Adds the places of a slot at which a send with an index gets to nobody. What leads out of the model is meant.
 fn add_slot(
     model: &LintedModel<'_>,
     slot: SlotId,
@@ -92,6 +101,9 @@ fn add_slot(
     index: Index,
     places: &mut Listing,
 ) -> Result<(), AllocError> {
+    if is_outlet(model.wiring, slot, at.port) && has_places(model, slot, at.port, index) {
+        return Ok(());
+    }
     match index {
         Index::All => add_places(model, slot, at, places),
         Index::Place(place) => add_numbered(model, slot, at, place, places),

@@ -1,15 +1,17 @@
 //! An actor's chart, whose attributes can be looked at.
-ghost use Rattle.std.specs.Prelude.{◌≡◌, length, IfOk, OnOk};
+ghost use Rattle.std.specs.Prelude.{◌≡◌, length, IfOk, IsTrue, OnOk};
 ghost use Rattle.chart_run.specs.chart_tables.Tables.{IsSound};
 
 use crate::chart_replays::trace::{Passed, steps_of};
 use action_program::{Effects, Moment, Vars, test};
 use chart_run::chart_tables::Mind;
-use chart_run::{Arrow, Event, Row, Tables, Trigger};
-use room_kinds::{Incarnation, Msg, Payload};
+use chart_run::{Arrow, Event, Handling, Row, Tables, Trigger};
+use room_kinds::{Command, Commands, Incarnation, Msg, Payload};
 use std::alloc::{AllocError, Global};
+use std::mem;
 
-/// An actor in its chart: the state at which its active path ends, and what chains change.
+/// An actor in its chart: the state at which its active path ends, and what chains change. What its actions asked for
+/// is kept until it is taken (`take_commands`).
 #[derive(Drop)]
 pub(crate) struct Replay {
     me: Incarnation,
@@ -40,7 +42,45 @@ fn has(trigger: &Trigger, event: Event) -> bool {
     trigger.events.iter().any(|other| event.is(*other))
 }
 
+/// What a chain comes to that asked for this in the turn of a message.
+fn handling_of(commands: &[Command]) -> Handling {
+    if commands
+        .iter()
+        .any(|command| matches!(command, Command::Defer))
+    {
+        Handling::Deferred
+    } else {
+        Handling::Handled
+    }
+}
+
 impl Replay {
+    /// The number of the state at which the active path ends.
+    pub(crate) fn state(&self) -> u16 {
+        self.leaf
+    }
+
+    /// Whether this is the actor.
+    pub(crate) fn is(&self, who: Incarnation) -> bool {
+        self.me == who
+    }
+
+    /// Whether this is an actor in the chart of these tables.
+    pub(crate) fn fits(&self, tables: &Tables) -> bool
+        ensures { IsTrue result → length self.now.mind.past.items ≡ length tables.now.states.items }
+    {
+        self.mind.past.len() == tables.states.len()
+    }
+
+    /// What actions asked for since this was taken last.
+    pub(crate) fn take_commands(&mut self, alloc: Global) -> Commands
+        ensures { length self.new.mind.past.items ≡ length self.old.mind.past.items }
+    {
+        let effects = mem::replace(&mut self.mind.effects, Effects::new(alloc));
+        let Effects { commands, .. } = effects;
+        commands
+    }
+
     /// What is known where a message comes in.
     fn moment_of(&self, alloc: Global, msg: &Msg) -> Result<Moment, AllocError> {
         Ok(Moment {
@@ -80,13 +120,13 @@ impl Replay {
         self.mind.vars.numbers().to_vec(alloc)
     }
 
-    /// Handles a message; nothing changes where no transition takes it.
+    /// Handles a message, and says what it comes to. What actions asked for was taken before.
     pub(crate) fn handle(
         &mut self,
         alloc: Global,
         tables: &Tables,
         msg: &Msg,
-    ) -> Result<(), AllocError>
+    ) -> Result<Handling, AllocError>
         requires sound { IsSound tables.now }
         requires size { length self.old.mind.past.items ≡ length tables.now.states.items }
         ensures { OnOk result (length self.new.mind.past.items ≡ length tables.now.states.items) }
@@ -94,14 +134,13 @@ impl Replay {
         let at = self.moment_of(alloc, msg)?;
         let leaf = self.leaf;
         let Some(taken) = self.mind.enabled(tables, leaf, event_of(msg), &at)? else {
-            return Ok(());
+            return Ok(Handling::Unhandled);
         };
         self.mind.leave_all(alloc, tables, leaf, taken.leaves, &at)?;
         self.leaf = self
             .mind
             .chain(alloc, tables, Some(leaf), taken.arrow, &at)?;
-        self.mind.effects = Effects::new(alloc);
-        Ok(())
+        Ok(handling_of(self.mind.effects.commands.as_slice()))
     }
 
     /// The steps of the chain of a message, which isn't handled by this; none where no transition takes it.

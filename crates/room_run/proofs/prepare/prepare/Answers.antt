@@ -1,6 +1,5 @@
 use Rattle.std.proofs.Common.{◌≡◌, map, Some, refl, sym, ap, ◌∙◌}
 use Rattle.std.specs.String.{string_bytes}
-use Rattle.law_runs.proofs.run_journals.TiedLaw.{tied}
 use Rattle.room_run.specs.Words.{asked_view, files_view, record_view}
 use Rattle.room_run.specs.Causes.{of_check, of_tree, of_run, of_convert, of_made}
 use Rattle.room_run.specs.Outcome.{says_ok, says_tree, says_run, says_converted}
@@ -8,7 +7,7 @@ use Rattle.room_run.specs.declared.asked.Asked.{Asked}
 use Rattle.room_run.specs.declared.asked.Asked.TheVariants as code
 use Rattle.room_run.proofs.CauseLemmas.{model_sound}
 use Rattle.room_run.proofs.Fuel.{fuel_asked}
-use Rattle.room_run.proofs.OutcomeLemmas.{text_is, run_of, sum_answers}
+use Rattle.room_run.proofs.OutcomeLemmas.{text_is, timed_tied, run_of, sum_answers}
 use Rattle.room_run.proofs.prepare.prepare.Goals as goal
 
 pub returns-in-Ok-clause-ok : goal.returns-in-Ok-clause-ok
@@ -47,7 +46,7 @@ returns-in-Ok-run_files-clause-ok g c =
     let journals = c.in-Ok-run_files.finished.journals in
     let is : c.in-Some-Run.field-0 ≡ code.Run c.in-Some-Run.files c.in-Some-Run.fuel = cc in
     says_run (files_view c.in-Some-Run.files) c.in-Some-Run.fuel x.0 x.1 journals (sym c.in-Some-Run.ensures ∙ ap (λ (a : Asked). Some (asked_view a)) is)
-    (run_of c.fitting_runs_journals.ensures (g.S.Shelf.shown c.args.shelf.now) (files_view c.in-Some-Run.files) c.in-Some-Run.fuel x.0 x.1 journals x.2 x.3.plant_fits x.3.lines_fit x.3.run)
+    (run_of c.fitting_runs_journals.ensures (g.S.Shelf.shown c.args.shelf.now) (files_view c.in-Some-Run.files) c.in-Some-Run.fuel x.0 x.1 journals x.2 x.3.run)
     (text_is x.0 x.1 c.in-Some-Run.fuel c.in-Ok-run_files.finished x.3) refl
 
 pub returns-in-Err-run_files-clause-err : goal.returns-in-Err-run_files-clause-err
@@ -57,7 +56,7 @@ returns-in-Err-run_files-clause-err g c =
 
 pub returns-in-Ok-run_files-clause-tied : goal.returns-in-Ok-run_files-clause-tied
 returns-in-Ok-run_files-clause-tied g c =
-    let x = c.in-Ok-run_files.ensures.ok in tied x.0 x.1 c.in-Some-Run.fuel c.in-Ok-run_files.finished.journals x.3.run
+    let x = c.in-Ok-run_files.ensures.ok in timed_tied x.0 x.1 c.in-Some-Run.fuel c.in-Ok-run_files.finished.journals x.3.run.timed
 
 pub returns-in-Ok-convert-clause-ok : goal.returns-in-Ok-convert-clause-ok
 returns-in-Ok-convert-clause-ok g c =

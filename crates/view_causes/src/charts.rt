@@ -1,0 +1,93 @@
+//! What is wrong with the chart of a class.
+use crate::cause::Cause;
+use crate::circles::circle_causes;
+use crate::code_causes::code_causes;
+use crate::shape_causes::Shape;
+use crate::triggers::trigger_causes;
+use room_ast::Scope;
+use std::alloc::AllocError;
+use view_charts::{Chart, ClassItems, Item, Source};
+
+/// The most causes that are told.
+pub(crate) const MOST_CAUSES: usize = 12;
+
+/// A fault of the chart of an actor class, by its number, and what the class's actions can name, if that is known.
+#[derive(Clone, Copy)]
+pub struct ChartFault<'a> {
+    pub class: &'a [u8],
+    pub number: u8,
+    pub scope: Option<&'a Scope>,
+}
+
+/// A class that is looked at for causes: its place in the text and those of its bases, its chart, and what its actions
+/// can name.
+#[derive(Clone, Copy)]
+pub(crate) struct Suspect<'a> {
+    pub source: Source<'a>,
+    pub chain: &'a [Item],
+    pub chart: &'a Chart,
+    pub scope: &'a Scope,
+}
+
+/// Puts a cause in its place among those that stand before it in the text. Of two at one place the first is kept.
+fn put(causes: Vec<Cause>, cause: Cause) -> Result<Vec<Cause>, AllocError> {
+    let mut all = causes;
+    let known = all.as_slice();
+    if known.iter().any(|other| other.start == cause.start && other.end == cause.end) {
+        return Ok(all);
+    }
+    let place = known
+        .iter()
+        .filter(|other| other.start < cause.start)
+        .count();
+    if place <= all.len() {
+        all.insert(place, cause)?;
+    }
+    Ok(all)
+}
+
+/// The first of these causes in the order of the text.
+fn in_order(source: Source<'_>, causes: Vec<Cause>) -> Result<Vec<Cause>, AllocError> {
+    let mut all = Vec::new(source.alloc);
+    for cause in causes {
+        all = put(all, cause)?;
+    }
+    all.truncate(MOST_CAUSES);
+    Ok(all)
+}
+
+/// What is wrong with a chart by the number of its fault, in any order.
+fn causes_of(
+    source: Source<'_>,
+    chain: &[Item],
+    chart: &Chart,
+    fault: ChartFault<'_>,
+) -> Result<Vec<Cause>, AllocError> {
+    match (fault.number, fault.scope) {
+        (2..=5, _) => Shape::of(source, chart)?.causes(chain, fault.number),
+        (6, _) => circle_causes(source, chart),
+        (7, Some(scope)) => trigger_causes(&Suspect {
+            source,
+            chain,
+            chart,
+            scope,
+        }),
+        (8, Some(scope)) => code_causes(&Suspect {
+            source,
+            chain,
+            chart,
+            scope,
+        }),
+        _ => Ok(Vec::new(source.alloc)),
+    }
+}
+
+/// What is wrong with the chart of a class that has a fault, in the order of the text: the first places that are seen;
+/// none where the text doesn't show it.
+pub fn chart_causes(source: Source<'_>, fault: ChartFault<'_>) -> Result<Vec<Cause>, AllocError> {
+    let classes = ClassItems::of(source)?;
+    let chain = classes.chain(source, fault.class)?;
+    let chart = Chart::of(source, chain.as_slice())?;
+    let causes = causes_of(source, chain.as_slice(), &chart, fault)?;
+    in_order(source, causes)
+}

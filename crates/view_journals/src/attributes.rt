@@ -1,0 +1,48 @@
+//! The attributes of actors by their names.
+use crate::view_pages::Page;
+use room_wiring::ClassNames;
+use std::alloc::AllocError;
+
+/// Numbers with blanks between them.
+fn put_numbers(page: &mut Page, numbers: &[i64]) -> Result<(), AllocError> {
+    for number in numbers {
+        page.put(b" ")?;
+        page.put_signed(*number)?;
+    }
+    Ok(())
+}
+
+/// The numbers of an attribute: those before, and those after where they are others.
+fn put_change(page: &mut Page, before: &[i64], after: &[i64]) -> Result<(), AllocError> {
+    put_numbers(page, before)?;
+    if before != after {
+        page.put(b" ->")?;
+        put_numbers(page, after)?;
+    }
+    Ok(())
+}
+
+/// The attributes of an actor of a class by their names: the numbers before, and those after where they are others.
+/// Both are in order of declaration.
+pub fn put_attributes(
+    page: &mut Page,
+    class: &ClassNames,
+    before: &[i64],
+    after: &[i64],
+) -> Result<(), AllocError> {
+    let mut lead: &[u8] = b"attributes: ";
+    let mut start = 0usize;
+    for attribute in class.attributes.as_slice() {
+        let end = start.saturating_add(attribute.numbers as usize);
+        page.put(lead)?;
+        page.put(attribute.name.as_bytes())?;
+        put_change(
+            page,
+            before.get(start..end).unwrap_or(&[]),
+            after.get(start..end).unwrap_or(&[]),
+        )?;
+        lead = b", ";
+        start = end;
+    }
+    Ok(())
+}
