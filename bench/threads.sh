@@ -1,7 +1,9 @@
 #!/usr/bin/env bash
 # Whether runs of several controllers, each on a thread, end well on a busy machine: all worked
 # cases that run a model with more than one logical thread, again and again, beside a load on every
-# processor. Counts how many cases failed, and fails if one did.
+# processor. What each prints is judged, too: it has to be lawful (`verify`), but where the injections move
+# the time on, which `verify` doesn't judge. Counts how many cases failed, and how many journals weren't
+# lawful, and fails if there was one.
 #
 #   bench/threads.sh             200 times, beside one busy loop for each processor
 #   RUNS=10 bench/threads.sh     10 times
@@ -22,6 +24,22 @@ threaded_cases() {
     done
 }
 
+# Whether what the case of a folder prints is lawful.
+is_lawful() {
+    local words
+    mapfile -t words <"$1/words"
+    case "$(cat "$1/status")" in 0 | 4) ;; *) return 0 ;; esac
+    ! grep -qs '^advance ' "$1/${words[2]}" || return 0
+    (
+        cd "$1"
+        "$program" "${words[@]}" >"$work/printed" 2>/dev/null </dev/null || true
+        "$program" verify "${words[1]}" "${words[2]}" "$work/printed" "${words[@]:3}" </dev/null 2>&1
+    ) >"$work/verdict" || true
+    [ "$(cat "$work/verdict")" = lawful ] && return
+    echo "$1: $(cat "$work/verdict")"
+    return 1
+}
+
 # Takes a processor's whole time, until it is stopped.
 be_busy() {
     while :; do :; done
@@ -37,12 +55,14 @@ for ((number = 0; number < busy; number++)); do
 done
 
 failed=0
+unlawful=0
 for _ in $(seq "$runs"); do
     "$top/.ci/cases" "$program" "${cases[@]}" >"$work/told" || true
     some="$(sed -n '$s/.* passed, \([0-9]*\) failed$/\1/p' "$work/told")"
     [ "$some" = 0 ] || cat "$work/told"
     failed=$((failed + some))
+    for folder in "${cases[@]}"; do is_lawful "$folder" || unlawful=$((unlawful + 1)); done
 done
 tell_load
-echo "${#cases[@]} cases, $runs times: $failed failed"
-[ "$failed" = 0 ]
+echo "${#cases[@]} cases, $runs times: $failed failed, $unlawful not lawful"
+[ "$failed" = 0 ] && [ "$unlawful" = 0 ]

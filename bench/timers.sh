@@ -12,8 +12,8 @@
 # instructions of the same, of whole runs, where valgrind is installed; here lines are read too.
 #
 # A timeout that is alone at its moment has a part of its own, so it is to cost no more than a message
-# that has one; a timeout among those of one moment no more than a line among others. The last lines
-# say so, `!` where not.
+# that has one; a timeout among those of one moment no more than a line among others; and all that
+# expire one by one take at most twice the time of as many lines. The last lines say so, `!` where not.
 set -eu
 . "$(dirname "${BASH_SOURCE[0]}")/timing.sh"
 
@@ -109,6 +109,7 @@ printf '%6s %9s %8s %9s %11s %8s\n' actors start lines settled 'one by one' 'at 
 for actors in 1000 2000 4000; do measure "$actors"; done
 tell_ratio "$apart" "$settled" 1 'timeouts one by one, beside messages in parts of their own'
 tell_ratio "$at_once" "$lines" 1 'timeouts at one moment, beside lines in one part'
+tell_ratio "$apart" "$lines" 2 'timeouts one by one, beside lines in one part'
 if command -v valgrind >/dev/null; then
     echo 'instructions'
     for actors in 500 1000; do count "$actors"; done

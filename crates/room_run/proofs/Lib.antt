@@ -10,4 +10,7 @@ pub mod ConvertLemmas
 pub mod Retold
 pub mod Untimed
 pub mod OutcomeLemmas
-pub mod MadeLemmas
+pub mod VerifyLemmas
+pub mod StillTexts
+pub mod PrintedLaws
+mod MadeLemmas

@@ -1,5 +1,5 @@
 -- How the parts of a call make its outcome.
-use Rattle.std.proofs.Common.{◌≡◌, ℕ, true, List, Option, Some, None, IfSome, sym, ap, subst}
+use Rattle.std.proofs.Common.{◌≡◌, ℕ, List, Option, Some, None, IfSome, sym, ap, subst}
 use Rattle.room_outside.specs.Shown.{Shown}
 use Rattle.room_outside.specs.Written.{Written}
 use Rattle.room_outside.proofs.SinkLemmas.{Appends-none}

@@ -3,6 +3,8 @@ pub mod Speaking
 pub mod Acting
 pub mod Signals
 pub mod Sending
+pub mod Outboxes
+pub mod PlaceCounts
 pub mod Posting
 pub mod ActorsLaw
 pub mod PlacesLaw

@@ -7,7 +7,9 @@ pub mod Conversions
 pub mod Causes
 pub mod Outcome
 pub mod OneAnswer
+pub mod Verified
 pub mod Finished
+pub mod Judging
 pub mod MadeShelf
 pub mod model_plants
 pub mod Agreement

@@ -3,6 +3,7 @@
 //! No code: the laws.
 ghost use Rattle.room_run.specs.Conversions.{ConversionsKeepJournals};
 ghost use Rattle.room_run.specs.OneAnswer.{AcceptedCallsEnd, CallsHaveOneAnswer};
+ghost use Rattle.room_run.specs.Verified.{PrintedRunsAreLawful, VerdictsAreExact};
 
 /// Of the words and the texts that they name at most one refusal holds besides want of memory, and none
 /// where they have an answer, where the texts are told and no read of them failed.
@@ -20,4 +21,16 @@ pub fn accepted_calls_end()
 /// who reads it gets them again.
 pub fn conversions_keep_journals()
     ensures { ConversionsKeepJournals }
+{}
+
+/// Where the texts that a call names are told and accepted, and no read and no write fails, it is done exactly where
+/// the journals are lawful, prompt and ended by the charts of the model, over the lines and with the fuel, and
+/// unlawful exactly where they aren't; unless it ends for want of memory.
+pub fn verdicts_are_exact()
+    ensures { VerdictsAreExact }
+{}
+
+/// What a run printed, over lines that don't move virtual time on, is answered as lawful with the same fuel.
+pub fn printed_runs_are_lawful()
+    ensures { PrintedRunsAreLawful }
 {}

@@ -4,16 +4,19 @@
 //! There are no premises but these two.
 //!
 //! No code but calls of the laws that the owner of each slot of a model is a controller, that partners are each
-//! other's, and that ports of places that are joined, by the model or by name, have one protocol.
+//! other's, that ports of places that are joined, by the model or by name, have one protocol, and that the joined
+//! places of an imported slot are those of end ports, which each slot of its class has.
 ghost use Rattle.room_run.specs.fitting_journals.Fitting.{FittingRunsAreInPlace, FittingJournalsFit};
 
+use law_definitions::imported_slots_have_end_ports;
 use law_models::joined_ports::{joined_ports_have_one_protocol, linked_ports_have_one_protocol};
 use law_models::settled_models::wirings::{owners_are_there, partners_are_mutual};
 
 /// The journals of every run of a plant that fits, over lines that name what its wiring has, are tied and in
 /// place; the environment's fits the wiring; what controllers post goes to controllers, from places of the
-/// wiring to such places, with signals of the ports to which it goes, or kinds of system messages; and who starts,
-/// acts, comes up or goes down is an actor of the wiring, in a state of its class, whose notes name its own ports.
+/// wiring, or places that were linked by name, to such places, with signals of the ports to which it goes, or kinds of
+/// system messages; and who starts, acts, comes up or goes down is an actor of the wiring, in a state of its class,
+/// whose notes name its own ports.
 pub fn fitting_runs_journals()
     ensures { FittingRunsAreInPlace }
 {
@@ -21,6 +24,7 @@ pub fn fitting_runs_journals()
     partners_are_mutual();
     joined_ports_have_one_protocol();
     linked_ports_have_one_protocol();
+    imported_slots_have_end_ports();
 }
 
 /// So the journals of such a run fit the wiring: all that they name is there.

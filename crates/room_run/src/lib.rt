@@ -23,8 +23,12 @@ mod refusal;
 mod stack;
 mod status;
 mod top;
+mod verify;
 
-pub use answers::{accepted_calls_end, conversions_keep_journals, one_answer};
+pub use answers::{
+    accepted_calls_end, conversions_keep_journals, one_answer, printed_runs_are_lawful,
+    verdicts_are_exact,
+};
 pub use fitting_journals::{fitting_journals_fit, fitting_runs_journals};
 pub use fitting_plants::{fitting_runs_settle, fitting_worlds_agree, plants_fit};
 pub use judge::{read_plant, read_wiring};

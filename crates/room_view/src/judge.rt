@@ -12,6 +12,17 @@ fn is_of_bases(rule: u8) -> bool {
     rule > 25
 }
 
+/// The rule on how many tokens all classes have together with what they have from their bases.
+const SIZE_RULE: u8 = 31;
+
+/// Whether a model is too large with all that its classes have from their bases.
+fn is_of_size(fault: &ModelFault) -> bool {
+    match fault {
+        ModelFault::Rule(number) => *number == SIZE_RULE,
+        _ => false,
+    }
+}
+
 /// Where in the order of the faults a fault stands, and which of its kind it is.
 fn rank(fault: &ModelFault) -> (u8, u8) {
     match fault {
@@ -99,6 +110,11 @@ impl<'a> Judge for FaultOf<'a> {
     fn reached(&self, text: &[u8]) -> Result<Option<u32>, AllocError> {
         if text.len() as u64 > MAX_TEXT {
             return Ok(None);
+        }
+        // A text that keeps this rule just so is dear to read whole.
+        if is_of_size(self.fault) {
+            let kept = keeps_bases(self.alloc, text, SIZE_RULE)?;
+            return Ok(kept.then_some(u32::MAX));
         }
         match read_wiring(self.alloc, text) {
             Ok(_) => Ok(Some(u32::MAX)),

@@ -44,14 +44,15 @@ environment
 done
 ";
 
-/// What the program is given: words, the texts of a model and of injections under the names
-/// `model.room` and `inject.txt`, the numbers of the calls that fail, from 1, and how many bytes the
-/// output takes.
+/// What the program is given: words, the texts of a model, of injections and of journals under the names
+/// `model.room`, `inject.txt` and `journals.txt`, the numbers of the calls that fail, from 1, and how many
+/// bytes the output takes.
 #[derive(Clone, Copy)]
 pub(crate) struct Case<'a> {
     pub(crate) words: &'a [&'a str],
     pub(crate) model: &'a str,
     pub(crate) injections: &'a str,
+    pub(crate) journals: &'a str,
     pub(crate) failing_reads: &'a [u64],
     pub(crate) failing_writes: &'a [u64],
     pub(crate) failing_notes: &'a [u64],
@@ -63,6 +64,7 @@ pub(crate) const RUN: Case<'static> = Case {
     words: &["run", "model.room", "inject.txt"],
     model: MODEL,
     injections: INJECTIONS,
+    journals: JOURNAL,
     failing_reads: &[],
     failing_writes: &[],
     failing_notes: &[],
@@ -102,6 +104,7 @@ impl Case<'_> {
         let mut files = Vec::new(alloc);
         files.push(file(alloc, "model.room", self.model)?)?;
         files.push(file(alloc, "inject.txt", self.injections)?)?;
+        files.push(file(alloc, "journals.txt", self.journals)?)?;
         let mut shelf = MemShelf::new(alloc, files, self.failing_reads.to_vec(alloc)?)?;
         let mut out = MemSink::new(alloc, self.room, self.failing_writes.to_vec(alloc)?)?;
         let mut notes = MemSink::new(alloc, 10_000, self.failing_notes.to_vec(alloc)?)?;

@@ -12,4 +12,6 @@ mod meet_tests;
 #[cfg(test)]
 mod read_tests;
 #[cfg(test)]
+mod verify_tests;
+#[cfg(test)]
 mod write_tests;

@@ -29,7 +29,7 @@ pub trait Judge {
     fn is_mended(&self, text: &[u8]) -> Result<bool, AllocError>;
 
     /// How far a text gets from which the fault is gone, and in which none before it has come: the more, the later the
-    /// fault that it has instead, and most where it has none. None where the fault stands, or one before it.
+    /// fault that it has instead, and `u32::MAX` where it has none. None where the fault stands, or one before it.
     fn reached(&self, text: &[u8]) -> Result<Option<u32>, AllocError>;
 }
 
@@ -171,7 +171,7 @@ impl<'a, J: Judge> Search<'a, J> {
             if group.is_empty() {
                 group = found;
             }
-            if level.is_empty() {
+            if level.is_empty() || best.is_enough() {
                 break;
             }
         }
@@ -261,6 +261,12 @@ impl Alone {
     fn one(alloc: Global, reached: u32, item: Item) -> Result<Alone, AllocError> {
         let items = Vec::from_slice(alloc, &[item])?;
         Ok(Alone { reached, items })
+    }
+
+    /// Whether the text has no fault without them, and there are as many as are told, so that those further inside
+    /// aren't asked for.
+    fn is_enough(&self) -> bool {
+        self.reached == u32::MAX && self.items.len() >= MOST_CAUSES
     }
 
     /// Those of both without which the text gets furthest.

@@ -1,5 +1,5 @@
 -- What the journals of a run of a plant that fits tell of actors is so of the wiring.
-use Rattle.std.proofs.Common.{◌≡◌, ℕ, zero, suc, ◌+◌, ◌<◌, ◌&&◌, nat_lt, Bool, true, false, if◌then◌else◌, List, [], ◌∷◌, ◌++◌, map, length, Option, Some, None, option_and_then, slice_get, refl, sym, ap, ◌∙◌, subst, ltb-true, leb-true, arith, ◌⊎◌, inl, inr}
+use Rattle.std.proofs.Common.{◌≡◌, ℕ, zero, suc, ◌+◌, ◌<◌, ◌&&◌, ◌||◌, nat_lt, Bool, true, false, if◌then◌else◌, List, [], ◌∷◌, ◌++◌, map, length, Option, Some, None, option_and_then, slice_get, refl, sym, ap, ◌∙◌, subst, ltb-true, leb-true, arith, ◌⊎◌, inl, inr}
 use Rattle.std.specs.Prelude.{nat_le}
 use Rattle.std.specs.List.{AllByRecursion as Each, list_all}
 use Rattle.std.specs.Option.{option_map_or}
@@ -12,6 +12,8 @@ use Rattle.room_kinds.specs.declared.command.Command.TheVariants as commands
 use Rattle.room_kinds.specs.declared.command.NameCommand.TheVariants as names
 use Rattle.room_kinds.specs.declared.message.Msg.{Msg}
 use Rattle.room_kinds.specs.declared.numbers.Incarnation.{Incarnation}
+use Rattle.room_kinds.specs.declared.structure.PortKind.{PortKind}
+use Rattle.room_kinds.specs.declared.structure.PortKind.TheVariants as ports
 use Rattle.room_ast.specs.Trees.{ModelTree, ActorTree}
 use Rattle.room_ast.specs.declared.scope.Scope.{Scope}
 use Rattle.room_ast.specs.model_parts.Charts.{chart_of as machine_of}
@@ -25,6 +27,7 @@ use Rattle.room_wiring.specs.declared.names.PortNames.{PortNames}
 use Rattle.room_wiring.specs.declared.slot.Slot.{Slot}
 use Rattle.room_wiring.specs.declared.tables.Tables.{Tables as Wired}
 use Rattle.wiring_plan.specs.wiring_classes.Classes.{class_names, classes_of}
+use Rattle.action_lang.specs.action_check.Faults.{takes_names}
 use Rattle.chart_model.specs.Chart.{Name, Chart}
 use Rattle.chart_reader.specs.model_charts.Charts.{HasCharts, chart_in}
 use Rattle.chart_reader.specs.model_charts.Written.{names_after, written_from}
@@ -34,7 +37,7 @@ use Rattle.journal.specs.Fits.{FitsState}
 use Rattle.journal.specs.declared.entry.Entry.{Entry}
 use Rattle.journal.specs.declared.entry.Journals.{Journals}
 use Rattle.inject_reader.specs.declared.inject_lines.accepted.Line.{Line}
-use Rattle.actor_duties.specs.Words.{class_number}
+use Rattle.actor_duties.specs.Words.{class_number, is_sap_kind, is_spp_kind, is_sap, is_spp, port_at as seen_port}
 use Rattle.actor_merge.proofs.Back.{run_projects}
 use Rattle.actor_merge.specs.Merge.{entries_of}
 use Rattle.actor_merge.specs.World.{start}
@@ -57,12 +60,13 @@ use Rattle.room_run.specs.fitting_plants.Plants.{PlantFits, IsFitting}
 use Rattle.room_run.specs.fitting_journals.Actors.{TellsOfActors}
 use Rattle.room_run.proofs.fitting_plants.Plants.{plants_fit}
 use Rattle.room_run.proofs.fitting_journals.Acting.{StandsWell, start_tells, replay_tells}
+use Rattle.room_run.proofs.fitting_journals.Signals.{is_service_point}
 use Rattle.room_run.proofs.fitting_journals.Leaves.{Stands, AreCompiled, begin_stands, handle_stands, state_stands}
 use Rattle.room_run.proofs.fitting_journals.Speaking.{AsksAt}
 
 -- ---- one list of tables for one list of classes
 
-item_there : {X : Type 0} (xs : List X) (k : ℕ) → k < length xs → (x : X) × (slice_get xs k ≡ Some x)
+pub item_there : {X : Type 0} (xs : List X) (k : ℕ) → k < length xs → (x : X) × (slice_get xs k ≡ Some x)
 item_there [] k low = absurd (omega (arith, low))
 item_there (x ∷ xs) zero low = (x, refl)
 item_there (x ∷ xs) (suc k) low = item_there xs k (omega (arith, low))
@@ -149,6 +153,20 @@ pub port_found : (t : Wired) (s : ℕ) (c : ClassNames) (port : ℕ) (x : PortNa
 unfolding port_at
 port_found t s c port x is at = ap (λ (o : Option ClassNames). option_and_then (λ (c : ClassNames). slice_get c.ports port) o) is ∙ at
 
+-- the same as the duties see it
+duty_port : (t : Wired) (s : ℕ) (c : ClassNames) (port : ℕ) (x : PortNames) → class_of t s ≡ Some c → slice_get c.ports port ≡ Some x → seen_port t s port ≡ Some x
+unfolding seen_port
+duty_port t s c port x is at = ap (λ (o : Option ClassNames). option_and_then (λ (c : ClassNames). slice_get c.ports port) o) is ∙ at
+
+-- a kind that takes names is a service point's
+point_kind : (k : PortKind) → takes_names k ≡ true → (is_sap_kind k || is_spp_kind k) ≡ true
+point_kind ports.Frame h = absurd cc
+point_kind ports.Relay h = absurd cc
+point_kind ports.End h = absurd cc
+point_kind ports.Internal h = absurd cc
+point_kind ports.Sap h = refl
+point_kind ports.Spp h = refl
+
 -- a message that goes out at a port is one of the port's
 goes_known : (x : PortNames) (n : ℕ) → goes_out n x ≡ true → n < length (signals_of x)
 goes_known x n h =
@@ -168,6 +186,15 @@ module _ (t : Wired) (s : ℕ) (c : ClassNames) (is : class_of t s ≡ Some c) w
       let many = ports_many t s c is in
       omega (arith, within, many)
 
+  -- what takes a name is a service point
+  own_point : (port : ℕ) → can_register c port ≡ true → is_service_point t s port ≡ true
+  unfolding is_sap is_spp
+  own_point port h =
+      let has = held_there _ (slice_get c.ports port) h in
+      ap (λ (o : Option PortNames). option_map_or (λ (x : PortNames). is_sap_kind x.kind) o false || option_map_or (λ (x : PortNames). is_spp_kind x.kind) o false)
+      (duty_port t s c port has.0 is has.1)
+      ∙ point_kind has.0.kind has.2
+
   one_asks : (x : Command) → can_ask c x ≡ true → AsksAt t s x
   one_asks (commands.Send port place signal payload prio) h =
       let parts = and_parts (can_send_at c port signal) (nat_le 1 prio.0 && nat_le prio.0 5) h in
@@ -183,8 +210,8 @@ module _ (t : Wired) (s : ℕ) (c : ClassNames) (is : class_of t s ≡ Some c) w
   one_asks commands.Recall h = tt
   one_asks commands.RecallAll h = tt
   one_asks (commands.Frame f) h = tt
-  one_asks (commands.Name (names.Register port name)) h = own_port port h
-  one_asks (commands.Name (names.Withdraw port)) h = own_port port h
+  one_asks (commands.Name (names.Register port name)) h = (own_port port h, own_point port h)
+  one_asks (commands.Name (names.Withdraw port)) h = (own_port port h, own_point port h)
 
   all_ask : (xs : List Command) → list_all (can_ask c) xs ≡ true → Each (AsksAt t s) xs
   all_ask [] h = tt

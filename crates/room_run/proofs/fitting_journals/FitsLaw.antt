@@ -4,8 +4,9 @@ use Rattle.std.specs.List.{AllByRecursion as Each, All, Contains, flat_map, rang
 use Rattle.std.proofs.lemmas.Bool.{cases_order}
 use Rattle.std.proofs.lemmas.List.Elements.{All-from_recursion, recursion_from_All, All-contains}
 use Rattle.room_kinds.specs.declared.message.Msg.{Msg}
+use Rattle.room_kinds.specs.declared.numbers.Endpoint.{Endpoint}
 use Rattle.room_wiring.specs.declared.tables.Tables.{Tables}
-use Rattle.journal.specs.Fits.{FitsMessage, FitsDid, FitsEntry, FitsEnvironment, FitsLeft, Fits}
+use Rattle.journal.specs.Fits.{FitsEndpoint, FitsSource, FitsMessage, FitsDid, FitsEntry, FitsEnvironment, FitsLeft, Fits}
 use Rattle.journal.specs.declared.entry.Did.{Did}
 use Rattle.journal.specs.declared.entry.Did.TheVariants as outcomes
 use Rattle.journal.specs.declared.entry.Entry.{Entry}
@@ -37,7 +38,7 @@ use Rattle.inject_reader.specs.Fitting.{LinesFit}
 use Rattle.room_run.specs.fitting_plants.Plants.{PlantFits}
 use Rattle.room_run.specs.fitting_journals.Fitting.{JournalsInPlace, FittingRunsAreInPlace, FittingJournalsFit}
 use Rattle.room_run.specs.fitting_journals.Actors.{FitsActor, TellsOfActors}
-use Rattle.room_run.specs.fitting_journals.Places.{FitsNobody, NamesItsPlaces}
+use Rattle.room_run.specs.fitting_journals.Places.{WasLinked, FitsPlace, SourceFits, FitsNobody, NamesItsPlaces}
 use Rattle.room_run.specs.fitting_journals.Signals.{NamesSignal}
 use Rattle.room_run.proofs.fitting_journals.Testing.{passes, passed, is_fit, none_counted_at}
 
@@ -59,11 +60,11 @@ did_fits t (outcomes.Unhandled who state) a n = a
 did_fits t (outcomes.Stale target) a n = a
 did_fits t (outcomes.Empty target) a n = n
 
-one_fits : (t : Tables) (c : ℕ) (e : Entry) → IsFetchedBy c e → ComesFromParty t e → IsPostedBy c e → TellsOfActors t e → NamesItsPlaces t e → MessageFits t e → FitsEntry t c e
-one_fits t c (entry.Start who state notes) f p o a n m = a
-one_fits t c (entry.Fetch stamp x) f p o a n m = (f, m)
-one_fits t c (entry.Turn stamp from sent did notes) f p o a n m = (p, did_fits t did a.0 n, a.1)
-one_fits t c (entry.Post stamp x) f p o a n m = record { message = m; own = o.0; stamped = o.1 }
+one_fits : (t : Tables) (j : Journals) (c : ℕ) (e : Entry) → IsFetchedBy c e → ComesFromParty t e → IsPostedBy c e → TellsOfActors t e → NamesItsPlaces t j e → MessageFits t e → FitsEntry t c e
+one_fits t j c (entry.Start who state notes) f p o a n m = a
+one_fits t j c (entry.Fetch stamp x) f p o a n m = (f, m)
+one_fits t j c (entry.Turn stamp from sent did notes) f p o a n m = (p, did_fits t did a.0 n, a.1)
+one_fits t j c (entry.Post stamp x) f p o a n m = record { message = m; own = o.0; stamped = o.1 }
 
 messages_fit : (t : Tables) (es : List Entry) → ((m : Msg) → Contains (fetched es) m → FitsMessage t m) → ((m : Msg) → Contains (posted es) m → FitsMessage t m)
     → Each (MessageFits t) es
@@ -73,23 +74,31 @@ messages_fit t (entry.Turn stamp from sent did notes ∷ es) f p = (tt, messages
 messages_fit t (entry.Fetch stamp m ∷ es) f p = (f m (as_first m (fetched es)), messages_fit t es (λ x there. f x (as_later m (fetched es) x there)) p)
 messages_fit t (entry.Post stamp m ∷ es) f p = (p m (as_first m (posted es)), messages_fit t es f (λ x there. p x (as_later m (posted es) x there)))
 
+-- a place of a port is one of a port of a slot
+place_fits : (t : Tables) (linked : ℕ → ℕ → ℕ → Type 0) (prio : ℕ) (e : Endpoint) → FitsPlace t linked prio e → FitsEndpoint t e
+place_fits t linked prio e h = record { slot = h.slot; port = h.port }
+
+source_fits : (t : Tables) (linked : ℕ → ℕ → ℕ → Type 0) (prio : ℕ) (o : Option Endpoint) → SourceFits t linked prio o → FitsSource t o
+source_fits t linked prio None h = tt
+source_fits t linked prio (Some e) h = place_fits t linked prio e h
+
 -- what a controller posts fits
-posts_fit : (t : Tables) (c : ℕ) → c < length t.controllers → (es : List Entry) → Each (IsPostedBy c) es → Each (NamesReceiver t) es → Each (NamesItsPlaces t) es
+posts_fit : (t : Tables) (j : Journals) (c : ℕ) → c < length t.controllers → (es : List Entry) → Each (IsPostedBy c) es → Each (NamesReceiver t) es → Each (NamesItsPlaces t j) es
     → Each (NamesSignal t) es → Each (FitsMessage t) (posted es)
-posts_fit t c below [] o r p n = tt
-posts_fit t c below (entry.Start who state notes ∷ es) o r p n = posts_fit t c below es o.1 r.1 p.1 n.1
-posts_fit t c below (entry.Turn stamp from sent did notes ∷ es) o r p n = posts_fit t c below es o.1 r.1 p.1 n.1
-posts_fit t c below (entry.Fetch stamp m ∷ es) o r p n = posts_fit t c below es o.1 r.1 p.1 n.1
-posts_fit t c below (entry.Post stamp m ∷ es) o r p n =
+posts_fit t j c below [] o r p n = tt
+posts_fit t j c below (entry.Start who state notes ∷ es) o r p n = posts_fit t j c below es o.1 r.1 p.1 n.1
+posts_fit t j c below (entry.Turn stamp from sent did notes ∷ es) o r p n = posts_fit t j c below es o.1 r.1 p.1 n.1
+posts_fit t j c below (entry.Fetch stamp m ∷ es) o r p n = posts_fit t j c below es o.1 r.1 p.1 n.1
+posts_fit t j c below (entry.Post stamp m ∷ es) o r p n =
     let own : m.from.0 ≡ c = o.0.0 in (
       record {
         from = record { known = omega (arith, own, below) };
         to = r.0.controller;
-        source = p.0.source;
-        target = p.0.target;
+        source = source_fits t (WasLinked j) m.prio.0 m.source p.0.source;
+        target = place_fits t (WasLinked j) m.prio.0 m.target p.0.target;
         signal = n.0;
       },
-      posts_fit t c below es o.1 r.1 p.1 n.1,
+      posts_fit t j c below es o.1 r.1 p.1 n.1,
     )
 
 -- what the environment posts
@@ -150,8 +159,8 @@ module _ (law : FittingRunsAreInPlace) (plant : Plant) (lines : List Line) (fuel
           (subst (λ (z : List Entry). Contains (posted z) m) (ap (journal_of j) same ∙ outside plant lines fuel j run) there)
       go (inr (inl below)) =
           each_has (FitsMessage plant.wiring) (posted (journal_of j party)) m
-          (posts_fit plant.wiring party below (journal_of j party) (of_one IsPostedBy so_far.in_place.posted_by_sender party below)
-          (of_one (λ c. NamesReceiver plant.wiring) so_far.receivers party below) (of_one (λ c. NamesItsPlaces plant.wiring) so_far.places party below)
+          (posts_fit plant.wiring j party below (journal_of j party) (of_one IsPostedBy so_far.in_place.posted_by_sender party below)
+          (of_one (λ c. NamesReceiver plant.wiring) so_far.receivers party below) (of_one (λ c. NamesItsPlaces plant.wiring j) so_far.places party below)
           (of_one (λ c. NamesSignal plant.wiring) so_far.signals party below)) there
       go (inr (inr above)) = absurd (none_in m (subst (λ (z : List Entry). Contains (posted z) m) (nobody plant lines fuel j run party above) there))
 
@@ -165,7 +174,7 @@ module _ (law : FittingRunsAreInPlace) (plant : Plant) (lines : List Line) (fuel
       All-from_recursion (MessageFits plant.wiring) es (messages_fit plant.wiring es
       (λ m h. fetched_fit c m (subst (λ (z : List Entry). Contains (fetched z) m) (sym same) h))
       (λ m h. posted_fit c m (subst (λ (z : List Entry). Contains (posted z) m) (sym same) h))) in
-      one_fits plant.wiring c (slice_index_or es k d) (so_far.in_place.fetched_by_receiver c es there k d low) (so_far.in_place.sent_by_parties c es there k d low)
+      one_fits plant.wiring j c (slice_index_or es k d) (so_far.in_place.fetched_by_receiver c es there k d low) (so_far.in_place.sent_by_parties c es there k d low)
       (so_far.in_place.posted_by_sender c es there k d low) (so_far.actors c es there k d low) (so_far.places c es there k d low) (messages k d low)
 
   -- ---- what is left

@@ -10,6 +10,7 @@ use Rattle.chart_model.specs.Chart.{Chart}
 use Rattle.chart_run.specs.declared.chart_tables.tables.Tables.{Tables}
 use Rattle.chart_compile.specs.chart_parts.Compiled.{Compiles}
 use Rattle.controller_actors.specs.declared.plant.Plant.{Plant}
+use Rattle.law_definitions.specs.Imported.{ImportedSlotsHaveEndPorts}
 use Rattle.law_models.proofs.settled_models.Models.{models_ranked}
 use Rattle.law_models.specs.joined_ports.Protocols.{ModelsJoinOneProtocol, ModelsLinkOneProtocol}
 use Rattle.law_models.specs.settled_models.Wirings.{ModelsHaveOwners, ModelsAreMutual}
@@ -22,7 +23,8 @@ use Rattle.law_runs.proofs.run_journals.TiedLaw.{tied}
 use Rattle.room_run.specs.fitting_plants.Plants.{PlantFits}
 use Rattle.room_run.specs.fitting_journals.Fitting.{FittingRunsAreInPlace}
 use Rattle.room_run.proofs.fitting_journals.ActorsLaw.{actors_told}
-use Rattle.room_run.proofs.fitting_journals.PlacesLaw.{Joins, places_named, signals_named}
+use Rattle.room_run.proofs.fitting_journals.PlaceCounts.{places_counted}
+use Rattle.room_run.proofs.fitting_journals.PlacesLaw.{Joins, places_named, outside_named, signals_named}
 
 -- the owner of each slot is a controller
 slots_owned : (t : Wired) → ((s : ℕ) → owner_of t s < length t.controllers) → OwnersAreThere t
@@ -47,8 +49,8 @@ module _ (plant : Plant) (fits : PlantFits plant) where
       let from = by_chart plant.tables.items fits.charts fits.tables c v at in
       models_ranked fits.model fits.charts fits.faultless c from.0 v from.1 from.2
 
-pub fitting_in_place : ModelsHaveOwners → ModelsAreMutual → ModelsJoinOneProtocol → ModelsLinkOneProtocol → FittingRunsAreInPlace
-fitting_in_place owned joined alike linked plant lines fuel j fits fit run =
+pub fitting_in_place : ModelsHaveOwners → ModelsAreMutual → ModelsJoinOneProtocol → ModelsLinkOneProtocol → ImportedSlotsHaveEndPorts → FittingRunsAreInPlace
+fitting_in_place owned joined alike linked ends plant lines fuel j fits fit run =
     let owners : OwnersAreThere plant.wiring = slots_owned plant.wiring (owned fits.model plant.wiring fits.keeps fits.wired fits.flawless) in
     let names : LinesName plant.wiring lines = fit_lines_name plant.wiring lines fit in
     let joins : Joins plant.wiring =
@@ -56,6 +58,7 @@ fitting_in_place owned joined alike linked plant lines fuel j fits fit run =
       partners = joined fits.model plant.wiring fits.keeps fits.wired fits.flawless;
       joined = alike fits.model plant.wiring fits.keeps fits.wired fits.flawless;
       linked = linked fits.model plant.wiring fits.keeps fits.wired;
+      counted = places_counted ends fits.model plant.wiring fits.keeps fits.wired fits.flawless;
     } in
     record {
       tied = tied plant lines fuel j run;
@@ -63,6 +66,7 @@ fitting_in_place owned joined alike linked plant lines fuel j fits fit run =
       receivers = reach plant lines owners (ranked plant fits) names fuel j run;
       environment = environment_fits plant lines owners names fuel j run;
       actors = actors_told plant fits lines fuel j run;
-      places = places_named plant fits joins lines names fuel j run;
-      signals = signals_named plant fits joins lines names fuel j run;
+      places = places_named plant fits joins lines fit names fuel j run;
+      outside_places = outside_named plant fits joins lines fit names fuel j run;
+      signals = signals_named plant fits joins lines fit names fuel j run;
     }

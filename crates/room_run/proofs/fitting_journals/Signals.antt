@@ -11,15 +11,17 @@ use Rattle.room_kinds.specs.declared.numbers.Endpoint.{Endpoint}
 use Rattle.room_kinds.specs.declared.system.SysKind.{SysKind}
 use Rattle.room_kinds.specs.declared.system.SysKind.TheVariants as kinds
 use Rattle.room_wiring.specs.Places.{port_count}
-use Rattle.room_wiring.specs.Slots.{class_of, port_at}
+use Rattle.room_wiring.specs.Slots.{class_at, class_of, port_at}
 use Rattle.room_wiring.specs.WellNamed.{signals_of}
 use Rattle.room_wiring.specs.declared.names.ClassNames.{ClassNames}
 use Rattle.room_wiring.specs.declared.names.PortNames.{PortNames}
+use Rattle.room_wiring.specs.declared.slot.Slot.{Slot}
 use Rattle.room_wiring.specs.declared.tables.Tables.{Tables}
-use Rattle.journal.specs.Fits.{FitsEndpoint, HasSignal, FitsSignal}
+use Rattle.journal.specs.Fits.{HasSignal, FitsSignal}
 use Rattle.actor_duties.specs.Messages.{FrameSignal, Created, Destroyed, Imported, Ended, Deported, Refused, Named, Unnamed, NameRefused, signal_number}
-use Rattle.actor_duties.specs.Words.{is_sap, is_spp, protocol_of}
+use Rattle.actor_duties.specs.Words.{class_number, is_sap, is_spp, protocol_of}
 use Rattle.actor_world.specs.Turns.{all_kinds}
+use Rattle.room_run.specs.fitting_journals.Places.{IsPlace, FitsPlace}
 
 -- ---- ports
 
@@ -27,9 +29,13 @@ use Rattle.actor_world.specs.Turns.{all_kinds}
 abbrev pub Carries : Tables → ℕ → ℕ → ℕ → ℕ → Type 0
 Carries t s p x q = (signal : ℕ) → HasSignal t s p signal → HasSignal t x q signal
 
--- a place to which those of a port may lead
-abbrev pub LeadsTo : Tables → ℕ → ℕ → Endpoint → Type 0
-LeadsTo t s p e = FitsEndpoint t e × Carries t s p e.slot.0 e.port
+-- which places of which ports of which slots were linked
+abbrev pub Linked : Type 1
+Linked = ℕ → ℕ → ℕ → Type 0
+
+-- a place to which actors may send from those of a port
+abbrev pub LeadsTo : Tables → Linked → ℕ → ℕ → Endpoint → Type 0
+LeadsTo t L s p e = FitsPlace t L 1 e × Carries t s p e.slot.0 e.port
 
 -- two ports with the same signals
 pub same_signals : (t : Tables) (s p x q : ℕ) (near far : PortNames) → port_at t s p ≡ Some near → port_at t x q ≡ Some far → signals_of near ≡ signals_of far → Carries t s p x q
@@ -48,60 +54,71 @@ same_class t s x p same signal h = record {
   known = h.known;
 }
 
+-- a class is told by its number
+pub numbered_class : (t : Tables) (s x : ℕ) → class_number t s ≡ class_number t x → class_of t s ≡ class_of t x
+unfolding class_of
+numbered_class t s x same = by_number (slice_get t.slots s) ∙ ap (option_and_then (class_at t)) same ∙ sym (by_number (slice_get t.slots x))
+  where
+    by_number : (o : Option Slot) → option_and_then (λ (y : Slot). class_at t y.class) o ≡ option_and_then (class_at t) (option_map_or (λ (y : Slot). Some y.class) o None)
+    by_number None = refl
+    by_number (Some y) = refl
+
 pub class_ports : (t : Tables) (s x : ℕ) → class_of t s ≡ class_of t x → port_count t s ≡ port_count t x
 unfolding port_count
 class_ports t s x same = ap (λ (o : Option ClassNames). option_map_or (λ (c : ClassNames). length c.ports) o 0) same
 
 -- ---- service points
 
-abbrev pub is_point : Tables → ℕ → ℕ → Bool
-is_point t s p = is_sap t s p || is_spp t s p
+-- whether a port is a service point: a service access point or a service provision point
+abbrev pub is_service_point : Tables → ℕ → ℕ → Bool
+is_service_point t s p = is_sap t s p || is_spp t s p
 
 -- a place of a service point of this protocol
-pub record IsPointOf (t : Tables) (protocol : ℕ) (e : Endpoint) : Type 0 where
-  pub place : FitsEndpoint t e
-  pub point : is_point t e.slot.0 e.port ≡ true
+pub record IsPointOf (t : Tables) (L : Linked) (protocol : ℕ) (e : Endpoint) : Type 0 where
+  pub place : FitsPlace t L 0 e
+  pub point : is_service_point t e.slot.0 e.port ≡ true
   pub protocol_is : protocol_of t e.slot.0 e.port ≡ protocol
 
 -- ---- what messages say
 
--- what a system message of a kind says of its source and its target
-abbrev pub TiesBy : Tables → SysKind → Option Endpoint → Endpoint → Type 0
-TiesBy t kinds.Import (Some i) h = class_of t i.slot.0 ≡ class_of t h.slot.0
-TiesBy t kinds.Bound (Some peer) own = Carries t own.slot.0 own.port peer.slot.0 peer.port
-TiesBy t _ source target = Unit {0}
+-- what a system message of a kind says of its source and its target: Import, that they are of one class; Bound, that
+-- actors may send from the target to the source
+abbrev pub TiesBy : Tables → Linked → SysKind → Option Endpoint → Endpoint → Type 0
+TiesBy t L kinds.Import (Some i) h = class_number t i.slot.0 ≡ class_number t h.slot.0
+TiesBy t L kinds.Bound (Some peer) own = LeadsTo t L own.slot.0 own.port peer × IsPlace t L 1 own.slot.0 own.port own.place
+TiesBy t L _ source target = Unit {0}
 
-abbrev pub Ties : Tables → Option SysKind → Option Endpoint → Endpoint → Type 0
-Ties t None source target = ⊥
-Ties t (Some kind) source target = TiesBy t kind source target
+abbrev pub Ties : Tables → Linked → Option SysKind → Option Endpoint → Endpoint → Type 0
+Ties t L None source target = ⊥
+Ties t L (Some kind) source target = TiesBy t L kind source target
 
 -- at priority 0 a message is of a kind of system messages, and at each other one its signal is one of the target's port
-abbrev pub Says : Tables → ℕ → ℕ → Option Endpoint → Endpoint → Type 0
-Says t zero signal source target = Ties t (slice_get all_kinds signal) source target
-Says t (suc prio) signal source target = HasSignal t target.slot.0 target.port signal
+abbrev pub Says : Tables → Linked → ℕ → ℕ → Option Endpoint → Endpoint → Type 0
+Says t L zero signal source target = Ties t L (slice_get all_kinds signal) source target
+Says t L (suc prio) signal source target = HasSignal t target.slot.0 target.port signal
 
 -- a kind whose messages say nothing of their source and target
-abbrev pub TiesNothing : Tables → SysKind → Type 0
-TiesNothing t kind = (a b : Endpoint) → Says t 0 (number_of kind) (Some a) b
+abbrev pub TiesNothing : Tables → Linked → SysKind → Type 0
+TiesNothing t L kind = (a b : Endpoint) → Says t L 0 (number_of kind) (Some a) b
 
-pub says_worded : (t : Tables) (prio signal : ℕ) (source : Option Endpoint) (target : Endpoint) → 1 ≤ prio → HasSignal t target.slot.0 target.port signal
-    → Says t prio signal source target
-says_worded t zero signal source target low h = absurd (omega (arith, low))
-says_worded t (suc prio) signal source target low h = h
+pub says_worded : (t : Tables) (L : Linked) (prio signal : ℕ) (source : Option Endpoint) (target : Endpoint) → 1 ≤ prio → HasSignal t target.slot.0 target.port signal
+    → Says t L prio signal source target
+says_worded t L zero signal source target low h = absurd (omega (arith, low))
+says_worded t L (suc prio) signal source target low h = h
 
 -- what a message at the system's priority says
-pub says_tied : (t : Tables) (prio signal : ℕ) (source : Option Endpoint) (target : Endpoint) → prio ≡ 0 → Says t prio signal source target
-    → Ties t (slice_get all_kinds signal) source target
-says_tied t prio signal source target e h = subst (λ (n : ℕ). Says t n signal source target) e h
+pub says_tied : (t : Tables) (L : Linked) (prio signal : ℕ) (source : Option Endpoint) (target : Endpoint) → prio ≡ 0 → Says t L prio signal source target
+    → Ties t L (slice_get all_kinds signal) source target
+says_tied t L prio signal source target e h = subst (λ (n : ℕ). Says t L n signal source target) e h
 
-tied_kind : (t : Tables) (signal : ℕ) (source : Option Endpoint) (target : Endpoint) (o : Option SysKind) → slice_get all_kinds signal ≡ o → Ties t o source target → signal < 19
-tied_kind t signal source target None e h = absurd h
-tied_kind t signal source target (Some kind) e h = slice_get_within all_kinds signal kind e
+tied_kind : (t : Tables) (L : Linked) (signal : ℕ) (source : Option Endpoint) (target : Endpoint) (o : Option SysKind) → slice_get all_kinds signal ≡ o → Ties t L o source target → signal < 19
+tied_kind t L signal source target None e h = absurd h
+tied_kind t L signal source target (Some kind) e h = slice_get_within all_kinds signal kind e
 
 -- so the signal fits
-pub says_fit : (t : Tables) (prio signal : ℕ) (source : Option Endpoint) (target : Endpoint) → Says t prio signal source target → FitsSignal t prio target signal
-says_fit t zero signal source target h = inl (refl, tied_kind t signal source target (slice_get all_kinds signal) refl h)
-says_fit t (suc prio) signal source target h = inr (omega arith, h)
+pub says_fit : (t : Tables) (L : Linked) (prio signal : ℕ) (source : Option Endpoint) (target : Endpoint) → Says t L prio signal source target → FitsSignal t prio target signal
+says_fit t L zero signal source target h = inl (refl, tied_kind t L signal source target (slice_get all_kinds signal) refl h)
+says_fit t L (suc prio) signal source target h = inr (omega arith, h)
 
 -- the signals of `frame`
 pub signal_low : (x : FrameSignal) → signal_number x < 9

@@ -21,6 +21,7 @@ use Rattle.actor_duties.specs.State.{Frame, Links}
 use Rattle.actor_duties.specs.Words.{endpoint}
 use Rattle.actor_world.specs.Body.{Doing, apply, apply_all}
 use Rattle.chart_behaviour.specs.chart_asks.Laws.{is_zero}
+use Rattle.room_run.proofs.fitting_journals.Signals.{is_service_point}
 
 -- ---- notes in a row
 
@@ -126,15 +127,15 @@ up_speaks t from ns x state h stands = record {
 -- ---- commands
 
 -- a send names a port of who asks for it and a signal of the port, at a priority that actions have; a request on a
--- service name names a port, too
+-- service name names a service point
 abbrev pub AsksAt : Tables → ℕ → Command → Type 0
 AsksAt t s (commands.Send port place signal payload prio) = (port < port_count t s) × HasSignal t s port signal × (1 ≤ prio.0)
 AsksAt t s commands.Defer = Unit {0}
 AsksAt t s commands.Recall = Unit {0}
 AsksAt t s commands.RecallAll = Unit {0}
 AsksAt t s (commands.Frame c) = Unit {0}
-AsksAt t s (commands.Name (names.Register port name)) = port < port_count t s
-AsksAt t s (commands.Name (names.Withdraw port)) = port < port_count t s
+AsksAt t s (commands.Name (names.Register port name)) = (port < port_count t s) × (is_service_point t s port ≡ true)
+AsksAt t s (commands.Name (names.Withdraw port)) = (port < port_count t s) × (is_service_point t s port ≡ true)
 
 module _ (t : Tables) (me : ℕ) (x : Incarnation) where
   said_send_to : (source : Endpoint) (c : Content) → source.port < port_count t x.slot.0 → (o : Option Endpoint) → AreSaid t x (send_to t me source c o).notes

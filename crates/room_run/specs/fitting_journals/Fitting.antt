@@ -1,7 +1,8 @@
 -- The journals of a run of a plant that fits, over lines that fit.
 -- `JournalsInPlace`: they are tied, and each entry is in its place; what controllers post goes to controllers, from
--- places of the wiring to such places, with signals that are there; the environment's journal fits the wiring; and
--- what controllers tell of actors is so of it. The law `fitting_runs_journals`.
+-- places of the wiring, or places that were linked by name, to such places, with signals that are there; the
+-- environment's journal fits the wiring, and its posts go to such places; and what controllers tell of actors is so of
+-- it. The law `fitting_runs_journals`.
 -- So such journals fit the wiring, whole (`Fits` of `journal`): the law `fitting_journals_fit`.
 use Rattle.std.specs.Prelude.{ℕ, List, All}
 use Rattle.room_wiring.specs.declared.tables.Tables.{Tables}
@@ -31,8 +32,10 @@ pub record JournalsInPlace (t : Tables) (j : Journals) : Type 0 where
   pub environment : All (FitsEnvironment t) j.environment
   -- who starts, acts and comes up is an actor of the wiring, in a state of its class; and who speaks names its ports
   pub actors : OfControllers j (λ c. TellsOfActors t)
-  -- controllers post from places of the wiring to such places
-  pub places : OfControllers j (λ c. NamesItsPlaces t)
+  -- controllers post from places of the wiring, or places that were linked by name, to such places
+  pub places : OfControllers j (λ c. NamesItsPlaces t j)
+  -- and the environment posts to such places
+  pub outside_places : All (NamesItsPlaces t j) j.environment
   -- with signals of the ports to which they post, or kinds of system messages
   pub signals : OfControllers j (λ c. NamesSignal t)
 
