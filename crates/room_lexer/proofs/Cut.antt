@@ -18,7 +18,6 @@ use Rattle.room_lexer.specs.declared.token.Mark.TheVariants as marks
 use Rattle.room_lexer.specs.declared.piece.Kind.{Kind}
 use Rattle.room_lexer.specs.declared.piece.Cause.{Cause}
 use Rattle.room_lexer.specs.declared.piece.Cause.TheVariants.{BadByte, OpenString, OpenComment, NumberTooLarge}
-use Rattle.room_lexer.specs.declared.fault.LexFault.TheVariants as faults
 use Rattle.room_lexer.specs.declared.fault.LexFault.{LexFault}
 use Rattle.room_lexer.specs.declared.token.Token.{Token}
 use Rattle.room_lexer.proofs.Front.{Right, front_right, front_again, bad_offends}

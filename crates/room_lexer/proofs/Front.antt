@@ -1,6 +1,6 @@
 -- What is read at the front is a piece that ends there, and each such piece is read.
-use Rattle.std.proofs.Common.{◌≡◌, ◌≢◌, ℕ, zero, suc, ◌+◌, ◌<◌, ◌≤◌, Bool, true, false, cond, eqb, List, [], ◌∷◌, ◌++◌, length, take, drop, Option, Some, None, Result, Ok, Err, refl, sym, ap, ◌∙◌, subst, arith, inl, inr, lit≤}
-use Rattle.std.specs.Prelude.{◌&&◌, ◌||◌, nat_le, ◌==◌, codes}
+use Rattle.std.proofs.Common.{◌≡◌, ◌≢◌, ℕ, zero, suc, ◌+◌, ◌≤◌, Bool, true, false, cond, eqb, List, [], ◌∷◌, ◌++◌, length, take, drop, Option, Some, None, Result, Ok, Err, refl, sym, ap, ◌∙◌, subst, arith, inl, inr, lit≤}
+use Rattle.std.specs.Prelude.{◌&&◌, ◌||◌, nat_le, ◌==◌}
 use Rattle.std.specs.List.{prefix_len}
 use Rattle.std.proofs.lemmas.Bool.Decides.{nat_tests}
 use Rattle.std.proofs.lemmas.Bool.{le-leb, leb-true, leb-false, eqb-true}
@@ -10,7 +10,7 @@ use Rattle.room_lexer.specs.Marks.{mark_text, mark_of, pair_of}
 use Rattle.room_lexer.specs.Enclosed.{is_blank, walk, After, Closes, closed_len, begins_string}
 use Rattle.room_lexer.specs.declared.enclosed.Step.TheVariants.{On}
 use Rattle.room_lexer.specs.Front.{is_letter, is_digit, is_word, on_line, max_number, value, number_of, begins, begins_two, first_or_zero, number_front, enclosed, mark_front, longest_mark, front}
-use Rattle.room_lexer.specs.Cut.{Stops, IsEnclosed, IsPiece, Ends, NoLonger, OpensNothing, Fits, StaysOpen, IsOpenText, Offends}
+use Rattle.room_lexer.specs.Cut.{IsPiece, Ends, NoLonger, OpensNothing, Fits, IsOpenText, Offends}
 use Rattle.room_lexer.specs.declared.enclosed.Place.{Place}
 use Rattle.room_lexer.specs.declared.enclosed.Place.TheVariants as places
 use Rattle.room_lexer.specs.declared.piece.Kind.{Kind}

@@ -10,11 +10,20 @@ use Rattle.structure_check.specs.Rules.{Rule, first_broken, IsBroken, IsLowest}
 use Rattle.structure_check.specs.List.{all_rules}
 use Rattle.binding_expand.specs.Faults.{HasNoFault, IsLowestFault, number}
 use Rattle.binding_expand.proofs.one_wiring.Same.{same_wiring}
-use Rattle.chart_reader.specs.model_charts.Charts.{HasFaultyChart}
+use Rattle.chart_reader.specs.model_charts.Charts.{HasCharts, HasFaultyChart}
 use Rattle.binding_expand.specs.Wirings.{IsWiringOf}
 use Rattle.chart_reader.proofs.model_charts.One.{are_one}
 use Rattle.room_wiring.specs.declared.tables.Tables.{Tables}
+use Rattle.inject_reader.specs.declared.inject_lines.accepted.Advances.{Advances}
+use Rattle.inject_reader.specs.declared.inject_lines.accepted.Advances.TheVariants.{Taken, Refused}
 use Rattle.inject_reader.specs.declared.inject_lines.accepted.Line.{Line}
+use Rattle.chart_model.specs.Chart.{Chart}
+use Rattle.model_run.specs.part_posts.Items.{items_of}
+use Rattle.law_charts.specs.Charts.{behaviour_by_charts}
+use Rattle.room_verify.specs.Verdicts.{IsVerdict}
+use Rattle.room_verify.specs.declared.verdict.Verdict.{Verdict}
+use Rattle.room_verify.specs.declared.verdict.Verdict.TheVariants as verdicts
+use Rattle.room_verify.proofs.OneVerdict.{one_verdict}
 use Rattle.controller_actors.specs.declared.plant.Plant.{Plant}
 use Rattle.made_model.specs.Texts.{model_text, injections_text}
 use Rattle.room_inherit.specs.Flat.{flat}
@@ -24,14 +33,14 @@ use Rattle.room_kinds.specs.declared.numbers.Stamp.{Stamp}
 use Rattle.journal.specs.declared.entry.Journals.{Journals}
 use Rattle.tied_journals.specs.Text.{tied_text_of}
 use Rattle.tied_journals.specs.Untied.{IsFirstUntied}
-use Rattle.room_run.specs.Words.{Files, Record, Asked, Check, Tree, Run, Convert, Made, asked_by}
+use Rattle.room_run.specs.Words.{Files, Record, Judged, Asked, Check, Tree, Run, Convert, Verify, Made, asked_by}
 use Rattle.room_run.specs.MadeShelf.{made_files, made_shelf}
-use Rattle.room_run.specs.Models.{most_bytes, HasTokens, IsWritten, HasTree, IsSound, IsModel, IsUncut, HasNoTree, BreaksBaseRule, BreaksRule, HasBadWiring, HasBadChart, SoundCauses, uncut, no_tree, breaks_base_rule, breaks_rule, bad_wiring, bad_chart, no_memory}
+use Rattle.room_run.specs.Models.{most_bytes, HasTokens, IsWritten, HasTree, IsSound, IsSoundText, IsModel, IsUncut, HasNoTree, BreaksBaseRule, BreaksRule, HasBadWiring, HasBadChart, SoundCauses, uncut, no_tree, breaks_base_rule, breaks_rule, bad_wiring, bad_chart, no_memory}
 use Rattle.room_run.specs.Conversions.{most_journal_bytes, HasJournals, HasTiedJournals, HasNoJournals, HasUntiedJournals}
-use Rattle.room_run.specs.Causes.{IsInjections, HasBadLine, TextIs, AreOf, model_unread, model_long, model_no_memory, ModelCauses, no_text, model_refused, InjectionsCauses, injections_unread, injections_long, bad_line, injections_no_memory, RunCauses, of_model, of_injections, run_no_memory, JournalsCauses, journals_unread, journals_long, journals_malformed, journals_untied, journals_no_memory, ConvertCauses, of_its_model, of_journals, Causes, no_such_words, of_check, of_tree, of_run, of_convert, of_made, status_of}
+use Rattle.room_run.specs.Causes.{IsInjections, HasBadLine, TextIs, AreOf, model_unread, model_long, model_no_memory, ModelCauses, no_text, model_refused, InjectionsCauses, injections_unread, injections_long, bad_line, injections_no_memory, RunCauses, of_model, of_injections, run_no_memory, record_unread, record_long, record_no_memory, JournalsCauses, no_record, journals_malformed, journals_no_memory, TiedCauses, journals_refused, journals_untied, ConvertCauses, of_its_model, of_journals, HasRunTexts, IsJudged, UnjudgedCauses, judged_model, judged_injections, judged_journals, VerifyCauses, unjudged, unlawful, verify_no_memory, Causes, no_such_words, of_check, of_tree, of_run, of_convert, of_verify, of_made, status_of}
 use Rattle.binding_expand.specs.tree_text.Text.{tree_text}
-use Rattle.room_run.specs.Outcome.{accepted, Answers, says_ok, says_tree, says_run, says_converted, says_made, AreRecorded, status_of_run, whole, cut_short, refused, refused_unheard}
-use Rattle.room_run.specs.OneAnswer.{IsRead, AreRead, IsMemory, SameRefusal, AskForNoRun, CallsHaveOneAnswer, HasModel, HasFiles, HasRecord, AreAccepted, IsEnd, AcceptedCallsEnd}
+use Rattle.room_run.specs.Outcome.{accepted, Answers, says_ok, says_tree, says_run, says_converted, says_lawful, says_made, lawful_line, AreRecorded, status_of_run, whole, cut_short, refused, refused_unheard}
+use Rattle.room_run.specs.OneAnswer.{IsRead, AreRead, IsMemory, SameRefusal, AskForNoRun, CallsHaveOneAnswer, HasModel, HasFiles, HasRecord, HasJudged, AreAccepted, IsEnd, AcceptedCallsEnd}
 use Rattle.room_run.specs.declared.model_fault.ModelFault.{ModelFault}
 use Rattle.room_run.specs.declared.model_fault.ModelFault.TheVariants as faults
 use Rattle.room_run.specs.declared.refusal.Refusal.{Refusal}
@@ -277,93 +286,91 @@ sound_model text wiring why s (says_long long is) = let short = s.is.short in ab
 sound_model text wiring why s (says_fault f h is) = memory_is f why (sound_has_none text wiring s f h) is
 
 -- the text of injections is refused so
-data LinesSay (wiring : Tables) (text : List ℕ) (why : Refusal) : Type 0 where
-  lines_memory : IsMemory why → LinesSay wiring text why
-  lines_long : most_bytes < length text → why ≡ refusals.InjectionsTooLong → LinesSay wiring text why
-  lines_faulty : (n code : ℕ) → HasBadLine wiring text n code → why ≡ refusals.InjectionsLine n code → LinesSay wiring text why
+data LinesSay (k : Advances) (wiring : Tables) (text : List ℕ) (why : Refusal) : Type 0 where
+  lines_memory : IsMemory why → LinesSay k wiring text why
+  lines_long : most_bytes < length text → why ≡ refusals.InjectionsTooLong → LinesSay k wiring text why
+  lines_faulty : (n code : ℕ) → HasBadLine k wiring text n code → why ≡ refusals.InjectionsLine n code → LinesSay k wiring text why
 
-lines_say : (before after : Shown) (name : List ℕ) (wiring : Tables) (why : Refusal) → (read : IsRead before after name)
-    → InjectionsCauses before after name wiring why → LinesSay wiring read.text why
-lines_say before after name wiring why read (injections_unread h is) = absurd (read.unfailed h)
-lines_say before after name wiring why read (injections_long h is) =
+lines_say : (before after : Shown) (name : List ℕ) (k : Advances) (wiring : Tables) (why : Refusal) → (read : IsRead before after name)
+    → InjectionsCauses before after name k wiring why → LinesSay k wiring read.text why
+lines_say before after name k wiring why read (injections_unread h is) = absurd (read.unfailed h)
+lines_say before after name k wiring why read (injections_long h is) =
     lines_long (told_text before name read.text (λ t. most_bytes < length t) read.told h) is
-lines_say before after name wiring why read (bad_line number code h is) =
-    lines_faulty number code (told_text before name read.text (λ t. HasBadLine wiring t number code) read.told h) is
-lines_say before after name wiring why read (injections_no_memory is) = lines_memory (ap status_of is)
+lines_say before after name k wiring why read (bad_line number code h is) =
+    lines_faulty number code (told_text before name read.text (λ t. HasBadLine k wiring t number code) read.told h) is
+lines_say before after name k wiring why read (injections_no_memory is) = lines_memory (ap status_of is)
 
 err_pair : (a b : ℕ × ℕ) → ◌≡◌ {A = Result (List Line) (ℕ × ℕ)} (Err a) (Err b) → a ≡ b
 err_pair a b e = cc
 
-lines_once : (wiring : Tables) (text : List ℕ) (why other : Refusal) → LinesSay wiring text why → LinesSay wiring text other
+lines_once : (advances : Advances) (wiring : Tables) (text : List ℕ) (why other : Refusal) → LinesSay advances wiring text why → LinesSay advances wiring text other
     → Once why other
-lines_once wiring text why other (lines_memory e) k = inl e
-lines_once wiring text why other (lines_long long is) (lines_memory e) = inr (inl e)
-lines_once wiring text why other (lines_long long is) (lines_long also are) = inr (inr (inl (is ∙ sym are)))
-lines_once wiring text why other (lines_long long is) (lines_faulty n c h are) = let short = h.short in absurd (omega (arith, long, short))
-lines_once wiring text why other (lines_faulty n c h is) (lines_memory e) = inr (inl e)
-lines_once wiring text why other (lines_faulty n c h is) (lines_long long are) = let short = h.short in absurd (omega (arith, long, short))
-lines_once wiring text why other (lines_faulty n c h is) (lines_faulty m d k are) =
+lines_once advances wiring text why other (lines_memory e) k = inl e
+lines_once advances wiring text why other (lines_long long is) (lines_memory e) = inr (inl e)
+lines_once advances wiring text why other (lines_long long is) (lines_long also are) = inr (inr (inl (is ∙ sym are)))
+lines_once advances wiring text why other (lines_long long is) (lines_faulty n c h are) = let short = h.short in absurd (omega (arith, long, short))
+lines_once advances wiring text why other (lines_faulty n c h is) (lines_memory e) = inr (inl e)
+lines_once advances wiring text why other (lines_faulty n c h is) (lines_long long are) = let short = h.short in absurd (omega (arith, long, short))
+lines_once advances wiring text why other (lines_faulty n c h is) (lines_faulty m d k are) =
     let same = err_pair (n, c) (m, d) (sym h.faulty ∙ k.faulty) in
     inr (inr (inl (is ∙ ap (λ (z : ℕ × ℕ). refusals.InjectionsLine z.0 z.1) same ∙ sym are)))
 
 -- accepted injections are refused for want of memory alone
-sound_lines : (wiring : Tables) (text : List ℕ) (lines : List Line) (why : Refusal) → IsInjections wiring text lines
-    → LinesSay wiring text why → IsMemory why
-sound_lines wiring text lines why s (lines_memory e) = e
-sound_lines wiring text lines why s (lines_long long is) = let short = s.short in absurd (omega (arith, long, short))
-sound_lines wiring text lines why s (lines_faulty n c h is) =
+sound_lines : (k : Advances) (wiring : Tables) (text : List ℕ) (lines : List Line) (why : Refusal) → IsInjections k wiring text lines
+    → LinesSay k wiring text why → IsMemory why
+sound_lines k wiring text lines why s (lines_memory e) = e
+sound_lines k wiring text lines why s (lines_long long is) = let short = s.short in absurd (omega (arith, long, short))
+sound_lines k wiring text lines why s (lines_faulty n c h is) =
     let both : ◌≡◌ {A = Result (List Line) (ℕ × ℕ)} (Ok lines) (Err (n, c)) = sym s.accepted ∙ h.faulty in absurd cc
 
 -- a run of two texts is refused so
-data RunSays (model injections : List ℕ) (why : Refusal) : Type 0 where
-  for_model : ModelSays model why → RunSays model injections why
-  for_lines : (wiring : Tables) → IsSound model wiring → LinesSay wiring injections why → RunSays model injections why
+data RunSays (k : Advances) (model injections : List ℕ) (why : Refusal) : Type 0 where
+  for_model : ModelSays model why → RunSays k model injections why
+  for_lines : (wiring : Tables) → IsSound model wiring → LinesSay k wiring injections why → RunSays k model injections why
 
 is_sound : (text : List ℕ) (plant : Plant) → IsModel text plant → IsSound text plant.wiring
 is_sound text plant h = record { charts = h.charts; is = h.is }
 
 run_says : (before after : Shown) (files : Files) (why : Refusal) → (model : IsRead before after files.model)
     → (injections : IsRead before after files.injections)
-    → RunCauses before after files why → RunSays model.text injections.text why
+    → RunCauses before after files why → RunSays Taken model.text injections.text why
 run_says before after files why model injections (of_model h) = for_model (model_says before after files.model why model h)
 run_says before after files why model injections (of_injections plant h k) =
     for_lines plant.wiring (is_sound model.text plant (told_text before files.model model.text (λ t. IsModel t plant) model.told h))
-    (lines_say before after files.injections plant.wiring why injections k)
+    (lines_say before after files.injections Taken plant.wiring why injections k)
 run_says before after files why model injections (run_no_memory is) = for_model (says_memory (ap status_of is))
 
-run_once : (model injections : List ℕ) (why other : Refusal) → RunSays model injections why → RunSays model injections other
+run_once : (advances : Advances) (model injections : List ℕ) (why other : Refusal) → RunSays advances model injections why → RunSays advances model injections other
     → Once why other
-run_once model injections why other (for_model h) (for_model k) = model_once model why other h k
-run_once model injections why other (for_model h) (for_lines wiring s k) = inl (sound_model model wiring why s h)
-run_once model injections why other (for_lines wiring s h) (for_model k) = inr (inl (sound_model model wiring other s k))
-run_once model injections why other (for_lines wiring s h) (for_lines wired u k) =
-    lines_once wiring injections why other h (subst (λ (z : Tables). LinesSay z injections other) (one_sound_wiring model wired wiring u s) k)
+run_once advances model injections why other (for_model h) (for_model k) = model_once model why other h k
+run_once advances model injections why other (for_model h) (for_lines wiring s k) = inl (sound_model model wiring why s h)
+run_once advances model injections why other (for_lines wiring s h) (for_model k) = inr (inl (sound_model model wiring other s k))
+run_once advances model injections why other (for_lines wiring s h) (for_lines wired u k) =
+    lines_once advances wiring injections why other h (subst (λ (z : Tables). LinesSay advances z injections other) (one_sound_wiring model wired wiring u s) k)
 
 -- accepted texts are refused for want of memory alone
-sound_run : (model injections : List ℕ) (wiring : Tables) (lines : List Line) (why : Refusal) → IsSound model wiring
-    → IsInjections wiring injections lines
-    → RunSays model injections why → IsMemory why
-sound_run model injections wiring lines why s i (for_model h) = sound_model model wiring why s h
-sound_run model injections wiring lines why s i (for_lines wired u k) =
-    sound_lines wiring injections lines why i (subst (λ (z : Tables). LinesSay z injections why) (one_sound_wiring model wired wiring u s) k)
+sound_run : (advances : Advances) (model injections : List ℕ) (wiring : Tables) (lines : List Line) (why : Refusal) → IsSound model wiring
+    → IsInjections advances wiring injections lines
+    → RunSays advances model injections why → IsMemory why
+sound_run advances model injections wiring lines why s i (for_model h) = sound_model model wiring why s h
+sound_run advances model injections wiring lines why s i (for_lines wired u k) =
+    sound_lines advances wiring injections lines why i (subst (λ (z : Tables). LinesSay advances z injections why) (one_sound_wiring model wired wiring u s) k)
 
--- the text of journals is refused so
-data JournalsSay (wiring : Tables) (text : List ℕ) (why : Refusal) : Type 0 where
-  for_memory : IsMemory why → JournalsSay wiring text why
-  for_length : most_journal_bytes < length text → why ≡ refusals.JournalsTooLong → JournalsSay wiring text why
-  for_form : (offset : ℕ) → HasNoJournals wiring text → why ≡ refusals.JournalsMalformed offset → JournalsSay wiring text why
-  for_fetch : (controller : ControllerId) (stamp : Stamp) → HasUntiedJournals wiring text controller stamp → why ≡ refusals.JournalsUntied controller stamp → JournalsSay wiring text why
+-- no journals can be read from the text, so
+data ReadSays (wiring : Tables) (text : List ℕ) (why : Refusal) : Type 0 where
+  for_memory : IsMemory why → ReadSays wiring text why
+  for_length : most_journal_bytes < length text → why ≡ refusals.JournalsTooLong → ReadSays wiring text why
+  for_form : (offset : ℕ) → HasNoJournals wiring text → why ≡ refusals.JournalsMalformed offset → ReadSays wiring text why
 
-journals_say : (before after : Shown) (name : List ℕ) (wiring : Tables) (why : Refusal) → (read : IsRead before after name)
-    → JournalsCauses before after name wiring why → JournalsSay wiring read.text why
-journals_say before after name wiring why read (journals_unread h is) = absurd (read.unfailed h)
-journals_say before after name wiring why read (journals_long h is) =
+read_says : (before after : Shown) (name : List ℕ) (wiring : Tables) (why : Refusal) → (read : IsRead before after name)
+    → JournalsCauses before after name wiring why → ReadSays wiring read.text why
+read_says before after name wiring why read (no_record (record_unread h is)) = absurd (read.unfailed h)
+read_says before after name wiring why read (no_record (record_long h is)) =
     for_length (told_text before name read.text (λ t. most_journal_bytes < length t) read.told h) is
-journals_say before after name wiring why read (journals_malformed offset h is) =
+read_says before after name wiring why read (no_record (record_no_memory is)) = for_memory (ap status_of is)
+read_says before after name wiring why read (journals_malformed offset h is) =
     for_form offset (told_text before name read.text (λ t. HasNoJournals wiring t) read.told h) is
-journals_say before after name wiring why read (journals_untied controller stamp h is) =
-    for_fetch controller stamp (told_text before name read.text (λ t. HasUntiedJournals wiring t controller stamp) read.told h) is
-journals_say before after name wiring why read (journals_no_memory is) = for_memory (ap status_of is)
+read_says before after name wiring why read (journals_no_memory is) = for_memory (ap status_of is)
 
 -- a text that has journals isn't one that has none
 no_both : (wiring : Tables) (text : List ℕ) (j : Journals) → HasNoJournals wiring text → HasJournals wiring text j → ⊥
@@ -372,20 +379,37 @@ no_both wiring text j h k = h.none j k.fit k.in_range k.is
 one_read : (model : List ℕ) (wiring : Tables) (text : List ℕ) (i j : Journals) → IsSound model wiring → HasJournals wiring text i → HasJournals wiring text j → i ≡ j
 one_read model wiring text i j sound h k = same_journals model wiring text i j sound h.fit h.in_range h.is k.fit k.in_range k.is
 
+read_once : (wiring : Tables) (text : List ℕ) (why other : Refusal) → ReadSays wiring text why → ReadSays wiring text other → Once why other
+read_once wiring text why other (for_memory e) k = inl e
+read_once wiring text why other (for_length long is) (for_memory e) = inr (inl e)
+read_once wiring text why other (for_length long is) (for_length also are) = inr (inr (inl (is ∙ sym are)))
+read_once wiring text why other (for_length long is) (for_form offset h are) = let short = h.short in absurd (omega (arith, long, short))
+read_once wiring text why other (for_form offset h is) (for_memory e) = inr (inl e)
+read_once wiring text why other (for_form offset h is) (for_length long are) = let short = h.short in absurd (omega (arith, long, short))
+read_once wiring text why other (for_form offset h is) (for_form place k are) = inr (inr (inr (inr ((offset, is), (place, are)))))
+
+-- a text of journals is refused for want of memory alone
+sound_read : (wiring : Tables) (text : List ℕ) (j : Journals) (why : Refusal) → HasJournals wiring text j → ReadSays wiring text why → IsMemory why
+sound_read wiring text j why h (for_memory e) = e
+sound_read wiring text j why h (for_length long is) = let short = h.short in absurd (omega (arith, long, short))
+sound_read wiring text j why h (for_form offset k is) = absurd (no_both wiring text j k h)
+
+-- the text of journals that are to be written in form 2 is refused so
+data JournalsSay (wiring : Tables) (text : List ℕ) (why : Refusal) : Type 0 where
+  for_reading : ReadSays wiring text why → JournalsSay wiring text why
+  for_fetch : (controller : ControllerId) (stamp : Stamp) → HasUntiedJournals wiring text controller stamp → why ≡ refusals.JournalsUntied controller stamp → JournalsSay wiring text why
+
+journals_say : (before after : Shown) (name : List ℕ) (wiring : Tables) (why : Refusal) → (read : IsRead before after name)
+    → TiedCauses before after name wiring why → JournalsSay wiring read.text why
+journals_say before after name wiring why read (journals_refused h) = for_reading (read_says before after name wiring why read h)
+journals_say before after name wiring why read (journals_untied controller stamp h is) =
+    for_fetch controller stamp (told_text before name read.text (λ t. HasUntiedJournals wiring t controller stamp) read.told h) is
+
 journals_once : (model : List ℕ) (wiring : Tables) (text : List ℕ) (why other : Refusal) → IsSound model wiring → JournalsSay wiring text why → JournalsSay wiring text other
     → Once why other
-journals_once model wiring text why other sound (for_memory e) k = inl e
-journals_once model wiring text why other sound (for_length long is) (for_memory e) = inr (inl e)
-journals_once model wiring text why other sound (for_length long is) (for_length also are) = inr (inr (inl (is ∙ sym are)))
-journals_once model wiring text why other sound (for_length long is) (for_form offset h are) = let short = h.short in absurd (omega (arith, long, short))
-journals_once model wiring text why other sound (for_length long is) (for_fetch c x h are) = let short = h.has.short in absurd (omega (arith, long, short))
-journals_once model wiring text why other sound (for_form offset h is) (for_memory e) = inr (inl e)
-journals_once model wiring text why other sound (for_form offset h is) (for_length long are) = let short = h.short in absurd (omega (arith, long, short))
-journals_once model wiring text why other sound (for_form offset h is) (for_form place k are) = inr (inr (inr (inr ((offset, is), (place, are)))))
-journals_once model wiring text why other sound (for_form offset h is) (for_fetch c x k are) = absurd (no_both wiring text k.journals h k.has)
-journals_once model wiring text why other sound (for_fetch c x h is) (for_memory e) = inr (inl e)
-journals_once model wiring text why other sound (for_fetch c x h is) (for_length long are) = let short = h.has.short in absurd (omega (arith, long, short))
-journals_once model wiring text why other sound (for_fetch c x h is) (for_form place k are) = absurd (no_both wiring text h.journals k h.has)
+journals_once model wiring text why other sound (for_reading h) (for_reading k) = read_once wiring text why other h k
+journals_once model wiring text why other sound (for_reading h) (for_fetch c x k are) = inl (sound_read wiring text k.journals why k.has h)
+journals_once model wiring text why other sound (for_fetch c x h is) (for_reading k) = inr (inl (sound_read wiring text h.journals other h.has k))
 journals_once model wiring text why other sound (for_fetch c x h is) (for_fetch d y k are) =
     let one : k.journals ≡ h.journals = one_read model wiring text k.journals h.journals sound k.has h.has in
     let same = same_first h.journals c d x y h.first (subst (λ (z : Journals). IsFirstUntied z d y) one k.first) in
@@ -394,9 +418,7 @@ journals_once model wiring text why other sound (for_fetch c x h is) (for_fetch 
 -- tied journals are refused for want of memory alone
 sound_journals : (model : List ℕ) (wiring : Tables) (text : List ℕ) (j : Journals) (why : Refusal) → IsSound model wiring → HasTiedJournals wiring text j
     → JournalsSay wiring text why → IsMemory why
-sound_journals model wiring text j why sound h (for_memory e) = e
-sound_journals model wiring text j why sound h (for_length long is) = let short = h.has.short in absurd (omega (arith, long, short))
-sound_journals model wiring text j why sound h (for_form offset k is) = absurd (no_both wiring text j k h.has)
+sound_journals model wiring text j why sound h (for_reading k) = sound_read wiring text j why h.has k
 sound_journals model wiring text j why sound h (for_fetch c x k is) =
     let one : k.journals ≡ j = one_read model wiring text k.journals j sound k.has h.has in
     absurd (none_first j h.tied c x (subst (λ (z : Journals). IsFirstUntied z c x) one k.first))
@@ -430,6 +452,160 @@ sound_record model journals wiring j why s i (for_its_model h) = sound_model mod
 sound_record model journals wiring j why s i (for_journals wired u k) =
     sound_journals model wiring journals j why s i (subst (λ (z : Tables). JournalsSay z journals why) (one_sound_wiring model wired wiring u s) k)
 
+-- ---- verdicts
+
+-- the verdict on the journals of one text, by the charts of a model and by injections
+record VerdictOn (model injections journals : List ℕ) (fuel : ℕ) (v : Verdict) (controllers : ℕ) : Type 0 where
+  wiring : Tables
+  charts : List (Option Chart)
+  sound : IsSoundText model wiring charts
+  lines : List Line
+  lines_are : IsInjections Refused wiring injections lines
+  read : Journals
+  read_is : HasJournals wiring journals read
+  count : controllers ≡ length wiring.controllers
+  verdict : IsVerdict (behaviour_by_charts wiring charts) wiring (items_of wiring lines) fuel read v
+
+-- the same with other parts, which are the same
+abbrev Verdicts : List ℕ → List ℕ → ℕ → Verdict → ℕ → Tables → List (Option Chart) → Type 0
+Verdicts injections journals fuel v controllers wiring charts =
+    (lines : List Line) × (read : Journals) × IsInjections Refused wiring injections lines × HasJournals wiring journals read
+    × (controllers ≡ length wiring.controllers) × IsVerdict (behaviour_by_charts wiring charts) wiring (items_of wiring lines) fuel read v
+
+same_lines : (k : Advances) (wiring : Tables) (text : List ℕ) (a b : List Line) → IsInjections k wiring text a → IsInjections k wiring text b → a ≡ b
+same_lines k wiring text a b h j =
+    let both : ◌≡◌ {A = Result (List Line) (ℕ × ℕ)} (Ok a) (Ok b) = sym h.accepted ∙ j.accepted in cc
+
+-- over one wiring and its charts
+one_over : (model injections journals : List ℕ) (fuel : ℕ) (v u : Verdict) (m n : ℕ) (wiring : Tables) (charts : List (Option Chart)) → IsSound model wiring
+    → Verdicts injections journals fuel v m wiring charts → Verdicts injections journals fuel u n wiring charts → (v ≡ u) × (m ≡ n)
+one_over model injections journals fuel v u m n wiring charts sound h k =
+    let lines : k.0 ≡ h.0 = same_lines Refused wiring injections k.0 h.0 k.2 h.2 in
+    let read : k.1 ≡ h.1 = one_read model wiring journals k.1 h.1 sound k.3 h.3 in
+    let other =
+    subst (λ (z : Journals). IsVerdict (behaviour_by_charts wiring charts) wiring (items_of wiring h.0) fuel z u) read
+    (subst (λ (z : List Line). IsVerdict (behaviour_by_charts wiring charts) wiring (items_of wiring z) fuel k.1 u) lines k.5) in
+    (one_verdict (behaviour_by_charts wiring charts) wiring (items_of wiring h.0) fuel h.1 v u h.5 other, h.4 ∙ sym k.4)
+
+verdict_once : (model injections journals : List ℕ) (fuel : ℕ) (v u : Verdict) (m n : ℕ) → VerdictOn model injections journals fuel v m
+    → VerdictOn model injections journals fuel u n → (v ≡ u) × (m ≡ n)
+verdict_once model injections journals fuel v u m n h k =
+    let sound : IsSound model h.wiring = record { charts = h.charts; is = h.sound } in
+    let also : IsSound model k.wiring = record { charts = k.charts; is = k.sound } in
+    let wired : k.wiring ≡ h.wiring = one_sound_wiring model k.wiring h.wiring also sound in
+    let tree = same_tree model k.sound.tree h.sound.tree k.sound.read h.sound.read in
+    let charted : k.charts ≡ h.charts =
+    (are_one h.sound.tree).charts k.charts h.charts
+    (subst (λ (z : ModelTree). HasCharts z k.charts) tree k.sound.sound.faultless) h.sound.sound.faultless in
+    let other =
+    subst (λ (z : List (Option Chart)). Verdicts injections journals fuel u n h.wiring z) charted
+    (subst (λ (z : Tables). Verdicts injections journals fuel u n z k.charts) wired (k.lines, k.read, k.lines_are, k.read_is, k.count, k.verdict)) in
+    one_over model injections journals fuel v u m n h.wiring h.charts sound (h.lines, h.read, h.lines_are, h.read_is, h.count, h.verdict) other
+
+-- a verdict on three texts is refused so
+data JudgeSays (model injections journals : List ℕ) (fuel : ℕ) (why : Refusal) : Type 0 where
+  for_run : RunSays Refused model injections why → JudgeSays model injections journals fuel why
+  for_record : (wiring : Tables) (lines : List Line) → IsSound model wiring → IsInjections Refused wiring injections lines
+      → ReadSays wiring journals why → JudgeSays model injections journals fuel why
+  for_verdict : (v : Verdict) (controllers : ℕ) → VerdictOn model injections journals fuel v controllers → (v ≡ verdicts.Lawful → ⊥)
+      → why ≡ refusals.Unlawful v controllers → JudgeSays model injections journals fuel why
+
+unjudged_says : (before after : Shown) (files : Judged) (fuel : ℕ) (why : Refusal) → (model : IsRead before after files.run.model)
+    → (injections : IsRead before after files.run.injections) → (journals : IsRead before after files.journals)
+    → UnjudgedCauses before after files why → JudgeSays model.text injections.text journals.text fuel why
+unjudged_says before after files fuel why model injections journals (judged_model h) =
+    for_run (for_model (model_says before after files.run.model why model h))
+unjudged_says before after files fuel why model injections journals (judged_injections plant h k) =
+    for_run (for_lines plant.wiring (is_sound model.text plant (told_text before files.run.model model.text (λ t. IsModel t plant) model.told h))
+    (lines_say before after files.run.injections Refused plant.wiring why injections k))
+unjudged_says before after files fuel why model injections journals (judged_journals plant lines h k) =
+    for_record plant.wiring lines
+    (is_sound model.text plant (told_text before files.run.model model.text (λ t. IsModel t plant) model.told h.model_accepted))
+    (told_text before files.run.injections injections.text (λ t. IsInjections Refused plant.wiring t lines) injections.told h.lines_accepted)
+    (read_says before after files.journals plant.wiring why journals k)
+
+-- what is judged has that verdict
+verdict_on : (before after : Shown) (files : Judged) (fuel : ℕ) (plant : Plant) (lines : List Line) (j : Journals) (v : Verdict)
+    → (model : IsRead before after files.run.model) → (injections : IsRead before after files.run.injections)
+    → (journals : IsRead before after files.journals) → IsJudged before files fuel plant lines j v
+    → VerdictOn model.text injections.text journals.text fuel v (length plant.wiring.controllers)
+verdict_on before after files fuel plant lines j v model injections journals h =
+    let charts =
+    told_text before files.run.model model.text (λ t. (charts : List (Option Chart)) × IsSoundText t plant.wiring charts
+    × IsVerdict (behaviour_by_charts plant.wiring charts) plant.wiring (items_of plant.wiring lines) fuel j v) model.told h.by_charts in
+    record {
+      wiring = plant.wiring;
+      charts = charts.0;
+      sound = charts.1;
+      lines = lines;
+      lines_are = told_text before files.run.injections injections.text (λ t. IsInjections Refused plant.wiring t lines) injections.told h.texts.lines_accepted;
+      read = j;
+      read_is = told_text before files.journals journals.text (λ t. HasJournals plant.wiring t j) journals.told h.journals_read;
+      count = refl;
+      verdict = charts.2;
+    }
+
+judge_says : (before after : Shown) (files : Judged) (fuel : ℕ) (why : Refusal) → (model : IsRead before after files.run.model)
+    → (injections : IsRead before after files.run.injections) → (journals : IsRead before after files.journals)
+    → VerifyCauses before after files fuel why → JudgeSays model.text injections.text journals.text fuel why
+judge_says before after files fuel why model injections journals (unjudged h) =
+    unjudged_says before after files fuel why model injections journals h
+judge_says before after files fuel why model injections journals (unlawful plant lines j v h faulty is) =
+    for_verdict v (length plant.wiring.controllers) (verdict_on before after files fuel plant lines j v model injections journals h) faulty is
+judge_says before after files fuel why model injections journals (verify_no_memory is) =
+    for_run (for_model (says_memory (ap status_of is)))
+
+-- where there is a verdict, texts are refused for want of memory alone
+judged_run : (model injections journals : List ℕ) (fuel : ℕ) (v : Verdict) (n : ℕ) (why : Refusal) → VerdictOn model injections journals fuel v n
+    → RunSays Refused model injections why → IsMemory why
+judged_run model injections journals fuel v n why h k =
+    sound_run Refused model injections h.wiring h.lines why (record { charts = h.charts; is = h.sound }) h.lines_are k
+
+judged_record : (model injections journals : List ℕ) (fuel : ℕ) (v : Verdict) (n : ℕ) (why : Refusal) (wiring : Tables) → VerdictOn model injections journals fuel v n
+    → IsSound model wiring → ReadSays wiring journals why → IsMemory why
+judged_record model injections journals fuel v n why wiring h sound k =
+    let wired = one_sound_wiring model wiring h.wiring sound (record { charts = h.charts; is = h.sound }) in
+    sound_read h.wiring journals h.read why h.read_is (subst (λ (z : Tables). ReadSays z journals why) wired k)
+
+judge_once : (model injections journals : List ℕ) (fuel : ℕ) (why other : Refusal) → JudgeSays model injections journals fuel why
+    → JudgeSays model injections journals fuel other → Once why other
+judge_once model injections journals fuel why other (for_run h) (for_run k) = run_once Refused model injections why other h k
+judge_once model injections journals fuel why other (for_run h) (for_record wiring lines s i k) =
+    inl (sound_run Refused model injections wiring lines why s i h)
+judge_once model injections journals fuel why other (for_run h) (for_verdict v n k faulty are) =
+    inl (judged_run model injections journals fuel v n why k h)
+judge_once model injections journals fuel why other (for_record wiring lines s i h) (for_run k) =
+    inr (inl (sound_run Refused model injections wiring lines other s i k))
+judge_once model injections journals fuel why other (for_record wiring lines s i h) (for_record wired also u l k) =
+    read_once wiring journals why other h (subst (λ (z : Tables). ReadSays z journals other) (one_sound_wiring model wired wiring u s) k)
+judge_once model injections journals fuel why other (for_record wiring lines s i h) (for_verdict v n k faulty are) =
+    inl (judged_record model injections journals fuel v n why wiring k s h)
+judge_once model injections journals fuel why other (for_verdict v n h faulty is) (for_run k) =
+    inr (inl (judged_run model injections journals fuel v n other h k))
+judge_once model injections journals fuel why other (for_verdict v n h faulty is) (for_record wiring lines s i k) =
+    inr (inl (judged_record model injections journals fuel v n other wiring h s k))
+judge_once model injections journals fuel why other (for_verdict v n h faulty is) (for_verdict u m k also are) =
+    let same = verdict_once model injections journals fuel v u n m h k in
+    inr (inr (inl (is ∙ ap₂ refusals.Unlawful same.0 same.1 ∙ sym are)))
+
+-- lawful journals are refused for want of memory alone
+lawful_memory : (model injections journals : List ℕ) (fuel : ℕ) (n : ℕ) (why : Refusal) → VerdictOn model injections journals fuel verdicts.Lawful n
+    → JudgeSays model injections journals fuel why → IsMemory why
+lawful_memory model injections journals fuel n why h (for_run k) = judged_run model injections journals fuel verdicts.Lawful n why h k
+lawful_memory model injections journals fuel n why h (for_record wiring lines s i k) =
+    judged_record model injections journals fuel verdicts.Lawful n why wiring h s k
+lawful_memory model injections journals fuel n why h (for_verdict v m k faulty is) =
+    absurd (faulty (verdict_once model injections journals fuel v verdicts.Lawful m n k h).0)
+
+-- accepted texts are refused for want of memory, or for their verdict
+judged_ends : (model injections journals : List ℕ) (fuel : ℕ) (wiring : Tables) (lines : List Line) (j : Journals) (why : Refusal) → IsSound model wiring
+    → IsInjections Refused wiring injections lines → HasJournals wiring journals j → JudgeSays model injections journals fuel why
+    → IsMemory why ⊎ (status_of why ≡ statuses.Unlawful)
+judged_ends model injections journals fuel wiring lines j why s i r (for_run k) = inl (sound_run Refused model injections wiring lines why s i k)
+judged_ends model injections journals fuel wiring lines j why s i r (for_record wired also u l k) =
+    inl (sound_read wiring journals j why r (subst (λ (z : Tables). ReadSays z journals why) (one_sound_wiring model wired wiring u s) k))
+judged_ends model injections journals fuel wiring lines j why s i r (for_verdict v n k faulty is) = inr (ap status_of is)
+
 -- ---- by what words ask for
 
 made_model_read : (actors : ℕ) → IsRead (made_shelf actors) (made_shelf actors) made_files.model
@@ -446,6 +622,7 @@ CausesOf before after (Some (Check name)) why = ModelCauses before after name wh
 CausesOf before after (Some (Tree name)) why = ModelCauses before after name why
 CausesOf before after (Some (Run files fuel)) why = RunCauses before after files why
 CausesOf before after (Some (Convert files)) why = ConvertCauses before after files why
+CausesOf before after (Some (Verify files fuel)) why = VerifyCauses before after files fuel why
 CausesOf before after (Some (Made actors)) why = RunCauses (made_shelf actors) (made_shelf actors) made_files why
 
 causes_of : (before after : Shown) (words : List (List ℕ)) (why : Refusal) → Causes before after words why
@@ -455,6 +632,7 @@ causes_of before after words why (of_check name e h) = subst (λ (o : Option Ask
 causes_of before after words why (of_tree name e h) = subst (λ (o : Option Asked). CausesOf before after o why) (sym e) h
 causes_of before after words why (of_run files fuel e h) = subst (λ (o : Option Asked). CausesOf before after o why) (sym e) h
 causes_of before after words why (of_convert files e h) = subst (λ (o : Option Asked). CausesOf before after o why) (sym e) h
+causes_of before after words why (of_verify files fuel e h) = subst (λ (o : Option Asked). CausesOf before after o why) (sym e) h
 causes_of before after words why (of_made actors e h) = subst (λ (o : Option Asked). CausesOf before after o why) (sym e) h
 
 once_of : (before after : Shown) (o : Option Asked) (why other : Refusal) → AreRead before after o → CausesOf before after o why
@@ -465,12 +643,15 @@ once_of before after (Some (Check name)) why other read h k =
 once_of before after (Some (Tree name)) why other read h k =
     model_once read.text why other (model_says before after name why read h) (model_says before after name other read k)
 once_of before after (Some (Run files fuel)) why other read h k =
-    run_once read.0.text read.1.text why other (run_says before after files why read.0 read.1 h) (run_says before after files other read.0 read.1 k)
+    run_once Taken read.0.text read.1.text why other (run_says before after files why read.0 read.1 h) (run_says before after files other read.0 read.1 k)
 once_of before after (Some (Convert files)) why other read h k =
     convert_once read.0.text read.1.text why other (convert_says before after files why read.0 read.1 h) (convert_says before after files other read.0 read.1 k)
+once_of before after (Some (Verify files fuel)) why other read h k =
+    judge_once read.0.text read.1.text read.2.text fuel why other (judge_says before after files fuel why read.0 read.1 read.2 h)
+    (judge_says before after files fuel other read.0 read.1 read.2 k)
 once_of before after (Some (Made actors)) why other read h k =
     let shelf = made_shelf actors in
-    run_once (made_model_read actors).text (made_lines_read actors).text why other
+    run_once Taken (made_model_read actors).text (made_lines_read actors).text why other
     (run_says shelf shelf made_files why (made_model_read actors) (made_lines_read actors) h)
     (run_says shelf shelf made_files other (made_model_read actors) (made_lines_read actors) k)
 
@@ -484,12 +665,12 @@ model_memory : (before after : Shown) (name : List ℕ) (why : Refusal) (read : 
 model_memory before after name why read wiring h k =
     sound_model read.text wiring why (subst (λ (z : List ℕ). IsSound z wiring) (same_told before name h.text read.text h.told read.told) h.sound) (model_says before after name why read k)
 
-files_memory : (before after : Shown) (files : Files) (why : Refusal) (model : IsRead before after files.model) (injections : IsRead before after files.injections) → HasFiles before files
+files_memory : (before after : Shown) (files : Files) (why : Refusal) (model : IsRead before after files.model) (injections : IsRead before after files.injections) → HasFiles Taken before files
     → RunCauses before after files why → IsMemory why
 files_memory before after files why model injections h k =
-    sound_run model.text injections.text h.wiring h.lines why
+    sound_run Taken model.text injections.text h.wiring h.lines why
     (subst (λ (z : List ℕ). IsSound z h.wiring) (same_told before files.model h.model.text model.text h.model.told model.told) h.model.sound)
-    (subst (λ (z : List ℕ). IsInjections h.wiring z h.lines) (same_told before files.injections h.text injections.text h.told injections.told) h.injections)
+    (subst (λ (z : List ℕ). IsInjections Taken h.wiring z h.lines) (same_told before files.injections h.text injections.text h.told injections.told) h.injections)
     (run_says before after files why model injections k)
 
 record_memory : (before after : Shown) (files : Record) (why : Refusal) (model : IsRead before after files.model) (journals : IsRead before after files.journals) → HasRecord before files
@@ -500,20 +681,34 @@ record_memory before after files why model journals h k =
     (subst (λ (z : List ℕ). HasTiedJournals h.wiring z h.read) (same_told before files.journals h.text journals.text h.told journals.told) h.journals)
     (convert_says before after files why model journals k)
 
-memory_of : (before after : Shown) (o : Option Asked) (why : Refusal) → AreAccepted before o → AreRead before after o
+-- the words ask for something that has an answer
+abbrev Answered : Shown → Option Asked → Type 0
+Answered shelf None = ⊥
+Answered shelf (Some (Check name)) = AreAccepted shelf (Some (Check name))
+Answered shelf (Some (Tree name)) = AreAccepted shelf (Some (Tree name))
+Answered shelf (Some (Run files fuel)) = AreAccepted shelf (Some (Run files fuel))
+Answered shelf (Some (Convert files)) = AreAccepted shelf (Some (Convert files))
+Answered shelf (Some (Verify files fuel)) = (plant : Plant) × (lines : List Line) × (j : Journals) × IsJudged shelf files fuel plant lines j verdicts.Lawful
+Answered shelf (Some (Made actors)) = AreAccepted shelf (Some (Made actors))
+
+memory_of : (before after : Shown) (o : Option Asked) (why : Refusal) → Answered before o → AreRead before after o
     → CausesOf before after o why → IsMemory why
 memory_of before after None why h read k = absurd h
 memory_of before after (Some (Check name)) why h read k = model_memory before after name why read h.0 h.1 k
 memory_of before after (Some (Tree name)) why h read k = model_memory before after name why read h.0 h.1 k
 memory_of before after (Some (Run files fuel)) why h read k = files_memory before after files why read.0 read.1 h k
 memory_of before after (Some (Convert files)) why h read k = record_memory before after files why read.0 read.1 h k
+memory_of before after (Some (Verify files fuel)) why h read k =
+    lawful_memory read.0.text read.1.text read.2.text fuel (length h.0.wiring.controllers) why
+    (verdict_on before after files fuel h.0 h.1 h.2 verdicts.Lawful read.0 read.1 read.2 h.3)
+    (judge_says before after files fuel why read.0 read.1 read.2 k)
 memory_of before after (Some (Made actors)) why h read k =
     files_memory (made_shelf actors) (made_shelf actors) made_files why (made_model_read actors) (made_lines_read actors) h k
 
 -- what has an answer is accepted
 files_accepted : (before after : Shown) (files : Files) (plant : Plant) (lines : List Line) → IsRead before after files.model
     → IsRead before after files.injections
-    → AreOf before files plant lines → HasFiles before files
+    → AreOf before files plant lines → HasFiles Taken before files
 files_accepted before after files plant lines model injections h = record {
   wiring = plant.wiring;
   lines = lines;
@@ -524,7 +719,7 @@ files_accepted before after files plant lines model injections h = record {
   };
   text = injections.text;
   told = injections.told;
-  injections = told_text before files.injections injections.text (λ t. IsInjections plant.wiring t lines) injections.told h.lines_accepted;
+  injections = told_text before files.injections injections.text (λ t. IsInjections Taken plant.wiring t lines) injections.told h.lines_accepted;
 }
 
 record_accepted : (before after : Shown) (files : Record) (wiring : Tables) (j : Journals) → IsRead before after files.model
@@ -545,22 +740,23 @@ record_accepted before after files wiring j model journals h = record {
 
 accepted_of : (before after : Shown) (words : List (List ℕ)) (text : List ℕ) (status : Status) → AreRead before after (asked_by words)
     → Answers before words text status
-    → AreAccepted before (asked_by words)
+    → Answered before (asked_by words)
 accepted_of before after words text status read (says_ok name e h is ends) =
     let r : IsRead before after name = subst (AreRead before after) e read in
     let sound = told_text before name r.text (λ t. (wiring : Tables) × IsSound t wiring) r.told h in
-    subst (AreAccepted before) (sym e) (sound.0, record { text = r.text; told = r.told; sound = sound.1 })
+    subst (Answered before) (sym e) (sound.0, record { text = r.text; told = r.told; sound = sound.1 })
 accepted_of before after words text status read (says_tree name wiring e h is ends) =
     let r : IsRead before after name = subst (AreRead before after) e read in
-    subst (AreAccepted before) (sym e) (wiring, record { text = r.text; told = r.told; sound = told_text before name r.text (λ t. IsSound t wiring) r.told h })
+    subst (Answered before) (sym e) (wiring, record { text = r.text; told = r.told; sound = told_text before name r.text (λ t. IsSound t wiring) r.told h })
 accepted_of before after words text status read (says_run files fuel plant lines j e h is ends) =
     let r : IsRead before after files.model × IsRead before after files.injections = subst (AreRead before after) e read in
-    subst (AreAccepted before) (sym e) (files_accepted before after files plant lines r.0 r.1 h.texts)
+    subst (Answered before) (sym e) (files_accepted before after files plant lines r.0 r.1 h.texts)
 accepted_of before after words text status read (says_converted files wiring j e h is ends) =
     let r : IsRead before after files.model × IsRead before after files.journals = subst (AreRead before after) e read in
-    subst (AreAccepted before) (sym e) (record_accepted before after files wiring j r.0 r.1 h)
+    subst (Answered before) (sym e) (record_accepted before after files wiring j r.0 r.1 h)
+accepted_of before after words text status read (says_lawful files fuel plant lines j e h is ends) = subst (Answered before) (sym e) (plant, lines, j, h)
 accepted_of before after words text status read (says_made actors plant lines j e h is ends) =
-    subst (AreAccepted before) (sym e)
+    subst (Answered before) (sym e)
     (files_accepted (made_shelf actors) (made_shelf actors) made_files plant lines (made_model_read actors) (made_lines_read actors) h.texts)
 
 -- ---- what asks for no run has one answer
@@ -574,6 +770,7 @@ AnswerIs shelf (Some (Tree name)) text status =
 AnswerIs shelf (Some (Run files fuel)) text status = Unit {0}
 AnswerIs shelf (Some (Convert files)) text status =
     (wiring : Tables) × (j : Journals) × AreRecorded shelf files wiring j × (text ≡ tied_text_of wiring j) × (status ≡ statuses.Done)
+AnswerIs shelf (Some (Verify files fuel)) text status = (text ≡ lawful_line) × (status ≡ statuses.Done)
 AnswerIs shelf (Some (Made actors)) text status = Unit {0}
 
 answer_is : (shelf : Shown) (words : List (List ℕ)) (text : List ℕ) (status : Status) → Answers shelf words text status
@@ -585,6 +782,8 @@ answer_is shelf words text status (says_run files fuel plant lines j e h is ends
     subst (λ (o : Option Asked). AnswerIs shelf o text status) (sym e) tt
 answer_is shelf words text status (says_converted files wiring j e h is ends) =
     subst (λ (o : Option Asked). AnswerIs shelf o text status) (sym e) (wiring, j, h, is, ends)
+answer_is shelf words text status (says_lawful files fuel plant lines j e h is ends) =
+    subst (λ (o : Option Asked). AnswerIs shelf o text status) (sym e) (is, ends)
 answer_is shelf words text status (says_made actors plant lines j e h is ends) =
     subst (λ (o : Option Asked). AnswerIs shelf o text status) (sym e) tt
 
@@ -611,6 +810,7 @@ same_answer before after (Some (Tree name)) text other status also model read h 
 same_answer before after (Some (Run files fuel)) text other status also model read h k = absurd model
 same_answer before after (Some (Convert files)) text other status also model read h k =
     (h.3 ∙ same_record before after files h.0 k.0 h.1 k.1 read.0 read.1 h.2 k.2 ∙ sym k.3, h.4 ∙ sym k.4)
+same_answer before after (Some (Verify files fuel)) text other status also model read h k = (h.0 ∙ sym k.0, h.1 ∙ sym k.1)
 same_answer before after (Some (Made actors)) text other status also model read h k = absurd model
 
 pub calls_have_one_answer : CallsHaveOneAnswer
@@ -624,22 +824,52 @@ calls_have_one_answer before after words read = record {
 
 -- ---- how accepted calls end
 
-run_ends : (done : Bool) (status : Status) → status ≡ status_of_run done → IsEnd status
-run_ends true status e = inl e
-run_ends false status e = inr (inl e)
+run_ends : (o : Option Asked) (done : Bool) (status : Status) → status ≡ status_of_run done → IsEnd o status
+run_ends o true status e = inl e
+run_ends o false status e = inr (inl e)
 
-answer_ends : (shelf : Shown) (words : List (List ℕ)) (text : List ℕ) (status : Status) → Answers shelf words text status → IsEnd status
+answer_ends : (shelf : Shown) (words : List (List ℕ)) (text : List ℕ) (status : Status) → Answers shelf words text status
+    → IsEnd (asked_by words) status
 answer_ends shelf words text status (says_ok name e h is ends) = inl ends
 answer_ends shelf words text status (says_tree name wiring e h is ends) = inl ends
-answer_ends shelf words text status (says_run files fuel plant lines j e h is ends) = run_ends j.done status ends
+answer_ends shelf words text status (says_run files fuel plant lines j e h is ends) = run_ends (asked_by words) j.done status ends
 answer_ends shelf words text status (says_converted files wiring j e h is ends) = inl ends
-answer_ends shelf words text status (says_made actors plant lines j e h is ends) = run_ends j.done status ends
+answer_ends shelf words text status (says_lawful files fuel plant lines j e h is ends) = inl ends
+answer_ends shelf words text status (says_made actors plant lines j e h is ends) = run_ends (asked_by words) j.done status ends
+
+memory_ends : (o : Option Asked) (why : Refusal) → IsMemory why → IsEnd o (status_of why)
+memory_ends o why e = inr (inr (inl e))
+
+judged_memory : (before after : Shown) (files : Judged) (fuel : ℕ) (why : Refusal) (model : IsRead before after files.run.model)
+    → (injections : IsRead before after files.run.injections) (journals : IsRead before after files.journals) → HasJudged before files
+    → VerifyCauses before after files fuel why → IsEnd (Some (Verify files fuel)) (status_of why)
+judged_memory before after files fuel why model injections journals h k =
+    go (judged_ends model.text injections.text journals.text fuel h.run.wiring h.run.lines h.read why
+    (subst (λ (z : List ℕ). IsSound z h.run.wiring) (same_told before files.run.model h.run.model.text model.text h.run.model.told model.told) h.run.model.sound)
+    (subst (λ (z : List ℕ). IsInjections Refused h.run.wiring z h.run.lines) (same_told before files.run.injections h.run.text injections.text h.run.told injections.told) h.run.injections)
+    (subst (λ (z : List ℕ). HasJournals h.run.wiring z h.read) (same_told before files.journals h.text journals.text h.told journals.told) h.journals)
+    (judge_says before after files fuel why model injections journals k))
+  where
+    go : IsMemory why ⊎ (status_of why ≡ statuses.Unlawful) → IsEnd (Some (Verify files fuel)) (status_of why)
+    go (inl e) = inr (inr (inl e))
+    go (inr e) = inr (inr (inr (tt, e)))
+
+refusal_ends : (before after : Shown) (o : Option Asked) (why : Refusal) → AreAccepted before o → AreRead before after o
+    → CausesOf before after o why → IsEnd o (status_of why)
+refusal_ends before after None why h read k = absurd h
+refusal_ends before after (Some (Check name)) why h read k = memory_ends (Some (Check name)) why (memory_of before after (Some (Check name)) why h read k)
+refusal_ends before after (Some (Tree name)) why h read k = memory_ends (Some (Tree name)) why (memory_of before after (Some (Tree name)) why h read k)
+refusal_ends before after (Some (Run files fuel)) why h read k =
+    memory_ends (Some (Run files fuel)) why (memory_of before after (Some (Run files fuel)) why h read k)
+refusal_ends before after (Some (Convert files)) why h read k = memory_ends (Some (Convert files)) why (memory_of before after (Some (Convert files)) why h read k)
+refusal_ends before after (Some (Verify files fuel)) why h read k = judged_memory before after files fuel why read.0 read.1 read.2 h k
+refusal_ends before after (Some (Made actors)) why h read k = memory_ends (Some (Made actors)) why (memory_of before after (Some (Made actors)) why h read k)
 
 pub accepted_calls_end : AcceptedCallsEnd
 accepted_calls_end before after words streams status taken read none (whole text h out notes) = answer_ends before words text status h
 accepted_calls_end before after words streams status taken read none (cut_short text wanted h is breaks notes) =
     absurd (none.out breaks.fault)
 accepted_calls_end before after words streams status taken read none (refused why h is out notes) =
-    inr (inr (is ∙ memory_of before after (asked_by words) why taken read (causes_of before after words why h)))
+    subst (IsEnd (asked_by words)) (sym is) (refusal_ends before after (asked_by words) why taken read (causes_of before after words why h))
 accepted_calls_end before after words streams status taken read none (refused_unheard why h is out breaks) =
     absurd (none.notes breaks.fault)

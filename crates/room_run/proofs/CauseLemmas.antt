@@ -10,7 +10,8 @@ use Rattle.room_wiring.specs.declared.tables.Tables.{Tables}
 use Rattle.room_run.specs.Models.{IsModel, IsSound, SoundCauses, most_bytes}
 use Rattle.inject_reader.specs.declared.inject_lines.accepted.Line.{Line}
 use Rattle.inject_reader.specs.Answer.{answer}
-use Rattle.inject_reader.specs.declared.inject_lines.accepted.Advances.TheVariants.{Taken}
+use Rattle.inject_reader.specs.declared.inject_lines.accepted.Advances.{Advances}
+use Rattle.inject_reader.specs.declared.inject_lines.accepted.Advances.TheVariants.{Taken, Refused}
 use Rattle.inject_reader.specs.Gives.{Fails}
 use Rattle.inject_reader.specs.declared.fault.InjectFault.{InjectFault}
 use Rattle.inject_reader.specs.declared.fault.InjectFault.TheVariants as inject_faults
@@ -41,34 +42,34 @@ cause_found before after name bytes fault is h = model_refused fault (found_fact
 -- ---- the injections
 
 -- what was found of the lines is so of the text that is shown
-pub found_lines : (shelf : Shown) (name bytes : List ℕ) (w : Tables) (r : Result (Vec Line) Refusal) → IfSome (shelf.text name) (λ text. bytes ≡ text) → IfOk r (λ lines. IsInjections w bytes lines.items) → IfOk r (λ lines. TextIs shelf name (λ text. IsInjections w text lines.items))
-found_lines shelf name bytes w (Ok lines) is h = found_fact (λ text. IsInjections w text lines.items) (shelf.text name) bytes is h
-found_lines shelf name bytes w (Err why) is h = tt
+pub found_lines : (shelf : Shown) (name bytes : List ℕ) (k : Advances) (w : Tables) (r : Result (Vec Line) Refusal) → IfSome (shelf.text name) (λ text. bytes ≡ text) → IfOk r (λ lines. IsInjections k w bytes lines.items) → IfOk r (λ lines. TextIs shelf name (λ text. IsInjections k w text lines.items))
+found_lines shelf name bytes k w (Ok lines) is h = found_fact (λ text. IsInjections k w text lines.items) (shelf.text name) bytes is h
+found_lines shelf name bytes k w (Err why) is h = tt
 
 -- the text was read, and its lines are refused
-pub lines_cause : (before after : Shown) (name bytes : List ℕ) (w : Tables) (r : Result (Vec Line) Refusal) → IfSome (before.text name) (λ text. bytes ≡ text) → IfErr r (λ why. LinesCauses w bytes why) → IfErr r (λ why. InjectionsCauses before after name w why)
-lines_cause before after name bytes w (Ok lines) is h = tt
-lines_cause before after name bytes w (Err _) is (faulty_line number code h) =
-    bad_line number code (found_fact (λ text. HasBadLine w text number code) (before.text name) bytes is h) refl
-lines_cause before after name bytes w (Err _) is no_memory_for_lines = injections_no_memory refl
+pub lines_cause : (before after : Shown) (name bytes : List ℕ) (k : Advances) (w : Tables) (r : Result (Vec Line) Refusal) → IfSome (before.text name) (λ text. bytes ≡ text) → IfErr r (λ why. LinesCauses k w bytes why) → IfErr r (λ why. InjectionsCauses before after name k w why)
+lines_cause before after name bytes k w (Ok lines) is h = tt
+lines_cause before after name bytes k w (Err _) is (faulty_line number code h) =
+    bad_line number code (found_fact (λ text. HasBadLine k w text number code) (before.text name) bytes is h) refl
+lines_cause before after name bytes k w (Err _) is no_memory_for_lines = injections_no_memory refl
 
 -- a line is faulty
-pub line_told : (w : Tables) (bytes : List ℕ) (e : InjectFault) → length bytes ≤ most_bytes → Fails e (answer Taken w bytes) → LinesCauses w bytes (refusal_of_lines e)
-line_told w bytes (inject_faults.Code n code) short h = faulty_line n code (record { short = short; faulty = h })
-line_told w bytes inject_faults.Memory short h = no_memory_for_lines
+pub line_told : (k : Advances) (w : Tables) (bytes : List ℕ) (e : InjectFault) → length bytes ≤ most_bytes → Fails e (answer k w bytes) → LinesCauses k w bytes (refusal_of_lines e)
+line_told k w bytes (inject_faults.Code n code) short h = faulty_line n code (record { short = short; faulty = h })
+line_told k w bytes inject_faults.Memory short h = no_memory_for_lines
 
 -- ---- both
 
-lines_causes_before : {a b c : Shown} {name : List ℕ} {w : Tables} {why : Refusal} → Keeps a b → InjectionsCauses b c name w why → InjectionsCauses a c name w why
+pub lines_causes_before : {a b c : Shown} {name : List ℕ} {advances : Advances} {w : Tables} {why : Refusal} → Keeps a b → InjectionsCauses b c name advances w why → InjectionsCauses a c name advances w why
 lines_causes_before {a} {b} {c} {name} k (injections_unread r is) = injections_unread (Rose-before name k r) is
 lines_causes_before {a} {b} {c} {name} k (injections_long h is) = injections_long (IfSome-before name _ k h) is
 lines_causes_before {a} {b} {c} {name} k (bad_line number code h is) = bad_line number code (IfSome-before name _ k h) is
 lines_causes_before k (injections_no_memory is) = injections_no_memory is
 
 -- the model was read, and the injections are refused
-pub refused_lines : (before middle after : Shown) (files : Files) (p : Plant) (why : Refusal) → TextIs before files.model (λ text. IsModel text p) → Keeps before middle → InjectionsCauses middle after files.injections p.wiring why → RunCauses before after files why
+pub refused_lines : (before middle after : Shown) (files : Files) (p : Plant) (why : Refusal) → TextIs before files.model (λ text. IsModel text p) → Keeps before middle → InjectionsCauses middle after files.injections Taken p.wiring why → RunCauses before after files why
 refused_lines before middle after files p why accepted k h = of_injections p accepted (lines_causes_before k h)
 
 -- both were read
-pub both_read : (before middle : Shown) (files : Files) (p : Plant) (lines : List Line) → TextIs before files.model (λ text. IsModel text p) → Keeps before middle → TextIs middle files.injections (λ text. IsInjections p.wiring text lines) → AreOf before files p lines
+pub both_read : (before middle : Shown) (files : Files) (p : Plant) (lines : List Line) → TextIs before files.model (λ text. IsModel text p) → Keeps before middle → TextIs middle files.injections (λ text. IsInjections Taken p.wiring text lines) → AreOf before files p lines
 both_read before middle files p lines accepted k read = record { model_accepted = accepted; lines_accepted = IfSome-before files.injections _ k read }

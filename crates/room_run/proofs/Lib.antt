@@ -10,4 +10,5 @@ pub mod ConvertLemmas
 pub mod Retold
 pub mod Untimed
 pub mod OutcomeLemmas
-pub mod MadeLemmas
+pub mod VerifyLemmas
+mod MadeLemmas

@@ -1,6 +1,7 @@
 -- A made model's texts, as those of files.
 use Rattle.std.proofs.Common.{◌≡◌, ℕ, List, refl, ap, subst}
 use Rattle.journal.specs.declared.entry.Journals.{Journals}
+use Rattle.inject_reader.specs.declared.inject_lines.accepted.Advances.TheVariants.{Taken}
 use Rattle.inject_reader.specs.declared.inject_lines.accepted.Line.{Line}
 use Rattle.controller_actors.specs.declared.plant.Plant.{Plant}
 use Rattle.made_model.specs.Texts.{model_text, injections_text}
@@ -35,12 +36,12 @@ made_lines_refused actors model injections p why is are h causes =
 
 -- both were accepted, and the run has ended
 pub summarized : (actors : ℕ) (model injections : List ℕ) (p : Plant) (lines : List Line) (j : Journals) (counts : Counts) → model ≡ model_text actors → injections ≡ injections_text actors
-    → IsModel model p → IsInjections p.wiring injections lines → HasRun p lines usual_fuel j → counts ≡ counts_of j → Summarizes actors (record { actors = actors; counts = counts; done = j.done })
+    → IsModel model p → IsInjections Taken p.wiring injections lines → HasRun p lines usual_fuel j → counts ≡ counts_of j → Summarizes actors (record { actors = actors; counts = counts; done = j.done })
 summarized actors model injections p lines j counts is are h read run counted = record {
   plant = p;
   lines = lines;
   journals = j;
-  texts = record { model_accepted = subst (λ text. IsModel text p) is h; lines_accepted = subst (λ text. IsInjections p.wiring text lines) are read };
+  texts = record { model_accepted = subst (λ text. IsModel text p) is h; lines_accepted = subst (λ text. IsInjections Taken p.wiring text lines) are read };
   run = run;
   is = ap (summary actors j) counted;
 }

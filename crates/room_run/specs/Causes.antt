@@ -3,7 +3,7 @@
 -- ask for nothing; that the count of read faults of a named file rose; that a text is too long;
 -- what its tokens or its tree lack; that a line of the injections is faulty; that no journals have a
 -- text, or untied ones. Want of memory may come wherever the words ask for something.
-use Rattle.std.specs.Prelude.{◌≡◌, ℕ, ◌<◌, ◌≤◌, List, ◌∷◌, [], length, Some, None, IfSome, Ok, Err, codes, decimal}
+use Rattle.std.specs.Prelude.{◌≡◌, ℕ, ◌<◌, ◌≤◌, ◌==◌, if◌then◌else◌, List, ◌∷◌, [], length, Option, Some, None, IfSome, Ok, Err, codes, decimal}
 use Rattle.room_outside.specs.Faults.{Rose}
 use Rattle.room_outside.specs.Shown.{Shown}
 use Rattle.room_outside.specs.line_text.Lines.{line}
@@ -11,18 +11,29 @@ use Rattle.room_kinds.specs.declared.numbers.ControllerId.{ControllerId}
 use Rattle.room_kinds.specs.declared.numbers.Stamp.{Stamp}
 use Rattle.room_wiring.specs.declared.tables.Tables.{Tables}
 use Rattle.controller_actors.specs.declared.plant.Plant.{Plant}
-use Rattle.inject_reader.specs.Fitting.{FitLines}
-use Rattle.inject_reader.specs.declared.inject_lines.accepted.Advances.TheVariants.{Taken}
+use Rattle.inject_reader.specs.Fitting.{FitLines, LinesFit}
+use Rattle.inject_reader.specs.declared.inject_lines.accepted.Advances.{Advances}
+use Rattle.inject_reader.specs.declared.inject_lines.accepted.Advances.TheVariants.{Taken, Refused}
 use Rattle.inject_reader.specs.declared.inject_lines.accepted.Line.{Line}
 use Rattle.inject_reader.specs.Answer.{answer}
 use Rattle.inject_reader.specs.declared.fault.InjectFault.{InjectFault}
 use Rattle.inject_reader.specs.declared.fault.InjectFault.TheVariants as inject_faults
 use Rattle.journal_reader.specs.declared.fault.ReadFaultOf.{ReadFaultOf}
 use Rattle.journal_reader.specs.declared.fault.ReadFaultOf.TheVariants as journal_faults
-use Rattle.room_run.specs.Words.{Files, Record, Check, Tree, Run, Convert, Made, asked_by}
+use Rattle.room_run.specs.Words.{Files, Record, Judged, Check, Tree, Run, Convert, Verify, Made, asked_by}
 use Rattle.room_run.specs.MadeShelf.{made_files, made_shelf}
-use Rattle.room_run.specs.Models.{IsModel, IsSound, SoundCauses, most_bytes}
-use Rattle.room_run.specs.Conversions.{most_journal_bytes, HasNoJournals, HasUntiedJournals}
+use Rattle.room_run.specs.Models.{IsModel, IsSound, IsSoundText, SoundCauses, most_bytes}
+use Rattle.journal.specs.Fits.{Fits}
+use Rattle.journal.specs.declared.entry.Journals.{Journals}
+use Rattle.chart_model.specs.Chart.{Chart}
+use Rattle.controller_actors.specs.Plants.{model_of}
+use Rattle.model_run.specs.part_posts.Items.{items_of}
+use Rattle.law_charts.specs.Charts.{behaviour_by_charts}
+use Rattle.room_verify.specs.Verdicts.{IsVerdict}
+use Rattle.room_verify.specs.declared.verdict.Verdict.{Verdict}
+use Rattle.room_verify.specs.declared.verdict.Verdict.TheVariants as verdicts
+use Rattle.room_run.specs.Conversions.{most_journal_bytes, HasJournals, HasNoJournals, HasUntiedJournals}
+use Rattle.room_run.specs.fitting_plants.Plants.{PlantFits}
 use Rattle.room_run.specs.declared.model_fault.ModelFault.{ModelFault}
 use Rattle.room_run.specs.declared.model_fault.ModelFault.TheVariants as faults
 use Rattle.room_run.specs.declared.refusal.Refusal.{Refusal}
@@ -30,16 +41,16 @@ use Rattle.room_run.specs.declared.refusal.Refusal.TheVariants as refusals
 use Rattle.room_run.specs.declared.status.Status.{Status}
 use Rattle.room_run.specs.declared.status.Status.TheVariants as statuses
 
--- the text is that of injections, which may move virtual time on, and these are its lines over the names of this wiring, which name what it has
-pub record IsInjections (wiring : Tables) (text : List ℕ) (lines : List Line) : Type 0 where
+-- the text is that of injections, which may move virtual time on where such lines are taken, and these are its lines over the names of this wiring, which name what it has
+pub record IsInjections (advances : Advances) (wiring : Tables) (text : List ℕ) (lines : List Line) : Type 0 where
   pub short : length text ≤ most_bytes
-  pub accepted : answer Taken wiring text ≡ Ok lines
+  pub accepted : answer advances wiring text ≡ Ok lines
   pub fit : FitLines wiring lines
 
 -- over the names of this wiring, the line of this number is the first faulty one of the text, and this is its lowest code
-pub record HasBadLine (wiring : Tables) (text : List ℕ) (number code : ℕ) : Type 0 where
+pub record HasBadLine (advances : Advances) (wiring : Tables) (text : List ℕ) (number code : ℕ) : Type 0 where
   pub short : length text ≤ most_bytes
-  pub faulty : answer Taken wiring text ≡ Err (number, code)
+  pub faulty : answer advances wiring text ≡ Err (number, code)
 
 -- where the shelf tells the text under a name, it is so
 abbrev pub TextIs : Shown → List ℕ → (List ℕ → Type 0) → Type 0
@@ -48,7 +59,33 @@ TextIs shelf name P = IfSome (shelf.text name) P
 -- the texts of two files are those of a model which runs as this plant, and of injections with these lines
 pub record AreOf (shelf : Shown) (files : Files) (plant : Plant) (lines : List Line) : Type 0 where
   pub model_accepted : TextIs shelf files.model (λ text. IsModel text plant)
-  pub lines_accepted : TextIs shelf files.injections (λ text. IsInjections plant.wiring text lines)
+  pub lines_accepted : TextIs shelf files.injections (λ text. IsInjections Taken plant.wiring text lines)
+
+-- the texts of two files are those of a model which runs as this plant, and of injections with these lines, none of which moves virtual time on
+pub record HasRunTexts (shelf : Shown) (files : Files) (plant : Plant) (lines : List Line) : Type 0 where
+  pub model_accepted : TextIs shelf files.model (λ text. IsModel text plant)
+  pub lines_accepted : TextIs shelf files.injections (λ text. IsInjections Refused plant.wiring text lines)
+
+-- the verdict is that on the journals by the charts of the model whose text the shelf tells
+abbrev pub IsVerdictByCharts : Shown → List ℕ → Plant → List Line → ℕ → Journals → Verdict → Type 0
+IsVerdictByCharts shelf model plant lines fuel j verdict =
+    TextIs shelf model (λ text. (charts : List (Option Chart)) × IsSoundText text plant.wiring charts
+    × IsVerdict (behaviour_by_charts plant.wiring charts) plant.wiring (items_of plant.wiring lines) fuel j verdict)
+
+-- Three texts are those of a model which runs as this plant, of injections with these lines, and of these journals; and
+-- this is the verdict on the journals (`IsVerdict`: that they are lawful, prompt and ended for the lines and the fuel,
+-- or the first of their faults). Whatever the shelf tells, the plant is that of some model that keeps all rules and has
+-- no fault, and lines and journals name what its wiring has. It is the verdict by the charts of the plant's model, and
+-- of the model whose text the shelf tells, whatever tables were compiled of them.
+pub record IsJudged (shelf : Shown) (files : Judged) (fuel : ℕ) (plant : Plant) (lines : List Line) (journals : Journals) (verdict : Verdict) : Type 0 where
+  pub texts : HasRunTexts shelf files.run plant lines
+  pub journals_read : TextIs shelf files.journals (λ text. HasJournals plant.wiring text journals)
+  pub plant_fits : PlantFits plant
+  pub lines_fit : LinesFit plant.wiring lines
+  pub fits : Fits plant.wiring journals
+  pub verdict_is : IsVerdict (model_of plant) plant.wiring (items_of plant.wiring lines) fuel journals verdict
+  pub by_own_charts : IsVerdict (behaviour_by_charts plant.wiring plant_fits.charts) plant.wiring (items_of plant.wiring lines) fuel journals verdict
+  pub by_charts : IsVerdictByCharts shelf files.run.model plant lines fuel journals verdict
 
 -- in a call, the count of read faults of a name rose
 abbrev pub RoseAt : Shown → Shown → List ℕ → Type 0
@@ -71,22 +108,22 @@ refusal_of_lines (inject_faults.Code number code) = refusals.InjectionsLine numb
 refusal_of_lines inject_faults.Memory = refusals.Memory
 
 -- why a text of injections may be refused
-pub data LinesCauses (wiring : Tables) (text : List ℕ) : Refusal → Type 0 where
-  faulty_line : (number code : ℕ) → HasBadLine wiring text number code → LinesCauses wiring text (refusals.InjectionsLine number code)
-  no_memory_for_lines : LinesCauses wiring text refusals.Memory
+pub data LinesCauses (advances : Advances) (wiring : Tables) (text : List ℕ) : Refusal → Type 0 where
+  faulty_line : (number code : ℕ) → HasBadLine advances wiring text number code → LinesCauses advances wiring text (refusals.InjectionsLine number code)
+  no_memory_for_lines : LinesCauses advances wiring text refusals.Memory
 
 -- why the injections may be refused, whose text is looked for under a name
-pub data InjectionsCauses (before after : Shown) (name : List ℕ) (wiring : Tables) (why : Refusal) : Type 0 where
-  injections_unread : RoseAt before after name → why ≡ refusals.ReadFault → InjectionsCauses before after name wiring why
-  injections_long : TextIs before name (λ text. most_bytes < length text) → why ≡ refusals.InjectionsTooLong → InjectionsCauses before after name wiring why
-  bad_line : (number code : ℕ) → TextIs before name (λ text. HasBadLine wiring text number code) → why ≡ refusals.InjectionsLine number code → InjectionsCauses before after name wiring why
-  injections_no_memory : why ≡ refusals.Memory → InjectionsCauses before after name wiring why
+pub data InjectionsCauses (before after : Shown) (name : List ℕ) (advances : Advances) (wiring : Tables) (why : Refusal) : Type 0 where
+  injections_unread : RoseAt before after name → why ≡ refusals.ReadFault → InjectionsCauses before after name advances wiring why
+  injections_long : TextIs before name (λ text. most_bytes < length text) → why ≡ refusals.InjectionsTooLong → InjectionsCauses before after name advances wiring why
+  bad_line : (number code : ℕ) → TextIs before name (λ text. HasBadLine advances wiring text number code) → why ≡ refusals.InjectionsLine number code → InjectionsCauses before after name advances wiring why
+  injections_no_memory : why ≡ refusals.Memory → InjectionsCauses before after name advances wiring why
 
 -- Why the run of two files may be refused. The order is: reading the model, the model, reading the
 -- injections, the injections, the run.
 pub data RunCauses (before after : Shown) (files : Files) (why : Refusal) : Type 0 where
   of_model : ModelCauses before after files.model why → RunCauses before after files why
-  of_injections : (plant : Plant) → TextIs before files.model (λ text. IsModel text plant) → InjectionsCauses before after files.injections plant.wiring why → RunCauses before after files why
+  of_injections : (plant : Plant) → TextIs before files.model (λ text. IsModel text plant) → InjectionsCauses before after files.injections Taken plant.wiring why → RunCauses before after files why
   run_no_memory : why ≡ refusals.Memory → RunCauses before after files why
 
 -- why journals are refused whose text can't be read
@@ -94,25 +131,58 @@ abbrev pub refusal_of_journals : ReadFaultOf → Refusal
 refusal_of_journals (journal_faults.Malformed offset) = refusals.JournalsMalformed offset
 refusal_of_journals journal_faults.Memory = refusals.Memory
 
--- why a text of journals may be refused, over the names of a wiring
-pub data RecordedCauses (wiring : Tables) (text : List ℕ) : Refusal → Type 0 where
-  malformed : (offset : ℕ) → HasNoJournals wiring text → RecordedCauses wiring text (refusals.JournalsMalformed offset)
-  untied : (controller : ControllerId) (stamp : Stamp) → HasUntiedJournals wiring text controller stamp → RecordedCauses wiring text (refusals.JournalsUntied controller stamp)
-  no_memory_for_journals : RecordedCauses wiring text refusals.Memory
+-- why no journals may be read from a text, over the names of a wiring
+pub data ReadingCauses (wiring : Tables) (text : List ℕ) : Refusal → Type 0 where
+  malformed : (offset : ℕ) → HasNoJournals wiring text → ReadingCauses wiring text (refusals.JournalsMalformed offset)
+  no_memory_for_journals : ReadingCauses wiring text refusals.Memory
 
--- why journals may be refused, whose text is looked for under a name
+-- why a text of journals that are to be written in form 2 may be refused
+pub data RecordedCauses (wiring : Tables) (text : List ℕ) : Refusal → Type 0 where
+  unread_journals : {why : Refusal} → ReadingCauses wiring text why → RecordedCauses wiring text why
+  untied : (controller : ControllerId) (stamp : Stamp) → HasUntiedJournals wiring text controller stamp → RecordedCauses wiring text (refusals.JournalsUntied controller stamp)
+  no_memory_to_tie : RecordedCauses wiring text refusals.Memory
+
+-- why there may be no text of journals, which is looked for under a name
+pub data UnreadRecord (before after : Shown) (name : List ℕ) (why : Refusal) : Type 0 where
+  record_unread : RoseAt before after name → why ≡ refusals.ReadFault → UnreadRecord before after name why
+  record_long : TextIs before name (λ text. most_journal_bytes < length text) → why ≡ refusals.JournalsTooLong → UnreadRecord before after name why
+  record_no_memory : why ≡ refusals.Memory → UnreadRecord before after name why
+
+-- why no journals may be read whose text is looked for under a name
 pub data JournalsCauses (before after : Shown) (name : List ℕ) (wiring : Tables) (why : Refusal) : Type 0 where
-  journals_unread : RoseAt before after name → why ≡ refusals.ReadFault → JournalsCauses before after name wiring why
-  journals_long : TextIs before name (λ text. most_journal_bytes < length text) → why ≡ refusals.JournalsTooLong → JournalsCauses before after name wiring why
+  no_record : UnreadRecord before after name why → JournalsCauses before after name wiring why
   journals_malformed : (offset : ℕ) → TextIs before name (λ text. HasNoJournals wiring text) → why ≡ refusals.JournalsMalformed offset → JournalsCauses before after name wiring why
-  journals_untied : (controller : ControllerId) (stamp : Stamp) → TextIs before name (λ text. HasUntiedJournals wiring text controller stamp) → why ≡ refusals.JournalsUntied controller stamp → JournalsCauses before after name wiring why
   journals_no_memory : why ≡ refusals.Memory → JournalsCauses before after name wiring why
+
+-- why journals that are to be written in form 2 may be refused, whose text is looked for under a name
+pub data TiedCauses (before after : Shown) (name : List ℕ) (wiring : Tables) (why : Refusal) : Type 0 where
+  journals_refused : JournalsCauses before after name wiring why → TiedCauses before after name wiring why
+  journals_untied : (controller : ControllerId) (stamp : Stamp) → TextIs before name (λ text. HasUntiedJournals wiring text controller stamp) → why ≡ refusals.JournalsUntied controller stamp → TiedCauses before after name wiring why
 
 -- Why journals of a model may not be written in form 2. The order is: reading the model, the model, reading the
 -- journals, the journals.
 pub data ConvertCauses (before after : Shown) (files : Record) (why : Refusal) : Type 0 where
   of_its_model : ModelCauses before after files.model why → ConvertCauses before after files why
-  of_journals : (wiring : Tables) → TextIs before files.model (λ text. IsSound text wiring) → JournalsCauses before after files.journals wiring why → ConvertCauses before after files why
+  of_journals : (wiring : Tables) → TextIs before files.model (λ text. IsSound text wiring) → TiedCauses before after files.journals wiring why → ConvertCauses before after files why
+
+-- Why there may be nothing to give a verdict on. The order is: reading the model, the model, reading the injections, the
+-- injections, none of which may move virtual time on, reading the journals, the journals.
+pub data UnjudgedCauses (before after : Shown) (files : Judged) (why : Refusal) : Type 0 where
+  judged_model : ModelCauses before after files.run.model why → UnjudgedCauses before after files why
+  judged_injections : (plant : Plant) → TextIs before files.run.model (λ text. IsModel text plant)
+      → InjectionsCauses before after files.run.injections Refused plant.wiring why → UnjudgedCauses before after files why
+  judged_journals : (plant : Plant) (lines : List Line) → HasRunTexts before files.run plant lines
+      → JournalsCauses before after files.journals plant.wiring why → UnjudgedCauses before after files why
+
+-- why a call that asks for a verdict may be refused: there is nothing to give one on, or it isn't that the journals are
+-- lawful
+pub data VerifyCauses (before after : Shown) (files : Judged) (fuel : ℕ) (why : Refusal) : Type 0 where
+  unjudged : UnjudgedCauses before after files why → VerifyCauses before after files fuel why
+  unlawful : (plant : Plant) (lines : List Line) (journals : Journals) (verdict : Verdict)
+      → IsJudged before files fuel plant lines journals verdict → (verdict ≡ verdicts.Lawful → ⊥)
+      → why ≡ refusals.Unlawful verdict (length plant.wiring.controllers)
+      → VerifyCauses before after files fuel why
+  verify_no_memory : why ≡ refusals.Memory → VerifyCauses before after files fuel why
 
 -- why a text that stands in memory may be refused as that of a model which runs
 pub data PlantCauses (text : List ℕ) : Refusal → Type 0 where
@@ -122,7 +192,7 @@ pub data PlantCauses (text : List ℕ) : Refusal → Type 0 where
 -- why a text that stands in memory may be refused as that of injections
 pub data InjectedCauses (wiring : Tables) (text : List ℕ) (why : Refusal) : Type 0 where
   long_injections : most_bytes < length text → why ≡ refusals.InjectionsTooLong → InjectedCauses wiring text why
-  unfit_lines : LinesCauses wiring text why → InjectedCauses wiring text why
+  unfit_lines : LinesCauses Taken wiring text why → InjectedCauses wiring text why
 
 -- why a call may be refused: for its words, or by what they ask for; a made model is refused as if its texts stood on a shelf
 pub data Causes (before after : Shown) (words : List (List ℕ)) (why : Refusal) : Type 0 where
@@ -131,6 +201,7 @@ pub data Causes (before after : Shown) (words : List (List ℕ)) (why : Refusal)
   of_tree : (name : List ℕ) → asked_by words ≡ Some (Tree name) → ModelCauses before after name why → Causes before after words why
   of_run : (files : Files) (fuel : ℕ) → asked_by words ≡ Some (Run files fuel) → RunCauses before after files why → Causes before after words why
   of_convert : (files : Record) → asked_by words ≡ Some (Convert files) → ConvertCauses before after files why → Causes before after words why
+  of_verify : (files : Judged) (fuel : ℕ) → asked_by words ≡ Some (Verify files fuel) → VerifyCauses before after files fuel why → Causes before after words why
   of_made : (actors : ℕ) → asked_by words ≡ Some (Made actors) → RunCauses (made_shelf actors) (made_shelf actors) made_files why → Causes before after words why
 
 -- the status of a refusal of a model's text
@@ -152,6 +223,7 @@ status_of (refusals.InjectionsLine number code) = statuses.InjectionsRefused
 status_of refusals.JournalsTooLong = statuses.JournalsRefused
 status_of (refusals.JournalsMalformed offset) = statuses.JournalsRefused
 status_of (refusals.JournalsUntied controller stamp) = statuses.JournalsRefused
+status_of (refusals.Unlawful verdict controllers) = statuses.Unlawful
 status_of refusals.ReadFault = statuses.ReadFault
 status_of refusals.Memory = statuses.Memory
 
@@ -164,6 +236,22 @@ note_of_fault (faults.Wiring number) = line (codes "room: model refused: wiring 
 note_of_fault (faults.Chart class number) = line (codes "room: model refused: chart " ∷ class ∷ codes " " ∷ decimal number ∷ [])
 note_of_fault faults.Memory = line (codes "room: memory" ∷ [])
 
+-- what a party is called, where there are so many controllers
+abbrev pub party_called : ℕ → ℕ → List ℕ
+party_called controllers party = if party == controllers then codes "env" else decimal party
+
+-- what is told of a verdict on the journals of so many controllers
+abbrev pub verdict_line : ℕ → Verdict → List ℕ
+verdict_line controllers (verdicts.Order party) = line (codes "room: unlawful: order " ∷ party_called controllers party.0 ∷ [])
+verdict_line controllers (verdicts.Start c) = line (codes "room: unlawful: start " ∷ decimal c.0 ∷ [])
+verdict_line controllers (verdicts.Entry party stamp) =
+    line (codes "room: unlawful: entry " ∷ party_called controllers party.0 ∷ codes " " ∷ decimal stamp.0 ∷ [])
+verdict_line controllers verdicts.Left = line (codes "room: unlawful: left" ∷ [])
+verdict_line controllers (verdicts.Fuel c) = line (codes "room: unlawful: fuel " ∷ decimal c.0 ∷ [])
+verdict_line controllers verdicts.Ended = line (codes "room: unlawful: ended" ∷ [])
+verdict_line controllers (verdicts.Prompt c stamp) = line (codes "room: unlawful: prompt " ∷ decimal c.0 ∷ codes " " ∷ decimal stamp.0 ∷ [])
+verdict_line controllers verdicts.Lawful = line (codes "lawful" ∷ [])
+
 -- what is told of a refusal: one line, names as they stand and numbers in decimal digits
 abbrev pub note_of : Refusal → List ℕ
 note_of refusals.Words = line (codes "room: words refused" ∷ [])
@@ -175,5 +263,6 @@ note_of refusals.JournalsTooLong = line (codes "room: journals refused: too long
 note_of (refusals.JournalsMalformed offset) = line (codes "room: journals refused: malformed " ∷ decimal offset ∷ [])
 note_of (refusals.JournalsUntied controller stamp) =
     line (codes "room: journals refused: untied " ∷ decimal controller.0 ∷ codes " " ∷ decimal stamp.0 ∷ [])
+note_of (refusals.Unlawful verdict controllers) = verdict_line controllers verdict
 note_of refusals.ReadFault = line (codes "room: read fault" ∷ [])
 note_of refusals.Memory = line (codes "room: memory" ∷ [])

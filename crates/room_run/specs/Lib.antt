@@ -8,6 +8,7 @@ pub mod Causes
 pub mod Outcome
 pub mod OneAnswer
 pub mod Finished
+pub mod Judging
 pub mod MadeShelf
 pub mod model_plants
 pub mod Agreement

@@ -5,6 +5,7 @@ use Rattle.text_reading.specs.Numerals.{are_digits, value_of}
 use Rattle.room_run.specs.declared.asked.Asked.{Asked as CodeAsked}
 use Rattle.room_run.specs.declared.asked.Asked.TheVariants as code
 use Rattle.room_run.specs.declared.asked.Files.{Files as CodeFiles}
+use Rattle.room_run.specs.declared.asked.Judged.{Judged as CodeJudged}
 use Rattle.room_run.specs.declared.asked.Record.{Record as CodeRecord}
 
 -- the names of the two files of a run
@@ -17,12 +18,18 @@ pub record Record : Type 0 where
   pub model : List ℕ
   pub journals : List ℕ
 
+-- the names of the files of a run, and of the journals that are judged by them
+pub record Judged : Type 0 where
+  pub run : Files
+  pub journals : List ℕ
+
 -- what is asked for, of the files of these names, or of a made model of so many actors
 pub data Asked : Type 0 where
   Check : (model : List ℕ) → Asked
   Tree : (model : List ℕ) → Asked
   Run : (files : Files) (fuel : ℕ) → Asked
   Convert : (files : Record) → Asked
+  Verify : (files : Judged) (fuel : ℕ) → Asked
   Made : (actors : ℕ) → Asked
 
 -- whether a word is this one
@@ -73,16 +80,35 @@ asked_of_files command model second =
     else if is_word command (codes "convert") then Some (convert_asked model second)
     else None
 
+-- the verdict on journals, by a run of these files
+abbrev pub verify_asked : List ℕ → List ℕ → List ℕ → ℕ → Asked
+verify_asked model injections journals fuel =
+    Verify (record { run = record { model = model; injections = injections }; journals = journals }) fuel
+
+-- what four words ask for
+abbrev pub asked_of_journals : List ℕ → List ℕ → List ℕ → List ℕ → Option Asked
+asked_of_journals command model injections journals =
+    if is_word command (codes "verify") then Some (verify_asked model injections journals usual_fuel) else None
+
 -- what five words ask for
 abbrev pub asked_with : List ℕ → List ℕ → List ℕ → List ℕ → List ℕ → Option Asked
 asked_with command model injections flag fuel =
     if is_word command (codes "run") && is_word flag (codes "--fuel") then option_map (run_asked model injections) (fuel_of fuel) else None
 
--- `check MODEL` asks whether a model keeps all rules and its wiring and charts have no fault, `tree MODEL` for its slots and joined places, `run MODEL INJECT` for the run of a model over injections with the usual fuel, `run MODEL INJECT --fuel N` for the same with this one, `convert MODEL JOURNALS` for journals of a model in form 2, and `made N` for the summary of the run of a made model of N actors; no other list of words asks for anything
+-- what six words ask for
+abbrev pub asked_of_journals_with : List ℕ → List ℕ → List ℕ → List ℕ → List ℕ → List ℕ → Option Asked
+asked_of_journals_with command model injections journals flag fuel =
+    if is_word command (codes "verify") && is_word flag (codes "--fuel") then option_map (verify_asked model injections journals) (fuel_of fuel)
+    else None
+
+-- `check MODEL` asks whether a model keeps all rules and its wiring and charts have no fault, `tree MODEL` for its slots and joined places, `run MODEL INJECT` for the run of a model over injections with the usual fuel, `run MODEL INJECT --fuel N` for the same with this one, `convert MODEL JOURNALS` for journals of a model in form 2, `verify MODEL INJECT JOURNALS` for the verdict on journals by the run of a model over injections with the usual fuel, or with the one that `--fuel N` behind it names, and `made N` for the summary of the run of a made model of N actors; no other list of words asks for anything
 abbrev pub asked_by : List (List ℕ) → Option Asked
 asked_by (command ∷ word ∷ []) = asked_of command word
 asked_by (command ∷ model ∷ second ∷ []) = asked_of_files command model second
+asked_by (command ∷ model ∷ injections ∷ journals ∷ []) = asked_of_journals command model injections journals
 asked_by (command ∷ model ∷ injections ∷ flag ∷ fuel ∷ []) = asked_with command model injections flag fuel
+asked_by (command ∷ model ∷ injections ∷ journals ∷ flag ∷ fuel ∷ []) =
+    asked_of_journals_with command model injections journals flag fuel
 asked_by words = None
 
 -- the names that the code keeps
@@ -92,9 +118,13 @@ files_view files = record { model = files.model.now; injections = files.injectio
 abbrev pub record_view : CodeRecord → Record
 record_view files = record { model = files.model.now; journals = files.journals.now }
 
+abbrev pub judged_view : CodeJudged → Judged
+judged_view files = record { run = files_view files.run; journals = files.journals.now }
+
 abbrev pub asked_view : CodeAsked → Asked
 asked_view (code.Check name) = Check name.now
 asked_view (code.Tree name) = Tree name.now
 asked_view (code.Run files fuel) = Run (files_view files) fuel
 asked_view (code.Convert files) = Convert (record_view files)
+asked_view (code.Verify files fuel) = Verify (judged_view files) fuel
 asked_view (code.Made actors) = Made actors

@@ -1,7 +1,7 @@
 //! What the words of a call ask for.
 ghost use Rattle.std.specs.Prelude.{◌≡◌, option_map, map};
 ghost use Rattle.std.specs.String.{string_bytes};
-ghost use Rattle.room_run.specs.Words.{Made, Run, actors_of, asked_by, asked_of, asked_of_files, asked_view, asked_with, files_view, fuel_of, number_in, number_of, record_view};
+ghost use Rattle.room_run.specs.Words.{Made, Run, Verify, actors_of, asked_by, asked_of, asked_of_files, asked_of_journals, asked_of_journals_with, asked_view, asked_with, files_view, fuel_of, judged_view, number_in, number_of, record_view};
 
 use text_reading::{are_digits, value};
 
@@ -28,6 +28,13 @@ pub(crate) struct Record<'a> {
     pub(crate) journals: &'a str,
 }
 
+/// The two files of a run, and journals that are judged by them.
+#[derive(Clone, Copy)]
+pub(crate) struct Judged<'a> {
+    pub(crate) run: Files<'a>,
+    pub(crate) journals: &'a str,
+}
+
 /// What is asked for.
 #[derive(Clone, Copy)]
 pub(crate) enum Asked<'a> {
@@ -39,6 +46,9 @@ pub(crate) enum Asked<'a> {
     Run(Files<'a>, u64),
     /// The text in form 2 of the journals of these files.
     Convert(Record<'a>),
+    /// The verdict on journals by the run of a model over injections, in which each controller takes so
+    /// many turns at most.
+    Verify(Judged<'a>, u64),
     /// The summary of the run of the made model of so many actors.
     Made(u64),
 }
@@ -94,6 +104,28 @@ fn record_of<'a>(model: &'a String, journals: &'a String) -> Record<'a>
     }
 }
 
+/// Journals under this name, by the run of these files.
+fn judged_of<'a>(run: Files<'a>, journals: &'a String) -> Judged<'a>
+    ensures { judged_view result
+        ≡ record { run = files_view run.entry; journals = string_bytes journals.now } }
+{
+    Judged {
+        run,
+        journals: journals.as_str(),
+    }
+}
+
+/// A verdict with the fuel that a word names.
+fn verify_with<'a>(files: Judged<'a>, word: &[u8]) -> Option<Asked<'a>>
+    ensures { option_map asked_view result
+        ≡ option_map (Verify (judged_view files.entry)) (fuel_of word.now) }
+{
+    match number_of(MOST_FUEL, word) {
+        Some(fuel) => Some(Asked::Verify(files, fuel)),
+        None => None,
+    }
+}
+
 /// A run with the fuel that a word names.
 fn run_with<'a>(files: Files<'a>, word: &[u8]) -> Option<Asked<'a>>
     ensures { option_map asked_view result
@@ -144,6 +176,18 @@ fn asked_of_files<'a>(command: &str, model: &'a String, second: &'a String) -> O
     }
 }
 
+/// What four words ask for.
+fn asked_of_journals<'a>(command: &str, run: Files<'a>, journals: &'a String) -> Option<Asked<'a>>
+    ensures { option_map asked_view result ≡ asked_of_journals command.now run.entry.model.now
+        run.entry.injections.now (string_bytes journals.now) }
+{
+    if command == "verify" {
+        Some(Asked::Verify(judged_of(run, journals), USUAL_FUEL))
+    } else {
+        None
+    }
+}
+
 /// What five words ask for.
 fn asked_with<'a>(command: &str, files: Files<'a>, flag: &str, fuel: &str) -> Option<Asked<'a>>
     ensures { option_map asked_view result ≡ asked_with command.now files.entry.model.now
@@ -156,6 +200,24 @@ fn asked_with<'a>(command: &str, files: Files<'a>, flag: &str, fuel: &str) -> Op
     }
 }
 
+/// What six words ask for.
+fn asked_of_journals_with<'a>(
+    command: &str,
+    files: Judged<'a>,
+    flag: &str,
+    fuel: &str,
+) -> Option<Asked<'a>>
+    ensures { option_map asked_view result ≡ asked_of_journals_with command.now
+        files.entry.run.model.now files.entry.run.injections.now files.entry.journals.now flag.now
+        fuel.now }
+{
+    if command == "verify" && flag == "--fuel" {
+        verify_with(files, fuel.as_bytes())
+    } else {
+        None
+    }
+}
+
 /// What these words ask for; none where they are of no form that is known.
 pub(crate) fn asked_by(words: &[String]) -> Option<Asked<'_>>
     ensures { option_map asked_view result ≡ asked_by (map string_bytes words.now) }
@@ -163,9 +225,18 @@ pub(crate) fn asked_by(words: &[String]) -> Option<Asked<'_>>
     match words {
         [command, word] => asked_of(command.as_str(), word.as_str()),
         [command, model, second] => asked_of_files(command.as_str(), model, second),
+        [command, model, injections, journals] => {
+            asked_of_journals(command.as_str(), files_of(model, injections), journals)
+        }
         [command, model, injections, flag, fuel] => asked_with(
             command.as_str(),
             files_of(model, injections),
+            flag.as_str(),
+            fuel.as_str(),
+        ),
+        [command, model, injections, journals, flag, fuel] => asked_of_journals_with(
+            command.as_str(),
+            judged_of(files_of(model, injections), journals),
             flag.as_str(),
             fuel.as_str(),
         ),

@@ -1,11 +1,12 @@
 //! From the texts of a model and of journals to these journals.
-ghost use Rattle.std.specs.Prelude.{◌≡◌, ◌≤◌, length, IfOk, IfErr};
+ghost use Rattle.std.specs.Prelude.{◌≡◌, ◌≤◌, length, IfOk, IfErr, IfSome};
+ghost use Rattle.journal.specs.Fits.{Fits};
 ghost use Rattle.room_outside.specs.Shown.{Keeps};
 ghost use Rattle.room_wiring.specs.WellNamed.{IsWellNamed};
 ghost use Rattle.tied_journals.specs.Tied.{Tied};
 ghost use Rattle.room_run.specs.Words.{record_view};
-ghost use Rattle.room_run.specs.Conversions.{HasTiedJournals};
-ghost use Rattle.room_run.specs.Causes.{ConvertCauses, JournalsCauses, RecordedCauses, TextIs, refusal_of_journals};
+ghost use Rattle.room_run.specs.Conversions.{HasJournals, HasTiedJournals};
+ghost use Rattle.room_run.specs.Causes.{ConvertCauses, JournalsCauses, ReadingCauses, RecordedCauses, TextIs, TiedCauses, UnreadRecord, refusal_of_journals};
 ghost use Rattle.room_run.specs.Outcome.{AreRecorded};
 
 use crate::asked::Record;
@@ -31,6 +32,19 @@ fn refusal_of_journals(fault: ReadFaultOf) -> Refusal
     }
 }
 
+/// The journals of a text over the names of a wiring, where it has some.
+fn some_journals(alloc: Global, text: &[u8], wiring: &Wiring) -> Result<Journals, Refusal>
+    requires short { length text.now ≤ 268435456 }
+    requires named { IsWellNamed wiring.now }
+    ensures ok { IfOk result (λ j. HasJournals wiring.now text.now j) }
+    ensures err { IfErr result (λ why. ReadingCauses wiring.now text.now why) }
+{
+    match read_journals(alloc, text, wiring) {
+        Ok(journals) => Ok(journals),
+        Err(fault) => Err(refusal_of_journals(fault)),
+    }
+}
+
 /// The journals of a text over the names of a wiring, where it has some and they are tied.
 fn tied_journals(alloc: Global, text: &[u8], wiring: &Wiring) -> Result<Journals, Refusal>
     requires short { length text.now ≤ 268435456 }
@@ -38,9 +52,9 @@ fn tied_journals(alloc: Global, text: &[u8], wiring: &Wiring) -> Result<Journals
     ensures ok { IfOk result (λ j. HasTiedJournals wiring.now text.now j) }
     ensures err { IfErr result (λ why. RecordedCauses wiring.now text.now why) }
 {
-    let journals = match read_journals(alloc, text, wiring) {
+    let journals = match some_journals(alloc, text, wiring) {
         Ok(journals) => journals,
-        Err(fault) => return Err(refusal_of_journals(fault)),
+        Err(why) => return Err(why),
     };
     match first_untied(alloc, &journals) {
         Ok(None) => Ok(journals),
@@ -49,7 +63,50 @@ fn tied_journals(alloc: Global, text: &[u8], wiring: &Wiring) -> Result<Journals
     }
 }
 
+/// The text of journals under a name.
+fn read_journals_text<S: Shelf>(
+    alloc: Global,
+    shelf: &mut S,
+    name: &str,
+) -> Result<Vec<u8>, Refusal>
+    ensures short { IfOk result (λ v. length v.items ≤ 268435456) }
+    ensures ok { IfOk result (λ v.
+        IfSome ((S.shown shelf.old).text name.now) (λ text. v.items ≡ text)) }
+    ensures err { IfErr result (λ why.
+        UnreadRecord (S.shown shelf.old) (S.shown shelf.new) name.now why) }
+    ensures keeps { Keeps (S.shown shelf.old) (S.shown shelf.new) }
+{
+    match read_limit(alloc, shelf, name, MOST_JOURNAL_BYTES) {
+        Ok(text) => Ok(text),
+        Err(ReadRefused::ReadFault) => Err(Refusal::ReadFault),
+        Err(ReadRefused::TooLong) => Err(Refusal::JournalsTooLong),
+        Err(ReadRefused::Memory) => Err(Refusal::Memory),
+    }
+}
+
 /// The journals whose text stands under a name.
+pub(crate) fn read_any_record<S: Shelf>(
+    alloc: Global,
+    shelf: &mut S,
+    name: &str,
+    wiring: &Wiring,
+) -> Result<Journals, Refusal>
+    requires { IsWellNamed wiring.now }
+    ensures ok { IfOk result (λ j. TextIs (S.shown shelf.old) name.now
+        (λ text. HasJournals wiring.now text j)) }
+    ensures fits { IfOk result (λ j. Fits wiring.now j) }
+    ensures err { IfErr result (λ why. JournalsCauses (S.shown shelf.old) (S.shown shelf.new)
+        name.now wiring.now why) }
+    ensures keeps { Keeps (S.shown shelf.old) (S.shown shelf.new) }
+{
+    let text = match read_journals_text(alloc, shelf, name) {
+        Ok(text) => text,
+        Err(why) => return Err(why),
+    };
+    some_journals(alloc, text.as_slice(), wiring)
+}
+
+/// The journals whose text stands under a name, where they are tied.
 fn read_record<S: Shelf>(
     alloc: Global,
     shelf: &mut S,
@@ -60,15 +117,13 @@ fn read_record<S: Shelf>(
     ensures ok { IfOk result (λ j. TextIs (S.shown shelf.old) name.now
         (λ text. HasTiedJournals wiring.now text j)) }
     ensures tied { IfOk result (λ j. Tied j) }
-    ensures err { IfErr result (λ why. JournalsCauses (S.shown shelf.old) (S.shown shelf.new)
+    ensures err { IfErr result (λ why. TiedCauses (S.shown shelf.old) (S.shown shelf.new)
         name.now wiring.now why) }
     ensures keeps { Keeps (S.shown shelf.old) (S.shown shelf.new) }
 {
-    let text = match read_limit(alloc, shelf, name, MOST_JOURNAL_BYTES) {
+    let text = match read_journals_text(alloc, shelf, name) {
         Ok(text) => text,
-        Err(ReadRefused::ReadFault) => return Err(Refusal::ReadFault),
-        Err(ReadRefused::TooLong) => return Err(Refusal::JournalsTooLong),
-        Err(ReadRefused::Memory) => return Err(Refusal::Memory),
+        Err(why) => return Err(why),
     };
     tied_journals(alloc, text.as_slice(), wiring)
 }

@@ -23,6 +23,7 @@ mod refusal;
 mod stack;
 mod status;
 mod top;
+mod verify;
 
 pub use answers::{accepted_calls_end, conversions_keep_journals, one_answer};
 pub use fitting_journals::{fitting_journals_fit, fitting_runs_journals};

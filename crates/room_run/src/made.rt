@@ -6,6 +6,7 @@ ghost use Rattle.room_run.specs.Causes.{InjectedCauses, IsInjections, PlantCause
 ghost use Rattle.room_run.specs.Finished.{Summarizes};
 ghost use Rattle.room_run.specs.fitting_plants.Plants.{PlantFits};
 ghost use Rattle.inject_reader.specs.Fitting.{LinesFit};
+ghost use Rattle.inject_reader.specs.declared.inject_lines.accepted.Advances.TheVariants.{Taken};
 
 use crate::asked::USUAL_FUEL;
 use crate::judge::read_plant;
@@ -13,7 +14,7 @@ use crate::plant_runs::run_over;
 use crate::prepare::judge_lines;
 use crate::refusal::Refusal;
 use controller::Plant;
-use inject_reader::inject_lines::Line;
+use inject_reader::inject_lines::{Advances, Line};
 use made_model::{Summary, counts_of, made_model};
 use room_outside::Gate;
 use room_wiring::Wiring;
@@ -40,14 +41,14 @@ fn made_plant(alloc: Global, text: &[u8]) -> Result<Plant, Refusal>
 
 /// The lines of injections that stand in memory.
 fn made_lines(alloc: Global, text: &[u8], wiring: &Wiring) -> Result<Vec<Line>, Refusal>
-    ensures ok { IfOk result (λ lines. IsInjections wiring.now text.now lines.items) }
+    ensures ok { IfOk result (λ lines. IsInjections Taken wiring.now text.now lines.items) }
     ensures fit { IfOk result (λ lines. LinesFit wiring.now lines.items) }
     ensures err { IfErr result (λ why. InjectedCauses wiring.now text.now why) }
 {
     if text.len() > MOST_BYTES {
         return Err(Refusal::InjectionsTooLong);
     }
-    judge_lines(alloc, text, wiring)
+    judge_lines(alloc, text, Advances::Taken, wiring)
 }
 
 /// What is told of the run of the made model of so many actors, each of which is kicked once.

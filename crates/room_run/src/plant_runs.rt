@@ -7,7 +7,7 @@ ghost use Rattle.room_run.specs.fitting_plants.Plants.{PlantFits};
 use controller::Plant;
 use inject_reader::inject_lines::Line;
 use journal::Journals;
-use journal_ranges::look_through;
+use journal_reader::look_through;
 use mail_lanes::MailLanes;
 use room_outside::Gate;
 use std::alloc::{AllocError, Global};

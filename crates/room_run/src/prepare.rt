@@ -3,7 +3,9 @@ ghost use Rattle.std.specs.Prelude.{◌≡◌, ◌≤◌, ℕ, List, map, length
 ghost use Rattle.std.specs.String.{string_bytes};
 ghost use Rattle.room_outside.specs.Shown.{Keeps};
 ghost use Rattle.controller_actors.specs.declared.plant.Plant.{Plant as RunPlant};
-ghost use Rattle.inject_reader.specs.Fitting.{LinesFit};
+ghost use Rattle.inject_reader.specs.Answer.{answer};
+ghost use Rattle.inject_reader.specs.Fitting.{FitLines, LinesFit};
+ghost use Rattle.inject_reader.specs.Gives.{Gives};
 ghost use Rattle.inject_reader.specs.declared.inject_lines.accepted.Line.{Line as InjectedLine};
 ghost use Rattle.room_run.specs.Words.{files_view};
 ghost use Rattle.room_run.specs.Models.{IsSound, IsModel};
@@ -20,9 +22,10 @@ use crate::judge::{read_plant, sound_model};
 use crate::made::run_made;
 use crate::plant_runs::run_over;
 use crate::refusal::Refusal;
+use crate::verify::verify_files;
 use controller::Plant;
 use inject_reader::InjectFault;
-use inject_reader::inject_lines::Line;
+use inject_reader::inject_lines::{Advances, Line};
 use journal::Journals;
 use made_model::Summary;
 use room_outside::{Gate, ReadRefused, Shelf, read_whole};
@@ -48,6 +51,8 @@ pub(crate) enum Answer {
     Ran(Recorded),
     /// The journals of a text.
     Converted(Recorded),
+    /// Journals are lawful.
+    Lawful,
     /// What is told of the run of a made model.
     Summed(Summary),
 }
@@ -93,7 +98,11 @@ pub(crate) fn read_wiring<S: Shelf>(
 }
 
 /// The plant of the model whose text stands under a name.
-fn read_model<S: Shelf>(alloc: Global, shelf: &mut S, name: &str) -> Result<Plant, Refusal>
+pub(crate) fn read_model<S: Shelf>(
+    alloc: Global,
+    shelf: &mut S,
+    name: &str,
+) -> Result<Plant, Refusal>
     ensures ok { IfOk result (λ plant.
         TextIs (S.shown shelf.old) name.now (λ text. IsModel text plant)) }
     ensures fits { IfOk result (λ plant. PlantFits plant) }
@@ -121,31 +130,55 @@ fn refusal_of_lines(fault: InjectFault) -> Refusal
     }
 }
 
-/// The lines of a text of injections over the names of a wiring, where none is faulty.
-pub(crate) fn judge_lines(alloc: Global, text: &[u8], wiring: &Wiring) -> Result<Vec<Line>, Refusal>
-    requires short { length text.now ≤ 1048576 }
-    ensures ok { IfOk result (λ lines. IsInjections wiring.now text.now lines.items) }
-    ensures fit { IfOk result (λ lines. LinesFit wiring.now lines.items) }
-    ensures err { IfErr result (λ why. LinesCauses wiring.now text.now why) }
+/// The lines of a text of injections over the names of a wiring, or the fault of the first faulty one.
+fn read_lines(
+    alloc: Global,
+    text: &[u8],
+    advances: Advances,
+    wiring: &Wiring,
+) -> Result<Vec<Line>, InjectFault>
+    ensures exact { Gives (λ v. v.items) result (answer advances wiring.now text.now) }
+    ensures fit { IfOk result (λ v. FitLines wiring.now v.items) }
 {
-    match inject_reader::read_injections(alloc, text, wiring) {
+    match advances {
+        Advances::Taken => inject_reader::read_injections(alloc, text, wiring),
+        Advances::Refused => inject_reader::read_untimed(alloc, text, wiring),
+    }
+}
+
+/// The lines of a text of injections over the names of a wiring, where none is faulty.
+pub(crate) fn judge_lines(
+    alloc: Global,
+    text: &[u8],
+    advances: Advances,
+    wiring: &Wiring,
+) -> Result<Vec<Line>, Refusal>
+    requires short { length text.now ≤ 1048576 }
+    ensures ok { IfOk result (λ lines. IsInjections advances wiring.now text.now lines.items) }
+    ensures fit { IfOk result (λ lines. LinesFit wiring.now lines.items) }
+    ensures err { IfErr result (λ why. LinesCauses advances wiring.now text.now why) }
+{
+    match read_lines(alloc, text, advances, wiring) {
         Ok(lines) => Ok(lines),
         Err(fault) => Err(refusal_of_lines(fault)),
     }
 }
 
 /// The injections whose text stands under a name.
-fn read_injections<S: Shelf>(
+pub(crate) fn read_injections<S: Shelf>(
     alloc: Global,
     shelf: &mut S,
     name: &str,
+    advances: Advances,
     wiring: &Wiring,
 ) -> Result<Vec<Line>, Refusal>
     ensures ok { IfOk result (λ lines.
-        TextIs (S.shown shelf.old) name.now (λ text. IsInjections wiring.now text lines.items)) }
+        TextIs (S.shown shelf.old) name.now
+        (λ text. IsInjections advances wiring.now text lines.items)) }
     ensures fit { IfOk result (λ lines. LinesFit wiring.now lines.items) }
     ensures err { IfErr result (λ why.
-        InjectionsCauses (S.shown shelf.old) (S.shown shelf.new) name.now wiring.now why) }
+        InjectionsCauses (S.shown shelf.old) (S.shown shelf.new) name.now advances wiring.now
+        why) }
     ensures keeps { Keeps (S.shown shelf.old) (S.shown shelf.new) }
 {
     let text = match read_whole(alloc, shelf, name) {
@@ -154,7 +187,7 @@ fn read_injections<S: Shelf>(
         Err(ReadRefused::TooLong) => return Err(Refusal::InjectionsTooLong),
         Err(ReadRefused::Memory) => return Err(Refusal::Memory),
     };
-    judge_lines(alloc, text.as_slice(), wiring)
+    judge_lines(alloc, text.as_slice(), advances, wiring)
 }
 
 /// The run of a plant over lines, which the words named.
@@ -203,7 +236,14 @@ fn run_files<S: Shelf, G: Gate + Sync, R: Threads + Sync>(
         Ok(plant) => plant,
         Err(why) => return Err(why),
     };
-    let lines = match read_injections(alloc, shelf, files.injections, &plant.wiring) {
+    let read = read_injections(
+        alloc,
+        shelf,
+        files.injections,
+        Advances::Taken,
+        &plant.wiring,
+    );
+    let lines = match read {
         Ok(lines) => lines,
         Err(why) => return Err(why),
     };
@@ -247,6 +287,10 @@ pub(crate) fn prepare<S: Shelf, G: Gate + Sync, R: Threads + Sync>(
         },
         Some(Asked::Convert(files)) => match convert(alloc, shelf, files) {
             Ok(read) => Ok(Answer::Converted(read)),
+            Err(why) => Err(why),
+        },
+        Some(Asked::Verify(files, fuel)) => match verify_files(alloc, shelf, files, fuel) {
+            Ok(()) => Ok(Answer::Lawful),
             Err(why) => Err(why),
         },
         Some(Asked::Made(actors)) => match run_made(rt, alloc, actors, gate) {

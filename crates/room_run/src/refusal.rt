@@ -5,6 +5,7 @@ ghost use Rattle.room_run.specs.Causes.{status_of};
 use crate::model_fault::ModelFault;
 use crate::status::Status;
 use room_kinds::{ControllerId, Stamp};
+use room_verify::Verdict;
 
 /// Why a call was refused, before anything was written.
 #[derive(Debug, Drop)]
@@ -32,6 +33,12 @@ pub enum Refusal {
         controller: ControllerId,
         stamp: Stamp,
     },
+    /// The verdict on the journals is this one, and not that they are lawful. The model has so many
+    /// controllers; the party with this number is the environment.
+    Unlawful {
+        verdict: Verdict,
+        controllers: u8,
+    },
     ReadFault,
     Memory,
 }
@@ -49,6 +56,7 @@ impl Refusal {
             Refusal::JournalsTooLong => Status::JournalsRefused,
             Refusal::JournalsMalformed { .. } => Status::JournalsRefused,
             Refusal::JournalsUntied { .. } => Status::JournalsRefused,
+            Refusal::Unlawful { .. } => Status::Unlawful,
             Refusal::ReadFault => Status::ReadFault,
             Refusal::Memory => Status::Memory,
         }

@@ -13,6 +13,8 @@ pub enum Status {
     Memory,
     ReadFault,
     WriteFault,
+    /// The journals aren't those of a run that has ended.
+    Unlawful,
     JournalsRefused,
 }
 
@@ -30,7 +32,7 @@ impl Status {
             Status::Memory => 5,
             Status::ReadFault => 6,
             Status::WriteFault => 7,
-            // 8 is kept free.
+            Status::Unlawful => 8,
             Status::JournalsRefused => 9,
         }
     }

@@ -3,7 +3,7 @@ ghost use Rattle.std.specs.Prelude.{◌≡◌, map};
 ghost use Rattle.std.specs.String.{string_bytes};
 ghost use Rattle.room_run.specs.Outcome.{HasTied, Prints, Outcome, Tells, answer_status, answer_text, status_of_run};
 
-use crate::note::{write_note, write_ok};
+use crate::note::{write_lawful, write_note, write_ok};
 use crate::prepare::{Answer, prepare};
 use crate::refusal::Refusal;
 use crate::status::Status;
@@ -40,6 +40,7 @@ fn status_of(answer: &Answer) -> Status
         Answer::Wired(_) => Status::Done,
         Answer::Ran(run) => status_of_run(run.journals.done),
         Answer::Converted(_) => Status::Done,
+        Answer::Lawful => Status::Done,
         Answer::Summed(summary) => status_of_run(summary.done),
     }
 }
@@ -55,6 +56,7 @@ fn print<K: Sink>(answer: &Answer, out: &mut K) -> Status
         Answer::Wired(wiring) => expand_text(wiring, out),
         Answer::Ran(run) => text_to(&run.journals, &run.wiring, out),
         Answer::Converted(read) => text_to(&read.journals, &read.wiring, out),
+        Answer::Lawful => write_lawful(out),
         Answer::Summed(summary) => write_summary(summary, out),
     };
     match written {
@@ -69,12 +71,14 @@ fn print<K: Sink>(answer: &Answer, out: &mut K) -> Status
 /// MODEL` for the slots and the joined places of such a model, `run MODEL INJECT` for the run of a model over
 /// injections, which may move virtual time on, so that timers expire, and in which each controller takes 10,000
 /// turns at most, or N with `--fuel N` behind it, 1 to 100,000, `convert MODEL JOURNALS` for journals of a
-/// model, in form 1 or in form 2, to be written in form 2, and `made N` for the summary of the run of a made
-/// model of N actors, 1 to 4,000; every other list of words is refused. No file is read for a made model. The
-/// order is: the words, reading the model, the model (its text, its rules, its wiring, its charts), reading the
-/// injections or the journals, the injections or the journals (their text, whether they are tied), the run,
-/// writing. After a failed read nothing more is read, and want of memory never comes once something was
-/// written.
+/// model, in form 1 or in form 2, to be written in form 2, `verify MODEL INJECT JOURNALS` for the verdict on
+/// journals, whether they are those of a run of the model over the injections, with a fuel as for a run, and
+/// `made N` for the summary of the run of a made model of N actors, 1 to 4,000; every other list of words is
+/// refused. No file is read for a made model. The order is: the words, reading the model, the model (its text,
+/// its rules, its wiring, its charts), reading the injections or the journals, the injections or the journals
+/// (their text, whether they are tied), the run, writing; for a verdict the injections, then the journals,
+/// which needn't be tied, and the verdict. After a failed read nothing more is read, and want of memory never
+/// comes once something was written.
 ///
 /// The text of journals may have 268,435,456 bytes, each other one 1,048,576.
 ///

@@ -1,4 +1,4 @@
-use Rattle.std.proofs.Common.{arith, ◌+◌, ◌-◌, sym, ap, ◌∙◌, Err, length}
+use Rattle.std.proofs.Common.{arith, ◌+◌, ◌-◌, sym, length}
 use Rattle.room_lexer.specs.Cutting.{cut, tokens}
 use Rattle.room_lexer.proofs.Turns.{with_none, goes, fails, is_done}
 use Rattle.room_lexer.proofs.Cut.{gives_fault}

@@ -1,4 +1,4 @@
-use Rattle.std.proofs.Common.{◌≡◌, ℕ, ◌+◌, drop}
+use Rattle.std.proofs.Common.{◌≡◌, ◌+◌, drop}
 use Rattle.std.specs.Prelude.{option_map}
 use Rattle.room_lexer.specs.Enclosed.{closed_len}
 use Rattle.room_lexer.proofs.enclosed.closed_len.Given as goal

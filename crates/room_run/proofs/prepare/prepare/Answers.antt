@@ -1,8 +1,8 @@
 use Rattle.std.proofs.Common.{◌≡◌, map, Some, refl, sym, ap, ◌∙◌}
 use Rattle.std.specs.String.{string_bytes}
-use Rattle.room_run.specs.Words.{asked_view, files_view, record_view}
-use Rattle.room_run.specs.Causes.{of_check, of_tree, of_run, of_convert, of_made}
-use Rattle.room_run.specs.Outcome.{says_ok, says_tree, says_run, says_converted}
+use Rattle.room_run.specs.Words.{asked_view, files_view, record_view, judged_view}
+use Rattle.room_run.specs.Causes.{of_check, of_tree, of_run, of_convert, of_verify, of_made}
+use Rattle.room_run.specs.Outcome.{says_ok, says_tree, says_run, says_converted, says_lawful}
 use Rattle.room_run.specs.declared.asked.Asked.{Asked}
 use Rattle.room_run.specs.declared.asked.Asked.TheVariants as code
 use Rattle.room_run.proofs.CauseLemmas.{model_sound}
@@ -77,3 +77,14 @@ pub returns-in-Err-run_made-clause-err : goal.returns-in-Err-run_made-clause-err
 returns-in-Err-run_made-clause-err g c =
     let is : c.in-Some-Made.field-0 ≡ code.Made c.in-Some-Made.actors = cc in
     of_made c.in-Some-Made.actors (sym c.in-Some-Made.ensures ∙ ap (λ (a : Asked). Some (asked_view a)) is) c.in-Err-run_made.ensures.err
+
+pub returns-in-Ok-verify_files-clause-ok : goal.returns-in-Ok-verify_files-clause-ok
+returns-in-Ok-verify_files-clause-ok g c =
+    let x = c.in-Ok-verify_files.ensures.ok in
+    let is : c.in-Some-Verify.field-0 ≡ code.Verify c.in-Some-Verify.files c.in-Some-Verify.fuel = cc in
+    says_lawful (judged_view c.in-Some-Verify.files) c.in-Some-Verify.fuel x.0 x.1 x.2 (sym c.in-Some-Verify.ensures ∙ ap (λ (a : Asked). Some (asked_view a)) is) x.3 refl refl
+
+pub returns-in-Err-verify_files-clause-err : goal.returns-in-Err-verify_files-clause-err
+returns-in-Err-verify_files-clause-err g c =
+    let is : c.in-Some-Verify.field-0 ≡ code.Verify c.in-Some-Verify.files c.in-Some-Verify.fuel = cc in
+    of_verify (judged_view c.in-Some-Verify.files) c.in-Some-Verify.fuel (sym c.in-Some-Verify.ensures ∙ ap (λ (a : Asked). Some (asked_view a)) is) c.in-Err-verify_files.ensures.err

@@ -15,5 +15,5 @@ returns-in-Err-Memory-clause-err g c = injections_no_memory refl
 pub returns-clause-err : goal.returns-clause-err
 returns-clause-err g c =
     let before = g.S.Shelf.shown c.args.shelf.now in
-    lines_cause before (g.S.Shelf.shown c.read_whole.new.shelf) c.args.name.now c.as_slice.result.now c.args.wiring.now c.judge_lines.result
+    lines_cause before (g.S.Shelf.shown c.read_whole.new.shelf) c.args.name.now c.as_slice.result.now c.args.advances c.args.wiring.now c.judge_lines.result
     (subst (λ (bytes : List ℕ). IfSome (before.text c.args.name.now) (λ text. bytes ≡ text)) (sym c.as_slice.ensures.value) c.in-Ok.ensures.whole) c.judge_lines.ensures.err

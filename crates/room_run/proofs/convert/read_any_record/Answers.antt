@@ -1,0 +1,13 @@
+use Rattle.std.proofs.Common.{◌≡◌, ℕ, List, IfSome, sym, subst}
+use Rattle.room_run.specs.Causes.{no_record}
+use Rattle.room_run.proofs.ConvertLemmas.{any_cause}
+use Rattle.room_run.proofs.convert.read_any_record.Goals as goal
+
+pub returns-in-Err-clause-err : goal.returns-in-Err-clause-err
+returns-in-Err-clause-err g c = no_record c.in-Err.ensures.err
+
+pub returns-clause-err : goal.returns-clause-err
+returns-clause-err g c =
+    let before = g.S.Shelf.shown c.args.shelf.now in
+    any_cause before (g.S.Shelf.shown c.read_journals_text.new.shelf) c.args.name.now c.as_slice.result.now c.args.wiring.now c.some_journals.result
+    (subst (λ (bytes : List ℕ). IfSome (before.text c.args.name.now) (λ text. bytes ≡ text)) (sym c.as_slice.ensures.value) c.in-Ok.ensures.ok) c.some_journals.ensures.err

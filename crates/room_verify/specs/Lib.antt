@@ -1,0 +1,11 @@
+pub mod Steps
+pub mod Lanes
+pub mod States
+pub mod Worlds
+pub mod Heads
+pub mod Merging
+pub mod Checks
+pub mod Lefts
+pub mod Promptness
+pub mod Verdicts
+pub mod Laws
