@@ -24,6 +24,11 @@ use Rattle.room_verify.specs.Verdicts.{IsVerdict}
 use Rattle.room_verify.specs.declared.verdict.Verdict.{Verdict}
 use Rattle.room_verify.specs.declared.verdict.Verdict.TheVariants as verdicts
 use Rattle.room_verify.proofs.OneVerdict.{one_verdict}
+use Rattle.room_show.specs.Text.{snapshot_text}
+use Rattle.room_show.specs.declared.snapshot.Snapshot.{Snapshot}
+use Rattle.room_verify.specs.Shown.{IsEarly, IsShown, IsUnshown}
+use Rattle.room_verify.specs.Showing.{charts_observer}
+use Rattle.room_verify.proofs.ShownLaw.{one_shown, shown_alone}
 use Rattle.controller_actors.specs.declared.plant.Plant.{Plant}
 use Rattle.made_model.specs.Texts.{model_text, injections_text}
 use Rattle.room_inherit.specs.Flat.{flat}
@@ -33,11 +38,11 @@ use Rattle.room_kinds.specs.declared.numbers.Stamp.{Stamp}
 use Rattle.journal.specs.declared.entry.Journals.{Journals}
 use Rattle.tied_journals.specs.Text.{tied_text_of}
 use Rattle.tied_journals.specs.Untied.{IsFirstUntied}
-use Rattle.room_run.specs.Words.{Files, Record, Judged, Asked, Check, Tree, Run, Convert, Verify, Made, asked_by}
+use Rattle.room_run.specs.Words.{Files, Record, Judged, Asked, Check, Tree, Run, Convert, Verify, Show, Made, asked_by}
 use Rattle.room_run.specs.MadeShelf.{made_files, made_shelf}
 use Rattle.room_run.specs.Models.{most_bytes, HasTokens, IsWritten, HasTree, IsSound, IsSoundText, IsModel, IsUncut, HasNoTree, BreaksBaseRule, BreaksRule, HasBadWiring, HasBadChart, SoundCauses, uncut, no_tree, breaks_base_rule, breaks_rule, bad_wiring, bad_chart, no_memory}
 use Rattle.room_run.specs.Conversions.{most_journal_bytes, HasJournals, HasTiedJournals, HasNoJournals, HasUntiedJournals}
-use Rattle.room_run.specs.Causes.{IsInjections, HasBadLine, TextIs, AreOf, model_unread, model_long, model_no_memory, ModelCauses, no_text, model_refused, InjectionsCauses, injections_unread, injections_long, bad_line, injections_no_memory, RunCauses, of_model, of_injections, run_no_memory, record_unread, record_long, record_no_memory, JournalsCauses, no_record, journals_malformed, journals_no_memory, TiedCauses, journals_refused, journals_untied, ConvertCauses, of_its_model, of_journals, HasRunTexts, IsJudged, UnjudgedCauses, judged_model, judged_injections, judged_journals, VerifyCauses, unjudged, unlawful, verify_no_memory, Causes, no_such_words, of_check, of_tree, of_run, of_convert, of_verify, of_made, status_of}
+use Rattle.room_run.specs.Causes.{IsInjections, HasBadLine, TextIs, AreOf, model_unread, model_long, model_no_memory, ModelCauses, no_text, model_refused, InjectionsCauses, injections_unread, injections_long, bad_line, injections_no_memory, RunCauses, of_model, of_injections, run_no_memory, record_unread, record_long, record_no_memory, JournalsCauses, no_record, journals_malformed, journals_no_memory, TiedCauses, journals_refused, journals_untied, ConvertCauses, of_its_model, of_journals, HasRunTexts, IsJudged, UnjudgedCauses, judged_model, judged_injections, judged_journals, VerifyCauses, unjudged, unlawful, verify_no_memory, AreGiven, IsSeen, IsUnseen, ShowCauses, nothing_to_show, unlawful_by_then, show_no_memory, Causes, no_such_words, of_check, of_tree, of_run, of_convert, of_verify, of_show, of_made, status_of}
 use Rattle.binding_expand.specs.tree_text.Text.{tree_text}
 use Rattle.room_run.specs.Outcome.{accepted, Answers, says_ok, says_tree, says_run, says_converted, says_lawful, says_made, lawful_line, AreRecorded, status_of_run, whole, cut_short, refused, refused_unheard}
 use Rattle.room_run.specs.OneAnswer.{IsRead, AreRead, IsMemory, SameRefusal, AskForNoRun, CallsHaveOneAnswer, HasModel, HasFiles, HasRecord, HasJudged, AreAccepted, IsEnd, AcceptedCallsEnd}
@@ -606,6 +611,159 @@ judged_ends model injections journals fuel wiring lines j why s i r (for_record 
     inl (sound_read wiring journals j why r (subst (λ (z : Tables). ReadSays z journals why) (one_sound_wiring model wired wiring u s) k))
 judged_ends model injections journals fuel wiring lines j why s i r (for_verdict v n k faulty is) = inr (ap status_of is)
 
+-- ---- the system at a stamp
+
+-- something is so of what three texts give: a wiring and charts of a model, lines, and journals
+abbrev GivenAs : List ℕ → List ℕ → List ℕ → (Tables → List (Option Chart) → List Line → Journals → Type 0) → Type 0
+GivenAs model injections journals P =
+    (w : Tables) × (c : List (Option Chart)) × (l : List Line) × (r : Journals) × IsSoundText model w c × IsInjections Refused w injections l
+    × HasJournals w journals r × P w c l r
+
+-- of the same texts, all is so of the same
+both_of : (model injections journals : List ℕ) (P Q : Tables → List (Option Chart) → List Line → Journals → Type 0)
+    → GivenAs model injections journals P → GivenAs model injections journals Q → GivenAs model injections journals (λ w c l r. P w c l r × Q w c l r)
+both_of model injections journals P Q h k =
+    let sound : IsSound model h.0 = record { charts = h.1; is = h.4 } in
+    let also : IsSound model k.0 = record { charts = k.1; is = k.4 } in
+    let wired : k.0 ≡ h.0 = one_sound_wiring model k.0 h.0 also sound in
+    let tree = same_tree model k.4.tree h.4.tree k.4.read h.4.read in
+    let charted : k.1 ≡ h.1 =
+    (are_one h.4.tree).charts k.1 h.1 (subst (λ (z : ModelTree). HasCharts z k.1) tree k.4.sound.faultless) h.4.sound.faultless in
+    let there : IsInjections Refused h.0 injections k.2 × HasJournals h.0 journals k.3 × Q h.0 h.1 k.2 k.3 =
+    subst (λ (z : List (Option Chart)). IsInjections Refused h.0 injections k.2 × HasJournals h.0 journals k.3 × Q h.0 z k.2 k.3) charted
+    (subst (λ (z : Tables). IsInjections Refused z injections k.2 × HasJournals z journals k.3 × Q z k.1 k.2 k.3) wired (k.5, k.6, k.7)) in
+    let lines : k.2 ≡ h.2 = same_lines Refused h.0 injections k.2 h.2 there.0 h.5 in
+    let read : k.3 ≡ h.3 = one_read model h.0 journals k.3 h.3 sound there.1 h.6 in
+    let so : Q h.0 h.1 h.2 h.3 =
+    subst (λ (z : Journals). Q h.0 h.1 h.2 z) read (subst (λ (z : List Line). Q h.0 h.1 z k.3) lines there.2) in
+    (h.0, h.1, h.2, h.3, h.4, h.5, h.6, h.7, so)
+
+-- this is shown, over a wiring that is this one
+record ShowsThere (at : ℕ) (snapshot : Snapshot) (own w : Tables) (c : List (Option Chart)) (l : List Line) (r : Journals) : Type 0 where
+  is : IsShown (behaviour_by_charts w c) w (items_of w l) r at charts_observer snapshot
+  wired : w ≡ own
+
+seen_there : (before after : Shown) (files : Judged) (at : ℕ) (plant : Plant) (lines : List Line) (j : Journals) (snapshot : Snapshot)
+    → (model : IsRead before after files.run.model) → (injections : IsRead before after files.run.injections)
+    → (journals : IsRead before after files.journals) → IsSeen before files at plant lines j snapshot
+    → GivenAs model.text injections.text journals.text (ShowsThere at snapshot plant.wiring)
+seen_there before after files at plant lines j snapshot model injections journals h =
+    let charts =
+    told_text before files.run.model model.text (λ t. (charts : List (Option Chart)) × IsSoundText t plant.wiring charts
+    × IsShown (behaviour_by_charts plant.wiring charts) plant.wiring (items_of plant.wiring lines) j at charts_observer snapshot) model.told h.by_charts in (
+      plant.wiring,
+      charts.0,
+      lines,
+      j,
+      charts.1,
+      told_text before files.run.injections injections.text (λ t. IsInjections Refused plant.wiring t lines) injections.told h.given.texts.lines_accepted,
+      told_text before files.journals journals.text (λ t. HasJournals plant.wiring t j) journals.told h.given.journals_read,
+      record { is = charts.2; wired = refl },
+    )
+
+-- this verdict is told in place of what is shown
+abbrev TellsThere : ℕ → Verdict → Tables → List (Option Chart) → List Line → Journals → Type 0
+TellsThere at v w c l r = IsUnshown (behaviour_by_charts w c) w (items_of w l) r at v
+
+unseen_there : (before after : Shown) (files : Judged) (at : ℕ) (plant : Plant) (lines : List Line) (j : Journals) (v : Verdict)
+    → (model : IsRead before after files.run.model) → (injections : IsRead before after files.run.injections)
+    → (journals : IsRead before after files.journals) → IsUnseen before files at plant lines j v
+    → GivenAs model.text injections.text journals.text (TellsThere at v)
+unseen_there before after files at plant lines j v model injections journals h =
+    let charts =
+    told_text before files.run.model model.text (λ t. (charts : List (Option Chart)) × IsSoundText t plant.wiring charts
+    × IsUnshown (behaviour_by_charts plant.wiring charts) plant.wiring (items_of plant.wiring lines) j at v) model.told h.by_charts in (
+      plant.wiring,
+      charts.0,
+      lines,
+      j,
+      charts.1,
+      told_text before files.run.injections injections.text (λ t. IsInjections Refused plant.wiring t lines) injections.told h.given.texts.lines_accepted,
+      told_text before files.journals journals.text (λ t. HasJournals plant.wiring t j) journals.told h.given.journals_read,
+      charts.2,
+    )
+
+-- an early verdict isn't that journals are lawful
+early_unlawful : (at : ℕ) (v : Verdict) → IsEarly at v → v ≡ verdicts.Lawful → ⊥
+early_unlawful at (verdicts.Order party) early is = absurd cc
+early_unlawful at (verdicts.Start c) early is = absurd cc
+early_unlawful at (verdicts.Entry party stamp) early is = absurd cc
+early_unlawful at verdicts.Left early is = absurd early
+early_unlawful at (verdicts.Fuel c) early is = absurd early
+early_unlawful at verdicts.Ended early is = absurd early
+early_unlawful at (verdicts.Prompt c stamp) early is = absurd early
+early_unlawful at verdicts.Lawful early is = absurd early
+
+-- no fuel has a part in what is told in place of a snapshot, so it is a verdict by the least one
+show_says : (before after : Shown) (files : Judged) (at : ℕ) (why : Refusal) → (model : IsRead before after files.run.model)
+    → (injections : IsRead before after files.run.injections) → (journals : IsRead before after files.journals)
+    → ShowCauses before after files at why → JudgeSays model.text injections.text journals.text 0 why
+show_says before after files at why model injections journals (nothing_to_show h) =
+    unjudged_says before after files 0 why model injections journals h
+show_says before after files at why model injections journals (unlawful_by_then plant lines j v h is) =
+    let there = unseen_there before after files at plant lines j v model injections journals h in
+    for_verdict v (length plant.wiring.controllers)
+    (record {
+      wiring = there.0;
+      charts = there.1;
+      sound = there.4;
+      lines = there.2;
+      lines_are = there.5;
+      read = there.3;
+      read_is = there.6;
+      count = refl;
+      verdict = there.7.is 0;
+    })
+    (early_unlawful at v there.7.early) is
+show_says before after files at why model injections journals (show_no_memory is) = for_run (for_model (says_memory (ap status_of is)))
+
+-- texts of which there is something to show are refused for want of memory alone
+unjudged_memory : (before after : Shown) (files : Judged) (why : Refusal) → (model : IsRead before after files.run.model)
+    → (injections : IsRead before after files.run.injections) → (journals : IsRead before after files.journals)
+    → (wiring : Tables) (lines : List Line) (j : Journals) → IsSound model.text wiring → IsInjections Refused wiring injections.text lines
+    → HasJournals wiring journals.text j → UnjudgedCauses before after files why → IsMemory why
+unjudged_memory before after files why model injections journals wiring lines j s i r (judged_model h) =
+    sound_run Refused model.text injections.text wiring lines why s i (for_model (model_says before after files.run.model why model h))
+unjudged_memory before after files why model injections journals wiring lines j s i r (judged_injections plant h k) =
+    sound_run Refused model.text injections.text wiring lines why s i
+    (for_lines plant.wiring (is_sound model.text plant (told_text before files.run.model model.text (λ t. IsModel t plant) model.told h))
+    (lines_say before after files.run.injections Refused plant.wiring why injections k))
+unjudged_memory before after files why model injections journals wiring lines j s i r (judged_journals plant also h k) =
+    let sound = is_sound model.text plant (told_text before files.run.model model.text (λ t. IsModel t plant) model.told h.model_accepted) in
+    sound_read wiring journals.text j why r
+    (subst (λ (z : Tables). ReadSays z journals.text why) (one_sound_wiring model.text plant.wiring wiring sound s)
+    (read_says before after files.journals plant.wiring why journals k))
+
+seen_memory : (before after : Shown) (files : Judged) (at : ℕ) (plant : Plant) (lines : List Line) (j : Journals) (snapshot : Snapshot) (why : Refusal)
+    → (model : IsRead before after files.run.model) → (injections : IsRead before after files.run.injections)
+    → (journals : IsRead before after files.journals) → IsSeen before files at plant lines j snapshot
+    → ShowCauses before after files at why → IsMemory why
+seen_memory before after files at plant lines j snapshot why model injections journals h (nothing_to_show k) =
+    let there = seen_there before after files at plant lines j snapshot model injections journals h in
+    unjudged_memory before after files why model injections journals there.0 there.2 there.3 (record { charts = there.1; is = there.4 }) there.5 there.6 k
+seen_memory before after files at plant lines j snapshot why model injections journals h (unlawful_by_then other also read v k is) =
+    let both =
+    both_of model.text injections.text journals.text (ShowsThere at snapshot plant.wiring) (TellsThere at v)
+    (seen_there before after files at plant lines j snapshot model injections journals h)
+    (unseen_there before after files at other also read v model injections journals k) in
+    absurd
+    (shown_alone (behaviour_by_charts both.0 both.1) both.0 (items_of both.0 both.2) both.3 at charts_observer snapshot v both.7.is both.8.early (both.8.is 0))
+seen_memory before after files at plant lines j snapshot why model injections journals h (show_no_memory is) = ap status_of is
+
+-- and one text is shown
+seen_once : (before after : Shown) (files : Judged) (at : ℕ) (plant other : Plant) (lines also : List Line) (j read : Journals) (snapshot second : Snapshot)
+    → IsRead before after files.run.model → IsRead before after files.run.injections → IsRead before after files.journals
+    → IsSeen before files at plant lines j snapshot → IsSeen before files at other also read second
+    → snapshot_text plant.wiring snapshot ≡ snapshot_text other.wiring second
+seen_once before after files at plant other lines also j read snapshot second model injections journals h k =
+    let both =
+    both_of model.text injections.text journals.text (ShowsThere at snapshot plant.wiring) (ShowsThere at second other.wiring)
+    (seen_there before after files at plant lines j snapshot model injections journals h)
+    (seen_there before after files at other also read second model injections journals k) in
+    let one : snapshot ≡ second =
+    one_shown (behaviour_by_charts both.0 both.1) both.0 (items_of both.0 both.2) both.3 at charts_observer snapshot second both.7.is both.8.is in
+    ap (λ (z : Tables). snapshot_text z snapshot) (sym both.7.wired) ∙ ap (snapshot_text both.0) one ∙ ap (λ (z : Tables). snapshot_text z second) both.8.wired
+
 -- ---- by what words ask for
 
 made_model_read : (actors : ℕ) → IsRead (made_shelf actors) (made_shelf actors) made_files.model
@@ -623,6 +781,7 @@ CausesOf before after (Some (Tree name)) why = ModelCauses before after name why
 CausesOf before after (Some (Run files fuel)) why = RunCauses before after files why
 CausesOf before after (Some (Convert files)) why = ConvertCauses before after files why
 CausesOf before after (Some (Verify files fuel)) why = VerifyCauses before after files fuel why
+CausesOf before after (Some (Show files at)) why = ShowCauses before after files at why
 CausesOf before after (Some (Made actors)) why = RunCauses (made_shelf actors) (made_shelf actors) made_files why
 
 causes_of : (before after : Shown) (words : List (List ℕ)) (why : Refusal) → Causes before after words why
@@ -633,6 +792,7 @@ causes_of before after words why (of_tree name e h) = subst (λ (o : Option Aske
 causes_of before after words why (of_run files fuel e h) = subst (λ (o : Option Asked). CausesOf before after o why) (sym e) h
 causes_of before after words why (of_convert files e h) = subst (λ (o : Option Asked). CausesOf before after o why) (sym e) h
 causes_of before after words why (of_verify files fuel e h) = subst (λ (o : Option Asked). CausesOf before after o why) (sym e) h
+causes_of before after words why (of_show files at e h) = subst (λ (o : Option Asked). CausesOf before after o why) (sym e) h
 causes_of before after words why (of_made actors e h) = subst (λ (o : Option Asked). CausesOf before after o why) (sym e) h
 
 once_of : (before after : Shown) (o : Option Asked) (why other : Refusal) → AreRead before after o → CausesOf before after o why
@@ -649,6 +809,9 @@ once_of before after (Some (Convert files)) why other read h k =
 once_of before after (Some (Verify files fuel)) why other read h k =
     judge_once read.0.text read.1.text read.2.text fuel why other (judge_says before after files fuel why read.0 read.1 read.2 h)
     (judge_says before after files fuel other read.0 read.1 read.2 k)
+once_of before after (Some (Show files at)) why other read h k =
+    judge_once read.0.text read.1.text read.2.text 0 why other (show_says before after files at why read.0 read.1 read.2 h)
+    (show_says before after files at other read.0 read.1 read.2 k)
 once_of before after (Some (Made actors)) why other read h k =
     let shelf = made_shelf actors in
     run_once Taken (made_model_read actors).text (made_lines_read actors).text why other
@@ -689,6 +852,8 @@ Answered shelf (Some (Tree name)) = AreAccepted shelf (Some (Tree name))
 Answered shelf (Some (Run files fuel)) = AreAccepted shelf (Some (Run files fuel))
 Answered shelf (Some (Convert files)) = AreAccepted shelf (Some (Convert files))
 Answered shelf (Some (Verify files fuel)) = (plant : Plant) × (lines : List Line) × (j : Journals) × IsJudged shelf files fuel plant lines j verdicts.Lawful
+Answered shelf (Some (Show files at)) =
+    (plant : Plant) × (lines : List Line) × (j : Journals) × (snapshot : Snapshot) × IsSeen shelf files at plant lines j snapshot
 Answered shelf (Some (Made actors)) = AreAccepted shelf (Some (Made actors))
 
 memory_of : (before after : Shown) (o : Option Asked) (why : Refusal) → Answered before o → AreRead before after o
@@ -702,6 +867,8 @@ memory_of before after (Some (Verify files fuel)) why h read k =
     lawful_memory read.0.text read.1.text read.2.text fuel (length h.0.wiring.controllers) why
     (verdict_on before after files fuel h.0 h.1 h.2 verdicts.Lawful read.0 read.1 read.2 h.3)
     (judge_says before after files fuel why read.0 read.1 read.2 k)
+memory_of before after (Some (Show files at)) why h read k =
+    seen_memory before after files at h.0 h.1 h.2 h.3 why read.0 read.1 read.2 h.4 k
 memory_of before after (Some (Made actors)) why h read k =
     files_memory (made_shelf actors) (made_shelf actors) made_files why (made_model_read actors) (made_lines_read actors) h k
 
@@ -755,6 +922,8 @@ accepted_of before after words text status read (says_converted files wiring j e
     let r : IsRead before after files.model × IsRead before after files.journals = subst (AreRead before after) e read in
     subst (Answered before) (sym e) (record_accepted before after files wiring j r.0 r.1 h)
 accepted_of before after words text status read (says_lawful files fuel plant lines j e h is ends) = subst (Answered before) (sym e) (plant, lines, j, h)
+accepted_of before after words text status read (says_shown files at plant lines j snapshot e h is ends) =
+    subst (Answered before) (sym e) (plant, lines, j, snapshot, h)
 accepted_of before after words text status read (says_made actors plant lines j e h is ends) =
     subst (Answered before) (sym e)
     (files_accepted (made_shelf actors) (made_shelf actors) made_files plant lines (made_model_read actors) (made_lines_read actors) h.texts)
@@ -771,6 +940,9 @@ AnswerIs shelf (Some (Run files fuel)) text status = Unit {0}
 AnswerIs shelf (Some (Convert files)) text status =
     (wiring : Tables) × (j : Journals) × AreRecorded shelf files wiring j × (text ≡ tied_text_of wiring j) × (status ≡ statuses.Done)
 AnswerIs shelf (Some (Verify files fuel)) text status = (text ≡ lawful_line) × (status ≡ statuses.Done)
+AnswerIs shelf (Some (Show files at)) text status =
+    (plant : Plant) × (lines : List Line) × (j : Journals) × (snapshot : Snapshot) × IsSeen shelf files at plant lines j snapshot
+    × (text ≡ snapshot_text plant.wiring snapshot) × (status ≡ statuses.Done)
 AnswerIs shelf (Some (Made actors)) text status = Unit {0}
 
 answer_is : (shelf : Shown) (words : List (List ℕ)) (text : List ℕ) (status : Status) → Answers shelf words text status
@@ -784,6 +956,8 @@ answer_is shelf words text status (says_converted files wiring j e h is ends) =
     subst (λ (o : Option Asked). AnswerIs shelf o text status) (sym e) (wiring, j, h, is, ends)
 answer_is shelf words text status (says_lawful files fuel plant lines j e h is ends) =
     subst (λ (o : Option Asked). AnswerIs shelf o text status) (sym e) (is, ends)
+answer_is shelf words text status (says_shown files at plant lines j snapshot e h is ends) =
+    subst (λ (o : Option Asked). AnswerIs shelf o text status) (sym e) (plant, lines, j, snapshot, h, is, ends)
 answer_is shelf words text status (says_made actors plant lines j e h is ends) =
     subst (λ (o : Option Asked). AnswerIs shelf o text status) (sym e) tt
 
@@ -811,6 +985,8 @@ same_answer before after (Some (Run files fuel)) text other status also model re
 same_answer before after (Some (Convert files)) text other status also model read h k =
     (h.3 ∙ same_record before after files h.0 k.0 h.1 k.1 read.0 read.1 h.2 k.2 ∙ sym k.3, h.4 ∙ sym k.4)
 same_answer before after (Some (Verify files fuel)) text other status also model read h k = (h.0 ∙ sym k.0, h.1 ∙ sym k.1)
+same_answer before after (Some (Show files at)) text other status also model read h k =
+    (h.5 ∙ seen_once before after files at h.0 k.0 h.1 k.1 h.2 k.2 h.3 k.3 read.0 read.1 read.2 h.4 k.4 ∙ sym k.5, h.6 ∙ sym k.6)
 same_answer before after (Some (Made actors)) text other status also model read h k = absurd model
 
 pub calls_have_one_answer : CallsHaveOneAnswer
@@ -835,6 +1011,7 @@ answer_ends shelf words text status (says_tree name wiring e h is ends) = inl en
 answer_ends shelf words text status (says_run files fuel plant lines j e h is ends) = run_ends (asked_by words) j.done status ends
 answer_ends shelf words text status (says_converted files wiring j e h is ends) = inl ends
 answer_ends shelf words text status (says_lawful files fuel plant lines j e h is ends) = inl ends
+answer_ends shelf words text status (says_shown files at plant lines j snapshot e h is ends) = inl ends
 answer_ends shelf words text status (says_made actors plant lines j e h is ends) = run_ends (asked_by words) j.done status ends
 
 memory_ends : (o : Option Asked) (why : Refusal) → IsMemory why → IsEnd o (status_of why)
@@ -854,6 +1031,20 @@ judged_memory before after files fuel why model injections journals h k =
     go (inl e) = inr (inr (inl e))
     go (inr e) = inr (inr (inr (tt, e)))
 
+shown_memory : (before after : Shown) (files : Judged) (at : ℕ) (why : Refusal) (model : IsRead before after files.run.model)
+    → (injections : IsRead before after files.run.injections) (journals : IsRead before after files.journals) → HasJudged before files
+    → ShowCauses before after files at why → IsEnd (Some (Show files at)) (status_of why)
+shown_memory before after files at why model injections journals h k =
+    go (judged_ends model.text injections.text journals.text 0 h.run.wiring h.run.lines h.read why
+    (subst (λ (z : List ℕ). IsSound z h.run.wiring) (same_told before files.run.model h.run.model.text model.text h.run.model.told model.told) h.run.model.sound)
+    (subst (λ (z : List ℕ). IsInjections Refused h.run.wiring z h.run.lines) (same_told before files.run.injections h.run.text injections.text h.run.told injections.told) h.run.injections)
+    (subst (λ (z : List ℕ). HasJournals h.run.wiring z h.read) (same_told before files.journals h.text journals.text h.told journals.told) h.journals)
+    (show_says before after files at why model injections journals k))
+  where
+    go : IsMemory why ⊎ (status_of why ≡ statuses.Unlawful) → IsEnd (Some (Show files at)) (status_of why)
+    go (inl e) = inr (inr (inl e))
+    go (inr e) = inr (inr (inr (tt, e)))
+
 refusal_ends : (before after : Shown) (o : Option Asked) (why : Refusal) → AreAccepted before o → AreRead before after o
     → CausesOf before after o why → IsEnd o (status_of why)
 refusal_ends before after None why h read k = absurd h
@@ -863,6 +1054,7 @@ refusal_ends before after (Some (Run files fuel)) why h read k =
     memory_ends (Some (Run files fuel)) why (memory_of before after (Some (Run files fuel)) why h read k)
 refusal_ends before after (Some (Convert files)) why h read k = memory_ends (Some (Convert files)) why (memory_of before after (Some (Convert files)) why h read k)
 refusal_ends before after (Some (Verify files fuel)) why h read k = judged_memory before after files fuel why read.0 read.1 read.2 h k
+refusal_ends before after (Some (Show files at)) why h read k = shown_memory before after files at why read.0 read.1 read.2 h k
 refusal_ends before after (Some (Made actors)) why h read k = memory_ends (Some (Made actors)) why (memory_of before after (Some (Made actors)) why h read k)
 
 pub accepted_calls_end : AcceptedCallsEnd

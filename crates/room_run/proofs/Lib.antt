@@ -11,4 +11,5 @@ pub mod Retold
 pub mod Untimed
 pub mod OutcomeLemmas
 pub mod VerifyLemmas
+pub mod ShowLemmas
 mod MadeLemmas

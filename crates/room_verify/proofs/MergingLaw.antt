@@ -88,7 +88,7 @@ module _ (plant : Plant) (lines : List Line) (j : Journals) (passed : List ℕ) 
       nothing_behind (entries_of p h.front) (entries_of p h.behind)
       (sym (entries_split p h.front h.behind) ∙ h.reaches.is.whole p ∙ nobody p beyond)
 
-  ordered : InOrder h.behind
+  pub ordered : InOrder h.behind
   ordered = order_behind h.front h.behind h.reaches.is.ordered
 
   -- nothing is left
@@ -106,7 +106,7 @@ module _ (plant : Plant) (lines : List Line) (j : Journals) (passed : List ℕ) 
     at_first : GoesFirst (left_of_party j passed) (n + 1) party e
     at_first = subst (λ (k : ℕ). GoesFirst (left_of_party j passed) k party e) h.count first
 
-    head : (rest : List Placed) × (h.behind ≡ record { party = party; entry = e } ∷ rest)
+    pub head : (rest : List Placed) × (h.behind ≡ record { party = party; entry = e } ∷ rest)
     head = head_of_merge (left_of_party j passed) (n + 1) party e h.behind at_first ordered h.left none_beyond
 
     reaches_head : ReachesIn plant lines j h.front (record { party = party; entry = e } ∷ head.0) (world_in plant r)
@@ -125,20 +125,23 @@ module _ (plant : Plant) (lines : List Line) (j : Journals) (passed : List ℕ) 
 
     -- it happened, and one entry more is passed
     pub passed_more : (new : Replay) (at : ℕ) → at ≡ slice_index passed party → Steps (plan plant lines) (world_in plant r) party e (world_in plant new)
-        → Replays plant lines new → HasPassed plant lines j (set passed party (at + 1)) new
-    passed_more new at is steps replays = record {
-      front = h.front ++ record { party = party; entry = e } ∷ [];
-      behind = head.0;
-      reaches = record {
-        ordered = h.reaches.ordered;
-        started = h.reaches.started;
-        is = subst (λ (z : List Placed). IsMerge (happened j) z) (sym (append_assoc h.front (record { party = party; entry = e } ∷ []) head.0)) reaches_head.is;
-        run = run_more (plan plant lines) (start (plan plant lines)) (world_in plant r) (world_in plant new) h.front (record { party = party; entry = e }) h.reaches.run steps;
-      };
-      replays = replays;
-      count = length-set passed party (at + 1) ∙ h.count;
-      left = λ p below. go p below (cases_eq p party);
-    }
+        → Replays plant lines new → (next : HasPassed plant lines j (set passed party (at + 1)) new) × (next.front ≡ h.front ++ record { party = party; entry = e } ∷ [])
+    passed_more new at is steps replays = (
+      record {
+        front = h.front ++ record { party = party; entry = e } ∷ [];
+        behind = head.0;
+        reaches = record {
+          ordered = h.reaches.ordered;
+          started = h.reaches.started;
+          is = subst (λ (z : List Placed). IsMerge (happened j) z) (sym (append_assoc h.front (record { party = party; entry = e } ∷ []) head.0)) reaches_head.is;
+          run = run_more (plan plant lines) (start (plan plant lines)) (world_in plant r) (world_in plant new) h.front (record { party = party; entry = e }) h.reaches.run steps;
+        };
+        replays = replays;
+        count = length-set passed party (at + 1) ∙ h.count;
+        left = λ p below. go p below (cases_eq p party);
+      },
+      refl,
+    )
       where
         within : party < length passed
         within = first.within
