@@ -6,7 +6,7 @@ use mail_core::Mail;
 use mail_core::caller::close_unused;
 use room_kinds::Msg;
 use std::alloc::{AllocError, Global};
-use test_messages::message;
+use test_runs::test_messages::message;
 
 /// Posts a message, and looks at a box; whether the look found one.
 #[tactic(auto, using(mail_core::proofs::Tied::tied_steps, mail_core::proofs::PollLemmas::poll_steps))]

@@ -8,7 +8,7 @@ use std::sync::Wait;
 use std::sync::atomic::{AtomicBool, Ordering};
 use std::thread;
 use std::thread::Threads;
-use test_messages::message;
+use test_runs::test_messages::message;
 
 /// Posts messages of a controller to itself, and looks after each; how many the looks found.
 #[tactic(auto, using(mail_core::proofs::Tied::tied_steps, mail_core::proofs::PollLemmas::poll_steps))]

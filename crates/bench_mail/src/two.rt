@@ -7,7 +7,7 @@ use std::alloc::{AllocError, Global};
 use std::sync::atomic::{AtomicBool, Ordering};
 use std::thread;
 use std::thread::Threads;
-use test_messages::message;
+use test_runs::test_messages::message;
 
 /// Posts so many messages to another controller.
 #[tactic(auto, using(mail_core::proofs::Tied::tied_steps, mail_core::proofs::PollLemmas::poll_steps))]

@@ -13,6 +13,7 @@ mod lanes;
 mod laws;
 mod lefts;
 mod line_cursor;
+mod looks;
 mod merging;
 mod promptness;
 mod replay;

@@ -7,7 +7,7 @@ use room_run::Status;
 use room_wiring::{ClassNames, SignalNames, Wiring};
 use std::alloc::{AllocError, Global};
 use view_causes::line_meaning;
-use view_journals::view_pages::{Named, Page};
+use view_journals::view_pages::{Meaning, Named, Page};
 use view_journals::{incoming, is_end, place_count, type_name};
 
 /// The most names that are listed.
@@ -202,8 +202,19 @@ fn marked(line: &[u8], code: u8) -> (usize, usize) {
     }
 }
 
+/// What a code means. Code 7 is one of verdicts alone.
+fn meaning_of(code: u8) -> Meaning {
+    if code != 7 {
+        return line_meaning(code);
+    }
+    Meaning {
+        fault: "the line moves the time on, and no journals are judged over such lines",
+        cure: "none: `verify` knows no virtual time (docs/VERIFY.md)",
+    }
+}
+
 /// Tells why injections are refused.
-fn tell_lines(
+pub(crate) fn tell_lines(
     alloc: Global,
     page: &mut Page,
     named: Named<'_>,
@@ -219,7 +230,7 @@ fn tell_lines(
     page.put(b", code ")?;
     page.put_number(u64::from(code))?;
     page.end_line()?;
-    page.put_meaning(line_meaning(code))?;
+    page.put_meaning(meaning_of(code))?;
     page.end_line()?;
     let (start, end) = span_of(named.text, line);
     let bytes = named.text.get(start..end).unwrap_or(&[]);

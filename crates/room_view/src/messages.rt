@@ -2,6 +2,7 @@
 use crate::accepted::Accepted;
 use crate::lines::injections_of;
 use crate::runs::{journals_of, tell_unknown};
+use crate::verdicts::tell_if_unlawful;
 use crate::words::{Message, MessageName};
 use controller_actors::Plant;
 use room_kinds::{ControllerId, Stamp};
@@ -23,7 +24,8 @@ fn sender_of(wiring: &Wiring, name: MessageName<'_>) -> Option<ControllerId> {
     }
 }
 
-/// Explains a message by a model, the text of injections and journals.
+/// Explains a message by a model, the text of injections and journals. That the journals aren't those of a run over the
+/// injections is told before all.
 fn tell(
     alloc: Global,
     page: &mut Page,
@@ -32,6 +34,7 @@ fn tell(
     name: MessageName<'_>,
 ) -> Result<Status, AllocError> {
     let sent = Stamp(name.sent);
+    let mut body = Page::new(alloc);
     let is_told = match sender_of(told.wiring, name) {
         Some(sender) => {
             let wanted = Some(Name::new(sender, sent));
@@ -41,7 +44,11 @@ fn tell(
                 replays: replays.of_message.as_slice(),
                 ..told
             };
-            tell_message(alloc, page, told, sender, sent)?
+            let is_told = tell_message(alloc, &mut body, told, sender, sent)?;
+            if is_told && replays.redone.differs.is_none() {
+                tell_if_unlawful(alloc, page, plant, told.injections.text, told.journals)?;
+            }
+            is_told
         }
         None => false,
     };
@@ -49,6 +56,7 @@ fn tell(
         tell_unknown(page, b"journals have no message", name.word)?;
         return Ok(Status::WordsRefused);
     }
+    page.put(body.bytes())?;
     Ok(Status::Done)
 }
 

@@ -8,10 +8,11 @@ use journal_reader::{ReadFaultOf, read_journals};
 use room_kinds::SlotId;
 use room_run::Status;
 use room_wiring::Wiring;
-use std::alloc::AllocError;
+use std::alloc::{AllocError, Global};
 use view_journals::view_pages::{Named, Page};
 use view_journals::{Redone, Wanted, find_signal, tell_end, tell_outputs, tell_story};
 use view_messages::chart_replays::{Replays, replays_of};
+use view_verdicts::tell_no_run;
 
 /// Whether a text has the last line of journals.
 fn ends_whole(text: &[u8]) -> bool {
@@ -52,6 +53,23 @@ fn tell_malformed(page: &mut Page, named: Named<'_>, offset: usize) -> Result<()
     Ok(())
 }
 
+/// The journals of a text that fit a wiring, or what is told of it and the status.
+pub(crate) fn journals_in(
+    alloc: Global,
+    page: &mut Page,
+    wiring: &Wiring,
+    named: Named<'_>,
+) -> Result<Result<Journals, Status>, AllocError> {
+    match read_journals(alloc, named.text, wiring) {
+        Ok(journals) => Ok(Ok(journals)),
+        Err(ReadFaultOf::Memory) => Err(AllocError),
+        Err(ReadFaultOf::Malformed { offset }) => {
+            tell_malformed(page, named, offset)?;
+            Ok(Err(Kind::Journals.refused()))
+        }
+    }
+}
+
 /// The journals of a file that fit a wiring, or what is told of it and the status.
 pub(crate) fn journals_of(
     rt: HostRuntime,
@@ -63,18 +81,11 @@ pub(crate) fn journals_of(
         Ok(text) => text,
         Err(status) => return Ok(Err(status)),
     };
-    match read_journals(rt.alloc(), text.as_slice(), wiring) {
-        Ok(journals) => Ok(Ok(journals)),
-        Err(ReadFaultOf::Memory) => Err(AllocError),
-        Err(ReadFaultOf::Malformed { offset }) => {
-            let named = Named {
-                name,
-                text: text.as_slice(),
-            };
-            tell_malformed(page, named, offset)?;
-            Ok(Err(Kind::Journals.refused()))
-        }
-    }
+    let named = Named {
+        name,
+        text: text.as_slice(),
+    };
+    journals_in(rt.alloc(), page, wiring, named)
 }
 
 /// Tells that the words name what a model or journals don't have.
@@ -170,6 +181,20 @@ pub(crate) fn run_of(
     Ok(Ok(RunOf { journals, redone }))
 }
 
+/// Tells in one line that journals are those of no run of a model, if they are. Where they don't do as its charts, the
+/// views tell so by themselves.
+fn tell_if_no_run(
+    alloc: Global,
+    page: &mut Page,
+    model: &Accepted,
+    run: &RunOf,
+) -> Result<(), AllocError> {
+    if run.redone.differs.is_some() {
+        return Ok(());
+    }
+    tell_no_run(alloc, page, &model.plant, &run.journals)
+}
+
 /// The story of the journals of a file.
 pub(crate) fn tell_story_of(
     rt: HostRuntime,
@@ -184,7 +209,10 @@ pub(crate) fn tell_story_of(
     }
     let wanted = wanted_of(wiring, options);
     match run_of(rt, page, model, name)? {
-        Ok(run) => tell_story(rt.alloc(), page, wiring, &run.journals, &run.redone, wanted)?,
+        Ok(run) => {
+            tell_if_no_run(rt.alloc(), page, model, &run)?;
+            tell_story(rt.alloc(), page, wiring, &run.journals, &run.redone, wanted)?;
+        }
         Err(status) => return Ok(status),
     }
     Ok(Status::Done)
@@ -198,7 +226,10 @@ pub(crate) fn tell_end_of(
     name: &str,
 ) -> Result<Status, AllocError> {
     match run_of(rt, page, model, name)? {
-        Ok(run) => tell_end(rt.alloc(), page, model.wiring(), &run.journals, &run.redone)?,
+        Ok(run) => {
+            tell_if_no_run(rt.alloc(), page, model, &run)?;
+            tell_end(rt.alloc(), page, model.wiring(), &run.journals, &run.redone)?;
+        }
         Err(status) => return Ok(status),
     }
     Ok(Status::Done)

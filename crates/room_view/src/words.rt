@@ -4,7 +4,13 @@ use text_reading::{are_digits, value};
 
 /// What is told where words have another form.
 pub(crate) const FORMS: &[u8] =
-    b"room_view: words refused; why MODEL [INJECT], doors MODEL, lint MODEL [INJECT], story MODEL JOURNALS [--actor PATH] [--signal NAME] [--from STAMP] [--to STAMP] [--only-trouble] [--no-system], end MODEL JOURNALS, outputs MODEL JOURNALS, explain MODEL INJECT JOURNALS MESSAGE, wiring MODEL [FORM], chart MODEL CLASS [FORM] or run MODEL JOURNALS [FORM] with the options of story; FORM is --svg, --dot or --mermaid\n";
+    b"room_view: words refused; why MODEL [INJECT], why MODEL INJECT JOURNALS [--fuel N], doors MODEL, lint MODEL [INJECT], story MODEL JOURNALS [--actor PATH] [--signal NAME] [--from STAMP] [--to STAMP] [--only-trouble] [--no-system], end MODEL JOURNALS, outputs MODEL JOURNALS, explain MODEL INJECT JOURNALS MESSAGE, wiring MODEL [FORM], chart MODEL CLASS [FORM] or run MODEL JOURNALS [FORM] with the options of story; FORM is --svg, --dot or --mermaid\n";
+
+/// The fuel of a run of which no other one is named.
+const USUAL_FUEL: u64 = 10_000;
+
+/// The most fuel that a run can have.
+const MOST_FUEL: u64 = 100_000;
 
 /// Which lines of a story the words ask for.
 #[derive(Clone, Copy)]
@@ -33,6 +39,15 @@ pub(crate) struct Message<'a> {
     pub(crate) name: MessageName<'a>,
 }
 
+/// What a verdict is about: the injections and the journals of these files, and the most turns that each
+/// controller may have taken.
+#[derive(Clone, Copy)]
+pub(crate) struct Judgement<'a> {
+    pub(crate) injections: &'a str,
+    pub(crate) journals: &'a str,
+    pub(crate) fuel: u64,
+}
+
 /// What is asked of a model that isn't refused.
 #[derive(Clone, Copy)]
 pub(crate) enum Asked<'a> {
@@ -40,6 +55,8 @@ pub(crate) enum Asked<'a> {
     Nothing,
     /// Whether the injections of this file are refused, and why.
     Injections(&'a str),
+    /// Whether the journals of a file are those of a run, and why not.
+    Verdict(Judgement<'a>),
     /// Where messages can come in.
     Doors,
     /// What its author hardly meant; in the injections of this file too, if there is one.
@@ -97,6 +114,23 @@ fn number_of(digits: &[u8]) -> Option<u64> {
     Some(value(digits))
 }
 
+/// The fuel that these words name, 10,000 where there are none.
+fn fuel_of(words: &[String]) -> Option<u64> {
+    let [flag, number] = words else {
+        return if words.is_empty() {
+            Some(USUAL_FUEL)
+        } else {
+            None
+        };
+    };
+    let digits = number.as_str().as_bytes();
+    let fuel = number_of(digits)?;
+    if flag.as_str() != "--fuel" || digits.starts_with(b"0") || fuel > MOST_FUEL {
+        return None;
+    }
+    Some(fuel)
+}
+
 /// The message that a word names, as `env@16` or `0@15`.
 fn message_of(word: &str) -> Option<MessageName<'_>> {
     let bytes = word.as_bytes();
@@ -135,8 +169,8 @@ impl Places {
         }
     }
 
-    /// What options say with a flag and the word at a place; none where the flag stood before, or its word has another
-    /// form.
+    /// What options say with a flag and the word at a place; none where the flag stood before, or its word
+    /// has another form.
     fn with(self, flag: Flag, place: usize, word: &str) -> Option<Places> {
         let mut places = self;
         match flag {
@@ -233,6 +267,15 @@ pub(crate) fn question_of(words: &[String]) -> Option<Question<'_>> {
     match (command.as_str(), rest) {
         ("why", [model]) => ask(model, Asked::Nothing),
         ("why", [model, injections]) => ask(model, Asked::Injections(injections.as_str())),
+        ("why", [model, injections, journals, fuel @ ..]) => {
+            let fuel = fuel_of(fuel)?;
+            let judgement = Judgement {
+                injections: injections.as_str(),
+                journals: journals.as_str(),
+                fuel,
+            };
+            ask(model, Asked::Verdict(judgement))
+        }
         ("doors", [model]) => ask(model, Asked::Doors),
         ("lint", [model]) => ask(model, Asked::Lint(None)),
         ("lint", [model, injections]) => ask(model, Asked::Lint(Some(injections.as_str()))),

@@ -2,3 +2,4 @@
 #![tactic(auto)]
 
 pub mod mail_tests;
+pub mod test_messages;

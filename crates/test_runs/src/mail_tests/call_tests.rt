@@ -2,6 +2,7 @@
 ghost use Rattle.std.specs.Prelude.{◌≡◌, ◌+◌, ◌<◌, length, OnOk};
 
 use crate::mail_tests::messages::stamps;
+use crate::test_messages::message;
 use mail_core::caller::{close_unused, exchange, post_at};
 use mail_core::poll::poll;
 use mail_core::{Mail, MailLocal};
@@ -10,7 +11,6 @@ use room_kinds::Msg;
 use std::alloc::{AllocError, Global};
 use std::process::Abort;
 use std::test::Fail;
-use test_messages::message;
 
 /// One controller and the environment: what is posted is taken once, and what isn't taken is left.
 fn exchanges<M: Mail + Drop>(rt: &impl Abort, alloc: Global, b: u32) -> Result<(), Fail>

@@ -1,8 +1,8 @@
 //! The calls of the mailbox whose boxes several senders share; they may wait.
 use crate::mail_tests::messages::stamps;
+use crate::test_messages::message;
 use mail_seg::{MailSeg, close_unused, exchange, post_at};
 use std::test::Fail;
-use test_messages::message;
 
 #[test]
 fn what_is_posted_is_taken_once(rt: HostRuntime) -> Result<(), Fail> {

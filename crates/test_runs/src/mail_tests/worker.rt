@@ -3,10 +3,10 @@ ghost use Rattle.std.specs.Prelude.{◌≡◌, ◌+◌, ◌<◌};
 ghost use Rattle.mail_core.specs.Tied.{IsTied, StaysTied};
 ghost use Rattle.test_runs.specs.mail_tests.Workers.{CanAct, Acted};
 
+use crate::test_messages::message;
 use mail_core::Mail;
 use room_kinds::Msg;
 use std::alloc::{AllocError, Global};
-use test_messages::message;
 
 /// A controller with its end, at which a thread posts and takes, and what came of that.
 #[derive(Drop)]

@@ -1,6 +1,5 @@
 //! Messages for tests and measures, which no program of the repository sends. They carry no values, and are told
 //! apart by their stamps.
-#![tactic(auto)]
 
 ghost use Rattle.std.specs.Prelude.{◌≡◌};
 
