@@ -9,11 +9,11 @@ ghost use Rattle.actor_world.specs.Turns.{handled_as};
 ghost use Rattle.controller_actors.specs.actor_slots.Occupants.{AreSound, actor_in};
 ghost use Rattle.controller_actors.specs.actor_slots.Slots.{SlotComesUp, SlotFits, SlotTurns, SlotBegins, Works};
 
-use crate::actor_slots::occupant::{Beginning, NO_STATE, Occupant, Reaction};
-use chart_run::{Handling, Tables};
-use controller_commands::{
+use crate::actor_commands::{
     DeferredMessages, Doing, Output, Recalled, Services, Speaker, apply_all,
 };
+use crate::actor_slots::occupant::{Beginning, NO_STATE, Occupant, Reaction};
+use chart_run::{Handling, Tables};
 use controller_mail::TurnResult;
 use journal::Did;
 use room_kinds::{Commands, Incarnation, Msg, Note, Notes, Outbox};
@@ -184,6 +184,28 @@ impl ActorSlot {
         Ok(())
     }
 
+    /// What the actor does in a turn, so far: it has told this. What it keeps for later is moved there.
+    fn take_up(&mut self, alloc: Global, notes: Notes) -> Doing
+        ensures doing { result
+            ≡ record {
+              deferred = self.old.deferred;
+              output = record { messages = []; notes = notes };
+              back = [];
+              kept = false;
+            } }
+        ensures occupant { self.new.occupant ≡ self.old.occupant }
+    {
+        Doing {
+            deferred: mem::replace(&mut self.deferred, DeferredMessages::new(alloc)),
+            output: Output {
+                messages: Outbox::new(alloc),
+                notes,
+            },
+            back: Recalled::new(alloc),
+            kept: false,
+        }
+    }
+
     /// The actor handles a message, and its commands are applied; `None` where nobody stands there. After
     /// want of memory the slot is unspecified: the controller has failed.
     pub fn handle<S: Services>(
@@ -213,8 +235,10 @@ impl ActorSlot {
             (S.links_of services.new)
             speaker.now.who m (option_copied tables.entry) self.old self.new done)) }
     {
-        let Some(reaction) = self.occupant.react(alloc, tables, &m)? else {
-            return Ok(None);
+        let reaction = match self.occupant.react(alloc, tables, &m) {
+            Ok(Some(reaction)) => reaction,
+            Ok(None) => return Ok(None),
+            Err(refused) => return Err(refused),
         };
         let Reaction {
             came_to,
@@ -222,25 +246,21 @@ impl ActorSlot {
             notes,
             commands,
         } = reaction;
-        let mut output = Output {
-            messages: Outbox::new(alloc),
-            notes,
-        };
-        let mut back = Recalled::new(alloc);
-        self.work(
-            alloc,
-            speaker,
-            services,
-            Some(m),
-            commands,
-            &mut output,
-            &mut back,
-        )?;
+        let mut doing = self.take_up(alloc, notes);
+        apply_all(alloc, speaker, services, Some(m), commands, &mut doing)?;
+        let Doing {
+            deferred,
+            output,
+            back,
+            kept: _,
+        } = doing;
+        self.deferred = deferred;
+        let Output { messages, notes } = output;
         Ok(Some(TurnResult {
-            sent: output.messages,
+            sent: messages,
             back: back.into_sequence(),
             did: did_of(came_to, speaker.who, state),
-            notes: output.notes,
+            notes,
         }))
     }
 
