@@ -2,11 +2,11 @@
 //! journals of a run tell; and draws pictures of models and of runs.
 //!
 //! `why MODEL [INJECT]`, `why MODEL INJECT JOURNALS [--fuel N]`, `doors MODEL`, `lint MODEL [INJECT]`, `story MODEL JOURNALS ..`, `outputs MODEL JOURNALS`,
-//! `end MODEL JOURNALS`, `explain MODEL INJECT JOURNALS MESSAGE`, `wiring MODEL [FORM]`, `chart MODEL CLASS [FORM]` and
-//! `run MODEL JOURNALS [FORM] ..` write a page to standard output; of a model that is refused all tell why. The status
+//! `end MODEL JOURNALS`, `explain MODEL INJECT JOURNALS MESSAGE`, `diff MODEL INJECT JOURNALS S1 S2`, `wiring MODEL [FORM]`,
+//! `wiring MODEL INJECT JOURNALS --at S [FORM]`, `chart MODEL CLASS [FORM]` and `run MODEL JOURNALS [FORM] ..` write a page to standard output; of a model that is refused all tell why. The status
 //! is that of `room` for these files: 0 where nothing is refused, 1 where the words have another form, or name what the
 //! model or the journals don't have, 2 where the model is refused, 3 where the injections or the journals are, 5 for
-//! want of memory, 6 where a file wasn't read, 7 where the page wasn't written, 8 where journals are unlawful.
+//! want of memory, 6 where a file wasn't read, 7 where the page or a note wasn't written, 8 where journals are unlawful.
 #![tactic(auto)]
 
 mod accepted;
@@ -30,7 +30,7 @@ use crate::messages::tell_message_of;
 use crate::pictures::{tell_picture, tell_run_picture};
 use crate::runs::{tell_end_of, tell_outputs_of, tell_story_of};
 use crate::texts::read_model;
-use crate::verdicts::tell_verdict_of;
+use crate::verdicts::{Asking, tell_journals};
 use crate::why::tell_model;
 use crate::words::{Asked, FORMS, Question, question_of};
 use room_outside::{OutSink, TextFile, read_file, write_whole};
@@ -119,7 +119,15 @@ fn tell(
         Asked::Doors => tell_doors(rt.alloc(), page, wiring)?,
         Asked::Lint(injections) => return tell_lint(rt, page, model, wiring, injections),
         Asked::Injections(name) => return tell_injections(rt, page, wiring, name),
-        Asked::Verdict(judgement) => return tell_verdict_of(rt, page, &accepted, judgement),
+        Asked::Journals(judgement) => {
+            let asking = Asking {
+                alloc: rt.alloc(),
+                model: &accepted,
+                text: model.text,
+                words,
+            };
+            return tell_journals(rt, page, asking, judgement);
+        }
         Asked::Story(name, options) => return tell_story_of(rt, page, &accepted, name, options),
         Asked::Explain(message) => return tell_message_of(rt, page, &accepted, message),
         Asked::End(name) => return tell_end_of(rt, page, &accepted, name),
@@ -134,11 +142,23 @@ fn tell(
     Ok(Status::Done)
 }
 
+/// Tells on standard error why there is no page, which ends with this status.
+fn refuse(rt: HostRuntime, note: &[u8], status: Status) -> Status {
+    match write_whole(&mut OutSink::errors(rt.stderr()), note) {
+        Ok(()) => status,
+        Err(_) => Status::WriteFault,
+    }
+}
+
+/// Tells that there was no memory for the work.
+fn without_memory(rt: HostRuntime) -> Status {
+    refuse(rt, b"room_view: memory\n", Status::Memory)
+}
+
 /// Writes a page: to standard error where the words are refused, and else to standard output.
 fn write_page(rt: HostRuntime, page: &Page, status: Status) -> Status {
     if status == Status::WordsRefused {
-        let _ = write_whole(&mut OutSink::errors(rt.stderr()), page.bytes());
-        return status;
+        return refuse(rt, page.bytes(), status);
     }
     match write_whole(&mut OutSink::output(rt.stdout()), page.bytes()) {
         Ok(()) => status,
@@ -148,15 +168,12 @@ fn write_page(rt: HostRuntime, page: &Page, status: Status) -> Status {
 
 /// Writes the page for words, of a model that may have been read before.
 fn work(rt: HostRuntime, words: &[String], model: Vec<TextFile>) -> Status {
-    let mut notes = OutSink::errors(rt.stderr());
     let Some(question) = question_of(words) else {
-        let _ = write_whole(&mut notes, FORMS);
-        return Status::WordsRefused;
+        return refuse(rt, FORMS, Status::WordsRefused);
     };
     let mut page = Page::new(rt.alloc());
     let Ok(status) = tell(rt, &mut page, words, question, model) else {
-        let _ = write_whole(&mut notes, b"room_view: memory\n");
-        return Status::Memory;
+        return without_memory(rt);
     };
     write_page(rt, &page, status)
 }
@@ -171,12 +188,12 @@ fn main(rt: HostRuntime) -> ExitCode {
         .as_ref()
         .map_or(stack_of(&[]), |model| stack_of(&model.1));
     let Ok(model) = model.into_iter().collect(rt.alloc()) else {
-        return ExitCode::from(Status::Memory.number());
+        return ExitCode::from(without_memory(rt).number());
     };
     let thread = Builder::new().stack_size(stack);
     let status = match thread.spawn(&rt, move || work(rt, &words, model)) {
         Ok(thread) => thread.join(&rt),
-        Err(_) => Status::Memory,
+        Err(_) => without_memory(rt),
     };
     ExitCode::from(status.number())
 }
