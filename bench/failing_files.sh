@@ -7,12 +7,13 @@
 # refused, and how often came
 #
 #   right      the answer that comes where nothing fails
-#   unread     status 6, no output, and `room: read fault`
+#   unread     status 6, no output, and `room: read fault`, or of a view a line that says which file
 #   unwritten  status 7, with a front of the right output and of the right notes
 #   !          anything else, which is told with the number of what was refused; the script then fails
 #
 # Then come a full device, closed streams and a pipe without a reader, for output and for notes; reads
-# and writes of one byte each; a reader that goes away; and files that can't be read.
+# and writes of one byte each; a reader that goes away; and files that can't be read. Where the program
+# `room_view` stands, the same is tried with each view; and with what the launcher itself tells, streams.
 #
 #   bench/failing_files.sh              all processors, some minutes
 #   LANES=1 bench/failing_files.sh      one call of the program at a time
@@ -27,9 +28,23 @@ judge_right() {
 
 judge_read() {
     if is_right "$1"; then echo right
-    elif is_refusal "$1" 6 'room: read fault'; then echo unread
+    elif is_unread "$1"; then echo unread
     else wrong "$1"
     fi
+}
+
+# Whether a file is told not to have been read, and nothing else; a view tells which one.
+is_unread() {
+    local word
+    if [ "$program" != "$views" ]; then
+        is_refusal "$1" 6 'room: read fault'
+        return
+    fi
+    [ "$status" = 6 ] && [ ! -s "$work/$1.notes" ] || return
+    for word in "${words[@]}"; do
+        [ "$(cat "$work/$1.out")" != "$word was not read" ] || return 0
+    done
+    return 1
 }
 
 judge_write() {
@@ -42,12 +57,11 @@ judge_line() {
 }
 
 # The program reads models and injections again where it couldn't read them beforehand. So a failing call
-# alone is told of journals only, and where all fail none of them is passed over, if all files are needed.
+# alone is told of other files only, and where all fail none of them is passed over, if all files are needed.
 judge_together() {
     local unwanted=
     case "$1 $2 ${words[0]:-} $right" in
-    'files alone convert '*) ;;
-    'files alone '*) unwanted=unread ;;
+    'files alone check '* | 'files alone tree '* | 'files alone run '*) [ "$program" = "$views" ] || unwanted=unread ;;
     'files behind '*' '[04]) unwanted=right ;;
     esac
     [ -z "$unwanted" ] || sed -i "s/ $unwanted\$/ ! $unwanted/" "$work/verdicts"
@@ -115,31 +129,87 @@ try_going_reader() {
     tell_verdicts 'a reader that goes away'
 }
 
+# The words of each command, with a path in the place of each file.
+words_with() {
+    local command at
+    while read -r -a command; do
+        for at in "${!command[@]}"; do
+            case "${command[at]}" in
+            model.room | inject.txt | out) echo "${command[*]:0:at}" "$1" "${command[*]:at + 1}" ;;
+            esac
+        done
+    done < <("$2")
+}
+
 # A file that can't be read, in the place of each: a folder, none, a pipe.
 try_unreadable() {
-    local path="$1"
-    for words in "check $path" "tree $path" "run $path inject.txt" "run model.room $path" \
-        "convert $path out" "convert model.room $path"; do
-        read -r -a words <<<"$words"
+    while read -r -a words; do
         status=0
         cat model.room | "$program" "${words[@]}" >"$work/stream.out" 2>"$work/stream.notes" || status=$?
-        if is_refusal stream 6 'room: read fault'; then echo '1 unread'; else echo "1 $(wrong stream)"; fi
-    done >"$work/verdicts"
-    words=("$path")
+        if is_unread stream; then echo '1 unread'; else echo "1 $(wrong stream)"; fi
+    done < <(words_with "$1" "$2") >"$work/verdicts"
+    words=("$1")
     tell_verdicts 'a file that is unreadable'
 }
 
+# The words of each view, on the same files.
+view_commands() {
+    echo why model.room
+    echo why model.room inject.txt
+    echo why model.room inject.txt out
+    echo doors model.room
+    echo lint model.room
+    echo lint model.room inject.txt
+    echo wiring model.room
+    echo wiring model.room --dot
+    echo run model.room out --svg
+    echo run model.room out --mermaid
+    echo story model.room out
+    echo end model.room out
+    echo outputs model.room out
+    echo explain model.room inject.txt out env@1
+}
+
+# Everything that is tried with the views.
+try_views() {
+    local program="$views" model case path
+    for model in runs/ping-pong runs/ping-pong-two-controllers; do
+        try_each "$top/cases/$model" view_commands
+        try_words "$top/cases/$model" chart model.room A
+    done
+    for case in chart-1 line-1-advance-alone unlawful-ended-quiet chart-without-a-class; do
+        mapfile -t case_words <"$top/cases/views/$case/words"
+        try_words "$top/cases/views/$case" "${case_words[@]}"
+    done
+    try_going_reader "$work/long" story model.room out
+    try_going_reader "$work/long" run model.room out --svg
+    cd "$top/cases/runs/ping-pong"
+    for path in . nowhere /dev/stdin; do try_unreadable "$path" view_commands; done
+}
+
+# The launcher's own pages, where streams go nowhere.
+try_launcher() {
+    local program="$top/room" word
+    cd "$top"
+    for word in --help --forms --version --manual nonsense; do
+        words=("$word")
+        status=0
+        run_words >"$work/right.out" 2>"$work/right.notes"
+        right="$status"
+        cat "$work/right.out" "$work/right.notes" >"$work/right.both"
+        try_streams
+    done
+}
+
+views="${ROOM_VIEW_PROGRAM:-$top/crates/room_view/out/room_view}"
 mkfifo "$work/pipe"
 exec {reader}<>"$work/pipe" {unread}>"$work/pipe" {reader}<&-
 begin_measuring
-for model in runs/ping-pong services/import-and-second-plug-refused runs/ping-pong-two-controllers; do
-    try_words "$top/cases/$model" check model.room
-    try_words "$top/cases/$model" tree model.room
-    try_words "$top/cases/$model" run model.room inject.txt
-    try_words "$top/cases/$model" convert model.room out
+for model in runs/ping-pong services/import-and-second-plug-refused runs/ping-pong-two-controllers timers/timer-expires; do
+    try_each "$top/cases/$model" commands
 done
 for case in examples/broken-chart-6 injections/injection-unknown-signal journals/cut-before-the-last-line-refused \
-    program/made-four program/fuel-of-zero-refused program/no-words-refused program/missing-injections \
+    verify/turn-missing program/made-four program/fuel-of-zero-refused program/no-words-refused program/missing-injections \
     program/run-without-injections-refused services/made-and-ended-spent-in-a-duty; do
     mapfile -t case_words <"$top/cases/$case/words"
     try_words "$top/cases/$case" "${case_words[@]}"
@@ -149,7 +219,11 @@ one_actor 'Transition i: initial -> A State A
 Transition k: A -> A { triggers { <kick: go> } action { "n = n + data;" } }' >"$work/long/model.room"
 kicks 1500 >"$work/long/inject.txt"
 try_words "$work/long" run model.room inject.txt
+"$program" run "$work/long/model.room" "$work/long/inject.txt" >"$work/long/out"
 try_going_reader "$work/long" run model.room inject.txt
+try_going_reader "$work/long" convert model.room out
 cd "$top/cases/runs/ping-pong"
-for path in . nowhere /dev/stdin; do try_unreadable "$path"; done
+for path in . nowhere /dev/stdin; do try_unreadable "$path" commands; done
+[ ! -x "$views" ] || try_views
+try_launcher
 tell_tried

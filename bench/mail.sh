@@ -1,8 +1,8 @@
 #!/usr/bin/env bash
 # How many messages a second each mailbox carries: from a controller to itself on one thread, and from
 # one controller to another, each in a thread. Beside them stands a plain Rust queue behind a lock, where
-# rustc is at hand. And what a mail of 32 controllers costs that is set up and closed: the first of a
-# program, which is given its memory by the system, and each of those that follow. Times of whole
+# rustc is at hand. And what a mail of 1, 8 and 32 controllers costs that is set up and closed: the first
+# of a program, which is given its memory by the system, and each of those that follow. Times of whole
 # programs, least of five. Words: how many messages; 2,000,000 without.
 set -eu
 . "$(dirname "${BASH_SOURCE[0]}")/timing.sh"
@@ -22,11 +22,13 @@ measure 'MailSeg, to itself' "$mail" seg self
 measure 'MailLanes, to another' "$mail" lanes other
 measure 'MailSeg, to another' "$mail" seg other
 
-none="$(best "$mail" lanes unused 0)"
-first="$(best "$mail" lanes unused 1)"
-all="$(best "$mail" lanes unused 101)"
-printf 'a mail of 32 controllers: the first %s ms, a later one %s ms\n' \
-    "$(ratio "$((first - none))" 1000 1)" "$(ratio "$((all - first))" 100000 2)"
+for controllers in 1 8 32; do
+    none="$(best "$mail" lanes "unused-$controllers" 0)"
+    first="$(best "$mail" lanes "unused-$controllers" 1)"
+    all="$(best "$mail" lanes "unused-$controllers" 101)"
+    printf 'a mail, controllers: %s: the first %s ms, a later one %s ms\n' "$controllers" \
+        "$(ratio "$((first - none))" 1000 1)" "$(ratio "$((all - first))" 100000 2)"
+done
 
 command -v rustc >/dev/null || exit 0
 cat >"$work/plain.rs" <<'RUST'

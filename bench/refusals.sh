@@ -14,10 +14,10 @@
 #   LANES=1 bench/refusals.sh      one call of the program at a time
 #   EACH=10 bench/refusals.sh      each tenth allocation
 #
-# The models are an exchange of two messages, an actor that is lent and given back, two service points
-# that meet by a name, and the exchange between two controllers, each with its own journal for `convert`;
-# then come calls that are refused anyway. A program that was compiled without proofs has an allocator of
-# its own, so no allocation of it is refused.
+# Each command is tried on an exchange of two messages, an actor that is lent to one place and refused to
+# another, two service points that meet by a name, the exchange between two controllers, and a timer that
+# expires; then come calls that are refused anyway. A program that was compiled without proofs has an
+# allocator of its own, so no allocation of it is refused.
 set -eu
 . "$(dirname "${BASH_SOURCE[0]}")/timing.sh"
 . "$top/bench/refusing.sh"
@@ -40,7 +40,7 @@ judge_together() {
 }
 
 try_words() {
-    ask "$top/cases/$1" "${@:2}"
+    ask "$@"
     sweep judge memory alone
     sweep judge memory behind
     sweep judge threads alone
@@ -49,15 +49,12 @@ try_words() {
 
 begin_measuring
 for model in runs/ping-pong services/import-and-second-plug-refused services/second-provider-of-a-name-refused \
-    runs/ping-pong-two-controllers; do
-    try_words "$model" check model.room
-    try_words "$model" tree model.room
-    try_words "$model" run model.room inject.txt
-    try_words "$model" convert model.room out
+    runs/ping-pong-two-controllers timers/timer-expires; do
+    try_each "$top/cases/$model" commands
 done
 for refused in examples/broken-chart-6 injections/injection-unknown-signal \
-    journals/cut-before-the-last-line-refused program/made-four program/fuel-of-zero-refused; do
+    journals/cut-before-the-last-line-refused verify/turn-missing program/made-four program/fuel-of-zero-refused; do
     mapfile -t refused_words <"$top/cases/$refused/words"
-    try_words "$refused" "${refused_words[@]}"
+    try_words "$top/cases/$refused" "${refused_words[@]}"
 done
 tell_tried

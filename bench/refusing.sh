@@ -6,6 +6,32 @@ each="${EACH:-1}"
 tried=0 otherwise=0
 gcc -O2 -shared -fPIC -o "$work/refusing.so" "$top/bench/shims/refusing.c"
 
+# The words of each command on the files of a case of `run`, one list of words a line: its model, its
+# injections, and as journals its output.
+commands() {
+    echo check model.room
+    echo tree model.room
+    echo run model.room inject.txt
+    echo convert model.room out
+    echo verify model.room inject.txt out
+    if knows_show; then echo show model.room inject.txt out --at 9; fi
+}
+
+# Tries each list of words that a function tells, in a folder.
+try_each() {
+    local command
+    while read -r -u 4 -a command; do
+        try_words "$1" "${command[@]}"
+    done 4< <("$2")
+}
+
+# Whether the program has the command `show`. It then misses the files.
+knows_show() {
+    local status=0
+    "$program" show nowhere nowhere nowhere --at 0 >/dev/null 2>&1 || status=$?
+    [ "$status" != 1 ]
+}
+
 # The folder and the words of the answers that follow. The right answer is the one where nothing is
 # refused: `right` is its status, and its output and notes stand in `right.out` and `right.notes`.
 ask() {

@@ -1,10 +1,10 @@
 #!/usr/bin/env bash
 # Whether runs in which very much happens at once end well on a busy machine: each storm again and
 # again, beside a load on every processor. Each run must end with its status and without a note, its
-# journals must be read back by `convert` as the same bytes, and fit what is asked of them below (in the
-# form of `out.lines` in cases/README.md, or byte for byte where only one is right). A row tells the
-# storm, its runs, how many came out otherwise, and how many journals differed; the journals of a run
-# that came out otherwise are kept, and the script fails.
+# journals must be lawful by `verify`, be read back by `convert` as the same bytes, and fit what is asked
+# of them below (in the form of `out.lines` in cases/README.md, or byte for byte where only one is right).
+# A row tells the storm, its runs, how many came out otherwise, and how many journals differed; the
+# journals of a run that came out otherwise are kept, and the script fails.
 #
 #   bench/storms.sh             each storm 200 times, beside one busy loop for each processor
 #   RUNS=10 bench/storms.sh     10 times
@@ -117,7 +117,8 @@ MODEL
 }
 
 # What is wrong with the journals in `journals`, beyond what is asked of them line by line: whatever is
-# handed on keeps its order; whoever is spent has taken just as many turns as the fuel allows.
+# handed on keeps its order; whoever is spent has taken just as many turns as the fuel allows. The file
+# `within` is there once the fuel ended between the wish that the actor ends and the news that it did.
 judge_lines() {
     awk '$2 == "post" && $5 != "-" { if (from == $5 && $NF <= last) print "out of order: " $0; from = $5; last = $NF }' \
         "$storm/journals"
@@ -126,11 +127,15 @@ judge_lines() {
 judge_spent() {
     awk -v fuel="$1" '/^controller 0 / { own = 1 } /^controller 1 / { own = 0 } own && $2 == "turn" { turns++ }
         END { if (turns != fuel) print turns " turns, fuel " fuel; if ($0 != "spent") print "not spent" }' "$storm/journals"
+    if awk '$2 == "post" && $NF == "Destroy" { wished++ } $2 == "post" && $7 == "destroyed" { ended++ }
+        END { exit wished == ended }' "$storm/journals"; then
+        : >"$storm/within"
+    fi
 }
 
 # What is wrong with one run of a storm; nothing where it is well. `fuel` is that of the run.
 try_run() {
-    local status=0 expected=0 words=(run "$storm/model.room" "$storm/inject.txt")
+    local status=0 expected=0 verdict words=(run "$storm/model.room" "$storm/inject.txt")
     case "$1" in
     spent) expected=4 fuel=$((40 + $2 % 24)) words+=(--fuel "$fuel") ;;
     esac
@@ -143,6 +148,8 @@ try_run() {
     lines) judge_lines ;;
     esac
     "$program" convert "$storm/model.room" "$storm/journals" 2>&1 | cmp - "$storm/journals" 2>&1 || true
+    verdict="$("$program" verify "$storm/model.room" "$storm/inject.txt" "$storm/journals" "${words[@]:3}" 2>&1 || true)"
+    [ "$verdict" = lawful ] || echo "$verdict"
 }
 
 # Keeps what a run came to that is otherwise, and says why.
@@ -162,6 +169,10 @@ try_storm() {
         failed=$((failed + 1))
         keep "$1" "$number"
     done
+    if [ "$1" = spent ] && [ ! -e "$storm/within" ]; then
+        failed=$((failed + 1))
+        echo '    no run was spent while the actor ended'
+    fi
     printf '%-8s %6s %10s %14s\n' "$1" "$runs" "$failed" "$(sort -u "$storm/sums" | wc -l)"
     otherwise=$((otherwise + failed))
 }

@@ -2,13 +2,15 @@
 
 use std::fs::{self, File};
 use std::os::unix::process::ExitStatusExt;
-use std::path::PathBuf;
+use std::path::{Path, PathBuf};
 use std::process::{Child, Command, ExitStatus, Stdio};
 
 /// A folder in which one call after another is made.
 pub struct Lane {
     pub folder: PathBuf,
     pub program: PathBuf,
+    /// The program of the views, if they are tried.
+    pub views: Option<PathBuf>,
     pub library: PathBuf,
 }
 
@@ -30,9 +32,13 @@ impl Lane {
     }
 
     pub fn answer(&self, words: &[String]) -> Answer {
+        self.answer_of(&self.program, words)
+    }
+
+    pub fn answer_of(&self, program: &Path, words: &[String]) -> Answer {
         let [told, out, notes] = ["told", "out", "notes"].map(|name| self.folder.join(name));
         let create = |path: &PathBuf| File::create(path).expect("the folder of a lane can be written");
-        let child = Command::new(&self.program)
+        let child = Command::new(program)
             .args(words)
             .current_dir(&self.folder)
             .env("LD_PRELOAD", &self.library)

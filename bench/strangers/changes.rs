@@ -10,7 +10,7 @@ const RARE: &[&str] = &[
     "4294967296", "9223372036854775807", "9223372036854775808", "99999999999999999999", "00", "frame", "data", "place", "self",
     "int8", "int32", "boolean", "imported", "optional", "fixed", "conjugated", "external", "extends", "initial", "my", "cp", "of",
     "{", "}", "(", ")", "[", "]", "<", ">", ":", ",", ".", "*", "-", "=", "|", "/", ";", "->", "==", "&&", "||", "\"", "'''", "/*",
-    "*/", "//", "\"defer;\"", "\"recallAll;\"", "\"repeat 255 { repeat 255 { } }\"", "\"1 / 0\"", "settle", "at panic", "done", "spent",
+    "*/", "//", "\"defer;\"", "\"recallAll;\"", "\"repeat 255 { repeat 255 { } }\"", "\"1 / 0\"", "settle", "advance 3", "at panic", "done", "spent",
     "environment", "env@1", "note zero", "\n", "\r\n", "\t", "\0", "\u{e9}",
 ];
 
@@ -195,6 +195,11 @@ fn change_bytes(random: &mut Random, text: &mut Text) {
         }
         _ => text.truncate(at),
     }
+}
+
+/// Whether a line of injections moves the time on.
+pub fn moves_time(injections: &[u8]) -> bool {
+    injections.split(|byte| *byte == b'\n').any(|line| line.trim_ascii_start().starts_with(b"advance"))
 }
 
 /// One part of a model again and again, each with a name of its own, until the text has so many bytes.

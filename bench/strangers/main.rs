@@ -1,16 +1,20 @@
 //! Strangers: texts that nobody wrote. Makes and changes models, injections and journals from a seed, calls
 //! the program on them, and tells each answer that is wrong. bench/strangers.sh says what is asked of them.
-//! usage: strangers PROGRAM LIBRARY FOLDER KEPT SEED FIRST COUNT LANES SLOWER <SEEDS
-//! A line of SEEDS is `model FILE`, `run MODEL INJECTIONS` or `convert MODEL JOURNALS`, with tabs between.
+//! usage: strangers PROGRAM VIEWS LIBRARY FOLDER KEPT SEED FIRST COUNT LANES SLOWER <SEEDS
+//! VIEWS is the program of the views, or empty. A line of SEEDS is `model FILE`, `run MODEL INJECTIONS` or
+//! `journals MODEL INJECTIONS JOURNALS`, with tabs between; the injections may be missing (`-`).
 
 mod calls;
 mod changes;
+mod costs;
 mod judging;
 mod making;
 mod random;
+mod views;
 
 use calls::{Answer, Lane};
-use judging::{Limits, Named, judge, judge_cost};
+use costs::{Limits, judge_cost};
+use judging::{Named, judge};
 use random::Random;
 use std::collections::BTreeMap;
 use std::path::PathBuf;
@@ -25,7 +29,8 @@ type Text = Vec<u8>;
 struct Seeds {
     models: Vec<Text>,
     injections: Vec<(Text, Text)>,
-    journals: Vec<(Text, Text)>,
+    /// Models, their injections, and journals.
+    journals: Vec<(Text, Text, Text)>,
 }
 
 /// What is shared by all lanes.
@@ -55,7 +60,9 @@ fn read_seeds() -> Seeds {
         match line.split('\t').collect::<Vec<&str>>().as_slice() {
             ["model", model] => seeds.models.push(read(model)),
             ["run", model, injections] => seeds.injections.push((read(model), read(injections))),
-            ["convert", model, journals] => seeds.journals.push((read(model), read(journals))),
+            ["journals", model, injections, journals] => {
+                seeds.journals.push((read(model), read(injections), read(journals)));
+            }
             _ => eprintln!("a line of seeds has another form: {line}"),
         }
     }
@@ -110,7 +117,7 @@ impl Stranger<'_> {
     /// What the commands answer of a model; the tree of an accepted one. They agree on a refusal.
     fn ask_of_model(&self, model: &[u8]) -> Option<Text> {
         self.lane.put("model", model);
-        let named = Named { model, second: &[] };
+        let named = Named { model, ..Named::default() };
         let tree = self.ask(&["tree", "model"], &named, &[]);
         let check = self.ask(&["check", "model"], &named, &tree.out);
         if check.status != tree.status || check.notes != tree.notes {
@@ -123,27 +130,45 @@ impl Stranger<'_> {
         (tree.status == Some(0)).then_some(tree.out)
     }
 
-    /// A run, whose journals are read back as they are.
-    fn ask_for_run(&self, model: &[u8], injections: &[u8], tree: Option<&[u8]>, fuel: usize) {
+    /// A run, whose journals are read back as they are, and are lawful where time doesn't move. Gives these.
+    fn ask_for_run(&self, model: &[u8], injections: &[u8], tree: Option<&[u8]>, fuel: usize) -> Option<Text> {
         self.lane.put("model", model);
         self.lane.put("inject", injections);
         let fuel = fuel.to_string();
-        let named = Named { model, second: injections };
+        let named = Named { model, injections, journals: &[] };
         let run = self.ask(&["run", "model", "inject", "--fuel", &fuel], &named, tree.unwrap_or_default());
         if tree.is_some() && run.status == Some(2) {
             self.tell("run refuses what tree accepts");
         }
         self.count(format!("{}, run: {}", self.kind, summary(&run)));
-        if matches!(run.status, Some(0 | 4)) && self.ask_for_journals(model, &run.out, "run, convert") != Some(run.out) {
+        if !matches!(run.status, Some(0 | 4)) {
+            return None;
+        }
+        if self.ask_for_journals(model, &run.out, "run, convert").as_ref() != Some(&run.out) {
             self.tell("a run's journals aren't read back");
         }
+        let verdict = self.ask_for_verdict(&Named { journals: &run.out, ..named }, &fuel, "run, verify");
+        match verdict.status {
+            Some(0) => {}
+            Some(3) if changes::moves_time(injections) => {}
+            _ => self.tell("a run's journals aren't lawful"),
+        }
+        Some(run.out)
+    }
+
+    /// What is judged of journals, which stand in their file.
+    fn ask_for_verdict(&self, named: &Named, fuel: &str, how: &str) -> Answer {
+        self.lane.put("inject", named.injections);
+        let answer = self.ask(&["verify", "model", "inject", "journals", "--fuel", fuel], named, &[]);
+        self.count(format!("{}, {how}: {}", self.kind, summary(&answer)));
+        answer
     }
 
     /// What is converted of journals: those in form 2 stay as they are, and so does what comes out.
     fn ask_for_journals(&self, model: &[u8], journals: &[u8], how: &str) -> Option<Text> {
         self.lane.put("model", model);
         self.lane.put("journals", journals);
-        let named = Named { model, second: journals };
+        let named = Named { model, journals, ..Named::default() };
         let answer = self.ask(&["convert", "model", "journals"], &named, &[]);
         self.count(format!("{}, {how}: {}", self.kind, summary(&answer)));
         if answer.status != Some(0) {
@@ -155,10 +180,11 @@ impl Stranger<'_> {
             }
         } else {
             self.lane.put("journals", &answer.out);
-            let again = self.ask(&["convert", "model", "journals"], &Named { model, second: &answer.out }, &[]);
+            let again = self.ask(&["convert", "model", "journals"], &Named { journals: &answer.out, ..named }, &[]);
             if again.out != answer.out {
                 self.tell("what was converted is converted to others");
             }
+            self.lane.put("journals", journals);
         }
         Some(answer.out)
     }
@@ -194,10 +220,12 @@ impl Stranger<'_> {
             }
         }
         let tree = self.ask_of_model(&model);
+        let mut journals = None;
         if tree.is_some() || random.percent(5) {
             let fuel = 1 + random.below(60);
-            self.ask_for_run(&model, &injections, tree.as_deref(), fuel);
+            journals = self.ask_for_run(&model, &injections, tree.as_deref(), fuel);
         }
+        self.ask_for_views(random, &Named { model: &model, injections: &injections, journals: &[] }, tree.is_some(), journals);
     }
 
     fn made_model(&mut self, random: &mut Random) {
@@ -211,7 +239,9 @@ impl Stranger<'_> {
         if let Some(tree) = self.ask_of_model(&model) {
             let injections = making::injections(random, &String::from_utf8_lossy(&tree));
             let fuel = 1 + random.below(60);
-            self.ask_for_run(&model, injections.as_bytes(), Some(&tree), fuel);
+            let journals = self.ask_for_run(&model, injections.as_bytes(), Some(&tree), fuel);
+            let named = Named { model: &model, injections: injections.as_bytes(), journals: &[] };
+            self.ask_for_views(random, &named, true, journals);
         }
     }
 
@@ -228,10 +258,15 @@ impl Stranger<'_> {
     fn changed_journals(&mut self, random: &mut Random) {
         self.kind = "changed journals";
         let seeds = &self.search.seeds;
-        let (model, mut journals) = one(random, &seeds.journals).clone();
-        let other = if random.percent(50) { journals.clone() } else { one(random, &seeds.journals).1.clone() };
+        let (model, injections, mut journals) = one(random, &seeds.journals).clone();
+        let other = if random.percent(50) { journals.clone() } else { one(random, &seeds.journals).2.clone() };
         changes::change_lines(random, &mut journals, &other);
-        self.ask_for_journals(&model, &journals, "convert");
+        let are_read = self.ask_for_journals(&model, &journals, "convert").is_some();
+        let named = Named { model: &model, injections: &injections, journals: &journals };
+        let verdict = self.ask_for_verdict(&named, "10000", "verify");
+        if matches!(verdict.status, Some(0 | 8)) && !are_read || verdict.status == Some(9) && are_read {
+            self.tell("convert and verify differ");
+        }
     }
 
     /// Words that nobody would write, over files that are there.
@@ -242,17 +277,16 @@ impl Stranger<'_> {
         self.lane.put("inject", &injections);
         self.lane.put("journals", b"");
         let count = 1 + random.below(6);
-        let some = ["run", "check", "tree", "convert", "made", "--fuel", "model", "model", "inject", "3", "0", "007", "-1", "", "--", "é", "100001"];
+        let some = ["run", "check", "tree", "convert", "verify", "show", "--at", "made", "--fuel", "model", "model", "inject", "3", "0", "007", "-1", "", "--", "é", "100001"];
         let all: Vec<&str> = (0..count).map(|_| some[random.below(some.len())]).collect();
         let answer = self.lane.answer(&words(&all));
-        let second = if all[0] == "convert" { Vec::new() } else { injections };
         let told = if all.contains(&"inject") || !matches!(answer.status, Some(1 | 6)) {
             // What the second file is can't be told here of each list of words.
             answer.signal.map(|signal| format!("signal {signal}"))
         } else if answer.status == Some(6) {
             (answer.notes != b"room: read fault\n" || !answer.out.is_empty()).then(|| "notes of status 6".to_string())
         } else {
-            judge("", &answer, &Named { model: &model, second: &second })
+            judge("", &answer, &Named { model: &model, injections: &injections, journals: &[] })
         };
         if let Some(what) = told {
             self.tell(&format!("{what} of {}", all.join(" ")));
@@ -272,35 +306,30 @@ impl Stranger<'_> {
     }
 }
 
-/// What the smallest model takes; anything may take as much.
-fn least_cost(lane: &Lane) -> (u64, u64) {
-    lane.put("model", b"RoomModel M { LogicalSystem L { SubSystemRef s: S } SubSystemClass S { ActorRef a: A } ActorClass A { } }");
-    lane.put("inject", b"");
-    let run = lane.answer(&words(&["run", "model", "inject"]));
-    (run.most, run.microseconds)
-}
-
-fn lane(folder: &str, number: u64, program: &str, library: &str) -> Lane {
+/// A lane in a folder of its own, for the programs and the library of these names.
+fn lane(folder: &str, number: u64, [program, views, library]: [&str; 3]) -> Lane {
     let folder = PathBuf::from(folder).join(format!("lane.{number}"));
     fs::create_dir_all(&folder).expect("the folder can be written");
-    Lane { folder, program: program.into(), library: library.into() }
+    let views = (!views.is_empty()).then(|| views.into());
+    Lane { folder, program: program.into(), views, library: library.into() }
 }
 
 fn main() {
     let given: Vec<String> = env::args().skip(1).collect();
-    let [program, library, folder, kept, numbers @ ..] = given.as_slice() else {
+    let [program, views, library, folder, kept, numbers @ ..] = given.as_slice() else {
         panic!("too few words");
     };
+    let files: [&str; 3] = [program, views, library];
     let numbers: Vec<u64> = numbers.iter().map(|word| word.parse().expect("a number")).collect();
     let [seed, first, count, lanes, slower] = numbers[..] else {
         panic!("another number of numbers");
     };
-    let (memory, microseconds) = least_cost(&lane(folder, 0, program, library));
-    println!("the smallest model takes {memory} bytes, {microseconds} microseconds");
+    let limits = Limits::measure(&lane(folder, 0, files), slower);
+    limits.tell();
     let search = Search {
         seeds: read_seeds(),
         seed,
-        limits: Limits { memory: memory + 100_000, microseconds: microseconds * 4 + 50_000, slower },
+        limits,
         kept: kept.into(),
         seen: Mutex::default(),
         wrong: AtomicU64::new(0),
@@ -308,7 +337,7 @@ fn main() {
     let next = AtomicU64::new(first);
     thread::scope(|scope| {
         for number in 0..lanes {
-            let lane = lane(folder, number, program, library);
+            let lane = lane(folder, number, files);
             let (search, next) = (&search, &next);
             scope.spawn(move || {
                 loop {

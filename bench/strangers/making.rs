@@ -17,6 +17,8 @@ enum Role {
     Inner,
     Access,
     Provision,
+    /// An access point of the timing service.
+    Timer,
 }
 
 #[derive(Clone)]
@@ -48,12 +50,18 @@ struct Maker<'a> {
     text: String,
 }
 
+/// What the timing service consists of, which few models use.
+const TIMING: &str = "ProtocolClass PTimer { incoming { Message startTimer(int32) Message killTimer() } outgoing { Message timeout() } }
+ActorClass TimingService { Interface { SPP timer: PTimer } }
+";
+
 /// A model.
 pub fn model(random: &mut Random) -> String {
     let protocols = (0..1 + random.below(3)).map(|_| protocol(random)).collect();
     let mut maker = Maker { random, protocols, classes: Vec::new(), text: String::new() };
     maker.text.push_str("RoomModel M {\nLogicalSystem L { SubSystemRef s: S }\n");
     maker.write_protocols();
+    maker.text.push_str(TIMING);
     for _ in 0..2 + maker.random.below(4) {
         maker.make_class();
     }
@@ -72,8 +80,8 @@ pub fn injections(random: &mut Random, tree: &str) -> String {
     let paths: Vec<&str> = tree.lines().filter_map(|line| line.strip_prefix("slot ")?.split(' ').nth(3)).collect();
     let mut text = String::new();
     for number in 0..random.below(12) {
-        if paths.is_empty() || random.percent(12) {
-            text.push_str(random.one_of(&["settle\n", "\n", "# nothing\n"]));
+        if paths.is_empty() || random.percent(15) {
+            text.push_str(random.one_of(&["settle\n", "\n", "# nothing\n", "advance 1\n", "advance 5\n", "advance 9\n"]));
             continue;
         }
         let priority = random.one_of(&["", "", "", " at low", " at panic", " at high", " at background"]);
@@ -123,6 +131,9 @@ impl Maker<'_> {
         if self.random.percent(25) {
             ports.push(self.port("v".into(), Role::Provision));
         }
+        if self.random.percent(15) {
+            ports.push(Port { name: "tm".into(), protocol: 0, conjugated: true, role: Role::Timer, bound: true });
+        }
         ports.push(Port { name: "go".into(), protocol: 0, conjugated: false, role: Role::Inner, bound: true });
         let references = self.references();
         let mut class = Class { ports, references };
@@ -159,18 +170,34 @@ impl Maker<'_> {
                 Role::Provision => write!(interface, " SPP {name}: P{protocol}"),
                 Role::Inner => write!(structure, " {conjugated}Port {name}: P{protocol}"),
                 Role::Access => write!(structure, " SAP {name}: P{protocol}"),
+                Role::Timer => write!(structure, " SAP {name}: PTimer"),
             };
         }
         for reference in &class.references {
             let index = ["", "", "[2]", "[3]"][self.random.below(4)];
             let _ = write!(structure, " {}ActorRef {}{index}: A{}", reference.kind, reference.name, reference.class);
         }
+        structure.push_str(&self.timing(class));
         let bindings = self.bindings(class);
         let _ = writeln!(self.text, "Interface {{{interface} }}\nStructure {{{structure} Attribute n: int32 Attribute m: uint8 = 3{bindings} }}");
         if self.random.percent(90) {
             self.write_chart(class);
         }
         self.text.push_str("}\n");
+    }
+
+    /// The timing service of what a class has within; what stands deeper goes without it now and then.
+    fn timing(&mut self, class: &Class) -> String {
+        let uses = |reference: &&Reference| self.classes[reference.class].ports.iter().any(|port| port.role == Role::Timer);
+        let users: Vec<&Reference> = class.references.iter().filter(uses).filter(|user| user.kind != "imported ").collect();
+        if users.is_empty() {
+            return String::new();
+        }
+        let mut text = " ActorRef ts: TimingService".to_string();
+        for user in users {
+            let _ = write!(text, " LayerConnection ref {} satisfied_by ts.timer", user.name);
+        }
+        text
     }
 
     /// Bindings of ports that fit each other and aren't bound yet; hardly ever of others.
@@ -229,6 +256,9 @@ impl Maker<'_> {
             return (format!("{}: frame", names[at]), [3, 3, 3, 3, 3, 3, 1, 1, 2][at]);
         }
         let port = ends[self.random.below(ends.len())];
+        if port.role == Role::Timer {
+            return ("timeout: tm".into(), 0);
+        }
         let protocol = &self.protocols[port.protocol];
         let (letter, numbers) = if port.conjugated { ('b', &protocol.outgoing) } else { ('a', &protocol.incoming) };
         let at = self.random.below(numbers.len());
@@ -261,6 +291,9 @@ impl Maker<'_> {
     fn send(&mut self, class: &Class) -> String {
         let ends: Vec<&Port> = class.ports.iter().filter(|port| port.role != Role::Relay).collect();
         let port = ends[self.random.below(ends.len())];
+        if port.role == Role::Timer {
+            return self.random.one_of(&["tm.startTimer(n);", "tm.startTimer(3);", "tm.startTimer(1);", "tm.killTimer();"]).into();
+        }
         let protocol = &self.protocols[port.protocol];
         let (letter, numbers) = if port.conjugated { ('a', &protocol.incoming) } else { ('b', &protocol.outgoing) };
         let at = self.random.below(numbers.len());

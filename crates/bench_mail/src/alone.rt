@@ -65,14 +65,13 @@ where
     carry(alloc, end, &mut office, 0, b, count)
 }
 
-/// The parties of the largest mail of a run: 32 controllers and the environment.
-const MOST_PARTIES: u8 = 33;
-
-/// Sets up so many mails of the most parties and closes them; how many messages were left.
-pub(crate) fn unused<M: Mail>(alloc: Global, count: u64) -> Result<u64, AllocError> {
+/// Sets up so many mails of so many parties and closes them; how many messages were left.
+pub(crate) fn unused<M: Mail>(alloc: Global, parties: u8, count: u64) -> Result<u64, AllocError>
+    requires { 1 < parties }
+{
     let mut came = 0u64;
     for _mail in 0..count {
-        let left = close_unused::<M>(alloc, MOST_PARTIES)?;
+        let left = close_unused::<M>(alloc, parties)?;
         for list in &left {
             came = came.wrapping_add(list.len() as u64);
         }

@@ -1,8 +1,8 @@
 //! Carries messages through one mailbox, so that this can be timed: `bench_mail MAILBOX TO COUNT`.
 //! MAILBOX is `local`, `lanes` or `seg`. TO is `self`, where a controller sends to itself, or `other`,
 //! where one controller sends to another, each in a thread; `local` is the mail of one thread and has
-//! `self` alone. Prints how many of the COUNT messages came. With `lanes unused COUNT` it sets up and
-//! closes so many mails of 32 controllers, in which no message comes.
+//! `self` alone. Prints how many of the COUNT messages came. With `lanes unused-N COUNT`, where N is 1, 8
+//! or 32, it sets up and closes so many mails of N controllers, in which no message comes.
 #![tactic(auto)]
 
 mod alone;
@@ -43,7 +43,9 @@ fn main(rt: HostRuntime) -> io::Result<()> {
         ("local", "self") => alone::<MailLocal>(alloc, OWN_BOX, count),
         ("lanes", "self") => alone::<MailLanes>(alloc, OWN_BOX, count),
         ("lanes", "other") => two::<MailLanes, _>(&rt, alloc, FIRST_BOX, count),
-        ("lanes", "unused") => unused::<MailLanes>(alloc, count),
+        ("lanes", "unused-1") => unused::<MailLanes>(alloc, 2, count),
+        ("lanes", "unused-8") => unused::<MailLanes>(alloc, 9, count),
+        ("lanes", "unused-32") => unused::<MailLanes>(alloc, 33, count),
         ("seg", "self") => shared_alone(&rt, alloc, count),
         ("seg", "other") => shared_two(&rt, alloc, count),
         _ => return println!(rt; "no such mailbox, or none that sends so"),

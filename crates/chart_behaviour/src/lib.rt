@@ -6,7 +6,12 @@
 //! contract is the law.
 #![tactic(auto)]
 
+pub mod chart_defers;
+pub mod sends;
+
 ghost use Rattle.chart_behaviour.specs.Laws.{MachinesBegin, MachinesHandle, ChartsAreModest, ChartsAskOnly, ChartsAreOpen, ChartsAreStatic};
+
+pub use chart_defers::charts_tell_defers;
 
 /// Machines that run tables do what the behaviour says: at their start, and at each message.
 pub fn machines_behave()
@@ -27,7 +32,3 @@ pub fn charts_ask_only()
     ensures openly { ChartsAreOpen }
     ensures statically { ChartsAreStatic }
 {}
-
-pub mod chart_defers;
-
-pub use chart_defers::charts_tell_defers;

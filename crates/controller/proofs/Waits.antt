@@ -15,8 +15,8 @@ use Rattle.controller_mail.specs.Laws.{first_mail}
 use Rattle.controller_mail.specs.Steps.{TakesNext, EndsTurn}
 use Rattle.controller_mail.specs.Within.{AreWithin, WaitsWithin}
 use Rattle.controller_mail.proofs.Waiting.{take_waits, end_waits}
-use Rattle.law_sends.specs.Sends.{is_ranked}
-use Rattle.law_sends.proofs.Turning.{turns_send_within, starts_send_within}
+use Rattle.chart_behaviour.specs.sends.Sends.{is_ranked}
+use Rattle.chart_behaviour.proofs.sends.Turning.{turns_send_within, starts_send_within}
 use Rattle.controller_actors.specs.Plants.{model_of}
 use Rattle.controller_actors.specs.declared.plant.Plant.{Plant}
 

@@ -17,7 +17,7 @@ use Rattle.actor_world.specs.Behaviour.{Behaviour}
 use Rattle.actor_world.specs.Body.{Body, Doing}
 use Rattle.actor_world.specs.Start.{Starting as WorldStarting, all_started, started, starting, first_state, start_entries, first_body, first_frame, first_lives, first_links, first_actors, lives_from_start}
 use Rattle.chart_behaviour.specs.ModelCharts.{Actor, tables_at, begins, state_number}
-use Rattle.controller_commands.proofs.command_sends.Broadcasting.{range-more}
+use Rattle.controller_actors.proofs.actor_commands.command_sends.Broadcasting.{range-more}
 use Rattle.controller_mail.specs.MailState.{IsForActors}
 use Rattle.frame_service.specs.State.{frame_in}
 use Rattle.controller_actors.specs.Served.{Serves, links_in}

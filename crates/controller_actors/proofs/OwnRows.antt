@@ -11,7 +11,7 @@ use Rattle.room_wiring.specs.declared.slot.Slot.{Slot}
 use Rattle.room_wiring.specs.Slots.{slot_at as wiring_slot_at}
 use Rattle.actor_duties.specs.Words.{is_own, owner_of}
 use Rattle.actor_world.proofs.Slots.{own_in_range}
-use Rattle.controller_commands.proofs.command_sends.Broadcasting.{range-more}
+use Rattle.controller_actors.proofs.actor_commands.command_sends.Broadcasting.{range-more}
 use Rattle.controller_actors.specs.Rows.{own_below, slot_rows}
 use Rattle.controller_actors.specs.declared.actor_slots.actor_slot.ActorSlot.{ActorSlot}
 use Rattle.controller_actors.specs.Bodies.{slot_at, vacant}

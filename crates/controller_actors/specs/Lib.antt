@@ -7,3 +7,4 @@ pub mod Bodies
 pub mod Steps
 pub mod Seen
 pub mod actor_slots
+pub mod actor_commands

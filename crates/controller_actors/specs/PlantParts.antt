@@ -13,7 +13,7 @@ use Rattle.service_messages.specs.slot_runs.Runs.{IsDepthFirst, IsRunEnd, AreRun
 use Rattle.frame_service.specs.frame_imports.Numbered.{ArePortsNumbered}
 use Rattle.chart_behaviour.specs.Asked.{ClassesAsk}
 use Rattle.chart_behaviour.specs.chart_asks.Asking.{StatementAsks, ProgramAsks, BranchesAsk, ArrowAsks, GoesOn, TablesAsk}
-use Rattle.law_sends.specs.Sends.{OwnersAreThere, is_ranked}
+use Rattle.chart_behaviour.specs.sends.Sends.{OwnersAreThere, is_ranked}
 
 -- a wiring and tables on which controllers run: there are 1 to 254 of them, so that they and the environment
 -- have numbers of 8 bits; the tables are sound, and their programs send at the six priorities; the slots are

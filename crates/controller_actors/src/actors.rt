@@ -8,11 +8,11 @@ ghost use Rattle.controller_actors.specs.Plants.{model_of};
 ghost use Rattle.controller_actors.specs.Bodies.{HasSlots, IsWell, body_of, done_of, lives_of};
 ghost use Rattle.controller_actors.specs.Steps.{ActorsBegin, Dispatches, IsLast};
 
+use crate::actor_commands::{Recalled, Speaker};
 use crate::actor_slots::{ActorSlot, Entrance};
 use crate::plant::Plant;
 use crate::services::ActorServices;
 use crate::start::start;
-use controller_commands::{Recalled, Speaker};
 use controller_mail::TurnResult;
 use journal::{Did, Journal};
 use layer_service::NameService;

@@ -5,9 +5,9 @@ ghost use Rattle.controller_actors.specs.Plants.{model_of};
 ghost use Rattle.controller_actors.specs.Bodies.{AreEmpty, HasSlots, lives_of};
 ghost use Rattle.controller_actors.specs.Steps.{IsLast, IsOwn, IsVacated, Moves, StayEmpty};
 
+use crate::actor_commands::{Output, Recalled, Speaker};
 use crate::actors::Actors;
 use crate::plant::Plant;
-use controller_commands::{Output, Recalled, Speaker};
 use room_kinds::{ControllerId, Incarnation, Note};
 use std::alloc::AllocError;
 

@@ -10,10 +10,10 @@ ghost use Rattle.controller_actors.specs.Bodies.{AreEmpty, HasSlots, IsWell, bod
 ghost use Rattle.controller_actors.specs.Steps.{Closes, IsLast, IsOwn};
 ghost use Rattle.controller_actors.specs.Duties.{Finishes, HasDuty, service_of};
 
+use crate::actor_commands::{Output, Recalled};
 use crate::actors::Actors;
 use crate::changes::SoFar;
 use crate::plant::Plant;
-use controller_commands::{Output, Recalled};
 use controller_mail::TurnResult;
 use frame_lives::DutyDone;
 use journal::Did;

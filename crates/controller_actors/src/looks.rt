@@ -9,10 +9,10 @@ ghost use Rattle.chart_behaviour.specs.ModelCharts.{state_number};
 ghost use Rattle.controller_actors.specs.Bodies.{IsWell, body_of, slot_at, vacant};
 ghost use Rattle.controller_actors.specs.Seen.{attributes_of};
 
+use crate::actor_commands::Services;
 use crate::actor_slots::ActorSlot;
 use crate::actors::Actors;
 use crate::plant::Plant;
-use controller_commands::Services;
 use room_kinds::{ControllerId, Endpoint, Generation, Incarnation, Msg, PlaceState, SlotId};
 use service_messages::is_own;
 

@@ -2,7 +2,7 @@
 ghost use Rattle.frame_service.specs.State.{frame_in};
 ghost use Rattle.controller_actors.specs.Served.{Serves, links_in};
 
-use controller_commands::Services;
+use crate::actor_commands::Services;
 use frame_service::FrameState;
 use layer_service::Links;
 use room_kinds::{ControllerId, Endpoint, FrameCommand, Incarnation, NameCommand, Outbox, SlotId};

@@ -5,12 +5,12 @@ ghost use Rattle.controller_actors.specs.Plants.{model_of};
 ghost use Rattle.controller_actors.specs.Bodies.{HasSlots, IsWell, body_of, vacant, lives_of};
 ghost use Rattle.controller_actors.specs.Steps.{IsLast, Starts, StartsIn, first_below, first_in};
 
+use crate::actor_commands::{Output, Recalled};
 use crate::actor_slots::{ActorSlot, Entrance};
 use crate::actors::{Actors, Begun};
 use crate::plant::Plant;
 use crate::services::ActorServices;
 use crate::slot_rows::own_count;
-use controller_commands::{Output, Recalled};
 use frame_service::FrameState;
 use journal::{Entry, Journal};
 use layer_service::{Links, NameService};

@@ -1,5 +1,5 @@
 -- An end after a step on one lane.
-use Rattle.std.proofs.Common.{◌≡◌, ◌≢◌, ℕ, ◌+◌, ◌*◌, ◌<◌, ◌≤◌, inl, inr, List, [], ◌∷◌, ◌++◌, length, set, map, ltb, Option, Some, None, sym, ap, subst, refl, ◌∙◌, arith}
+use Rattle.std.proofs.Common.{◌≡◌, ◌≢◌, ℕ, ◌+◌, ◌*◌, ◌<◌, ◌≤◌, inl, inr, List, [], ◌∷◌, ◌++◌, length, set, map, ltb, Option, Some, None, sym, ap, subst, refl, ◌∙◌, arith, true}
 use Rattle.std.proofs.lemmas.Bool.{cases_eq, cases_lt, cond-true, cond-false, lt-ltb, le-ltb}
 use Rattle.std.proofs.lemmas.Nat.{same_from_place}
 use Rattle.std.proofs.lemmas.List.{map-set, get_or-map, set-get_or, length-map, get_or-set_same, get_or-set_other}
@@ -11,10 +11,7 @@ use Rattle.mail_core.specs.EndLog.{EndLog, gained}
 use Rattle.mail_core.specs.Lanes.{IsFor}
 use Rattle.mail_core.proofs.LaneLemmas.{gained-same, gained-other}
 use Rattle.mail_core.proofs.ListLemmas.{slice_index-look}
-use Rattle.mail_lanes.specs.Lanes.{OutLane, InLane, out_lane, in_side, out_lanes, in_lanes, out_at, in_at, no_lane, sending, popping, stealing}
-use Rattle.mail_lanes.specs.declared.lane.Outlet.{Outlet}
-use Rattle.mail_lanes.specs.declared.lane.Inlet.{Inlet}
-use Rattle.mail_lanes.proofs.SixLemmas.{by_end-length}
+use Rattle.mail_lanes.specs.Lanes.{OutLane, InLane, out_at, in_at, no_lane, sending, popping, stealing}
 use Rattle.mail_lanes.specs.Wires.{OutWire, IsWired, no_wire, out_wire, lane_of_in}
 use Rattle.mail_lanes.specs.Parts.{wiring, in_wire_of, out_wire_of}
 use Rattle.mail_lanes.specs.Ends.{by_six, posted_at, taken_in, taken_at, log_from}
@@ -89,52 +86,41 @@ wiring-ins a n outs ins at l h e = ap (λ ws. record { party = a; parties = n; o
 
 -- where a lane stands, and which it is
 module _ (a n : ℕ) (outs : List OutLane) (ins : List (Option InLane)) where
-  pub outs-within : (r p : ℕ) → IsWired (wiring a n outs ins) → r < n → p < 6 → r * 6 + p < length outs
+  pub outs-within : (r p : ℕ) → IsWired (wiring a n outs ins) → r + 1 < n → p < 6 → r * 6 + p < length outs
   outs-within r p w h b = omega (arith, w.all_outs, length-map outs out_wire_of)
 
-  pub ins-within : (s p : ℕ) → IsWired (wiring a n outs ins) → s < n → p < 6 → s * 6 + p < length ins
-  ins-within s p w h b = omega (arith, w.all_ins, length-map ins in_wire_of)
+  pub ins-within : (s p : ℕ) → IsWired (wiring a n outs ins) → a + 1 < n → s < n → p < 6 → s * 6 + p < length ins
+  ins-within s p w me h b = omega (arith, w.all_ins me, length-map ins in_wire_of)
 
-  pub out_at-for : (r p : ℕ) (m : Msg) → IsWired (wiring a n outs ins) → r < n → p < 6 → IsFor a r p m → (let o = (out_at outs (r * 6 + p)).wire in IsFor o.from o.to o.prio m)
+  pub out_at-for : (r p : ℕ) (m : Msg) → IsWired (wiring a n outs ins) → r + 1 < n → p < 6 → IsFor a r p m → (let o = (out_at outs (r * 6 + p)).wire in IsFor o.from o.to o.prio m)
   out_at-for r p m w h b i =
       let same = get_or-map out_wire_of outs (r * 6 + p) no_lane no_wire (outs-within r p w h b) in
       let is_out = w.outs r p h b in
       let back = λ (f : OutWire → ℕ) (x : ℕ) (e : f (out_wire (wiring a n outs ins) r p) ≡ x). sym e ∙ ap f same in
       record { from = i.from ∙ back (λ x. x.from) a is_out.0; to = i.to ∙ back (λ x. x.to) r is_out.1; prio = i.prio ∙ back (λ x. x.prio) p is_out.2 }
 
-  pub out_at-is_for : (r p : ℕ) (m : Msg) → IsWired (wiring a n outs ins) → r < n → p < 6 → (let o = (out_at outs (r * 6 + p)).wire in IsFor o.from o.to o.prio m) → IsFor a r p m
+  pub out_at-is_for : (r p : ℕ) (m : Msg) → IsWired (wiring a n outs ins) → r + 1 < n → p < 6 → (let o = (out_at outs (r * 6 + p)).wire in IsFor o.from o.to o.prio m) → IsFor a r p m
   out_at-is_for r p m w h b i =
       let same = get_or-map out_wire_of outs (r * 6 + p) no_lane no_wire (outs-within r p w h b) in
       let is_out = w.outs r p h b in
       let there = λ (f : OutWire → ℕ) (x : ℕ) (e : f (out_wire (wiring a n outs ins) r p) ≡ x). sym (ap f same) ∙ e in
       record { from = i.from ∙ there (λ x. x.from) a is_out.0; to = i.to ∙ there (λ x. x.to) r is_out.1; prio = i.prio ∙ there (λ x. x.prio) p is_out.2 }
 
-  pub own_ends : (p : ℕ) → IsWired (wiring a n outs ins) → p < 6 → (let o = (out_at outs (a * 6 + p)).wire in o.from ≡ o.to)
-  own_ends p w b =
-      let same = get_or-map out_wire_of outs (a * 6 + p) no_lane no_wire (outs-within a p w w.one_of b) in
-      let is_out = w.outs a p w.one_of b in
-      ap (λ (x : OutWire). x.from) (sym same) ∙ is_out.0 ∙ sym is_out.1 ∙ ap (λ (x : OutWire). x.to) same
-
--- an outlet for each party, and an inlet
-module _ (a n : ℕ) (os : List Outlet) (is : List (Option Inlet)) where
-  pub outlets-count : IsWired (wiring a n (out_lanes os) (in_lanes is)) → length os ≡ n
-  outlets-count w = omega (arith, w.all_outs, length-map (out_lanes os) out_wire_of, by_end-length out_lane os)
-
-  pub inlets-count : IsWired (wiring a n (out_lanes os) (in_lanes is)) → length is ≡ n
-  inlets-count w = omega (arith, w.all_ins, length-map (in_lanes is) in_wire_of, by_end-length in_side is)
+  pub own_takes : (p : ℕ) → IsWired (wiring a n outs ins) → a + 1 < n → p < 6 → (out_at outs (a * 6 + p)).wire.takes ≡ true
+  own_takes p w me b = ap (λ (x : OutWire). x.takes) (sym (get_or-map out_wire_of outs (a * 6 + p) no_lane no_wire (outs-within a p w me b))) ∙ w.own_out p me b
 
 in_wire_of-none : (o : Option InLane) → in_wire_of o ≡ None → o ≡ None
 in_wire_of-none None e = refl
 in_wire_of-none (Some i) e = absurd (none-some i.wire (sym e))
 
 module _ (a n : ℕ) (outs : List OutLane) (ins : List (Option InLane)) where
-  pub own_in_at : (p : ℕ) → IsWired (wiring a n outs ins) → p < 6 → in_at ins (a * 6 + p) ≡ None
-  own_in_at p w b = in_wire_of-none _ (sym (get_or-map in_wire_of ins (a * 6 + p) None None (ins-within a n outs ins a p w w.one_of b)) ∙ w.own_in p b)
+  pub own_in_at : (p : ℕ) → IsWired (wiring a n outs ins) → a + 1 < n → p < 6 → in_at ins (a * 6 + p) ≡ None
+  own_in_at p w me b = in_wire_of-none _ (sym (get_or-map in_wire_of ins (a * 6 + p) None None (ins-within a n outs ins a p w me w.one_of b)) ∙ w.own_in p me b)
 
-  pub in_at-is_for : (s p : ℕ) (l : InLane) (m : Msg) → IsWired (wiring a n outs ins) → s < n → (s ≡ a → ⊥) → p < 6 → in_at ins (s * 6 + p) ≡ Some l → IsFor l.wire.from l.wire.to l.wire.prio m → IsFor s a p m
-  in_at-is_for s p l m w h other b e i =
-      let same = get_or-map in_wire_of ins (s * 6 + p) None None (ins-within a n outs ins s p w h b) in
-      let triple : ◌≡◌ {A = ℕ × ℕ × ℕ} (l.wire.from, l.wire.to, l.wire.prio) (s, a, p) = same_Some _ _ (ap (λ x. lane_of_in (in_wire_of x)) (sym e) ∙ ap lane_of_in (sym same) ∙ w.ins s p h b other) in
+  pub in_at-is_for : (s p : ℕ) (l : InLane) (m : Msg) → IsWired (wiring a n outs ins) → a + 1 < n → s < n → (s ≡ a → ⊥) → p < 6 → in_at ins (s * 6 + p) ≡ Some l → IsFor l.wire.from l.wire.to l.wire.prio m → IsFor s a p m
+  in_at-is_for s p l m w me h other b e i =
+      let same = get_or-map in_wire_of ins (s * 6 + p) None None (ins-within a n outs ins s p w me h b) in
+      let triple : ◌≡◌ {A = ℕ × ℕ × ℕ} (l.wire.from, l.wire.to, l.wire.prio) (s, a, p) = same_Some _ _ (ap (λ x. lane_of_in (in_wire_of x)) (sym e) ∙ ap lane_of_in (sym same) ∙ w.ins s p me h b other) in
       record { from = i.from ∙ ap (λ x. x.0) triple; to = i.to ∙ ap (λ x. x.1) triple; prio = i.prio ∙ ap (λ x. x.2) triple }
 
   -- the wiring after each step, whatever it answered
@@ -153,43 +139,43 @@ module _ (a n : ℕ) (outs : List OutLane) (ins : List (Option InLane)) where
   wiring-stolen ins' at None h e = ap (λ is. wiring a n outs is) e
 
   -- the lists of an end after each step
-  pub lists-posted : (outs' : List OutLane) (r p : ℕ) (m : Msg) → IsWired (wiring a n outs ins) → r < n → p < 6 → outs' ≡ set outs (r * 6 + p) (sending (out_at outs (r * 6 + p)) m) →
+  pub lists-posted : (outs' : List OutLane) (r p : ℕ) (m : Msg) → IsWired (wiring a n outs ins) → r + 1 < n → p < 6 → outs' ≡ set outs (r * 6 + p) (sending (out_at outs (r * 6 + p)) m) →
       (by_six (posted_at outs') ≡ gained (by_six (posted_at outs)) r p m) × (by_six (taken_at outs' ins) ≡ by_six (taken_at outs ins))
   lists-posted outs' r p m w h b e =
       let inside = outs-within a n outs ins r p w h b in
       (ap (λ os. by_six (posted_at os)) e ∙ posted-sending outs r p m b inside, ap (λ os. by_six (taken_at os ins)) e ∙ taken-sending outs ins (r * 6 + p) m inside)
 
-  pub lists-popped : (outs' : List OutLane) (p : ℕ) (m : Msg) → IsWired (wiring a n outs ins) → p < 6 → outs' ≡ set outs (a * 6 + p) (popping (out_at outs (a * 6 + p)) m) →
+  pub lists-popped : (outs' : List OutLane) (p : ℕ) (m : Msg) → IsWired (wiring a n outs ins) → a + 1 < n → p < 6 → outs' ≡ set outs (a * 6 + p) (popping (out_at outs (a * 6 + p)) m) →
       (by_six (posted_at outs') ≡ by_six (posted_at outs)) × (by_six (taken_at outs' ins) ≡ gained (by_six (taken_at outs ins)) a p m)
-  lists-popped outs' p m w b e =
-      let inside = outs-within a n outs ins a p w w.one_of b in
-      (ap (λ os. by_six (posted_at os)) e ∙ posted-popping outs (a * 6 + p) m inside, ap (λ os. by_six (taken_at os ins)) e ∙ taken-popping outs ins a p m b inside (own_in_at p w b))
+  lists-popped outs' p m w me b e =
+      let inside = outs-within a n outs ins a p w me b in
+      (ap (λ os. by_six (posted_at os)) e ∙ posted-popping outs (a * 6 + p) m inside, ap (λ os. by_six (taken_at os ins)) e ∙ taken-popping outs ins a p m b inside (own_in_at p w me b))
 
-  pub none_own : (p : ℕ) → IsWired (wiring a n outs ins) → p < 6 → (out_at outs (a * 6 + p)).posted ≡ (out_at outs (a * 6 + p)).taken → by_six (posted_at outs) a p ≡ by_six (taken_at outs ins) a p
-  none_own p w b e = by_six-within (posted_at outs) a p b ∙ e ∙ ap (taken_in (out_at outs (a * 6 + p))) (sym (own_in_at p w b)) ∙ sym (by_six-within (taken_at outs ins) a p b)
+  pub none_own : (p : ℕ) → IsWired (wiring a n outs ins) → a + 1 < n → p < 6 → (out_at outs (a * 6 + p)).posted ≡ (out_at outs (a * 6 + p)).taken → by_six (posted_at outs) a p ≡ by_six (taken_at outs ins) a p
+  none_own p w me b e = by_six-within (posted_at outs) a p b ∙ e ∙ ap (taken_in (out_at outs (a * 6 + p))) (sym (own_in_at p w me b)) ∙ sym (by_six-within (taken_at outs ins) a p b)
 
 -- a log whose two lists are these
 pub log-lists : (a n : ℕ) (l : ℕ → ℕ) (f f' g g' : ℕ → ℕ → List Msg) → f ≡ f' → g ≡ g' → ◌≡◌ {A = EndLog} (record { party = a; parties = n; posted = f; taken = g; looks = l }) (record { party = a; parties = n; posted = f'; taken = g'; looks = l })
 log-lists a n l f f' g g' e h = ap (λ x. record { party = a; parties = n; posted = x; taken = g; looks = l }) e ∙ ap (λ x. record { party = a; parties = n; posted = f'; taken = x; looks = l }) h
 
 -- what a pop tells
-pub popped : (a n : ℕ) (l : ℕ → ℕ) (outs outs' : List OutLane) (ins : List (Option InLane)) (p : ℕ) (r : Option Msg) → IsWired (wiring a n outs ins) → p < 6 →
+pub popped : (a n : ℕ) (l : ℕ → ℕ) (outs outs' : List OutLane) (ins : List (Option InLane)) (p : ℕ) (r : Option Msg) → IsWired (wiring a n outs ins) → a + 1 < n → p < 6 →
     MatchOption r ((outs' ≡ outs) × ((out_at outs (a * 6 + p)).posted ≡ (out_at outs (a * 6 + p)).taken)) (λ m. outs' ≡ set outs (a * 6 + p) (popping (out_at outs (a * 6 + p)) m)) →
     MatchOption r (Unit {0}) (λ m. let o = (out_at outs (a * 6 + p)).wire in IsFor o.from o.to o.prio m) →
     MatchOption r ((log_from a n l outs' ins ≡ log_from a n l outs ins) × (by_six (posted_at outs) a p ≡ by_six (taken_at outs ins) a p))
     (λ m. IsFor a a p m × (log_from a n l outs' ins ≡ record (log_from a n l outs ins) { taken = gained (by_six (taken_at outs ins)) a p m }))
-popped a n l outs outs' ins p (Some m) w b e i =
-    let lists = lists-popped a n outs ins outs' p m w b e in
-    (out_at-is_for a n outs ins a p m w w.one_of b i, log-lists a n l _ _ _ _ lists.0 lists.1)
-popped a n l outs outs' ins p None w b e i = (ap (λ os. log_from a n l os ins) e.0, none_own a n outs ins p w b e.1)
+popped a n l outs outs' ins p (Some m) w me b e i =
+    let lists = lists-popped a n outs ins outs' p m w me b e in
+    (out_at-is_for a n outs ins a p m w me b i, log-lists a n l _ _ _ _ lists.0 lists.1)
+popped a n l outs outs' ins p None w me b e i = (ap (λ os. log_from a n l os ins) e.0, none_own a n outs ins p w me b e.1)
 
 -- what a steal tells
-pub stolen : (a n : ℕ) (l : ℕ → ℕ) (outs : List OutLane) (ins ins' : List (Option InLane)) (s p : ℕ) (r : Option Msg) → IsWired (wiring a n outs ins) → s < n → (s ≡ a → ⊥) → p < 6 →
+pub stolen : (a n : ℕ) (l : ℕ → ℕ) (outs : List OutLane) (ins ins' : List (Option InLane)) (s p : ℕ) (r : Option Msg) → IsWired (wiring a n outs ins) → a + 1 < n → s < n → (s ≡ a → ⊥) → p < 6 →
     MatchOption r (ins' ≡ ins) (λ m. (i : InLane) × (in_at ins (s * 6 + p) ≡ Some i) × (ins' ≡ set ins (s * 6 + p) (Some (stealing i m))) × IsFor i.wire.from i.wire.to i.wire.prio m) →
     MatchOption r (log_from a n l outs ins' ≡ log_from a n l outs ins) (λ m. IsFor s a p m × (log_from a n l outs ins' ≡ record (log_from a n l outs ins) { taken = gained (by_six (taken_at outs ins)) s p m }))
-stolen a n l outs ins ins' s p (Some m) w h other b e =
-    let took = ap (λ is. by_six (taken_at outs is)) e.2 ∙ taken-stealing outs ins s p e.0 m b (ins-within a n outs ins s p w h b) e.1 in
-    (in_at-is_for a n outs ins s p e.0 m w h other b e.1 e.3, log-lists a n l _ _ _ _ refl took)
-stolen a n l outs ins ins' s p None w h other b e = ap (λ is. log_from a n l outs is) e
+stolen a n l outs ins ins' s p (Some m) w me h other b e =
+    let took = ap (λ is. by_six (taken_at outs is)) e.2 ∙ taken-stealing outs ins s p e.0 m b (ins-within a n outs ins s p w me h b) e.1 in
+    (in_at-is_for a n outs ins s p e.0 m w me h other b e.1 e.3, log-lists a n l _ _ _ _ refl took)
+stolen a n l outs ins ins' s p None w me h other b e = ap (λ is. log_from a n l outs is) e
 
 pub ruleset end_steps = (slice_index-look)

@@ -57,7 +57,7 @@ gets port v may xs items views _ _ h at = let w : LaneView = lane_view v.pushes 
 )
 
 -- what one that alone pushes and takes knows
-pub totals : (port : ℕ) (v : LaneView) → v.pushes ≡ true → v.takes ≡ true → Learns InOrder port v (λ items. v.sent ≡ v.got ++ items)
+totals : (port : ℕ) (v : LaneView) → v.pushes ≡ true → v.takes ≡ true → Learns InOrder port v (λ items. v.sent ≡ v.got ++ items)
 totals port v a b items views h at = let mine = h.5 port v at in (mine.0 a).1 ∙ h.4 ∙ ap (λ l. l ++ items) (sym (mine.1 b).1)
 
 pub owns : (port : ℕ) (v : LaneView) → v.pushes ≡ true → v.takes ≡ true →

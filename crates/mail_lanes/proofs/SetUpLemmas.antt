@@ -15,7 +15,7 @@ use Rattle.mail_lanes.specs.Ends.{by_six, posted_at, taken_in, taken_at, Joined,
 use Rattle.mail_lanes.specs.Made.{RowsTo, IsEnd, EndsTo, row_at, tab_at}
 use Rattle.mail_lanes.proofs.EndLemmas.{by_six-within, by_six-beyond}
 
-pub out_wire-row : (a n r p : ℕ) (outs : List OutLane) (ins : List (Option InLane)) → length outs ≡ n * 6 → r < n → p < 6 → out_wire (wiring a n outs ins) r p ≡ (out_at outs (r * 6 + p)).wire
+pub out_wire-row : (a n r p : ℕ) (outs : List OutLane) (ins : List (Option InLane)) → length outs + 6 ≡ n * 6 → r + 1 < n → p < 6 → out_wire (wiring a n outs ins) r p ≡ (out_at outs (r * 6 + p)).wire
 out_wire-row a n r p outs ins l h b = get_or-map out_wire_of outs (r * 6 + p) no_lane no_wire (omega (arith, l))
 
 pub in_wire-tab : (a n s p : ℕ) (outs : List OutLane) (ins : List (Option InLane)) → length ins ≡ n * 6 → s < n → p < 6 → in_wire (wiring a n outs ins) s p ≡ in_wire_of (in_at ins (s * 6 + p))
@@ -28,12 +28,12 @@ row_wired n a rows tabs all h =
     let ins = tab_at tabs a in
     record {
       one_of = h;
-      all_outs = length-map outs out_wire_of ∙ all.out_count a h;
-      all_ins = length-map ins in_wire_of ∙ all.in_count a h;
+      all_outs = ap (λ m. m + 6) (length-map outs out_wire_of) ∙ all.out_count a h;
+      all_ins = λ me. length-map ins in_wire_of ∙ all.in_count a me;
       outs = λ r p l b. subst (IsOutOf a r p) (sym (out_wire-row a n r p outs ins (all.out_count a h) l b)) (all.pairs a r p h l b).out;
-      ins = λ s p l b other. subst (IsInOf s a p) (sym (in_wire-tab a n s p outs ins (all.in_count a h) l b)) ((all.pairs s a p l h b).far other).0;
-      own_out = λ p b. ap (λ (w : OutWire). w.takes) (out_wire-row a n a p outs ins (all.out_count a h) h b) ∙ ((all.pairs a a p h h b).own refl).0;
-      own_in = λ p b. in_wire-tab a n a p outs ins (all.in_count a h) h b ∙ ap in_wire_of ((all.pairs a a p h h b).own refl).1;
+      ins = λ s p me l b other. subst (IsInOf s a p) (sym (in_wire-tab a n s p outs ins (all.in_count a me) l b)) ((all.pairs s a p l me b).far other).0;
+      own_out = λ p me b. ap (λ (w : OutWire). w.takes) (out_wire-row a n a p outs ins (all.out_count a h) me b) ∙ ((all.pairs a a p h me b).own refl).0;
+      own_in = λ p me b. in_wire-tab a n a p outs ins (all.in_count a me) h b ∙ ap in_wire_of ((all.pairs a a p h me b).own refl).1;
     }
 
 -- what is stolen does not hang on the other end
@@ -46,25 +46,32 @@ pub row_empty : (n a : ℕ) (rows : List (List OutLane)) (tabs : List (List (Opt
 row_empty n a rows tabs all h =
     let outs = row_at rows a in
     let ins = tab_at tabs a in
-    let past_out = λ (i : ℕ) (l : n * 6 ≤ i). get_or_past outs i no_lane (omega (arith, all.out_count a h, l)) in
-    let past_in = λ (i : ℕ) (l : n * 6 ≤ i). get_or_past ins i None (omega (arith, all.in_count a h, l)) in (
+    let past_out = λ (i : ℕ) (l : n * 6 ≤ i + 6). get_or_past outs i no_lane (omega (arith, all.out_count a h, l)) in (
       fun_ext (λ k. fun_ext (λ p. elim (cases_lt p 6) [
         | inr past ↦ by_six-beyond (posted_at outs) k p past
-        | inl b ↦ by_six-within (posted_at outs) k p b ∙ elim (cases_lt k n) [
+        | inl b ↦ by_six-within (posted_at outs) k p b ∙ elim (cases_lt (k + 1) n) [
           | inl l ↦ (all.pairs a k p h l b).posted
           | inr l ↦ ap (λ (o : OutLane). o.posted) (past_out (k * 6 + p) (omega arith))
         ]
       ])),
       fun_ext (λ k. fun_ext (λ p. elim (cases_lt p 6) [
         | inr past ↦ by_six-beyond (taken_at outs ins) k p past
-        | inl b ↦ by_six-within (taken_at outs ins) k p b ∙ elim (cases_lt k n) [
-          | inl l ↦ elim (cases_eq k a) [
-            | inl same ↦ subst (λ j. taken_in (out_at outs (j * 6 + p)) (in_at ins (j * 6 + p)) ≡ []) (sym same) (all.pairs a a p h h b).taken
-            | inr other ↦ taken_in-else k a p (out_at (row_at rows k) (a * 6 + p)) (out_at outs (k * 6 + p)) (in_at ins (k * 6 + p)) ((all.pairs k a p l h b).far other).0 (all.pairs k a p l h b).taken
+        | inl b ↦ by_six-within (taken_at outs ins) k p b ∙ elim (cases_lt (a + 1) n) [
+          | inl me ↦ elim (cases_lt k n) [
+            | inl l ↦ elim (cases_eq k a) [
+              | inl same ↦ subst (λ j. taken_in (out_at outs (j * 6 + p)) (in_at ins (j * 6 + p)) ≡ []) (sym same) (all.pairs a a p h me b).taken
+              | inr other ↦ taken_in-else k a p (out_at (row_at rows k) (a * 6 + p)) (out_at outs (k * 6 + p)) (in_at ins (k * 6 + p)) ((all.pairs k a p l me b).far other).0 (all.pairs k a p l me b).taken
+            ]
+            | inr l ↦
+                let none : in_at ins (k * 6 + p) ≡ None = get_or_past ins (k * 6 + p) None (omega (arith, all.in_count a me, l)) in
+                ap (λ i. taken_in (out_at outs (k * 6 + p)) i) none ∙ ap (λ (o : OutLane). o.taken) (past_out (k * 6 + p) (omega arith))
           ]
-          | inr l ↦
-              let q : n * 6 ≤ k * 6 + p = omega arith in
-              ap (λ i. taken_in (out_at outs (k * 6 + p)) i) (past_in (k * 6 + p) q) ∙ ap (λ (o : OutLane). o.taken) (past_out (k * 6 + p) q)
+          | inr last ↦
+              let none : in_at ins (k * 6 + p) ≡ None = ap (λ is. in_at is (k * 6 + p)) (all.rest a last) in
+              ap (λ i. taken_in (out_at outs (k * 6 + p)) i) none ∙ elim (cases_lt (k + 1) n) [
+                | inl l ↦ (all.pairs a k p h l b).none_own
+                | inr l ↦ ap (λ (o : OutLane). o.taken) (past_out (k * 6 + p) (omega arith))
+              ]
         ]
       ])),
     )
@@ -109,11 +116,11 @@ EndsTo-fresh n rows tabs ends all = record {
 pub EndsTo-tied : (n : ℕ) (rows : List (List OutLane)) (tabs : List (List (Option InLane))) (ends : List MailLanes) → RowsTo n n rows tabs → EndsTo n n rows tabs ends → AreTied tt ends
 EndsTo-tied n rows tabs ends made all = record {
   place = λ k e at. let it = all.each k e at in (it.party, it.parties ∙ sym all.count);
-  joined = λ s r p a b from to prio other.
+  joined = λ s r p a b from to receives prio other.
       let one = all.each s a from in
       let two = all.each r b to in
       let h : s < n = let w = slice_get_within ends s a from in omega (arith, w, all.count) in
-      let l : r < n = let w = slice_get_within ends r b to in omega (arith, w, all.count) in
+      let l : r + 1 < n = omega (arith, receives, all.count) in
       let o : out_wire (wiring_of a) r p ≡ (out_at (row_at rows s) (r * 6 + p)).wire = ap (λ os. out_wire (wiring a.party a.parties os (ins_of a)) r p) one.outs_are ∙ out_wire-row a.party n r p (row_at rows s) (ins_of a) (made.out_count s h) l prio in
       let i : in_wire (wiring_of b) s p ≡ in_wire_of (in_at (tab_at tabs r) (s * 6 + p)) = ap (λ is. in_wire (wiring b.party b.parties (outs_of b) is) s p) two.ins_are ∙ in_wire-tab b.party n s p (outs_of b) (tab_at tabs r) (made.in_count r l) h prio in
       subst (λ w. Joined w (in_wire (wiring_of b) s p)) (sym o) (subst (λ w. Joined (out_at (row_at rows s) (r * 6 + p)).wire w) (sym i) ((made.pairs s r p h l prio).far other).1);

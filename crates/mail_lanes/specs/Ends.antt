@@ -1,17 +1,17 @@
 -- What contracts see of an end.
-use Rattle.std.specs.Prelude.{ℕ, ◌+◌, ◌*◌, ◌<◌, ◌≡◌, List, [], length, nat_lt, if◌then◌else◌, slice_index, slice_get, Option, Some, None}
+use Rattle.std.specs.Prelude.{ℕ, ◌+◌, ◌*◌, ◌<◌, ◌≡◌, List, [], map, length, nat_lt, if◌then◌else◌, slice_index, slice_get, Option, Some, None}
 use Rattle.room_kinds.specs.declared.message.Msg.{Msg}
 use Rattle.mail_core.specs.EndLog.{EndLog}
 use Rattle.mail_lanes.specs.declared.ends.MailLanes.{MailLanes}
-use Rattle.mail_lanes.specs.Lanes.{OutLane, InLane, out_lanes, in_lanes, out_at, in_at}
+use Rattle.mail_lanes.specs.Lanes.{OutLane, InLane, out_lane, in_side, out_at, in_at}
 use Rattle.mail_lanes.specs.Wires.{OutWire, InWire, Wiring, out_wire, in_wire}
 use Rattle.mail_lanes.specs.Parts.{wiring}
 
 abbrev pub outs_of : MailLanes → List OutLane
-outs_of e = out_lanes e.outlets.items
+outs_of e = map out_lane e.outlets.items
 
 abbrev pub ins_of : MailLanes → List (Option InLane)
-ins_of e = in_lanes e.inlets.items
+ins_of e = map in_side e.inlets.items
 
 abbrev pub wiring_of : MailLanes → Wiring
 wiring_of e = wiring e.party e.parties (outs_of e) (ins_of e)
@@ -43,7 +43,7 @@ abbrev pub Joined : OutWire → Option InWire → Type 0
 Joined o None = ⊥
 Joined o (Some i) = i.deque ≡ o.deque
 
--- the ends of one set-up: in order of party, and all lanes from one to another are one deque
+-- the ends of one set-up: in order of party, and each lane of two parties is one deque
 pub record AreTied (office : Unit {0}) (ends : List MailLanes) : Type 0 where
   pub place : (k : ℕ) (e : MailLanes) → slice_get ends k ≡ Some e → ((wiring_of e).party ≡ k) × ((wiring_of e).parties ≡ length ends)
-  pub joined : (s r p : ℕ) (a b : MailLanes) → slice_get ends s ≡ Some a → slice_get ends r ≡ Some b → p < 6 → (s ≡ r → ⊥) → Joined (out_wire (wiring_of a) r p) (in_wire (wiring_of b) s p)
+  pub joined : (s r p : ℕ) (a b : MailLanes) → slice_get ends s ≡ Some a → slice_get ends r ≡ Some b → r + 1 < length ends → p < 6 → (s ≡ r → ⊥) → Joined (out_wire (wiring_of a) r p) (in_wire (wiring_of b) s p)

@@ -6,5 +6,4 @@ pub mod Made
 pub mod Parts
 pub mod Rule
 pub mod Settle
-pub mod Waits
 pub mod Wires

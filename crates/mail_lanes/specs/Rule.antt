@@ -1,4 +1,6 @@
--- What was sent is what was got and then what the deque holds. One pass at most may push, and it has the list of what was sent. The same for what was got.
+-- What was got, and then what the deque holds, is what was sent. One pass at most may push, and it has the list of what was sent.
+-- The same for what was got: one view alone has that list, and only the pass with this view takes. The owner's has it until the
+-- receiver's pass is split off, and again once that is joined in.
 use Rattle.std.specs.Prelude.{◌≡◌, ℕ, Bool, true, List, ◌++◌}
 use mathlib.Core.Option.{some}
 use lib.ListN.{get_elem?}
@@ -14,7 +16,3 @@ Fits writer reader sent got port v = (v.pushes ≡ true → (port ≡ writer) ×
 abbrev pub InOrder : List Msg → List LaneView → Type 0
 InOrder items views = (writer : ℕ) × (reader : ℕ) × (sent : List Msg) × (got : List Msg) × (sent ≡ got ++ items)
     × ((port : ℕ) (v : LaneView) → get_elem? views port ≡ some v → Fits writer reader sent got port v)
-
--- of the view of a deque whose owner takes, too: what was sent has come off it
-abbrev pub OwnLaw : LaneView → Type 0
-OwnLaw v = (v.takes ≡ true) × (v.sent ≡ v.got)

@@ -1,12 +1,10 @@
-//! The two ends of the lanes from one party to another.
+//! The two ends of a lane.
 ghost use Rattle.std.specs.Prelude.{◌≡◌, true};
 ghost use Rattle.crossbeam_deque.specs.Handles.{worker_view, worker_flavor, stealer_deque, stealer_flavor, view, IsPassOf};
-ghost use Rattle.mail_lanes.specs.Waits.{waits, CameLast};
-ghost use Rattle.mail_lanes.specs.Rule.{OwnLaw};
 
-use crate::rule::{LaneRule, LaneView};
-use crate::waiting::Waiting;
-use crossbeam_deque::{Pass, Stealer, Worker};
+use crate::address::addressed;
+use crate::rule::{Got, LaneRule, LaneView, Own, Sent};
+use crossbeam_deque::{Pass, Steal, Stealer, Worker};
 use room_kinds::Msg;
 use std::alloc::Global;
 
@@ -14,30 +12,99 @@ pub(crate) type Owner = Worker<Msg, Global, LaneView, LaneRule>;
 
 pub(crate) type Thief = Stealer<Msg, Global, LaneView, LaneRule>;
 
-/// The sender's end. A message to the sender itself goes through the deque at once and waits for a
-/// look, so that a look is exact, and only a post asks for memory.
+/// The sender's end. It owns the deque, and takes from it where it is the receiver, too.
 #[derive(Drop)]
 pub struct Outlet {
     pub(crate) from: u8,
     pub(crate) to: u8,
+    pub(crate) prio: u8,
     pub(crate) owner: Owner,
-    pub(crate) waiting: Waiting,
     ghost fifo: { worker_flavor owner ≡ 0 },
     ghost pushes: { (worker_view owner).pushes ≡ true },
-    ghost came: { CameLast (worker_view owner).got (waits waiting) },
-    ghost own: { from ≡ to → OwnLaw (worker_view owner) },
 }
 
-/// The receiver's end. A message of another priority than the one that is looked for waits.
+/// The receiver's end, where another party is the sender.
 #[derive(Drop)]
 pub struct Inlet {
     pub(crate) from: u8,
     pub(crate) to: u8,
+    pub(crate) prio: u8,
     pub(crate) thief: Thief,
     pub(crate) pass: Pass<Msg, LaneView>,
-    pub(crate) waiting: Waiting,
     ghost fits: { IsPassOf (stealer_deque thief) pass },
     ghost fifo: { stealer_flavor thief ≡ 0 },
     ghost takes: { (view pass).takes ≡ true },
-    ghost came: { CameLast (view pass).got (waits waiting) },
+}
+
+impl Outlet {
+    ghost use Rattle.std.specs.Prelude.{◌≡◌, true, ◌≤◌, length, OnOk, OnErr, IfErr, MatchOption, None};
+    ghost use Rattle.mail_core.specs.Lanes.{IsFor};
+    ghost use Rattle.mail_lanes.specs.Lanes.{out_lane, sending, popping};
+
+    /// One push.
+    #[tactic(auto, using(crate::proofs::LaneLemmas::lane_steps))]
+    pub(crate) fn post(&mut self, m: Msg) -> Result<(), Msg>
+        requires { IsFor self.old.from self.old.to self.old.prio m }
+        ensures ok { OnOk result (out_lane self.new ≡ sending (out_lane self.old) m) }
+        ensures err { OnErr result (out_lane self.new ≡ out_lane self.old) }
+        ensures back { IfErr result (λ x. x ≡ m) }
+    {
+        match self.owner.push_as::<Sent>(m) {
+            Ok(()) => Ok(()),
+            Err(m) => Err(m),
+        }
+    }
+
+    /// One pop. What it finds goes to an empty place: most looks find nothing, and no room for a
+    /// message is made for them.
+    #[tactic(auto, using(crate::proofs::LaneLemmas::lane_steps))]
+    pub(crate) fn take_to(&mut self, found: &mut Option<Msg>)
+        requires takes { (out_lane self.old).wire.takes ≡ true }
+        requires empty { found.old ≡ None }
+        ensures lane { MatchOption found.new
+            ((out_lane self.new ≡ out_lane self.old)
+            × ((out_lane self.old).posted ≡ (out_lane self.old).taken))
+            (λ m. out_lane self.new ≡ popping (out_lane self.old) m) }
+        ensures is_for { MatchOption found.new (Unit {0})
+            (λ m. IsFor self.old.from self.old.to self.old.prio m) }
+        ensures within { length (out_lane self.new).taken ≤ length (out_lane self.new).posted }
+    {
+        if let Some(m) = self.owner.pop_as::<Own>() {
+            *found = Some(addressed(m, self.from, self.to, self.prio));
+        }
+    }
+
+    /// The same, where what is found is handed on.
+    pub(crate) fn take(&mut self) -> Option<Msg>
+        requires { (out_lane self.old).wire.takes ≡ true }
+        ensures lane { MatchOption result
+            ((out_lane self.new ≡ out_lane self.old)
+            × ((out_lane self.old).posted ≡ (out_lane self.old).taken))
+            (λ m. out_lane self.new ≡ popping (out_lane self.old) m) }
+        ensures within { length (out_lane self.new).taken ≤ length (out_lane self.new).posted }
+    {
+        let mut found = None;
+        self.take_to(&mut found);
+        found
+    }
+}
+
+impl Inlet {
+    ghost use Rattle.std.specs.Prelude.{◌≡◌, MatchOption, None};
+    ghost use Rattle.mail_core.specs.Lanes.{IsFor};
+    ghost use Rattle.mail_lanes.specs.Lanes.{in_lane, stealing};
+
+    /// One steal. What it finds, if it finds something at once, goes to an empty place.
+    #[tactic(auto, using(crate::proofs::LaneLemmas::lane_steps))]
+    pub(crate) fn take_to(&mut self, found: &mut Option<Msg>)
+        requires { found.old ≡ None }
+        ensures lane { MatchOption found.new (in_lane self.new ≡ in_lane self.old)
+            (λ m. in_lane self.new ≡ stealing (in_lane self.old) m) }
+        ensures is_for { MatchOption found.new (Unit {0})
+            (λ m. IsFor self.old.from self.old.to self.old.prio m) }
+    {
+        if let Steal::Success(m) = self.thief.steal_as::<Got>(&mut self.pass) {
+            *found = Some(addressed(m, self.from, self.to, self.prio));
+        }
+    }
 }

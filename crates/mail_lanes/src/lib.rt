@@ -1,14 +1,12 @@
-//! Mail among threads: a deque for the six lanes from one party to another.
+//! Mail among threads: a deque for each lane.
 #![tactic(auto)]
 
 mod address;
 mod close;
 pub mod ends;
-mod inlet;
 pub mod lane;
 pub mod mail;
 mod make;
-mod outlet;
 mod pair;
 mod places;
 mod rows;
@@ -16,6 +14,5 @@ pub mod rule;
 mod settle;
 mod steps;
 mod tables;
-pub mod waiting;
 
 pub use ends::MailLanes;

@@ -48,7 +48,8 @@ impl Mail for MailLanes {
     #[tactic(auto, using(crate::proofs::TiedLemmas::tied_steps), unfolding(mail_core::specs::EndLog::posting))]
     fn post(&mut self, _office: &mut (), m: Msg) -> Result<(), PostRefused> {
         let to = m.to.0;
-        match self.post_to(to, m) {
+        let prio = m.prio.0;
+        match self.post_to(to, prio, m) {
             Ok(()) => Ok(()),
             Err(message) => Err(PostRefused { message }),
         }

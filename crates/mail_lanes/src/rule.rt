@@ -2,7 +2,7 @@
 ghost use Rattle.std.specs.Prelude.{◌≡◌, ◌++◌, ◌≤◌, List, length, true, false, []};
 ghost use Rattle.mail_lanes.specs.Rule.{lane_view, InOrder};
 
-use crossbeam_deque::protocol::{Join, Lesson, Outcome, Protocol, Split};
+use crossbeam_deque::protocol::{Join, Outcome, Protocol, Split};
 use room_kinds::Msg;
 use std::collections::LinkedList;
 
@@ -59,13 +59,6 @@ pub struct Got;
 
 impl Outcome<Msg, LaneView> for Got {
     ghost then = { λ v xs w. w ≡ lane_view v.pushes v.takes v.sent (v.got ++ xs) };
-}
-
-/// What one that alone pushes and takes learns at a look.
-pub struct Seen;
-
-impl Lesson<Msg, LaneView> for Seen {
-    ghost fact = { λ v items. v.sent ≡ v.got ++ items };
 }
 
 /// A pop of one that alone pushes and takes.

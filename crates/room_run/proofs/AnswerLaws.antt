@@ -25,6 +25,11 @@ use Rattle.room_verify.specs.declared.verdict.Verdict.{Verdict}
 use Rattle.room_verify.specs.declared.verdict.Verdict.TheVariants as verdicts
 use Rattle.room_verify.proofs.OneVerdict.{one_verdict}
 use Rattle.room_verify.proofs.RunsLaw.{is_lawful}
+use Rattle.room_show.specs.Text.{snapshot_text}
+use Rattle.room_show.specs.declared.snapshot.Snapshot.{Snapshot}
+use Rattle.room_verify.specs.Shown.{IsEarly, IsShown, IsUnshown}
+use Rattle.room_verify.specs.Showing.{charts_observer}
+use Rattle.room_verify.proofs.ShownLaw.{one_shown, shown_alone}
 use Rattle.controller_actors.specs.declared.plant.Plant.{Plant}
 use Rattle.made_model.specs.Texts.{model_text, injections_text}
 use Rattle.room_inherit.specs.Flat.{flat}
@@ -34,15 +39,16 @@ use Rattle.room_kinds.specs.declared.numbers.Stamp.{Stamp}
 use Rattle.journal.specs.declared.entry.Journals.{Journals}
 use Rattle.tied_journals.specs.Text.{tied_text_of}
 use Rattle.tied_journals.specs.Untied.{IsFirstUntied}
-use Rattle.room_run.specs.Words.{Files, Record, Judged, Asked, Check, Tree, Run, Convert, Verify, Made, asked_by}
+use Rattle.room_run.specs.Words.{Files, Record, Judged, Asked, Check, Tree, Run, Convert, Verify, Show, Made, asked_by}
 use Rattle.room_run.specs.MadeShelf.{made_files, made_shelf}
 use Rattle.room_run.specs.Models.{most_bytes, HasTokens, IsWritten, HasTree, IsSound, IsSoundText, IsModel, IsUncut, HasNoTree, BreaksBaseRule, BreaksRule, HasBadWiring, HasBadChart, SoundCauses, uncut, no_tree, breaks_base_rule, breaks_rule, bad_wiring, bad_chart, no_memory}
 use Rattle.room_run.specs.Conversions.{most_journal_bytes, HasJournals, HasTiedJournals, HasNoJournals, HasUntiedJournals}
-use Rattle.room_run.specs.Causes.{IsInjections, HasBadLine, TextIs, AreOf, model_unread, model_long, model_no_memory, ModelCauses, no_text, model_refused, InjectionsCauses, injections_unread, injections_long, bad_line, injections_no_memory, RunCauses, of_model, of_injections, run_no_memory, record_unread, record_long, record_no_memory, JournalsCauses, no_record, journals_malformed, journals_no_memory, TiedCauses, journals_refused, journals_untied, ConvertCauses, of_its_model, of_journals, HasRunTexts, IsJudged, UnjudgedCauses, judged_model, judged_injections, judged_journals, VerifyCauses, unjudged, unlawful, verify_no_memory, Causes, no_such_words, of_check, of_tree, of_run, of_convert, of_verify, of_made, status_of}
+use Rattle.room_run.specs.Causes.{IsInjections, HasBadLine, TextIs, AreOf, model_unread, model_long, model_no_memory, ModelCauses, no_text, model_refused, InjectionsCauses, injections_unread, injections_long, bad_line, injections_no_memory, RunCauses, of_model, of_injections, run_no_memory, record_unread, record_long, record_no_memory, JournalsCauses, no_record, journals_malformed, journals_no_memory, TiedCauses, journals_refused, journals_untied, ConvertCauses, of_its_model, of_journals, HasRunTexts, IsJudged, UnjudgedCauses, judged_model, judged_injections, judged_journals, VerifyCauses, unjudged, unlawful, verify_no_memory, AreGiven, IsSeen, IsUnseen, ShowCauses, nothing_to_show, unlawful_by_then, show_no_memory, Causes, no_such_words, of_check, of_tree, of_run, of_convert, of_verify, of_show, of_made, status_of}
 use Rattle.binding_expand.specs.tree_text.Text.{tree_text}
-use Rattle.room_run.specs.Outcome.{accepted, Answers, says_ok, says_tree, says_run, says_converted, says_lawful, says_made, lawful_line, AreRecorded, status_of_run, whole, cut_short, refused, refused_unheard}
+use Rattle.room_run.specs.Outcome.{accepted, Answers, says_ok, says_tree, says_run, says_converted, says_lawful, says_shown, says_made, lawful_line, AreRecorded, status_of_run, whole, cut_short, refused, refused_unheard}
 use Rattle.room_run.specs.OneAnswer.{IsRead, AreRead, IsMemory, SameRefusal, AskForNoRun, CallsHaveOneAnswer, HasModel, HasFiles, HasRecord, HasJudged, AreAccepted, IsEnd, AcceptedCallsEnd}
 use Rattle.room_run.specs.Verified.{AreLawful, TellsWhether, out_of_memory, done_where, unlawful_where, VerdictsAreExact}
+use Rattle.room_run.specs.Snapshots.{HasSnapshot, ShowsAreExact}
 use Rattle.room_run.specs.declared.model_fault.ModelFault.{ModelFault}
 use Rattle.room_run.specs.declared.model_fault.ModelFault.TheVariants as faults
 use Rattle.room_run.specs.declared.refusal.Refusal.{Refusal}
@@ -611,6 +617,159 @@ judged_ends model injections journals fuel wiring lines j why s i r (for_record 
     inl (sound_read wiring journals j why r (subst (λ (z : Tables). ReadSays z journals why) (one_sound_wiring model wired wiring u s) k))
 judged_ends model injections journals fuel wiring lines j why s i r (for_verdict v n k faulty is) = inr (ap status_of is)
 
+-- ---- the system at a stamp
+
+-- something is so of what three texts give: a wiring and charts of a model, lines, and journals
+abbrev GivenAs : List ℕ → List ℕ → List ℕ → (Tables → List (Option Chart) → List Line → Journals → Type 0) → Type 0
+GivenAs model injections journals P =
+    (w : Tables) × (c : List (Option Chart)) × (l : List Line) × (r : Journals) × IsSoundText model w c × IsInjections Refused w injections l
+    × HasJournals w journals r × P w c l r
+
+-- of the same texts, all is so of the same
+over_given : (model injections journals : List ℕ) (Q : Tables → List (Option Chart) → List Line → Journals → Type 0)
+    → (w : Tables) (c : List (Option Chart)) (l : List Line) (r : Journals) → IsSoundText model w c → IsInjections Refused w injections l → HasJournals w journals r
+    → GivenAs model injections journals Q → Q w c l r
+over_given model injections journals Q w c l r s i h k =
+    let sound : IsSound model w = record { charts = c; is = s } in
+    let also : IsSound model k.0 = record { charts = k.1; is = k.4 } in
+    let wired : k.0 ≡ w = one_sound_wiring model k.0 w also sound in
+    let tree = same_tree model k.4.tree s.tree k.4.read s.read in
+    let charted : k.1 ≡ c =
+    (are_one s.tree).charts k.1 c (subst (λ (z : ModelTree). HasCharts z k.1) tree k.4.sound.faultless) s.sound.faultless in
+    let there : IsInjections Refused w injections k.2 × HasJournals w journals k.3 × Q w c k.2 k.3 =
+    subst (λ (z : List (Option Chart)). IsInjections Refused w injections k.2 × HasJournals w journals k.3 × Q w z k.2 k.3) charted
+    (subst (λ (z : Tables). IsInjections Refused z injections k.2 × HasJournals z journals k.3 × Q z k.1 k.2 k.3) wired (k.5, k.6, k.7)) in
+    let lines : k.2 ≡ l = same_lines Refused w injections k.2 l there.0 i in
+    let read : k.3 ≡ r = one_read model w journals k.3 r sound there.1 h in
+    subst (λ (z : Journals). Q w c l z) read (subst (λ (z : List Line). Q w c z k.3) lines there.2)
+
+-- this is shown, over a wiring that is this one
+record ShowsThere (at : ℕ) (snapshot : Snapshot) (own w : Tables) (c : List (Option Chart)) (l : List Line) (r : Journals) : Type 0 where
+  is : IsShown (behaviour_by_charts w c) w (items_of w l) r at charts_observer snapshot
+  wired : w ≡ own
+
+seen_there : (before after : Shown) (files : Judged) (at : ℕ) (plant : Plant) (lines : List Line) (j : Journals) (snapshot : Snapshot)
+    → (model : IsRead before after files.run.model) → (injections : IsRead before after files.run.injections)
+    → (journals : IsRead before after files.journals) → IsSeen before files at plant lines j snapshot
+    → GivenAs model.text injections.text journals.text (ShowsThere at snapshot plant.wiring)
+seen_there before after files at plant lines j snapshot model injections journals h =
+    let charts =
+    told_text before files.run.model model.text (λ t. (charts : List (Option Chart)) × IsSoundText t plant.wiring charts
+    × IsShown (behaviour_by_charts plant.wiring charts) plant.wiring (items_of plant.wiring lines) j at charts_observer snapshot) model.told h.by_charts in (
+      plant.wiring,
+      charts.0,
+      lines,
+      j,
+      charts.1,
+      told_text before files.run.injections injections.text (λ t. IsInjections Refused plant.wiring t lines) injections.told h.given.texts.lines_accepted,
+      told_text before files.journals journals.text (λ t. HasJournals plant.wiring t j) journals.told h.given.journals_read,
+      record { is = charts.2; wired = refl },
+    )
+
+-- this verdict is told in place of what is shown, over a wiring that is this one
+record TellsThere (at : ℕ) (v : Verdict) (own w : Tables) (c : List (Option Chart)) (l : List Line) (r : Journals) : Type 0 where
+  is : IsUnshown (behaviour_by_charts w c) w (items_of w l) r at v
+  wired : w ≡ own
+
+unseen_there : (before after : Shown) (files : Judged) (at : ℕ) (plant : Plant) (lines : List Line) (j : Journals) (v : Verdict)
+    → (model : IsRead before after files.run.model) → (injections : IsRead before after files.run.injections)
+    → (journals : IsRead before after files.journals) → IsUnseen before files at plant lines j v
+    → GivenAs model.text injections.text journals.text (TellsThere at v plant.wiring)
+unseen_there before after files at plant lines j v model injections journals h =
+    let charts =
+    told_text before files.run.model model.text (λ t. (charts : List (Option Chart)) × IsSoundText t plant.wiring charts
+    × IsUnshown (behaviour_by_charts plant.wiring charts) plant.wiring (items_of plant.wiring lines) j at v) model.told h.by_charts in (
+      plant.wiring,
+      charts.0,
+      lines,
+      j,
+      charts.1,
+      told_text before files.run.injections injections.text (λ t. IsInjections Refused plant.wiring t lines) injections.told h.given.texts.lines_accepted,
+      told_text before files.journals journals.text (λ t. HasJournals plant.wiring t j) journals.told h.given.journals_read,
+      record { is = charts.2; wired = refl },
+    )
+
+-- an early verdict isn't that journals are lawful
+early_unlawful : (at : ℕ) (v : Verdict) → IsEarly at v → v ≡ verdicts.Lawful → ⊥
+early_unlawful at (verdicts.Order party) early is = absurd cc
+early_unlawful at (verdicts.Start c) early is = absurd cc
+early_unlawful at (verdicts.Entry party stamp) early is = absurd cc
+early_unlawful at verdicts.Left early is = absurd early
+early_unlawful at (verdicts.Fuel c) early is = absurd early
+early_unlawful at verdicts.Ended early is = absurd early
+early_unlawful at (verdicts.Prompt c stamp) early is = absurd early
+early_unlawful at verdicts.Lawful early is = absurd early
+
+-- no fuel has a part in what is told in place of a snapshot, so it is a verdict by the least one
+show_says : (before after : Shown) (files : Judged) (at : ℕ) (why : Refusal) → (model : IsRead before after files.run.model)
+    → (injections : IsRead before after files.run.injections) → (journals : IsRead before after files.journals)
+    → ShowCauses before after files at why → JudgeSays model.text injections.text journals.text 0 why
+show_says before after files at why model injections journals (nothing_to_show h) =
+    unjudged_says before after files 0 why model injections journals h
+show_says before after files at why model injections journals (unlawful_by_then plant lines j v h is) =
+    let there = unseen_there before after files at plant lines j v model injections journals h in
+    for_verdict v (length plant.wiring.controllers)
+    (record {
+      wiring = there.0;
+      charts = there.1;
+      sound = there.4;
+      lines = there.2;
+      lines_are = there.5;
+      read = there.3;
+      read_is = there.6;
+      count = ap (λ (t : Tables). length t.controllers) (sym there.7.wired);
+      verdict = there.7.is.is 0;
+    })
+    (early_unlawful at v there.7.is.early) is
+show_says before after files at why model injections journals (show_no_memory is) = for_run (for_model (says_memory (ap status_of is)))
+
+-- texts of which there is something to show are refused for want of memory alone
+unjudged_memory : (before after : Shown) (files : Judged) (why : Refusal) → (model : IsRead before after files.run.model)
+    → (injections : IsRead before after files.run.injections) → (journals : IsRead before after files.journals)
+    → (wiring : Tables) (lines : List Line) (j : Journals) → IsSound model.text wiring → IsInjections Refused wiring injections.text lines
+    → HasJournals wiring journals.text j → UnjudgedCauses before after files why → IsMemory why
+unjudged_memory before after files why model injections journals wiring lines j s i r (judged_model h) =
+    sound_run Refused model.text injections.text wiring lines why s i (for_model (model_says before after files.run.model why model h))
+unjudged_memory before after files why model injections journals wiring lines j s i r (judged_injections plant h k) =
+    sound_run Refused model.text injections.text wiring lines why s i
+    (for_lines plant.wiring (is_sound model.text plant (told_text before files.run.model model.text (λ t. IsModel t plant) model.told h))
+    (lines_say before after files.run.injections Refused plant.wiring why injections k))
+unjudged_memory before after files why model injections journals wiring lines j s i r (judged_journals plant also h k) =
+    let sound = is_sound model.text plant (told_text before files.run.model model.text (λ t. IsModel t plant) model.told h.model_accepted) in
+    sound_read wiring journals.text j why r
+    (subst (λ (z : Tables). ReadSays z journals.text why) (one_sound_wiring model.text plant.wiring wiring sound s)
+    (read_says before after files.journals plant.wiring why journals k))
+
+seen_memory : (before after : Shown) (files : Judged) (at : ℕ) (plant : Plant) (lines : List Line) (j : Journals) (snapshot : Snapshot) (why : Refusal)
+    → (model : IsRead before after files.run.model) → (injections : IsRead before after files.run.injections)
+    → (journals : IsRead before after files.journals) → IsSeen before files at plant lines j snapshot
+    → ShowCauses before after files at why → IsMemory why
+seen_memory before after files at plant lines j snapshot why model injections journals h (nothing_to_show k) =
+    let there = seen_there before after files at plant lines j snapshot model injections journals h in
+    unjudged_memory before after files why model injections journals there.0 there.2 there.3 (record { charts = there.1; is = there.4 }) there.5 there.6 k
+seen_memory before after files at plant lines j snapshot why model injections journals h (unlawful_by_then other also read v k is) =
+    let there = seen_there before after files at plant lines j snapshot model injections journals h in
+    let told =
+    over_given model.text injections.text journals.text (TellsThere at v other.wiring) there.0 there.1 there.2 there.3 there.4 there.5 there.6
+    (unseen_there before after files at other also read v model injections journals k) in
+    absurd
+    (shown_alone (behaviour_by_charts there.0 there.1) there.0 (items_of there.0 there.2) there.3 at charts_observer snapshot v there.7.is told.is.early (told.is.is 0))
+seen_memory before after files at plant lines j snapshot why model injections journals h (show_no_memory is) = ap status_of is
+
+-- and one text is shown
+seen_once : (before after : Shown) (files : Judged) (at : ℕ) (plant other : Plant) (lines also : List Line) (j read : Journals) (snapshot second : Snapshot)
+    → IsRead before after files.run.model → IsRead before after files.run.injections → IsRead before after files.journals
+    → IsSeen before files at plant lines j snapshot → IsSeen before files at other also read second
+    → snapshot_text plant.wiring snapshot ≡ snapshot_text other.wiring second
+seen_once before after files at plant other lines also j read snapshot second model injections journals h k =
+    let there = seen_there before after files at plant lines j snapshot model injections journals h in
+    let again =
+    over_given model.text injections.text journals.text (ShowsThere at second other.wiring) there.0 there.1 there.2 there.3 there.4 there.5 there.6
+    (seen_there before after files at other also read second model injections journals k) in
+    let one : snapshot ≡ second =
+    one_shown (behaviour_by_charts there.0 there.1) there.0 (items_of there.0 there.2) there.3 at charts_observer snapshot second there.7.is again.is in
+    ap (λ (z : Tables). snapshot_text z snapshot) (sym there.7.wired) ∙ ap (snapshot_text there.0) one ∙ ap (λ (z : Tables). snapshot_text z second) again.wired
+
 -- ---- by what words ask for
 
 made_model_read : (actors : ℕ) → IsRead (made_shelf actors) (made_shelf actors) made_files.model
@@ -628,6 +787,7 @@ CausesOf before after (Some (Tree name)) why = ModelCauses before after name why
 CausesOf before after (Some (Run files fuel)) why = RunCauses before after files why
 CausesOf before after (Some (Convert files)) why = ConvertCauses before after files why
 CausesOf before after (Some (Verify files fuel)) why = VerifyCauses before after files fuel why
+CausesOf before after (Some (Show files at)) why = ShowCauses before after files at why
 CausesOf before after (Some (Made actors)) why = RunCauses (made_shelf actors) (made_shelf actors) made_files why
 
 causes_of : (before after : Shown) (words : List (List ℕ)) (why : Refusal) → Causes before after words why
@@ -638,6 +798,7 @@ causes_of before after words why (of_tree name e h) = subst (λ (o : Option Aske
 causes_of before after words why (of_run files fuel e h) = subst (λ (o : Option Asked). CausesOf before after o why) (sym e) h
 causes_of before after words why (of_convert files e h) = subst (λ (o : Option Asked). CausesOf before after o why) (sym e) h
 causes_of before after words why (of_verify files fuel e h) = subst (λ (o : Option Asked). CausesOf before after o why) (sym e) h
+causes_of before after words why (of_show files at e h) = subst (λ (o : Option Asked). CausesOf before after o why) (sym e) h
 causes_of before after words why (of_made actors e h) = subst (λ (o : Option Asked). CausesOf before after o why) (sym e) h
 
 once_of : (before after : Shown) (o : Option Asked) (why other : Refusal) → AreRead before after o → CausesOf before after o why
@@ -654,6 +815,9 @@ once_of before after (Some (Convert files)) why other read h k =
 once_of before after (Some (Verify files fuel)) why other read h k =
     judge_once read.0.text read.1.text read.2.text fuel why other (judge_says before after files fuel why read.0 read.1 read.2 h)
     (judge_says before after files fuel other read.0 read.1 read.2 k)
+once_of before after (Some (Show files at)) why other read h k =
+    judge_once read.0.text read.1.text read.2.text 0 why other (show_says before after files at why read.0 read.1 read.2 h)
+    (show_says before after files at other read.0 read.1 read.2 k)
 once_of before after (Some (Made actors)) why other read h k =
     let shelf = made_shelf actors in
     run_once Taken (made_model_read actors).text (made_lines_read actors).text why other
@@ -694,6 +858,8 @@ Answered shelf (Some (Tree name)) = AreAccepted shelf (Some (Tree name))
 Answered shelf (Some (Run files fuel)) = AreAccepted shelf (Some (Run files fuel))
 Answered shelf (Some (Convert files)) = AreAccepted shelf (Some (Convert files))
 Answered shelf (Some (Verify files fuel)) = (plant : Plant) × (lines : List Line) × (j : Journals) × IsJudged shelf files fuel plant lines j verdicts.Lawful
+Answered shelf (Some (Show files at)) =
+    (plant : Plant) × (lines : List Line) × (j : Journals) × (snapshot : Snapshot) × IsSeen shelf files at plant lines j snapshot
 Answered shelf (Some (Made actors)) = AreAccepted shelf (Some (Made actors))
 
 memory_of : (before after : Shown) (o : Option Asked) (why : Refusal) → Answered before o → AreRead before after o
@@ -707,6 +873,8 @@ memory_of before after (Some (Verify files fuel)) why h read k =
     lawful_memory read.0.text read.1.text read.2.text fuel (length h.0.wiring.controllers) why
     (verdict_on before after files fuel h.0 h.1 h.2 verdicts.Lawful read.0 read.1 read.2 h.3)
     (judge_says before after files fuel why read.0 read.1 read.2 k)
+memory_of before after (Some (Show files at)) why h read k =
+    seen_memory before after files at h.0 h.1 h.2 h.3 why read.0 read.1 read.2 h.4 k
 memory_of before after (Some (Made actors)) why h read k =
     files_memory (made_shelf actors) (made_shelf actors) made_files why (made_model_read actors) (made_lines_read actors) h k
 
@@ -760,6 +928,8 @@ accepted_of before after words text status read (says_converted files wiring j e
     let r : IsRead before after files.model × IsRead before after files.journals = subst (AreRead before after) e read in
     subst (Answered before) (sym e) (record_accepted before after files wiring j r.0 r.1 h)
 accepted_of before after words text status read (says_lawful files fuel plant lines j e h is ends) = subst (Answered before) (sym e) (plant, lines, j, h)
+accepted_of before after words text status read (says_shown files at plant lines j snapshot e h is ends) =
+    subst (Answered before) (sym e) (plant, lines, j, snapshot, h)
 accepted_of before after words text status read (says_made actors plant lines j e h is ends) =
     subst (Answered before) (sym e)
     (files_accepted (made_shelf actors) (made_shelf actors) made_files plant lines (made_model_read actors) (made_lines_read actors) h.texts)
@@ -776,6 +946,9 @@ AnswerIs shelf (Some (Run files fuel)) text status = Unit {0}
 AnswerIs shelf (Some (Convert files)) text status =
     (wiring : Tables) × (j : Journals) × AreRecorded shelf files wiring j × (text ≡ tied_text_of wiring j) × (status ≡ statuses.Done)
 AnswerIs shelf (Some (Verify files fuel)) text status = (text ≡ lawful_line) × (status ≡ statuses.Done)
+AnswerIs shelf (Some (Show files at)) text status =
+    (plant : Plant) × (lines : List Line) × (j : Journals) × (snapshot : Snapshot) × IsSeen shelf files at plant lines j snapshot
+    × (text ≡ snapshot_text plant.wiring snapshot) × (status ≡ statuses.Done)
 AnswerIs shelf (Some (Made actors)) text status = Unit {0}
 
 answer_is : (shelf : Shown) (words : List (List ℕ)) (text : List ℕ) (status : Status) → Answers shelf words text status
@@ -789,6 +962,8 @@ answer_is shelf words text status (says_converted files wiring j e h is ends) =
     subst (λ (o : Option Asked). AnswerIs shelf o text status) (sym e) (wiring, j, h, is, ends)
 answer_is shelf words text status (says_lawful files fuel plant lines j e h is ends) =
     subst (λ (o : Option Asked). AnswerIs shelf o text status) (sym e) (is, ends)
+answer_is shelf words text status (says_shown files at plant lines j snapshot e h is ends) =
+    subst (λ (o : Option Asked). AnswerIs shelf o text status) (sym e) (plant, lines, j, snapshot, h, is, ends)
 answer_is shelf words text status (says_made actors plant lines j e h is ends) =
     subst (λ (o : Option Asked). AnswerIs shelf o text status) (sym e) tt
 
@@ -816,6 +991,8 @@ same_answer before after (Some (Run files fuel)) text other status also model re
 same_answer before after (Some (Convert files)) text other status also model read h k =
     (h.3 ∙ same_record before after files h.0 k.0 h.1 k.1 read.0 read.1 h.2 k.2 ∙ sym k.3, h.4 ∙ sym k.4)
 same_answer before after (Some (Verify files fuel)) text other status also model read h k = (h.0 ∙ sym k.0, h.1 ∙ sym k.1)
+same_answer before after (Some (Show files at)) text other status also model read h k =
+    (h.5 ∙ seen_once before after files at h.0 k.0 h.1 k.1 h.2 k.2 h.3 k.3 read.0 read.1 read.2 h.4 k.4 ∙ sym k.5, h.6 ∙ sym k.6)
 same_answer before after (Some (Made actors)) text other status also model read h k = absurd model
 
 pub calls_have_one_answer : CallsHaveOneAnswer
@@ -840,6 +1017,7 @@ answer_ends shelf words text status (says_tree name wiring e h is ends) = inl en
 answer_ends shelf words text status (says_run files fuel plant lines j e h is ends) = run_ends (asked_by words) j.done status ends
 answer_ends shelf words text status (says_converted files wiring j e h is ends) = inl ends
 answer_ends shelf words text status (says_lawful files fuel plant lines j e h is ends) = inl ends
+answer_ends shelf words text status (says_shown files at plant lines j snapshot e h is ends) = inl ends
 answer_ends shelf words text status (says_made actors plant lines j e h is ends) = run_ends (asked_by words) j.done status ends
 
 memory_ends : (o : Option Asked) (why : Refusal) → IsMemory why → IsEnd o (status_of why)
@@ -859,6 +1037,20 @@ judged_memory before after files fuel why model injections journals h k =
     go (inl e) = inr (inr (inl e))
     go (inr e) = inr (inr (inr (tt, e)))
 
+shown_memory : (before after : Shown) (files : Judged) (at : ℕ) (why : Refusal) (model : IsRead before after files.run.model)
+    → (injections : IsRead before after files.run.injections) (journals : IsRead before after files.journals) → HasJudged before files
+    → ShowCauses before after files at why → IsEnd (Some (Show files at)) (status_of why)
+shown_memory before after files at why model injections journals h k =
+    go (judged_ends model.text injections.text journals.text 0 h.run.wiring h.run.lines h.read why
+    (subst (λ (z : List ℕ). IsSound z h.run.wiring) (same_told before files.run.model h.run.model.text model.text h.run.model.told model.told) h.run.model.sound)
+    (subst (λ (z : List ℕ). IsInjections Refused h.run.wiring z h.run.lines) (same_told before files.run.injections h.run.text injections.text h.run.told injections.told) h.run.injections)
+    (subst (λ (z : List ℕ). HasJournals h.run.wiring z h.read) (same_told before files.journals h.text journals.text h.told journals.told) h.journals)
+    (show_says before after files at why model injections journals k))
+  where
+    go : IsMemory why ⊎ (status_of why ≡ statuses.Unlawful) → IsEnd (Some (Show files at)) (status_of why)
+    go (inl e) = inr (inr (inl e))
+    go (inr e) = inr (inr (inr (tt, e)))
+
 refusal_ends : (before after : Shown) (o : Option Asked) (why : Refusal) → AreAccepted before o → AreRead before after o
     → CausesOf before after o why → IsEnd o (status_of why)
 refusal_ends before after None why h read k = absurd h
@@ -868,6 +1060,7 @@ refusal_ends before after (Some (Run files fuel)) why h read k =
     memory_ends (Some (Run files fuel)) why (memory_of before after (Some (Run files fuel)) why h read k)
 refusal_ends before after (Some (Convert files)) why h read k = memory_ends (Some (Convert files)) why (memory_of before after (Some (Convert files)) why h read k)
 refusal_ends before after (Some (Verify files fuel)) why h read k = judged_memory before after files fuel why read.0 read.1 read.2 h k
+refusal_ends before after (Some (Show files at)) why h read k = shown_memory before after files at why read.0 read.1 read.2 h k
 refusal_ends before after (Some (Made actors)) why h read k = memory_ends (Some (Made actors)) why (memory_of before after (Some (Made actors)) why h read k)
 
 pub accepted_calls_end : AcceptedCallsEnd
@@ -944,3 +1137,47 @@ verdicts_are_exact before after words files fuel streams status asked it read no
     subst (TellsWhether (AreLawful before files it fuel)) (sym is)
     (refused_whether before after files fuel it read why (judge_says before after files fuel why read.0 read.1 read.2 cause))
 verdicts_are_exact before after words files fuel streams status asked it read none (refused_unheard why h is out breaks) = absurd (none.notes breaks.fault)
+
+-- ---- what is shown is exact
+
+module _ (before after : Shown) (files : Judged) (at : ℕ) (it : HasJudged before files) (read : AreRead before after (Some (Show files at))) where
+  sound_shown : IsSound read.0.text it.run.wiring
+  sound_shown = record { charts = it.run.model.sound.charts; is = sound_is before after files 0 it read }
+
+  -- what is so of what the texts give is so of what was accepted
+  of_accepted : (Q : Tables → List (Option Chart) → List Line → Journals → Type 0) → GivenAs read.0.text read.1.text read.2.text Q
+      → Q it.run.wiring it.run.model.sound.charts it.run.lines it.read
+  of_accepted Q k =
+      over_given read.0.text read.1.text read.2.text Q it.run.wiring it.run.model.sound.charts it.run.lines it.read (sound_is before after files 0 it read)
+      (lines_are before after files 0 it read) (journals_are before after files 0 it read) k
+
+  -- what a call that is refused tells
+  refused_shown : (why : Refusal) → ShowCauses before after files at why → TellsWhether (HasSnapshot before files it at) (status_of why)
+  refused_shown why (nothing_to_show k) =
+      out_of_memory
+      (unjudged_memory before after files why read.0 read.1 read.2 it.run.wiring it.run.lines it.read sound_shown (lines_are before after files 0 it read)
+      (journals_are before after files 0 it read) k)
+  refused_shown why (unlawful_by_then plant lines j v k is) =
+      unlawful_where (ap status_of is)
+      (λ (s : HasSnapshot before files it at).
+      let told = of_accepted (TellsThere at v plant.wiring) (unseen_there before after files at plant lines j v read.0 read.1 read.2 k) in
+      shown_alone (behaviour_by_charts it.run.wiring it.run.model.sound.charts) it.run.wiring (items_of it.run.wiring it.run.lines) it.read at charts_observer s.0 v s.1
+      told.is.early (told.is.is 0))
+  refused_shown why (show_no_memory is) = out_of_memory (ap status_of is)
+
+  -- what a call that is answered tells
+  answered_shown : (status : Status) → Answered before (Some (Show files at)) → status ≡ statuses.Done → TellsWhether (HasSnapshot before files it at) status
+  answered_shown status h ends =
+      let there = of_accepted (ShowsThere at h.3 h.0.wiring) (seen_there before after files at h.0 h.1 h.2 h.3 read.0 read.1 read.2 h.4) in
+      done_where ends (h.3, there.is)
+
+pub shows_are_exact : ShowsAreExact
+shows_are_exact before after words files at streams status asked it read none (whole text h out notes) =
+    let known = subst (AreRead before after) (sym asked) read in
+    answered_shown before after files at it read status (subst (Answered before) asked (accepted_of before after words text status known h))
+    (subst (λ (o : Option Asked). AnswerIs before o text status) asked (answer_is before words text status h)).6
+shows_are_exact before after words files at streams status asked it read none (cut_short text wanted h is breaks notes) = absurd (none.out breaks.fault)
+shows_are_exact before after words files at streams status asked it read none (refused why h is out notes) =
+    let cause = subst (λ (o : Option Asked). CausesOf before after o why) asked (causes_of before after words why h) in
+    subst (TellsWhether (HasSnapshot before files it at)) (sym is) (refused_shown before after files at it read why cause)
+shows_are_exact before after words files at streams status asked it read none (refused_unheard why h is out breaks) = absurd (none.notes breaks.fault)

@@ -6,7 +6,7 @@ use Rattle.std.specs.Char.{is_ascii_digit}
 use Rattle.std.proofs.lemmas.Bool.{and_parts}
 use Rattle.std.proofs.lemmas.Bool.Decides.{nat_tests}
 use Rattle.text_reading.specs.Numerals.{are_digits, value_from, value_of}
-use Rattle.room_run.specs.Words.{Files, Judged, Asked, Check, Tree, Run, Verify, Made, is_word, number_in, number_of, fuel_of, actors_of, run_asked, convert_asked, verify_asked, usual_fuel, asked_by}
+use Rattle.room_run.specs.Words.{Files, Judged, Asked, Check, Tree, Run, Verify, Show, Made, is_word, number_in, number_of, fuel_of, actors_of, run_asked, convert_asked, verify_asked, show_asked, stamp_of, usual_fuel, asked_by}
 
 -- a number from 1 to 100,000
 abbrev IsFuel : ℕ → Type 0
@@ -72,16 +72,19 @@ run_with model second None f n true named e = absurd cc
 run_with model second (Some k) f n true named e = subst IsFuel (runs_with _ f k n e) (named k refl)
 run_with model second o f n false named e = absurd cc
 
--- who asks for a verdict asks for no run
+-- who asks for a verdict, or for the system at a stamp, asks for no run
 judges_none : (judged : Option Asked) (f : Files) (n : ℕ) (verify : Bool) → (judged ≡ Some (Run f n) → ⊥) → cond verify judged None ≡ Some (Run f n) → IsFuel n
 judges_none judged f n true other e = absurd (other e)
 judges_none judged f n false other e = absurd cc
 
-judges_with : (model injections journals : List ℕ) (o : Option ℕ) (f : Files) (n : ℕ) (verify : Bool)
-    → cond verify (option_map (verify_asked model injections journals) o) None ≡ Some (Run f n) → IsFuel n
-judges_with model injections journals None f n true e = absurd cc
-judges_with model injections journals (Some k) f n true e = absurd cc
-judges_with model injections journals o f n false e = absurd cc
+judges_with : (model injections journals : List ℕ) (o p : Option ℕ) (f : Files) (n : ℕ) (verify show : Bool)
+    → cond verify (option_map (verify_asked model injections journals) o) (cond show (option_map (show_asked model injections journals) p) None) ≡ Some (Run f n)
+    → IsFuel n
+judges_with model injections journals None p f n true show e = absurd cc
+judges_with model injections journals (Some k) p f n true show e = absurd cc
+judges_with model injections journals o None f n false true e = absurd cc
+judges_with model injections journals o (Some k) f n false true e = absurd cc
+judges_with model injections journals o p f n false false e = absurd cc
 
 pub fuel_asked : (words : List (List ℕ)) (f : Files) (n : ℕ) → asked_by words ≡ Some (Run f n) → IsFuel n
 fuel_asked [] f n e = absurd cc
@@ -92,5 +95,6 @@ fuel_asked (a ∷ b ∷ c ∷ d ∷ []) f n e = judges_none (Some (verify_asked 
 fuel_asked (a ∷ b ∷ c ∷ d ∷ x ∷ []) f n e =
     run_with b c (fuel_of x) f n (is_word a (codes "run") && is_word d (codes "--fuel")) (λ k h. number_named 100000 k x h) e
 fuel_asked (a ∷ b ∷ c ∷ d ∷ x ∷ y ∷ []) f n e =
-    judges_with b c d (fuel_of y) f n (is_word a (codes "verify") && is_word x (codes "--fuel")) e
+    judges_with b c d (fuel_of y) (stamp_of y) f n (is_word a (codes "verify") && is_word x (codes "--fuel"))
+    (is_word a (codes "show") && is_word x (codes "--at")) e
 fuel_asked (a ∷ b ∷ c ∷ d ∷ x ∷ y ∷ z ∷ more) f n e = absurd cc

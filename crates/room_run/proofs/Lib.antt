@@ -13,4 +13,7 @@ pub mod OutcomeLemmas
 pub mod VerifyLemmas
 pub mod StillTexts
 pub mod PrintedLaws
+pub mod PeersLaw
+pub mod ShowLemmas
+pub mod ShowLaws
 mod MadeLemmas

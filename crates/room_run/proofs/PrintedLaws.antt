@@ -45,7 +45,7 @@ again ran shelf name other text P Q each told also h =
 untimed_lines : (t : Tables) (lines : List Line) → AreUntimed lines → (text : List ℕ) → IsInjections Taken t text lines → IsInjections Refused t text lines
 untimed_lines t lines still text h = record { short = h.short; accepted = answers_alike t text lines h.accepted still; fit = h.fit }
 
-printed_is_judged : (ran : Shown) (run : Files) (fuel : ℕ) (plant : Plant) (lines : List Line) (j : Journals) → IsTimedRunOfFiles ran run fuel plant lines j
+pub printed_is_judged : (ran : Shown) (run : Files) (fuel : ℕ) (plant : Plant) (lines : List Line) (j : Journals) → IsTimedRunOfFiles ran run fuel plant lines j
     → AreUntimed lines → length (tied_text_of plant.wiring j) ≤ most_journal_bytes
     → (shelf : Shown) (files : Judged) → TellsAgain ran run shelf files (tied_text_of plant.wiring j) → IsJudged shelf files fuel plant lines j verdicts.Lawful
 printed_is_judged ran run fuel plant lines j timed still short shelf files tells =

@@ -2,4 +2,4 @@ mod Tables
 pub mod Lines
 pub mod Plants
 pub mod Runs
-mod Worlds
+pub mod Worlds

@@ -3,7 +3,7 @@
 -- ask for nothing; that the count of read faults of a named file rose; that a text is too long;
 -- what its tokens or its tree lack; that a line of the injections is faulty; that no journals have a
 -- text, or untied ones. Want of memory may come wherever the words ask for something.
-use Rattle.std.specs.Prelude.{◌≡◌, ℕ, ◌<◌, ◌≤◌, ◌==◌, if◌then◌else◌, List, ◌∷◌, [], length, Option, Some, None, IfSome, Ok, Err, codes, decimal}
+use Rattle.std.specs.Prelude.{◌≡◌, ℕ, ◌<◌, ◌≤◌, ◌==◌, true, if◌then◌else◌, List, ◌∷◌, [], length, Option, Some, None, IfSome, Ok, Err, codes, decimal}
 use Rattle.room_outside.specs.Faults.{Rose}
 use Rattle.room_outside.specs.Shown.{Shown}
 use Rattle.room_outside.specs.line_text.Lines.{line}
@@ -20,20 +20,28 @@ use Rattle.inject_reader.specs.declared.fault.InjectFault.{InjectFault}
 use Rattle.inject_reader.specs.declared.fault.InjectFault.TheVariants as inject_faults
 use Rattle.journal_reader.specs.declared.fault.ReadFaultOf.{ReadFaultOf}
 use Rattle.journal_reader.specs.declared.fault.ReadFaultOf.TheVariants as journal_faults
-use Rattle.room_run.specs.Words.{Files, Record, Judged, Check, Tree, Run, Convert, Verify, Made, asked_by}
+use Rattle.room_run.specs.Words.{Files, Record, Judged, Check, Tree, Run, Convert, Verify, Show, Made, asked_by}
 use Rattle.room_run.specs.MadeShelf.{made_files, made_shelf}
 use Rattle.room_run.specs.Models.{IsModel, IsSound, IsSoundText, SoundCauses, most_bytes}
 use Rattle.journal.specs.Fits.{Fits}
 use Rattle.journal.specs.declared.entry.Journals.{Journals}
 use Rattle.chart_model.specs.Chart.{Chart}
 use Rattle.controller_actors.specs.Plants.{model_of}
+use Rattle.actor_merge.specs.World.{IsQuiet}
 use Rattle.model_run.specs.part_posts.Items.{items_of}
 use Rattle.law_charts.specs.Charts.{behaviour_by_charts}
+use Rattle.model_run.specs.run_ends.Runs.{IsRun}
+use Rattle.room_show.specs.declared.snapshot.Snapshot.{Snapshot}
 use Rattle.room_verify.specs.Verdicts.{IsVerdict}
+use Rattle.room_verify.specs.Shown.{IsShown, IsUnshown}
+use Rattle.room_verify.specs.Showing.{actors_observer, charts_observer}
 use Rattle.room_verify.specs.declared.verdict.Verdict.{Verdict}
 use Rattle.room_verify.specs.declared.verdict.Verdict.TheVariants as verdicts
 use Rattle.room_run.specs.Conversions.{most_journal_bytes, HasJournals, HasNoJournals, HasUntiedJournals}
+use Rattle.room_run.specs.Agreement.{AllAgree}
+use Rattle.room_run.specs.ShownPeers.{ArePeersMutual}
 use Rattle.room_run.specs.fitting_plants.Plants.{PlantFits}
+use Rattle.room_run.specs.fitting_plants.Runs.{running}
 use Rattle.room_run.specs.declared.model_fault.ModelFault.{ModelFault}
 use Rattle.room_run.specs.declared.model_fault.ModelFault.TheVariants as faults
 use Rattle.room_run.specs.declared.refusal.Refusal.{Refusal}
@@ -86,6 +94,51 @@ pub record IsJudged (shelf : Shown) (files : Judged) (fuel : ℕ) (plant : Plant
   pub verdict_is : IsVerdict (model_of plant) plant.wiring (items_of plant.wiring lines) fuel journals verdict
   pub by_own_charts : IsVerdict (behaviour_by_charts plant.wiring plant_fits.charts) plant.wiring (items_of plant.wiring lines) fuel journals verdict
   pub by_charts : IsVerdictByCharts shelf files.run.model plant lines fuel journals verdict
+
+-- Three texts are those of a model which runs as this plant, of injections with these lines, and of these journals.
+-- Whatever the shelf tells, the plant is that of some model that keeps all rules and has no fault, and lines and journals
+-- name what its wiring has.
+pub record AreGiven (shelf : Shown) (files : Judged) (plant : Plant) (lines : List Line) (journals : Journals) : Type 0 where
+  pub texts : HasRunTexts shelf files.run plant lines
+  pub journals_read : TextIs shelf files.journals (λ text. HasJournals plant.wiring text journals)
+  pub plant_fits : PlantFits plant
+  pub lines_fit : LinesFit plant.wiring lines
+  pub fits : Fits plant.wiring journals
+
+-- the snapshot at a stamp is that of the charts of the model whose text the shelf tells
+abbrev pub IsShownByCharts : Shown → List ℕ → Plant → List Line → Journals → ℕ → Snapshot → Type 0
+IsShownByCharts shelf model plant lines j at snapshot =
+    TextIs shelf model (λ text. (charts : List (Option Chart)) × IsSoundText text plant.wiring charts
+    × IsShown (behaviour_by_charts plant.wiring charts) plant.wiring (items_of plant.wiring lines) j at charts_observer snapshot)
+
+-- Of a model, injections and journals that three texts give, this is the snapshot of the system after all that happened
+-- by the journals up to a stamp (`IsShown`). It is that by the charts of the plant's model, and of the model whose text
+-- the shelf tells, whatever tables were compiled of them. Where no message waits in the world that is shown, all
+-- controllers agree in it: on who lives, on imports, links by name and peers. So they do at the end of a run that is done:
+-- where the journals are those of one, and nothing is stamped later. And where they agree, the peers that are shown are
+-- each other's (`ArePeersMutual`).
+pub record IsSeen (shelf : Shown) (files : Judged) (at : ℕ) (plant : Plant) (lines : List Line) (journals : Journals) (snapshot : Snapshot) : Type 0 where
+  pub given : AreGiven shelf files plant lines journals
+  pub shown_is : IsShown (model_of plant) plant.wiring (items_of plant.wiring lines) journals at actors_observer snapshot
+  pub by_own_charts : IsShown (behaviour_by_charts plant.wiring given.plant_fits.charts) plant.wiring (items_of plant.wiring lines) journals at charts_observer snapshot
+  pub by_charts : IsShownByCharts shelf files.run.model plant lines journals at snapshot
+  pub agreed : IsQuiet (running plant lines) shown_is.w → AllAgree plant.wiring shown_is.w
+  pub agreed_at_end : (fuel : ℕ) → IsRun plant lines fuel journals → journals.done ≡ true → shown_is.behind ≡ [] → AllAgree plant.wiring shown_is.w
+  pub each_others : AllAgree plant.wiring shown_is.w → ArePeersMutual plant.wiring shown_is.w snapshot
+
+-- the verdict that is told in place of a snapshot is that of the charts of the model whose text the shelf tells
+abbrev pub IsUnshownByCharts : Shown → List ℕ → Plant → List Line → Journals → ℕ → Verdict → Type 0
+IsUnshownByCharts shelf model plant lines j at verdict =
+    TextIs shelf model (λ text. (charts : List (Option Chart)) × IsSoundText text plant.wiring charts
+    × IsUnshown (behaviour_by_charts plant.wiring charts) plant.wiring (items_of plant.wiring lines) j at verdict)
+
+-- of a model, injections and journals that three texts give, nothing is shown at this stamp, for this verdict: that of
+-- stamps that don't rise or of a wrong start in the whole journals, or of an entry up to the stamp that can't happen
+pub record IsUnseen (shelf : Shown) (files : Judged) (at : ℕ) (plant : Plant) (lines : List Line) (journals : Journals) (verdict : Verdict) : Type 0 where
+  pub given : AreGiven shelf files plant lines journals
+  pub unshown : IsUnshown (model_of plant) plant.wiring (items_of plant.wiring lines) journals at verdict
+  pub by_own_charts : IsUnshown (behaviour_by_charts plant.wiring given.plant_fits.charts) plant.wiring (items_of plant.wiring lines) journals at verdict
+  pub by_charts : IsUnshownByCharts shelf files.run.model plant lines journals at verdict
 
 -- in a call, the count of read faults of a name rose
 abbrev pub RoseAt : Shown → Shown → List ℕ → Type 0
@@ -165,8 +218,8 @@ pub data ConvertCauses (before after : Shown) (files : Record) (why : Refusal) :
   of_its_model : ModelCauses before after files.model why → ConvertCauses before after files why
   of_journals : (wiring : Tables) → TextIs before files.model (λ text. IsSound text wiring) → TiedCauses before after files.journals wiring why → ConvertCauses before after files why
 
--- Why there may be nothing to give a verdict on. The order is: reading the model, the model, reading the injections, the
--- injections, none of which may move virtual time on, reading the journals, the journals.
+-- Why there may be nothing to give a verdict on, and nothing to show. The order is: reading the model, the model,
+-- reading the injections, the injections, none of which may move virtual time on, reading the journals, the journals.
 pub data UnjudgedCauses (before after : Shown) (files : Judged) (why : Refusal) : Type 0 where
   judged_model : ModelCauses before after files.run.model why → UnjudgedCauses before after files why
   judged_injections : (plant : Plant) → TextIs before files.run.model (λ text. IsModel text plant)
@@ -183,6 +236,14 @@ pub data VerifyCauses (before after : Shown) (files : Judged) (fuel : ℕ) (why 
       → why ≡ refusals.Unlawful verdict (length plant.wiring.controllers)
       → VerifyCauses before after files fuel why
   verify_no_memory : why ≡ refusals.Memory → VerifyCauses before after files fuel why
+
+-- why a call that asks for the system at a stamp may be refused: there is nothing to show it of, or nothing is shown then
+pub data ShowCauses (before after : Shown) (files : Judged) (at : ℕ) (why : Refusal) : Type 0 where
+  nothing_to_show : UnjudgedCauses before after files why → ShowCauses before after files at why
+  unlawful_by_then : (plant : Plant) (lines : List Line) (journals : Journals) (verdict : Verdict)
+      → IsUnseen before files at plant lines journals verdict → why ≡ refusals.Unlawful verdict (length plant.wiring.controllers)
+      → ShowCauses before after files at why
+  show_no_memory : why ≡ refusals.Memory → ShowCauses before after files at why
 
 -- why a text that stands in memory may be refused as that of a model which runs
 pub data PlantCauses (text : List ℕ) : Refusal → Type 0 where
@@ -202,6 +263,7 @@ pub data Causes (before after : Shown) (words : List (List ℕ)) (why : Refusal)
   of_run : (files : Files) (fuel : ℕ) → asked_by words ≡ Some (Run files fuel) → RunCauses before after files why → Causes before after words why
   of_convert : (files : Record) → asked_by words ≡ Some (Convert files) → ConvertCauses before after files why → Causes before after words why
   of_verify : (files : Judged) (fuel : ℕ) → asked_by words ≡ Some (Verify files fuel) → VerifyCauses before after files fuel why → Causes before after words why
+  of_show : (files : Judged) (at : ℕ) → asked_by words ≡ Some (Show files at) → ShowCauses before after files at why → Causes before after words why
   of_made : (actors : ℕ) → asked_by words ≡ Some (Made actors) → RunCauses (made_shelf actors) (made_shelf actors) made_files why → Causes before after words why
 
 -- the status of a refusal of a model's text

@@ -4,10 +4,12 @@ pub mod Models
 pub mod Named
 pub mod Reading
 pub mod Conversions
+pub mod ShownPeers
 pub mod Causes
 pub mod Outcome
 pub mod OneAnswer
 pub mod Verified
+pub mod Snapshots
 pub mod Finished
 pub mod Judging
 pub mod MadeShelf

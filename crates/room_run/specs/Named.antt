@@ -1,6 +1,6 @@
 -- The files that words name.
 use Rattle.std.specs.Prelude.{ℕ, List, Option, Some, None, option_map}
-use Rattle.room_run.specs.Words.{Asked, Check, Tree, Run, Convert, Verify, Made}
+use Rattle.room_run.specs.Words.{Asked, Check, Tree, Run, Convert, Verify, Show, Made}
 use Rattle.room_run.specs.declared.named.NamedFiles.{NamedFiles as CodeNamed}
 
 -- the names of the model and of the injections that are read
@@ -15,6 +15,7 @@ named_by (Tree model) = record { model = Some model; injections = None }
 named_by (Run files fuel) = record { model = Some files.model; injections = Some files.injections }
 named_by (Convert files) = record { model = Some files.model; injections = None }
 named_by (Verify files fuel) = record { model = Some files.run.model; injections = Some files.run.injections }
+named_by (Show files at) = record { model = Some files.run.model; injections = Some files.run.injections }
 named_by (Made actors) = record { model = None; injections = None }
 
 abbrev pub named_view : CodeNamed → NamedFiles

@@ -10,7 +10,7 @@ use Rattle.inject_reader.specs.declared.inject_lines.accepted.Advances.{Advances
 use Rattle.inject_reader.specs.declared.inject_lines.accepted.Advances.TheVariants.{Taken, Refused}
 use Rattle.inject_reader.specs.declared.inject_lines.accepted.Line.{Line}
 use Rattle.journal.specs.declared.entry.Journals.{Journals}
-use Rattle.room_run.specs.Words.{Files, Record, Judged, Asked, Check, Tree, Run, Convert, Verify, Made, asked_by}
+use Rattle.room_run.specs.Words.{Files, Record, Judged, Asked, Check, Tree, Run, Convert, Verify, Show, Made, asked_by}
 use Rattle.room_run.specs.MadeShelf.{made_files, made_shelf}
 use Rattle.room_run.specs.Models.{IsSound}
 use Rattle.room_run.specs.Conversions.{HasJournals, HasTiedJournals}
@@ -36,6 +36,8 @@ AreRead before after (Some (Tree name)) = IsRead before after name
 AreRead before after (Some (Run files fuel)) = IsRead before after files.model × IsRead before after files.injections
 AreRead before after (Some (Convert files)) = IsRead before after files.model × IsRead before after files.journals
 AreRead before after (Some (Verify files fuel)) =
+    IsRead before after files.run.model × IsRead before after files.run.injections × IsRead before after files.journals
+AreRead before after (Some (Show files at)) =
     IsRead before after files.run.model × IsRead before after files.run.injections × IsRead before after files.journals
 AreRead before after (Some (Made actors)) = Unit {0}
 
@@ -63,10 +65,11 @@ AskForNoRun (Some (Tree name)) = Unit {0}
 AskForNoRun (Some (Run files fuel)) = ⊥
 AskForNoRun (Some (Convert files)) = Unit {0}
 AskForNoRun (Some (Verify files fuel)) = Unit {0}
+AskForNoRun (Some (Show files at)) = Unit {0}
 AskForNoRun (Some (Made actors)) = ⊥
 
 -- besides want of memory at most one refusal holds of these words, and none where they have an answer; and `check`,
--- `tree`, `convert` and `verify` have one answer, with one text
+-- `tree`, `convert`, `verify` and `show` have one answer, with one text
 pub record HasOneAnswer (before after : Shown) (words : List (List ℕ)) : Type 0 where
   pub refused_once : (why other : Refusal) → Causes before after words why → Causes before after words other
       → IsMemory why ⊎ (IsMemory other ⊎ SameRefusal why other)
@@ -118,6 +121,7 @@ AreAccepted shelf (Some (Tree name)) = (wiring : Tables) × HasModel shelf name 
 AreAccepted shelf (Some (Run files fuel)) = HasFiles Taken shelf files
 AreAccepted shelf (Some (Convert files)) = HasRecord shelf files
 AreAccepted shelf (Some (Verify files fuel)) = HasJudged shelf files
+AreAccepted shelf (Some (Show files at)) = HasJudged shelf files
 AreAccepted shelf (Some (Made actors)) = HasFiles Taken (made_shelf actors) made_files
 
 -- no write failed in the call
@@ -125,7 +129,7 @@ pub record NoneFailed (streams : Streams) : Type 0 where
   pub out : Rose streams.out_before.faults streams.out_after.faults → ⊥
   pub notes : Rose streams.notes_before.faults streams.notes_after.faults → ⊥
 
--- the words ask for a verdict
+-- the words ask for a verdict, or for the system at a stamp, for which one may be told
 abbrev pub AskForVerdict : Option Asked → Type 0
 AskForVerdict None = ⊥
 AskForVerdict (Some (Check name)) = ⊥
@@ -133,6 +137,7 @@ AskForVerdict (Some (Tree name)) = ⊥
 AskForVerdict (Some (Run files fuel)) = ⊥
 AskForVerdict (Some (Convert files)) = ⊥
 AskForVerdict (Some (Verify files fuel)) = Unit {0}
+AskForVerdict (Some (Show files at)) = Unit {0}
 AskForVerdict (Some (Made actors)) = ⊥
 
 -- done, spent, want of memory, or, where a verdict is asked for, that journals aren't lawful

@@ -8,7 +8,8 @@
 -- the text of its wiring, the text of journals that are a run of the model over what the lines come to,
 -- which may move virtual time on, or the summary of such journals of a made model, with status done or
 -- spent as the run ended; or the text of journals that a text of them has. The text of journals is that
--- of form 2, wherever one is written. Of journals that are lawful for a model and lines it is `lawful`.
+-- of form 2, wherever one is written. Of journals that are lawful for a model and lines it is `lawful`; of a stamp
+-- of journals it is the text of the snapshot of the system then.
 use Rattle.std.specs.Prelude.{◌≡◌, ℕ, List, [], ◌∷◌, Bool, true, Option, Some, codes, if◌then◌else◌}
 use Rattle.room_outside.specs.Shown.{Shown}
 use Rattle.room_outside.specs.Written.{Written, Appends, BreaksOff}
@@ -29,7 +30,7 @@ use Rattle.room_run.specs.Agreement.{AllAgree}
 use Rattle.room_wiring.specs.declared.tables.Tables.{Tables}
 use Rattle.binding_expand.specs.tree_text.Text.{tree_text}
 use Rattle.made_model.specs.Summaries.{summary_of, summary_text}
-use Rattle.room_run.specs.Words.{Files, Record, Judged, Check, Tree, Run, Convert, Verify, Made, asked_by, usual_fuel}
+use Rattle.room_run.specs.Words.{Files, Record, Judged, Check, Tree, Run, Convert, Verify, Show, Made, asked_by, usual_fuel}
 use Rattle.room_run.specs.MadeShelf.{made_files, made_shelf}
 use Rattle.law_runs.specs.run_journals.InPlace.{AreInPlace}
 use Rattle.tied_journals.specs.Tied.{Tied}
@@ -37,10 +38,12 @@ use Rattle.tied_journals.specs.Text.{tied_text_of}
 use Rattle.journal_reader.specs.journal_texts.InRange.{IsInRange}
 use Rattle.room_run.specs.Models.{IsSound, IsSoundText}
 use Rattle.room_run.specs.Conversions.{HasTiedJournals}
-use Rattle.room_run.specs.Causes.{Causes, AreOf, IsJudged, TextIs, status_of, note_of}
+use Rattle.room_run.specs.Causes.{Causes, AreOf, IsJudged, IsSeen, TextIs, status_of, note_of}
 use Rattle.room_run.specs.fitting_journals.Fitting.{JournalsInPlace}
 use Rattle.room_run.specs.fitting_plants.Plants.{PlantFits}
 use Rattle.room_run.specs.fitting_plants.Runs.{Settles}
+use Rattle.room_show.specs.Text.{snapshot_text}
+use Rattle.room_show.specs.declared.snapshot.Snapshot.{Snapshot}
 use Rattle.room_verify.specs.declared.verdict.Verdict.TheVariants as verdicts
 use Rattle.room_run.specs.declared.prepare.Answer.{Answer}
 use Rattle.room_run.specs.declared.prepare.Answer.TheVariants as answers
@@ -106,7 +109,7 @@ pub record AreRecorded (shelf : Shown) (files : Record) (wiring : Tables) (journ
 abbrev pub status_of_run : Bool → Status
 status_of_run done = if done then statuses.Done else statuses.Spent
 
--- THE HEADLINE. What the words ask for, as a text with the status of a call that writes it whole: `ok` of a model that keeps all rules and whose wiring and charts have no fault; the slots and joined places of such a model; the text of the journals of a run of the model over the lines (`IsTimedRunOfFiles`); the text of the journals of which a text of journals is; `lawful` of journals that are lawful, prompt and ended for a model, injections and a fuel (`IsJudged`); or the summary of the journals of a run of the made model of so many actors over its injections, of which all is said that is said of the run of two files with these texts.
+-- THE HEADLINE. What the words ask for, as a text with the status of a call that writes it whole: `ok` of a model that keeps all rules and whose wiring and charts have no fault; the slots and joined places of such a model; the text of the journals of a run of the model over the lines (`IsTimedRunOfFiles`); the text of the journals of which a text of journals is; `lawful` of journals that are lawful, prompt and ended for a model, injections and a fuel (`IsJudged`); the text of the snapshot of the system after all that happened by journals up to a stamp (`IsSeen`); or the summary of the journals of a run of the made model of so many actors over its injections, of which all is said that is said of the run of two files with these texts.
 pub data Answers (shelf : Shown) (words : List (List ℕ)) (text : List ℕ) (status : Status) : Type 0 where
   says_ok : (name : List ℕ) → asked_by words ≡ Some (Check name) → TextIs shelf name (λ bytes. (wiring : Tables) × IsSound bytes wiring) → text ≡ accepted → status ≡ statuses.Done → Answers shelf words text status
   says_tree : (name : List ℕ) (wiring : Tables) → asked_by words ≡ Some (Tree name) → TextIs shelf name (λ bytes. IsSound bytes wiring) → text ≡ tree_text wiring → status ≡ statuses.Done → Answers shelf words text status
@@ -116,6 +119,8 @@ pub data Answers (shelf : Shown) (words : List (List ℕ)) (text : List ℕ) (st
       → text ≡ tied_text_of wiring journals → status ≡ statuses.Done → Answers shelf words text status
   says_lawful : (files : Judged) (fuel : ℕ) (plant : Plant) (lines : List Line) (journals : Journals) → asked_by words ≡ Some (Verify files fuel)
       → IsJudged shelf files fuel plant lines journals verdicts.Lawful → text ≡ lawful_line → status ≡ statuses.Done → Answers shelf words text status
+  says_shown : (files : Judged) (at : ℕ) (plant : Plant) (lines : List Line) (journals : Journals) (snapshot : Snapshot) → asked_by words ≡ Some (Show files at)
+      → IsSeen shelf files at plant lines journals snapshot → text ≡ snapshot_text plant.wiring snapshot → status ≡ statuses.Done → Answers shelf words text status
   says_made : (actors : ℕ) (plant : Plant) (lines : List Line) (journals : Journals) → asked_by words ≡ Some (Made actors) → IsTimedRunOfFiles (made_shelf actors) made_files usual_fuel plant lines journals
       → text ≡ summary_text (summary_of actors journals) → status ≡ status_of_run journals.done → Answers shelf words text status
 
@@ -126,6 +131,7 @@ answer_text (answers.Wired wiring) = tree_text wiring
 answer_text (answers.Ran run) = tied_text_of run.wiring run.journals
 answer_text (answers.Converted read) = tied_text_of read.wiring read.journals
 answer_text answers.Lawful = lawful_line
+answer_text (answers.Shown view) = snapshot_text view.wiring view.snapshot
 answer_text (answers.Summed summary) = summary_text summary
 
 -- journals that are to be written are tied
@@ -135,6 +141,7 @@ HasTied (answers.Wired wiring) = Unit {0}
 HasTied (answers.Ran run) = Tied run.journals
 HasTied (answers.Converted read) = Tied read.journals
 HasTied answers.Lawful = Unit {0}
+HasTied (answers.Shown view) = Unit {0}
 HasTied (answers.Summed summary) = Unit {0}
 
 -- the status where that text is written whole
@@ -144,6 +151,7 @@ answer_status (answers.Wired wiring) = statuses.Done
 answer_status (answers.Ran run) = status_of_run run.journals.done
 answer_status (answers.Converted read) = statuses.Done
 answer_status answers.Lawful = statuses.Done
+answer_status (answers.Shown view) = statuses.Done
 answer_status (answers.Summed summary) = status_of_run summary.done
 
 -- a text was written, which has this status, or writing it broke off

@@ -18,7 +18,7 @@ pub record Record : Type 0 where
   pub model : List ℕ
   pub journals : List ℕ
 
--- the names of the files of a run, and of the journals that are judged by them
+-- the names of the files of a run, and of the journals that are judged or shown by them
 pub record Judged : Type 0 where
   pub run : Files
   pub journals : List ℕ
@@ -30,6 +30,7 @@ pub data Asked : Type 0 where
   Run : (files : Files) (fuel : ℕ) → Asked
   Convert : (files : Record) → Asked
   Verify : (files : Judged) (fuel : ℕ) → Asked
+  Show : (files : Judged) (at : ℕ) → Asked
   Made : (actors : ℕ) → Asked
 
 -- whether a word is this one
@@ -52,6 +53,10 @@ number_of most (b ∷ bs) = if b == 48 then None else number_in most (b ∷ bs)
 -- the fuel that a word names, from 1 to 100,000
 abbrev pub fuel_of : List ℕ → Option ℕ
 fuel_of word = number_of 100000 word
+
+-- the stamp that a word names, from 0 to 9,223,372,036,854,775,807
+abbrev pub stamp_of : List ℕ → Option ℕ
+stamp_of word = if is_word word (codes "0") then Some 0 else number_of 9223372036854775807 word
 
 -- how many actors a word names, from 1 to 4,000
 abbrev pub actors_of : List ℕ → Option ℕ
@@ -95,20 +100,26 @@ abbrev pub asked_with : List ℕ → List ℕ → List ℕ → List ℕ → List
 asked_with command model injections flag fuel =
     if is_word command (codes "run") && is_word flag (codes "--fuel") then option_map (run_asked model injections) (fuel_of fuel) else None
 
+-- the system at a stamp of journals, by a run of these files
+abbrev pub show_asked : List ℕ → List ℕ → List ℕ → ℕ → Asked
+show_asked model injections journals at =
+    Show (record { run = record { model = model; injections = injections }; journals = journals }) at
+
 -- what six words ask for
 abbrev pub asked_of_journals_with : List ℕ → List ℕ → List ℕ → List ℕ → List ℕ → List ℕ → Option Asked
-asked_of_journals_with command model injections journals flag fuel =
-    if is_word command (codes "verify") && is_word flag (codes "--fuel") then option_map (verify_asked model injections journals) (fuel_of fuel)
+asked_of_journals_with command model injections journals flag word =
+    if is_word command (codes "verify") && is_word flag (codes "--fuel") then option_map (verify_asked model injections journals) (fuel_of word)
+    else if is_word command (codes "show") && is_word flag (codes "--at") then option_map (show_asked model injections journals) (stamp_of word)
     else None
 
--- `check MODEL` asks whether a model keeps all rules and its wiring and charts have no fault, `tree MODEL` for its slots and joined places, `run MODEL INJECT` for the run of a model over injections with the usual fuel, `run MODEL INJECT --fuel N` for the same with this one, `convert MODEL JOURNALS` for journals of a model in form 2, `verify MODEL INJECT JOURNALS` for the verdict on journals by the run of a model over injections with the usual fuel, or with the one that `--fuel N` behind it names, and `made N` for the summary of the run of a made model of N actors; no other list of words asks for anything
+-- `check MODEL` asks whether a model keeps all rules and its wiring and charts have no fault, `tree MODEL` for its slots and joined places, `run MODEL INJECT` for the run of a model over injections with the usual fuel, `run MODEL INJECT --fuel N` for the same with this one, `convert MODEL JOURNALS` for journals of a model in form 2, `verify MODEL INJECT JOURNALS` for the verdict on journals by the run of a model over injections with the usual fuel, or with the one that `--fuel N` behind it names, `show MODEL INJECT JOURNALS --at S` for the system after all that happened by journals up to a stamp, and `made N` for the summary of the run of a made model of N actors; no other list of words asks for anything
 abbrev pub asked_by : List (List ℕ) → Option Asked
 asked_by (command ∷ word ∷ []) = asked_of command word
 asked_by (command ∷ model ∷ second ∷ []) = asked_of_files command model second
 asked_by (command ∷ model ∷ injections ∷ journals ∷ []) = asked_of_journals command model injections journals
 asked_by (command ∷ model ∷ injections ∷ flag ∷ fuel ∷ []) = asked_with command model injections flag fuel
-asked_by (command ∷ model ∷ injections ∷ journals ∷ flag ∷ fuel ∷ []) =
-    asked_of_journals_with command model injections journals flag fuel
+asked_by (command ∷ model ∷ injections ∷ journals ∷ flag ∷ word ∷ []) =
+    asked_of_journals_with command model injections journals flag word
 asked_by words = None
 
 -- the names that the code keeps
@@ -127,4 +138,5 @@ asked_view (code.Tree name) = Tree name.now
 asked_view (code.Run files fuel) = Run (files_view files) fuel
 asked_view (code.Convert files) = Convert (record_view files)
 asked_view (code.Verify files fuel) = Verify (judged_view files) fuel
+asked_view (code.Show files at) = Show (judged_view files) at
 asked_view (code.Made actors) = Made actors

@@ -3,6 +3,7 @@
 //! No code: the laws.
 ghost use Rattle.room_run.specs.Conversions.{ConversionsKeepJournals};
 ghost use Rattle.room_run.specs.OneAnswer.{AcceptedCallsEnd, CallsHaveOneAnswer};
+ghost use Rattle.room_run.specs.Snapshots.{PrintedRunsAreShown, ShowsAreExact};
 ghost use Rattle.room_run.specs.Verified.{PrintedRunsAreLawful, VerdictsAreExact};
 
 /// Of the words and the texts that they name at most one refusal holds besides want of memory, and none
@@ -33,4 +34,16 @@ pub fn verdicts_are_exact()
 /// What a run printed, over lines that don't move virtual time on, is answered as lawful with the same fuel.
 pub fn printed_runs_are_lawful()
     ensures { PrintedRunsAreLawful }
+{}
+
+/// Where the texts that a call names are told and accepted, and no read and no write fails, it is done exactly where
+/// the journals have a snapshot at the stamp by the charts of the model, and unlawful exactly where they have none;
+/// unless it ends for want of memory.
+pub fn shows_are_exact()
+    ensures { ShowsAreExact }
+{}
+
+/// Of what a run printed, over lines that don't move virtual time on, each stamp is shown.
+pub fn printed_runs_are_shown()
+    ensures { PrintedRunsAreShown }
 {}

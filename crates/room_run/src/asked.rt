@@ -1,7 +1,7 @@
 //! What the words of a call ask for.
-ghost use Rattle.std.specs.Prelude.{◌≡◌, option_map, map};
+ghost use Rattle.std.specs.Prelude.{◌≡◌, ◌<◌, option_map, map};
 ghost use Rattle.std.specs.String.{string_bytes};
-ghost use Rattle.room_run.specs.Words.{Made, Run, Verify, actors_of, asked_by, asked_of, asked_of_files, asked_of_journals, asked_of_journals_with, asked_view, asked_with, files_view, fuel_of, judged_view, number_in, number_of, record_view};
+ghost use Rattle.room_run.specs.Words.{Made, Run, Show, Verify, actors_of, asked_by, asked_of, asked_of_files, asked_of_journals, asked_of_journals_with, asked_view, asked_with, files_view, fuel_of, judged_view, number_in, number_of, record_view, stamp_of};
 
 use text_reading::{are_digits, value};
 
@@ -9,10 +9,13 @@ use text_reading::{are_digits, value};
 pub(crate) const USUAL_FUEL: u64 = 10_000;
 
 /// The most fuel that words may name.
-const MOST_FUEL: u32 = 100_000;
+const MOST_FUEL: u64 = 100_000;
 
 /// The most actors of a made model.
-const MOST_ACTORS: u32 = 4_000;
+const MOST_ACTORS: u64 = 4_000;
+
+/// The greatest stamp that words may name.
+const MOST_STAMP: u64 = 9_223_372_036_854_775_807;
 
 /// The two files of a run.
 #[derive(Clone, Copy)]
@@ -28,7 +31,7 @@ pub(crate) struct Record<'a> {
     pub(crate) journals: &'a str,
 }
 
-/// The two files of a run, and journals that are judged by them.
+/// The two files of a run, and journals that are judged or shown by them.
 #[derive(Clone, Copy)]
 pub(crate) struct Judged<'a> {
     pub(crate) run: Files<'a>,
@@ -49,16 +52,19 @@ pub(crate) enum Asked<'a> {
     /// The verdict on journals by the run of a model over injections, in which each controller takes so
     /// many turns at most.
     Verify(Judged<'a>, u64),
+    /// The system after all that happened by journals up to a stamp.
+    Show(Judged<'a>, u64),
     /// The summary of the run of the made model of so many actors.
     Made(u64),
 }
 
 /// The number of digits, where it is at most so large.
-fn number_in(most: u32, digits: &[u8]) -> Option<u64>
+fn number_in(most: u64, digits: &[u8]) -> Option<u64>
+    requires { most < 18446744073709551615 }
     ensures { result ≡ number_in most digits.now }
 {
     let number = value(digits);
-    if are_digits(digits) && number <= u64::from(most) {
+    if are_digits(digits) && number <= most {
         Some(number)
     } else {
         None
@@ -67,7 +73,8 @@ fn number_in(most: u32, digits: &[u8]) -> Option<u64>
 
 /// The number that a word names: digits without a leading zero, whose number is at most so large.
 #[tactic(auto, unfolding(crate::specs::Words::number_of))]
-fn number_of(most: u32, word: &[u8]) -> Option<u64>
+fn number_of(most: u64, word: &[u8]) -> Option<u64>
+    requires { most < 18446744073709551615 }
     ensures { result ≡ number_of most word.now }
 {
     match word {
@@ -80,6 +87,16 @@ fn number_of(most: u32, word: &[u8]) -> Option<u64>
             }
         }
     }
+}
+
+/// The stamp that a word names: 0, or digits without a leading zero.
+fn stamp_of(word: &str) -> Option<u64>
+    ensures { result ≡ stamp_of word.now }
+{
+    if word == "0" {
+        return Some(0);
+    }
+    number_of(MOST_STAMP, word.as_bytes())
 }
 
 /// The files of these names.
@@ -122,6 +139,17 @@ fn verify_with<'a>(files: Judged<'a>, word: &[u8]) -> Option<Asked<'a>>
 {
     match number_of(MOST_FUEL, word) {
         Some(fuel) => Some(Asked::Verify(files, fuel)),
+        None => None,
+    }
+}
+
+/// The system at the stamp that a word names.
+fn show_at<'a>(files: Judged<'a>, word: &str) -> Option<Asked<'a>>
+    ensures { option_map asked_view result
+        ≡ option_map (Show (judged_view files.entry)) (stamp_of word.now) }
+{
+    match stamp_of(word) {
+        Some(at) => Some(Asked::Show(files, at)),
         None => None,
     }
 }
@@ -205,14 +233,16 @@ fn asked_of_journals_with<'a>(
     command: &str,
     files: Judged<'a>,
     flag: &str,
-    fuel: &str,
+    word: &str,
 ) -> Option<Asked<'a>>
     ensures { option_map asked_view result ≡ asked_of_journals_with command.now
         files.entry.run.model.now files.entry.run.injections.now files.entry.journals.now flag.now
-        fuel.now }
+        word.now }
 {
     if command == "verify" && flag == "--fuel" {
-        verify_with(files, fuel.as_bytes())
+        verify_with(files, word.as_bytes())
+    } else if command == "show" && flag == "--at" {
+        show_at(files, word)
     } else {
         None
     }
@@ -234,11 +264,11 @@ pub(crate) fn asked_by(words: &[String]) -> Option<Asked<'_>>
             flag.as_str(),
             fuel.as_str(),
         ),
-        [command, model, injections, journals, flag, fuel] => asked_of_journals_with(
+        [command, model, injections, journals, flag, word] => asked_of_journals_with(
             command.as_str(),
             judged_of(files_of(model, injections), journals),
             flag.as_str(),
-            fuel.as_str(),
+            word.as_str(),
         ),
         _ => None,
     }

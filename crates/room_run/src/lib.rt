@@ -3,7 +3,7 @@
 //! `room_top` is the whole program over a shelf of texts and two sinks. Its contract is the
 //! headline of the project: every model that keeps the rules and has no fault runs, and what is printed is a
 //! run of it. It is the exact answer of the check of a model, of the text of its wiring, and of the conversion
-//! of journals, too.
+//! of journals, too; and the text of the system at a stamp of journals.
 #![tactic(auto)]
 
 pub mod answers;
@@ -20,6 +20,7 @@ mod note;
 mod plant_runs;
 mod prepare;
 mod refusal;
+mod show;
 mod stack;
 mod status;
 mod top;
@@ -27,7 +28,7 @@ mod verify;
 
 pub use answers::{
     accepted_calls_end, conversions_keep_journals, one_answer, printed_runs_are_lawful,
-    verdicts_are_exact,
+    printed_runs_are_shown, shows_are_exact, verdicts_are_exact,
 };
 pub use fitting_journals::{fitting_journals_fit, fitting_runs_journals};
 pub use fitting_plants::{fitting_runs_settle, fitting_worlds_agree, plants_fit};

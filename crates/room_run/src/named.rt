@@ -23,7 +23,9 @@ pub fn named_files(words: &[String]) -> Option<NamedFiles<'_>>
         Asked::Check(model) | Asked::Tree(model) => (Some(model), None),
         Asked::Run(files, _) => (Some(files.model), Some(files.injections)),
         Asked::Convert(record) => (Some(record.model), None),
-        Asked::Verify(files, _) => (Some(files.run.model), Some(files.run.injections)),
+        Asked::Verify(files, _) | Asked::Show(files, _) => {
+            (Some(files.run.model), Some(files.run.injections))
+        }
         Asked::Made(_) => (None, None),
     };
     Some(NamedFiles { model, injections })

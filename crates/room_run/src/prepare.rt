@@ -22,6 +22,7 @@ use crate::judge::{read_plant, sound_model};
 use crate::made::run_made;
 use crate::plant_runs::run_over;
 use crate::refusal::Refusal;
+use crate::show::{View, show_files};
 use crate::verify::verify_files;
 use controller::Plant;
 use inject_reader::InjectFault;
@@ -53,6 +54,8 @@ pub(crate) enum Answer {
     Converted(Recorded),
     /// Journals are lawful.
     Lawful,
+    /// The system at a stamp of journals.
+    Shown(View),
     /// What is told of the run of a made model.
     Summed(Summary),
 }
@@ -291,6 +294,10 @@ pub(crate) fn prepare<S: Shelf, G: Gate + Sync, R: Threads + Sync>(
         },
         Some(Asked::Verify(files, fuel)) => match verify_files(alloc, shelf, files, fuel) {
             Ok(()) => Ok(Answer::Lawful),
+            Err(why) => Err(why),
+        },
+        Some(Asked::Show(files, at)) => match show_files(alloc, shelf, files, at) {
+            Ok(view) => Ok(Answer::Shown(view)),
             Err(why) => Err(why),
         },
         Some(Asked::Made(actors)) => match run_made(rt, alloc, actors, gate) {

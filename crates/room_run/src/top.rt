@@ -10,6 +10,7 @@ use crate::status::Status;
 use binding_expand::expand_text;
 use made_model::write_summary;
 use room_outside::{Gate, Shelf, Sink};
+use room_show::show_text;
 use std::alloc::Global;
 use std::thread::Threads;
 use tied_journals::text_to;
@@ -41,6 +42,7 @@ fn status_of(answer: &Answer) -> Status
         Answer::Ran(run) => status_of_run(run.journals.done),
         Answer::Converted(_) => Status::Done,
         Answer::Lawful => Status::Done,
+        Answer::Shown(_) => Status::Done,
         Answer::Summed(summary) => status_of_run(summary.done),
     }
 }
@@ -57,6 +59,7 @@ fn print<K: Sink>(answer: &Answer, out: &mut K) -> Status
         Answer::Ran(run) => text_to(&run.journals, &run.wiring, out),
         Answer::Converted(read) => text_to(&read.journals, &read.wiring, out),
         Answer::Lawful => write_lawful(out),
+        Answer::Shown(view) => show_text(&view.snapshot, &view.wiring, out),
         Answer::Summed(summary) => write_summary(summary, out),
     };
     match written {
@@ -72,13 +75,16 @@ fn print<K: Sink>(answer: &Answer, out: &mut K) -> Status
 /// injections, which may move virtual time on, so that timers expire, and in which each controller takes 10,000
 /// turns at most, or N with `--fuel N` behind it, 1 to 100,000, `convert MODEL JOURNALS` for journals of a
 /// model, in form 1 or in form 2, to be written in form 2, `verify MODEL INJECT JOURNALS` for the verdict on
-/// journals, whether they are those of a run of the model over the injections, with a fuel as for a run, and
-/// `made N` for the summary of the run of a made model of N actors, 1 to 4,000; every other list of words is
-/// refused. No file is read for a made model. The order is: the words, reading the model, the model (its text,
-/// its rules, its wiring, its charts), reading the injections or the journals, the injections or the journals
-/// (their text, whether they are tied), the run, writing; for a verdict the injections, then the journals,
-/// which needn't be tied, and the verdict. After a failed read nothing more is read, and want of memory never
-/// comes once something was written.
+/// journals, whether they are those of a run of the model over the injections, with a fuel as for a run, `show
+/// MODEL INJECT JOURNALS --at S` for the system after all that happened by journals up to a stamp, 0 to
+/// 9,223,372,036,854,775,807, and `made N` for the summary of the run of a made model of N actors, 1 to 4,000;
+/// every other list of words is refused. No file is read for a made model. The order is: the words, reading the
+/// model, the model (its text, its rules, its wiring, its charts), reading the injections or the journals, the
+/// injections or the journals (their text, whether they are tied), the run, writing; for a verdict the
+/// injections, then the journals, which needn't be tied, and the verdict; and so for the system at a stamp,
+/// which is refused for the journals' stamps, for their starts, and for the first entry up to the stamp that
+/// can't happen. After a failed read nothing more is read, and want of memory never comes once something was
+/// written.
 ///
 /// The text of journals may have 268,435,456 bytes, each other one 1,048,576.
 ///

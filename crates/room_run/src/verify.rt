@@ -21,16 +21,20 @@ use room_outside::Shelf;
 use room_verify::{Verdict, verdicts_are_by_charts, verify};
 use std::alloc::{AllocError, Global};
 
-/// What a verdict is about: a plant, the lines over which it runs, and journals.
+/// What a verdict is about, or what is shown: a plant, the lines over which it runs, and journals.
 #[derive(Drop)]
-struct Judgement {
-    plant: Plant,
-    lines: Vec<Line>,
-    journals: Journals,
+pub(crate) struct Judgement {
+    pub(crate) plant: Plant,
+    pub(crate) lines: Vec<Line>,
+    pub(crate) journals: Journals,
 }
 
 /// The model, the injections and the journals of three files.
-fn read_judged<S: Shelf>(alloc: Global, shelf: &mut S, files: Judged) -> Result<Judgement, Refusal>
+pub(crate) fn read_judged<S: Shelf>(
+    alloc: Global,
+    shelf: &mut S,
+    files: Judged,
+) -> Result<Judgement, Refusal>
     ensures ok { IfOk result (λ it.
         AreJudged (S.shown shelf.old) (judged_view files.entry) it) }
     ensures err { IfErr result (λ why. UnjudgedCauses (S.shown shelf.old) (S.shown shelf.new)

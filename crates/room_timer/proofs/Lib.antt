@@ -1,4 +1,5 @@
 pub mod Lists
+pub mod DueTimes
 pub mod Places
 pub mod Computing
 pub mod Later

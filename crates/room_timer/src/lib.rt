@@ -7,6 +7,7 @@
 //! own.
 #![tactic(auto)]
 
+mod due_times;
 mod examples;
 mod laws;
 mod services;

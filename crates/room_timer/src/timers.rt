@@ -1,10 +1,12 @@
 //! The timers that are armed.
-ghost use Rattle.std.specs.Prelude.{◌≡◌, ◌≤◌, ◌<◌, map, filter, not, length, position, Some, None, IfOk, IfSome, OnOk, OnErr, MatchOption};
+ghost use Rattle.std.specs.Prelude.{◌≡◌, ◌≤◌, ◌<◌, ◌∷◌, [], map, filter, not, length, position, slice_get, true, Some, None, IfOk, IfSome, OnOk, OnErr, MatchOption};
 ghost use Rattle.std.specs.List.{list_any, remove};
 ghost use Rattle.std.specs.Option.{option_map_or};
 ghost use Rattle.actor_duties.specs.Words.{is_endpoint};
-ghost use Rattle.room_timer.specs.Timers.{no_timers, delay_of, is_at, disarmed, armed_at, asked, sent_at, is_down, outlives, saw, earliest, due_by, is_due, timeout_line, moment};
+ghost use Rattle.room_timer.specs.Timers.{no_timers, delay_of, is_at, disarmed, armed_at, asked, sent_at, is_down, outlives, saw, due_by, is_due, timeout_line, moment};
+ghost use Rattle.room_timer.specs.DueTimes.{due_count, IsDue, IsNext};
 
+use crate::due_times::{Due, DueTimes, add_time, drop_time, next_due, no_times};
 use crate::services::{hears_timeout, is_timing};
 use crate::timer::Timer;
 use inject_reader::{Line, What};
@@ -23,23 +25,26 @@ const TIMEOUT: u16 = 2;
 
 const GENERAL: u8 = 3;
 
-/// The virtual time, and the timers that are armed, in order of arming. A call takes time in
-/// proportion to these timers at most, and most entries that are seen take a few look-ups.
-#[derive(Drop, Debug)]
+/// The virtual time, and the timers that are armed, in order of arming, with the times at which they
+/// are due. A call takes time in proportion to these timers at most, and most entries that are seen
+/// take a few look-ups.
+#[derive(Drop)]
 pub struct TimerTable {
     time: u64,
     armed: Vec<Timer>,
+    times: DueTimes,
 }
 
 impl Model for TimerTable {
     ghost use Rattle.std.specs.Prelude.{◌≤◌};
     ghost use Rattle.room_timer.specs.Timers.{Timers};
+    ghost use Rattle.room_timer.specs.DueTimes.{Covers};
 
     ghost Value = { Timers };
 
     ghost view = { λ t. record { time = t.time; armed = t.armed.items } };
 
-    ghost invariant = { λ t. t.time ≤ 4611686018427387904 };
+    ghost invariant = { λ t. (t.time ≤ 4611686018427387904) × Covers t.times t.armed.items };
 }
 
 fn is_same_place(a: Endpoint, b: Endpoint) -> bool
@@ -99,33 +104,6 @@ fn place_of(armed: &[Timer], at: Endpoint) -> Option<usize>
     armed.iter().position(|timer| is_at(at, timer))
 }
 
-/// The least due time.
-#[tactic(auto, using(crate::proofs::Lists::sooner_of))]
-fn earliest(armed: &[Timer]) -> Option<u64>
-    ensures { result ≡ earliest armed.now }
-{
-    let mut least: Option<u64> = None;
-    for timer in armed {
-        least = match least {
-            Some(time) => Some(time.min(timer.due)),
-            None => Some(timer.due),
-        };
-    }
-    least
-}
-
-/// The least due time, where it is this one or earlier.
-#[tactic(auto, unfolding(crate::specs::Timers::due_by))]
-fn due_by(armed: &[Timer], until: u64) -> Option<u64>
-    ensures time { result ≡ due_by until armed.now }
-    ensures bound { IfSome result (λ time. time ≤ until) }
-{
-    match earliest(armed) {
-        Some(time) => { if time <= until { Some(time) } else { None } }
-        None => None,
-    }
-}
-
 /// A timeout comes to whoever stands there, under the number of a line.
 fn timeout_line(alloc: Global, number: u32, timer: Timer) -> Line
     ensures { result ≡ timeout_line number timer }
@@ -146,12 +124,7 @@ fn timeout_line(alloc: Global, number: u32, timer: Timer) -> Line
 }
 
 /// The timeouts of the timers that are due at a time, in order of arming.
-fn timeout_lines(
-    alloc: Global,
-    armed: &[Timer],
-    number: u32,
-    time: u64,
-) -> Result<Vec<Line>, AllocError>
+fn lines_at(alloc: Global, armed: &[Timer], number: u32, time: u64) -> Result<Vec<Line>, AllocError>
     ensures { IfOk result (λ ls. ls.items
         ≡ map (timeout_line number) (filter (is_due time) armed.now)) }
 {
@@ -164,6 +137,33 @@ fn timeout_lines(
     Ok(lines)
 }
 
+/// A line alone.
+fn only_line(alloc: Global, line: Line) -> Result<Vec<Line>, AllocError>
+    ensures { IfOk result (λ ls. ls.items ≡ line ∷ []) }
+{
+    let mut lines = Vec::new(alloc);
+    lines.push(line)?;
+    Ok(lines)
+}
+
+/// The timeouts of the timers that are due next, in order of arming.
+fn timeout_lines(
+    alloc: Global,
+    armed: &[Timer],
+    number: u32,
+    due: Due,
+) -> Result<Vec<Line>, AllocError>
+    requires { IsDue armed.now due.time due.place due.together }
+    ensures { IfOk result (λ ls. ls.items
+        ≡ map (timeout_line number) (filter (is_due due.time) armed.now)) }
+{
+    if due.together {
+        lines_at(alloc, armed, number, due.time)
+    } else {
+        only_line(alloc, timeout_line(alloc, number, armed[due.place]))
+    }
+}
+
 /// Timers end with their actors.
 fn keep_outliving(armed: &mut Vec<Timer>, notes: &[Note])
     ensures { armed.new.items ≡ filter (outlives notes.now) armed.old.items }
@@ -172,10 +172,23 @@ fn keep_outliving(armed: &mut Vec<Timer>, notes: &[Note])
 }
 
 /// Timers that are due at a time go.
-fn remove_due(armed: &mut Vec<Timer>, time: u64)
+fn remove_at(armed: &mut Vec<Timer>, time: u64)
     ensures { armed.new.items ≡ filter (λ x. not (is_due time x)) armed.old.items }
 {
     armed.retain(|timer| timer.due != time);
+}
+
+/// The timers that are due next go.
+#[tactic(auto, using(crate::proofs::DueTimes::others))]
+fn remove_due(armed: &mut Vec<Timer>, due: Due)
+    requires { IsDue armed.old.items due.time due.place due.together }
+    ensures { armed.new.items ≡ filter (λ x. not (is_due due.time x)) armed.old.items }
+{
+    if due.together {
+        remove_at(armed, due.time);
+    } else {
+        armed.remove(due.place);
+    }
 }
 
 impl TimerTable {
@@ -186,6 +199,7 @@ impl TimerTable {
         TimerTable {
             time: 0,
             armed: Vec::new(alloc),
+            times: no_times(alloc),
         }
     }
 
@@ -233,6 +247,7 @@ impl TimerTable {
         ensures err { OnErr result (self.new ≡ self.old) }
     {
         let due = self.time + delay_of(delay);
+        add_time(&mut self.times, due)?;
         let place = place_of(self.armed.as_slice(), at);
         self.armed.push(Timer { at, due })?;
         self.take_out(place);
@@ -315,16 +330,18 @@ impl TimerTable {
         }
     }
 
-    /// This time has come; the timers that are due then go.
-    fn expire(&mut self, time: u64)
-        requires { time ≤ 4611686018427387904 }
+    /// The time has come at which these timers are due; they go.
+    fn expire(&mut self, until: u64, due: Due)
+        requires next { IsNext until self.old.armed due.time due.place due.together }
+        requires bound { until ≤ 4611686018427387904 }
         ensures { self.new ≡ record {
-          time = time;
-          armed = filter (λ x. not (is_due time x)) self.old.armed;
+          time = due.time;
+          armed = filter (λ x. not (is_due due.time x)) self.old.armed;
         } }
     {
-        self.time = time;
-        remove_due(&mut self.armed, time);
+        remove_due(&mut self.armed, due);
+        drop_time(&mut self.times, due.time);
+        self.time = due.time;
     }
 
     /// The timeouts of the next moment at which a timer is due, until this time, as lines under a
@@ -343,12 +360,12 @@ impl TimerTable {
             (λ ls. moment number self.old until ≡ Some (ls.items, self.new))) }
         ensures err { OnErr result (self.new ≡ self.old) }
     {
-        let Some(time) = due_by(self.armed.as_slice(), until) else {
+        let Some(due) = next_due(&mut self.times, self.armed.as_slice(), until) else {
             self.time = until;
             return Ok(None);
         };
-        let lines = timeout_lines(alloc, self.armed.as_slice(), number, time)?;
-        self.expire(time);
+        let lines = timeout_lines(alloc, self.armed.as_slice(), number, due)?;
+        self.expire(until, due);
         Ok(Some(lines))
     }
 }

@@ -139,12 +139,12 @@ module _ {M N : Type 0} (R : ℕ → M → N → Type 0) (one : Behaviour M) (ot
   }
 
   -- the journals lead to a world that is alike
-  record ReachesAlike (front behind : List Placed) (w : World (Body M)) : Type 0 where
-    v : World (Body N)
-    reaches : Reaches other t (lines_of items) j front behind v
-    are : WorldAlike R one other alike t (lines_of items) w v
+  pub record ReachesAlike (front behind : List Placed) (w : World (Body M)) : Type 0 where
+    pub v : World (Body N)
+    pub reaches : Reaches other t (lines_of items) j front behind v
+    pub are : WorldAlike R one other alike t (lines_of items) w v
 
-  reaches_alike : (front behind : List Placed) (w : World (Body M)) → Reaches one t (lines_of items) j front behind w → ReachesAlike front behind w
+  pub reaches_alike : (front behind : List Placed) (w : World (Body M)) → Reaches one t (lines_of items) j front behind w → ReachesAlike front behind w
   reaches_alike front behind w h =
       let ran : RunAlike R one other alike t (lines_of items) (start (plant_of other t (lines_of items))) front w =
       run_alike R one other alike t (lines_of items) front (start (plant_of one t (lines_of items))) (start (plant_of other t (lines_of items))) w

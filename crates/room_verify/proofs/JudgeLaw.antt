@@ -220,23 +220,25 @@ module _ (plant : Plant) (lines : List Line) (fuel : ℕ) (j : Journals) (count 
       → LowestWithout (IsInOrder j) (length j.controllers + 1) None
       → LowestWithout (λ k. BeginsWithStarts (slice_index_or starts k []) (journal_of j k)) (length j.controllers) None
       → (r : Replay) → world_in plant r ≡ start (plan plant lines) → Replays plant lines r → (passed : List ℕ) → passed ≡ passed_at_start starts
-      → HasPassed plant lines j passed r
+      → (h : HasPassed plant lines j passed r) × (h.front ≡ [])
   passed_nothing starts made ordered begun r world replays passed is =
       let model : Behaviour Actor = model_of plant in
       let t : Tables = plant.wiring in
-      let behind : List Placed = (merged model t (items_of plant.wiring lines) fuel j count ordered starts made begun).0 in
-      record {
-        front = [];
-        behind = behind;
-        reaches =
-            subst (λ (w : World (Body Actor)). Reaches (model_of plant) plant.wiring (lines_of (items_of plant.wiring lines)) j [] behind w) (sym world)
-            (at_start model t (items_of plant.wiring lines) fuel j count ordered starts made begun);
-        replays = replays;
-        count = ap (λ (z : List ℕ). length z) is ∙ passed_count model t (items_of plant.wiring lines) fuel j count ordered starts made begun;
-        left = λ party low.
-            left_at_start model t (items_of plant.wiring lines) fuel j count ordered starts made begun party low
-            ∙ ap (λ (z : List ℕ). left_of_party j z party) (sym is);
-      }
+      let behind : List Placed = (merged model t (items_of plant.wiring lines) fuel j count ordered starts made begun).0 in (
+        record {
+          front = [];
+          behind = behind;
+          reaches =
+              subst (λ (w : World (Body Actor)). Reaches (model_of plant) plant.wiring (lines_of (items_of plant.wiring lines)) j [] behind w) (sym world)
+              (at_start model t (items_of plant.wiring lines) fuel j count ordered starts made begun);
+          replays = replays;
+          count = ap (λ (z : List ℕ). length z) is ∙ passed_count model t (items_of plant.wiring lines) fuel j count ordered starts made begun;
+          left = λ party low.
+              left_at_start model t (items_of plant.wiring lines) fuel j count ordered starts made begun party low
+              ∙ ap (λ (z : List ℕ). left_of_party j z party) (sym is);
+        },
+        refl,
+      )
 
   pub entry_else : (party : ControllerId) (stamp : Stamp) → RefusedAt plant lines j party stamp
       → IsVerdict (model_of plant) plant.wiring (items_of plant.wiring lines) fuel j (verdicts.Entry party stamp)

@@ -19,3 +19,7 @@ pub mod TurnLaw
 pub mod JudgeLaw
 pub mod EndedLaw
 pub mod LeavesLaw
+pub mod SeenLaw
+pub mod ShownLaw
+pub mod UntilLaw
+pub mod ViewLaw

@@ -1,5 +1,5 @@
 -- One entry of the merge of journals more.
-use Rattle.std.proofs.Common.{◌≡◌, ℕ, zero, suc, ◌+◌, ◌<◌, ◌≤◌, nat_lt, true, false, List, [], ◌∷◌, ◌++◌, drop, set, get_or, length, slice_get, slice_index, Option, Some, None, refl, sym, ap, ◌∙◌, subst, arith, append_assoc, ◌⊎◌, inl, inr}
+use Rattle.std.proofs.Common.{◌≡◌, ℕ, zero, suc, ◌+◌, ◌<◌, ◌≤◌, nat_lt, true, false, List, [], ◌∷◌, ◌++◌, drop, set, get_or, length, slice_get, slice_index, Option, Some, refl, sym, ap, ◌∙◌, subst, arith, append_assoc, ◌⊎◌, inl, inr}
 use Rattle.std.proofs.lemmas.Bool.{cases_eq, lt-ltb, le-ltb}
 use Rattle.std.proofs.lemmas.List.{get_or-set_same, get_or-set_other, get_or_read, length-set, drop-drop}
 use Rattle.std.proofs.lemmas.Option.{get_or_from_slice_get}
@@ -16,12 +16,12 @@ use Rattle.controller_actors.specs.declared.plant.Plant.{Plant}
 use Rattle.law_merges.proofs.Parties.{first_here, first_other}
 use Rattle.model_run.specs.run_ends.Runs.{journal_of}
 use Rattle.room_verify.specs.Heads.{left_of_party, GoesFirst, FirstOf}
-use Rattle.room_verify.specs.Merging.{ReachesIn, HasPassed, RefusedAt, ReachedIn}
+use Rattle.room_verify.specs.Merging.{ReachesIn, HasPassed, RefusedAt}
 use Rattle.room_verify.specs.Steps.{Steps, IsRefused, happened}
 use Rattle.room_verify.specs.Worlds.{plan, world_in, Replays}
 use Rattle.room_verify.specs.declared.heads.Head.{Head}
 use Rattle.room_verify.specs.declared.replay.Replay.{Replay}
-use Rattle.room_verify.proofs.HeadLaw.{head_of_merge, merge_ends}
+use Rattle.room_verify.proofs.HeadLaw.{head_of_merge}
 
 -- ---- runs and lists
 
@@ -103,30 +103,14 @@ module _ (plant : Plant) (lines : List Line) (j : Journals) (passed : List ℕ) 
       nothing_behind (entries_of p h.front) (entries_of p h.behind)
       (sym (entries_split p h.front h.behind) ∙ h.reaches.is.whole p ∙ nobody p beyond)
 
-  ordered : InOrder h.behind
+  pub ordered : InOrder h.behind
   ordered = order_behind h.front h.behind h.reaches.is.ordered
-
-  -- nothing is left
-  passed_all : FirstOf (left_of_party j passed) (length passed) None → ReachedIn plant lines j r
-  passed_all none =
-      let empty : h.behind ≡ [] =
-      merge_ends (left_of_party j passed) (n + 1) h.behind (λ p below. none p (omega (arith, h.count, below))) h.left none_beyond in
-      record {
-        merge = h.front;
-        reaches = subst (λ (z : List Placed). ReachesIn plant lines j h.front z (world_in plant r)) empty h.reaches;
-        replays = h.replays;
-      }
-
-  pub all_passed : (now : List ℕ) (o : Option Head) → now ≡ passed → o ≡ None → FirstOf (left_of_party j now) (length now) o → ReachedIn plant lines j r
-  all_passed now o same is first =
-      passed_all (subst (λ (z : List ℕ). FirstOf (left_of_party j z) (length z) None) same
-      (subst (λ (z : Option Head). FirstOf (left_of_party j now) (length now) z) is first))
 
   module _ (party : ℕ) (e : Entry) (first : GoesFirst (left_of_party j passed) (length passed) party e) where
     at_first : GoesFirst (left_of_party j passed) (n + 1) party e
     at_first = subst (λ (k : ℕ). GoesFirst (left_of_party j passed) k party e) h.count first
 
-    head : (rest : List Placed) × (h.behind ≡ record { party = party; entry = e } ∷ rest)
+    pub head : (rest : List Placed) × (h.behind ≡ record { party = party; entry = e } ∷ rest)
     head = head_of_merge (left_of_party j passed) (n + 1) party e h.behind at_first ordered h.left none_beyond
 
     reaches_head : ReachesIn plant lines j h.front (record { party = party; entry = e } ∷ head.0) (world_in plant r)
@@ -145,20 +129,23 @@ module _ (plant : Plant) (lines : List Line) (j : Journals) (passed : List ℕ) 
 
     -- it happened, and one entry more is passed
     pub passed_more : (new : Replay) (at : ℕ) → at ≡ slice_index passed party → Steps (plan plant lines) (world_in plant r) party e (world_in plant new)
-        → Replays plant lines new → HasPassed plant lines j (set passed party (at + 1)) new
-    passed_more new at is steps replays = record {
-      front = h.front ++ record { party = party; entry = e } ∷ [];
-      behind = head.0;
-      reaches = record {
-        ordered = h.reaches.ordered;
-        started = h.reaches.started;
-        is = subst (λ (z : List Placed). IsMerge (happened j) z) (sym (append_assoc h.front (record { party = party; entry = e } ∷ []) head.0)) reaches_head.is;
-        run = run_more (plan plant lines) (start (plan plant lines)) (world_in plant r) (world_in plant new) h.front (record { party = party; entry = e }) h.reaches.run steps;
-      };
-      replays = replays;
-      count = length-set passed party (at + 1) ∙ h.count;
-      left = λ p below. go p below (cases_eq p party);
-    }
+        → Replays plant lines new → (next : HasPassed plant lines j (set passed party (at + 1)) new) × (next.front ≡ h.front ++ record { party = party; entry = e } ∷ [])
+    passed_more new at is steps replays = (
+      record {
+        front = h.front ++ record { party = party; entry = e } ∷ [];
+        behind = head.0;
+        reaches = record {
+          ordered = h.reaches.ordered;
+          started = h.reaches.started;
+          is = subst (λ (z : List Placed). IsMerge (happened j) z) (sym (append_assoc h.front (record { party = party; entry = e } ∷ []) head.0)) reaches_head.is;
+          run = run_more (plan plant lines) (start (plan plant lines)) (world_in plant r) (world_in plant new) h.front (record { party = party; entry = e }) h.reaches.run steps;
+        };
+        replays = replays;
+        count = length-set passed party (at + 1) ∙ h.count;
+        left = λ p below. go p below (cases_eq p party);
+      },
+      refl,
+    )
       where
         within : party < length passed
         within = first.within

@@ -161,7 +161,7 @@ module _ {M : Type 0} (model : Behaviour M) (t : Tables) (items : List Item) (fu
       (all_well (left_at model t items fuel j h w refl) (turns_at model t items fuel j h w refl) (ended_at model t items fuel j h w refl) (lawful_prompt model t items fuel j h))
 
   -- a run takes each entry where it stands, so none is refused there
-  taken : (front behind more : List Placed) (x : Placed) (w end : World (Body M)) → Runs p (start p) front w → IsRefused p w x.party x.entry
+  pub taken : (front behind more : List Placed) (x : Placed) (w end : World (Body M)) → Runs p (start p) front w → IsRefused p w x.party x.entry
       → (whole : List Placed) → whole ≡ front ++ x ∷ more → Runs p (start p) whole end → ⊥
   taken front behind more x w end run refusal whole is all =
       let parts = run_split p (start p) end front (x ∷ more) (subst (λ (z : List Placed). Runs p (start p) z end) is all) in
@@ -169,7 +169,7 @@ module _ {M : Type 0} (model : Behaviour M) (t : Tables) (items : List Item) (fu
       let rest : Runs p w (x ∷ more) end = subst (λ (z : World (Body M)). Runs p z (x ∷ more) end) same parts.2 in
       refusal rest.0 (record { ready = rest.1; does = rest.2 })
 
-  merges_same : (xs ys : List Placed) → IsMerge (happened j) xs → IsMerge (happened j) ys → xs ≡ ys
+  pub merges_same : (xs ys : List Placed) → IsMerge (happened j) xs → IsMerge (happened j) ys → xs ≡ ys
   merges_same xs ys a b = one_merge xs ys a.ordered b.ordered (λ party. a.whole party ∙ sym (b.whole party))
 
   halted_arrived : (party : ℕ) (e : Entry) (front behind : List Placed) (w v : World (Body M))

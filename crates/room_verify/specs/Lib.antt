@@ -8,4 +8,6 @@ pub mod Checks
 pub mod Lefts
 pub mod Promptness
 pub mod Verdicts
+pub mod Shown
+pub mod Showing
 pub mod Laws

@@ -1,5 +1,6 @@
 -- Journals whose merge is let happen again, entry by entry.
-use Rattle.std.specs.Prelude.{◌≡◌, ℕ, ◌+◌, ◌<◌, List, [], ◌∷◌, ◌++◌, map, length}
+use Rattle.std.specs.Prelude.{◌≡◌, ℕ, ◌+◌, ◌<◌, nat_le, Bool, true, false, List, [], ◌∷◌, ◌++◌, map, length, Option, Some, None}
+use Rattle.std.specs.List.{AllByRecursion}
 use Rattle.room_kinds.specs.declared.numbers.ControllerId.{ControllerId}
 use Rattle.room_kinds.specs.declared.numbers.Stamp.{Stamp}
 use Rattle.journal.specs.declared.entry.Entry.{Entry}
@@ -48,13 +49,36 @@ pub record RefusedAt (plant : Plant) (lines : List Line) (j : Journals) (party :
   pub reaches : ReachesIn plant lines j front (record { party = party.0; entry = e } ∷ behind) w
   pub refused : IsRefused (plan plant lines) w party.0 e
 
+-- whether a stamp is at most this one; each is where there is none
+abbrev pub is_up_to : Option ℕ → ℕ → Bool
+is_up_to None stamp = true
+is_up_to (Some last) stamp = nat_le stamp last
+
+-- each of these entries has a stamp of which this answer is right, whether it is at most this one
+abbrev pub AreUpTo : Option ℕ → Bool → List Placed → Type 0
+AreUpTo until answer xs = AllByRecursion (λ (x : Placed). is_up_to until (stamp_of x.entry) ≡ answer) xs
+
+-- so many entries of each journal are passed, each of them with a stamp of at most this one
+pub record HasPassedUpTo (plant : Plant) (lines : List Line) (j : Journals) (until : Option ℕ) (passed : List ℕ) (r : Replay) : Type 0 where
+  pub passing : HasPassed plant lines j passed r
+  pub low : AreUpTo until true passing.front
+
 -- the whole merge leads to where the replay stands
 pub record ReachedIn (plant : Plant) (lines : List Line) (j : Journals) (r : Replay) : Type 0 where
   pub merge : List Placed
   pub reaches : ReachesIn plant lines j merge [] (world_in plant r)
   pub replays : Replays plant lines r
 
+-- the entries of the merge with a stamp of at most this one lead to where the replay stands; all, where there is none
+pub record ReachedUpTo (plant : Plant) (lines : List Line) (j : Journals) (until : Option ℕ) (r : Replay) : Type 0 where
+  pub front : List Placed
+  pub behind : List Placed
+  pub reaches : ReachesIn plant lines j front behind (world_in plant r)
+  pub replays : Replays plant lines r
+  pub low : AreUpTo until true front
+  pub high : AreUpTo until false behind
+
 -- what came of it
-abbrev pub CameTo : Plant → List Line → Journals → Outcome → Type 0
-CameTo plant lines j (outcomes.Refused party stamp) = RefusedAt plant lines j party stamp
-CameTo plant lines j (outcomes.Reached r) = ReachedIn plant lines j r
+abbrev pub CameTo : Plant → List Line → Journals → Option ℕ → Outcome → Type 0
+CameTo plant lines j until (outcomes.Refused party stamp) = RefusedAt plant lines j party stamp × (is_up_to until stamp.0 ≡ true)
+CameTo plant lines j until (outcomes.Reached r) = ReachedUpTo plant lines j until r

@@ -17,7 +17,7 @@ use journal::{Journal, Journals};
 use std::alloc::{AllocError, Global};
 
 /// How many entries stand at the front of each journal for the start of its controller; none in the environment's.
-fn starts_passed(alloc: Global, starts: &[Journal]) -> Result<Vec<usize>, AllocError>
+pub(crate) fn starts_passed(alloc: Global, starts: &[Journal]) -> Result<Vec<usize>, AllocError>
     ensures { IfOk result (λ passed. passed.items ≡ passed_at_start starts.now) }
 {
     let mut passed = Vec::new(alloc);
@@ -75,7 +75,7 @@ pub fn verify(
         return Ok(Verdict::Start(c));
     }
     let passed = starts_passed(alloc, starts)?;
-    let outcome = replay_merge(begun.replay, plant, lines, j, passed)?;
+    let outcome = replay_merge(begun.replay, plant, lines, j, None, passed)?;
     match outcome {
         Outcome::Refused(party, stamp) => Ok(Verdict::Entry(party, stamp)),
         Outcome::Reached(replay) => Ok(verdict_at(&replay, plant, lines, fuel, j)),

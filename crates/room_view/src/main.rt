@@ -6,7 +6,7 @@
 //! `run MODEL JOURNALS [FORM] ..` write a page to standard output; of a model that is refused all tell why. The status
 //! is that of `room` for these files: 0 where nothing is refused, 1 where the words have another form, or name what the
 //! model or the journals don't have, 2 where the model is refused, 3 where the injections or the journals are, 5 for
-//! want of memory, 6 where a file wasn't read, 7 where the page wasn't written, 8 where journals are unlawful.
+//! want of memory, 6 where a file wasn't read, 7 where the page or a note wasn't written, 8 where journals are unlawful.
 #![tactic(auto)]
 
 mod accepted;
@@ -134,11 +134,23 @@ fn tell(
     Ok(Status::Done)
 }
 
+/// Tells on standard error why there is no page, which ends with this status.
+fn refuse(rt: HostRuntime, note: &[u8], status: Status) -> Status {
+    match write_whole(&mut OutSink::errors(rt.stderr()), note) {
+        Ok(()) => status,
+        Err(_) => Status::WriteFault,
+    }
+}
+
+/// Tells that there was no memory for the work.
+fn without_memory(rt: HostRuntime) -> Status {
+    refuse(rt, b"room_view: memory\n", Status::Memory)
+}
+
 /// Writes a page: to standard error where the words are refused, and else to standard output.
 fn write_page(rt: HostRuntime, page: &Page, status: Status) -> Status {
     if status == Status::WordsRefused {
-        let _ = write_whole(&mut OutSink::errors(rt.stderr()), page.bytes());
-        return status;
+        return refuse(rt, page.bytes(), status);
     }
     match write_whole(&mut OutSink::output(rt.stdout()), page.bytes()) {
         Ok(()) => status,
@@ -148,15 +160,12 @@ fn write_page(rt: HostRuntime, page: &Page, status: Status) -> Status {
 
 /// Writes the page for words, of a model that may have been read before.
 fn work(rt: HostRuntime, words: &[String], model: Vec<TextFile>) -> Status {
-    let mut notes = OutSink::errors(rt.stderr());
     let Some(question) = question_of(words) else {
-        let _ = write_whole(&mut notes, FORMS);
-        return Status::WordsRefused;
+        return refuse(rt, FORMS, Status::WordsRefused);
     };
     let mut page = Page::new(rt.alloc());
     let Ok(status) = tell(rt, &mut page, words, question, model) else {
-        let _ = write_whole(&mut notes, b"room_view: memory\n");
-        return Status::Memory;
+        return without_memory(rt);
     };
     write_page(rt, &page, status)
 }
@@ -171,12 +180,12 @@ fn main(rt: HostRuntime) -> ExitCode {
         .as_ref()
         .map_or(stack_of(&[]), |model| stack_of(&model.1));
     let Ok(model) = model.into_iter().collect(rt.alloc()) else {
-        return ExitCode::from(Status::Memory.number());
+        return ExitCode::from(without_memory(rt).number());
     };
     let thread = Builder::new().stack_size(stack);
     let status = match thread.spawn(&rt, move || work(rt, &words, model)) {
         Ok(thread) => thread.join(&rt),
-        Err(_) => Status::Memory,
+        Err(_) => without_memory(rt),
     };
     ExitCode::from(status.number())
 }

@@ -44,6 +44,20 @@ environment
 done
 ";
 
+/// So many lines at the front of a text.
+pub(crate) fn first_lines(text: &str, lines: usize) -> &str {
+    let mut left = lines;
+    for (at, byte) in text.as_bytes().iter().enumerate() {
+        if left == 0 {
+            return text.get(..at).unwrap_or(text);
+        }
+        if *byte == b'\n' {
+            left -= 1;
+        }
+    }
+    text
+}
+
 /// What the program is given: words, the texts of a model, of injections and of journals under the names
 /// `model.room`, `inject.txt` and `journals.txt`, the numbers of the calls that fail, from 1, and how many
 /// bytes the output takes.
@@ -70,6 +84,9 @@ pub(crate) const RUN: Case<'static> = Case {
     failing_notes: &[],
     room: 10_000,
 };
+
+/// The words that ask for journals in form 2.
+pub(crate) const CONVERT: [&str; 3] = ["convert", "model.room", "journals.txt"];
 
 /// What the program answered and wrote.
 #[derive(Drop)]

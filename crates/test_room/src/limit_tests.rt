@@ -1,5 +1,5 @@
-//! Texts of the greatest length, memory, and gates.
-use crate::case::{Case, JOURNAL, RUN, Told, tells};
+//! Texts of the greatest length, and a gate.
+use crate::case::{Case, JOURNAL, RUN, tells};
 use room_outside::MeetGate;
 use room_run::Status;
 use std::alloc::{AllocError, Global};
@@ -49,27 +49,6 @@ fn a_text_has_at_most_a_mebibyte(rt: HostRuntime) -> Result<(), Fail> {
     };
     let note = "room: injections refused: too long\n";
     tells(&rt, &case, Status::InjectionsRefused, "", note)
-}
-
-/// Whether the program told the whole journal, or want of memory and nothing else.
-fn is_whole(told: &Told) -> bool {
-    match told.status {
-        Status::Done => told.out.bytes() == JOURNAL.as_bytes() && told.notes.bytes().is_empty(),
-        Status::Memory => {
-            told.out.bytes().is_empty() && told.notes.bytes() == b"room: memory\n".as_slice()
-        }
-        _ => false,
-    }
-}
-
-/// With `rt try --test --fail-alloc N` the Nth allocation fails; where it is the case's own, there is
-/// nothing to see.
-#[test]
-fn each_allocation_may_fail(rt: HostRuntime) {
-    match RUN.run(&rt, rt.alloc()) {
-        Ok(told) => assert!(rt; is_whole(&told), "{:?}", told.status),
-        Err(AllocError) => {}
-    }
 }
 
 /// What is told doesn't depend on the gate.

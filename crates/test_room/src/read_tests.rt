@@ -1,25 +1,45 @@
 //! Reads that fail.
-use crate::case::{Case, JOURNAL, RUN, tells};
+use crate::case::{CONVERT, Case, RUN, tells};
+use crate::rows::EXCHANGE;
 use room_run::Status;
+use std::process::Abort;
 use std::test::Fail;
+use std::thread::Threads;
 
 const NOTE: &str = "room: read fault\n";
 
-#[test]
-fn each_read_may_fail(rt: HostRuntime) -> Result<(), Fail> {
-    // The model takes two reads, and so do the injections.
+/// The model takes two reads, and so do the injections or the journals.
+fn each_of_four_reads_may_fail<R: Abort + AllocGlobal + Threads + Sync>(
+    rt: &R,
+    run: &Case,
+) -> Result<(), Fail> {
     for call in 1..=4 {
         let case = Case {
             failing_reads: &[call],
-            ..RUN
+            ..*run
         };
-        tells(&rt, &case, Status::ReadFault, "", NOTE)?;
+        tells(rt, &case, Status::ReadFault, "", NOTE)?;
     }
     let case = Case {
         failing_reads: &[5],
-        ..RUN
+        ..*run
     };
-    tells(&rt, &case, Status::Done, JOURNAL, "")
+    tells(rt, &case, Status::Done, run.journals, "")
+}
+
+#[test]
+fn each_read_may_fail(rt: HostRuntime) -> Result<(), Fail> {
+    each_of_four_reads_may_fail(&rt, &EXCHANGE)?;
+    each_of_four_reads_may_fail(&rt, &RUN)
+}
+
+#[test]
+fn each_read_of_a_conversion_may_fail(rt: HostRuntime) -> Result<(), Fail> {
+    let case = Case {
+        words: &CONVERT,
+        ..EXCHANGE
+    };
+    each_of_four_reads_may_fail(&rt, &case)
 }
 
 #[test]

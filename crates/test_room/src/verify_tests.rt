@@ -1,7 +1,6 @@
-//! Journals that are judged, where reads, writes and allocations fail.
-use crate::case::{Case, RUN, Told, tells};
+//! Journals that are judged, where reads and writes fail.
+use crate::case::{Case, RUN, tells};
 use room_run::Status;
-use std::alloc::AllocError;
 use std::test::Fail;
 
 const WORDS: [&str; 4] = ["verify", "model.room", "inject.txt", "journals.txt"];
@@ -77,29 +76,4 @@ fn a_verdict_may_be_untold(rt: HostRuntime) -> Result<(), Fail> {
         ..RUN
     };
     tells(&rt, &case, Status::WriteFault, "", "")
-}
-
-/// Whether the program told that the journals are lawful, or want of memory and nothing else.
-fn is_whole(told: &Told) -> bool {
-    match told.status {
-        Status::Done => told.out.bytes() == LAWFUL.as_bytes() && told.notes.bytes().is_empty(),
-        Status::Memory => {
-            told.out.bytes().is_empty() && told.notes.bytes() == b"room: memory\n".as_slice()
-        }
-        _ => false,
-    }
-}
-
-/// With `rt try --test --fail-alloc N` the Nth allocation fails; where it is the case's own, there is
-/// nothing to see.
-#[test]
-fn each_allocation_may_fail(rt: HostRuntime) {
-    let case = Case {
-        words: &WORDS,
-        ..RUN
-    };
-    match case.run(&rt, rt.alloc()) {
-        Ok(told) => assert!(rt; is_whole(&told), "{:?}", told.status),
-        Err(AllocError) => {}
-    }
 }

@@ -1,7 +1,10 @@
 //! Writes that fail, and an output without room.
-use crate::case::{Case, JOURNAL, RUN, tells};
+use crate::case::{CONVERT, Case, JOURNAL, RUN, first_lines, tells};
+use crate::rows::EXCHANGE;
 use room_run::Status;
+use std::process::Abort;
 use std::test::Fail;
+use std::thread::Threads;
 
 const TREE: [&str; 2] = ["tree", "model.room"];
 
@@ -11,41 +14,40 @@ slot 2 1 fixed top/b B
 join top/a.p[0] top/b.p[0]
 ";
 
-/// So many lines at the front of a text.
-fn first_lines(text: &str, lines: usize) -> &str {
-    let mut left = lines;
-    for (at, byte) in text.as_bytes().iter().enumerate() {
-        if left == 0 {
-            return text.get(..at).unwrap_or(text);
-        }
-        if *byte == b'\n' {
-            left -= 1;
-        }
+/// Each line is written in one piece, and those before the one that fails stand there.
+fn each_line_may_fail<R: Abort + AllocGlobal + Threads + Sync>(
+    rt: &R,
+    run: &Case,
+    lines: usize,
+) -> Result<(), Fail> {
+    for whole in 0..lines {
+        let case = Case {
+            failing_writes: &[(whole as u64).saturating_add(1)],
+            ..*run
+        };
+        let front = first_lines(run.journals, whole);
+        tells(rt, &case, Status::WriteFault, front, "")?;
     }
-    text
+    let case = Case {
+        failing_writes: &[(lines as u64).saturating_add(1)],
+        ..*run
+    };
+    tells(rt, &case, Status::Done, run.journals, "")
 }
 
 #[test]
 fn each_write_may_fail(rt: HostRuntime) -> Result<(), Fail> {
-    // Each line is written in one piece, and those before the one that fails stand there.
-    for lines in 0..17usize {
-        let case = Case {
-            failing_writes: &[lines as u64 + 1],
-            ..RUN
-        };
-        tells(
-            &rt,
-            &case,
-            Status::WriteFault,
-            first_lines(JOURNAL, lines),
-            "",
-        )?;
-    }
+    each_line_may_fail(&rt, &EXCHANGE, 16)?;
+    each_line_may_fail(&rt, &RUN, 17)
+}
+
+#[test]
+fn each_line_of_a_conversion_may_fail(rt: HostRuntime) -> Result<(), Fail> {
     let case = Case {
-        failing_writes: &[18],
-        ..RUN
+        words: &CONVERT,
+        ..EXCHANGE
     };
-    tells(&rt, &case, Status::Done, JOURNAL, "")
+    each_line_may_fail(&rt, &case, 16)
 }
 
 #[test]
@@ -114,4 +116,23 @@ fn a_note_is_written_in_one_piece(rt: HostRuntime) -> Result<(), Fail> {
         ..refused
     };
     tells(&rt, &case, Status::WriteFault, "", "")
+}
+
+#[test]
+fn refused_words_may_be_untold(rt: HostRuntime) -> Result<(), Fail> {
+    let refused = Case {
+        words: &["run", "model.room"],
+        ..RUN
+    };
+    let case = Case {
+        failing_notes: &[1],
+        ..refused
+    };
+    tells(&rt, &case, Status::WriteFault, "", "")?;
+    let case = Case {
+        failing_notes: &[2],
+        ..refused
+    };
+    let note = "room: words refused\n";
+    tells(&rt, &case, Status::WordsRefused, "", note)
 }

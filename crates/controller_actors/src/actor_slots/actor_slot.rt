@@ -9,11 +9,11 @@ ghost use Rattle.actor_world.specs.Turns.{handled_as};
 ghost use Rattle.controller_actors.specs.actor_slots.Occupants.{AreSound, actor_in};
 ghost use Rattle.controller_actors.specs.actor_slots.Slots.{SlotComesUp, SlotFits, SlotTurns, SlotBegins, Works};
 
-use crate::actor_slots::occupant::{Beginning, NO_STATE, Occupant, Reaction};
-use chart_run::{Handling, Tables};
-use controller_commands::{
+use crate::actor_commands::{
     DeferredMessages, Doing, Output, Recalled, Services, Speaker, apply_all,
 };
+use crate::actor_slots::occupant::{Beginning, NO_STATE, Occupant, Reaction};
+use chart_run::{Handling, Tables};
 use controller_mail::TurnResult;
 use journal::Did;
 use room_kinds::{Commands, Incarnation, Msg, Note, Notes, Outbox};

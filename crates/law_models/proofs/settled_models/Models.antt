@@ -11,7 +11,7 @@ use Rattle.chart_model.specs.Chart.{Name, Chart}
 use Rattle.chart_reader.specs.model_charts.Charts.{chart_in}
 use Rattle.chart_reader.specs.model_charts.Written.{written, names_after, written_from}
 use Rattle.chart_behaviour.specs.Asked.{is_open}
-use Rattle.law_sends.specs.Sends.{is_ranked}
+use Rattle.chart_behaviour.specs.sends.Sends.{is_ranked}
 use Rattle.law_models.specs.settled_models.Open.{ChartsAreOpen, ChartsAreRanked, ChartsSendWorded, is_worded}
 use Rattle.law_models.proofs.settled_models.Weaker.{tables_weaker, worded_open, worded_ranked}
 use Rattle.law_models.proofs.settled_models.Charts.{ChartWorded, chart_worded}

@@ -13,7 +13,7 @@ use Rattle.chart_run.specs.chart_tables.Tables.{ArrowTree, plan}
 use Rattle.chart_run.specs.declared.chart_tables.tables.Tables.{Tables}
 use Rattle.chart_behaviour.specs.Asked.{is_open}
 use Rattle.chart_behaviour.specs.chart_asks.Asking.{StatementAsks, ProgramAsks, BranchesAsk, ArrowAsks, GoesOn, TablesAsk}
-use Rattle.law_sends.specs.Sends.{is_ranked}
+use Rattle.chart_behaviour.specs.sends.Sends.{is_ranked}
 use Rattle.law_models.specs.settled_models.Open.{is_worded}
 
 module _ (test weaker : Command → Bool) (implies : (c : Command) → test c ≡ true → weaker c ≡ true) where

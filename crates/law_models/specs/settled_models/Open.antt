@@ -10,7 +10,7 @@ use Rattle.chart_behaviour.specs.Asked.{is_open}
 use Rattle.chart_behaviour.specs.chart_asks.Asking.{TablesAsk}
 use Rattle.chart_reader.specs.model_charts.Charts.{HasCharts}
 use Rattle.chart_compile.specs.chart_parts.Compiled.{Compiles}
-use Rattle.law_sends.specs.Sends.{is_ranked}
+use Rattle.chart_behaviour.specs.sends.Sends.{is_ranked}
 
 -- whether a command sends at a priority that has a word, 1 to 5, if it sends
 abbrev pub is_worded : Command → Bool

@@ -28,7 +28,7 @@ use Rattle.actor_merge.specs.Parties.{Line, Plant as RunPlant, stamped}
 use Rattle.actor_duties.specs.Words.{owner_of}
 use Rattle.actor_world.specs.Journals.{lines_from, lines_of}
 use Rattle.actor_world.specs.Start.{plant_of}
-use Rattle.law_sends.specs.Sends.{OwnersAreThere}
+use Rattle.chart_behaviour.specs.sends.Sends.{OwnersAreThere}
 use Rattle.controller_actors.specs.Plants.{model_of}
 use Rattle.controller_actors.specs.declared.plant.Plant.{Plant}
 use Rattle.model_run.specs.part_posts.Items.{injected, item_of, items_of}

@@ -16,8 +16,8 @@ use Rattle.actor_world.specs.Turns.{treat}
 use Rattle.actor_world.specs.world_laws.Counting.{count, of_priority}
 use Rattle.actor_world.specs.world_laws.Whereabouts.{fetches, fetched, TellsDefers, AddsUp, done_with}
 use Rattle.actor_world.proofs.world_laws.Adding.{adds_up}
-use Rattle.law_sends.specs.Sends.{OwnersAreThere, is_ranked}
-use Rattle.law_sends.proofs.Turning.{turns_send_within}
+use Rattle.chart_behaviour.specs.sends.Sends.{OwnersAreThere, is_ranked}
+use Rattle.chart_behaviour.proofs.sends.Turning.{turns_send_within}
 use Rattle.chart_behaviour.specs.Asked.{AsksOnly}
 use Rattle.controller_mail.specs.Within.{IsWithin, AreWithin, IsAnswerable, is_answerable}
 use Rattle.controller_mail.proofs.Waiting.{answerable}

@@ -17,8 +17,8 @@ use Rattle.actor_merge.specs.Parties.{Line, Plant as RunPlant}
 use Rattle.actor_world.specs.Journals.{lines_from, lines_of}
 use Rattle.actor_world.specs.Start.{first_state, start_entries, plant_of}
 use Rattle.actor_world.specs.world_laws.Whereabouts.{fetched}
-use Rattle.law_sends.specs.Sends.{OwnersAreThere, is_ranked}
-use Rattle.law_sends.proofs.Turning.{starts_send_within}
+use Rattle.chart_behaviour.specs.sends.Sends.{OwnersAreThere, is_ranked}
+use Rattle.chart_behaviour.proofs.sends.Turning.{starts_send_within}
 use Rattle.chart_behaviour.specs.Asked.{ClassesAsk, AsksOnly}
 use Rattle.chart_behaviour.proofs.Charts.{asks_only, are_modest}
 use Rattle.chart_behaviour.proofs.chart_defers.Defers.{tell_defers}

@@ -28,7 +28,7 @@ use Rattle.actor_world.specs.Turns.{all_kinds, doing, treated, begun, all_begun,
 use Rattle.actor_world.specs.Start.{Starting, started, all_started, starting, first_actors, first_state, plant_of}
 use Rattle.actor_world.specs.Journals.{lines_from, lines_of}
 use Rattle.chart_behaviour.specs.Asked.{AsksOnly}
-use Rattle.law_sends.specs.Sends.{is_ranked}
+use Rattle.chart_behaviour.specs.sends.Sends.{is_ranked}
 use Rattle.controller_actors.specs.Plants.{model_of}
 use Rattle.controller_actors.specs.declared.plant.Plant.{Plant}
 use Rattle.model_run.specs.part_posts.Items.{item_of, items_of}

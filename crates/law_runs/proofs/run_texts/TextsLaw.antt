@@ -1,6 +1,6 @@
 -- The text of each run tells it, and what it fetches fits.
 use Rattle.chart_behaviour.proofs.Charts.{asks_only}
-use Rattle.law_sends.specs.Sends.{is_ranked}
+use Rattle.chart_behaviour.specs.sends.Sends.{is_ranked}
 use Rattle.controller_actors.specs.Plants.{model_of}
 use Rattle.controller_actors.specs.declared.plant.Plant.{Plant}
 use Rattle.chart_behaviour.specs.Asked.{AsksOnly}

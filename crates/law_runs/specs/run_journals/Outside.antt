@@ -13,7 +13,7 @@ use Rattle.inject_reader.specs.Fitting.{LinesFit}
 use Rattle.inject_reader.specs.declared.inject_lines.accepted.Line.{Line}
 use Rattle.inject_reader.specs.declared.inject_lines.accepted.What.{What}
 use Rattle.inject_reader.specs.declared.inject_lines.accepted.What.TheVariants as whats
-use Rattle.law_sends.specs.Sends.{OwnersAreThere}
+use Rattle.chart_behaviour.specs.sends.Sends.{OwnersAreThere}
 use Rattle.controller_actors.specs.declared.plant.Plant.{Plant}
 use Rattle.model_run.specs.run_ends.Runs.{IsRun}
 

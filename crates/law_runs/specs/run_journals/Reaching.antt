@@ -7,7 +7,7 @@ use Rattle.journal.specs.declared.entry.Entry.{Entry}
 use Rattle.journal.specs.declared.entry.Entry.TheVariants as entry
 use Rattle.journal.specs.declared.entry.Journals.{Journals}
 use Rattle.inject_reader.specs.declared.inject_lines.accepted.Line.{Line}
-use Rattle.law_sends.specs.Sends.{OwnersAreThere, is_ranked}
+use Rattle.chart_behaviour.specs.sends.Sends.{OwnersAreThere, is_ranked}
 use Rattle.chart_behaviour.specs.Asked.{ClassesAsk}
 use Rattle.controller_actors.specs.declared.plant.Plant.{Plant}
 use Rattle.model_run.specs.run_ends.Runs.{IsRun}

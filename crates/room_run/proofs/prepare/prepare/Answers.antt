@@ -1,8 +1,10 @@
 use Rattle.std.proofs.Common.{◌≡◌, map, Some, refl, sym, ap, ◌∙◌}
 use Rattle.std.specs.String.{string_bytes}
+use Rattle.room_show.specs.Text.{snapshot_text}
+use Rattle.room_wiring.specs.declared.tables.Tables.{Tables}
 use Rattle.room_run.specs.Words.{asked_view, files_view, record_view, judged_view}
-use Rattle.room_run.specs.Causes.{of_check, of_tree, of_run, of_convert, of_verify, of_made}
-use Rattle.room_run.specs.Outcome.{says_ok, says_tree, says_run, says_converted, says_lawful}
+use Rattle.room_run.specs.Causes.{of_check, of_tree, of_run, of_convert, of_verify, of_show, of_made}
+use Rattle.room_run.specs.Outcome.{says_ok, says_tree, says_run, says_converted, says_lawful, says_shown}
 use Rattle.room_run.specs.declared.asked.Asked.{Asked}
 use Rattle.room_run.specs.declared.asked.Asked.TheVariants as code
 use Rattle.room_run.proofs.CauseLemmas.{model_sound}
@@ -88,3 +90,16 @@ pub returns-in-Err-verify_files-clause-err : goal.returns-in-Err-verify_files-cl
 returns-in-Err-verify_files-clause-err g c =
     let is : c.in-Some-Verify.field-0 ≡ code.Verify c.in-Some-Verify.files c.in-Some-Verify.fuel = cc in
     of_verify (judged_view c.in-Some-Verify.files) c.in-Some-Verify.fuel (sym c.in-Some-Verify.ensures ∙ ap (λ (a : Asked). Some (asked_view a)) is) c.in-Err-verify_files.ensures.err
+
+pub returns-in-Ok-show_files-clause-ok : goal.returns-in-Ok-show_files-clause-ok
+returns-in-Ok-show_files-clause-ok g c =
+    let x = c.in-Ok-show_files.ensures.ok in
+    let view = c.in-Ok-show_files.view in
+    let is : c.in-Some-Show.field-0 ≡ code.Show c.in-Some-Show.files c.in-Some-Show.at = cc in
+    says_shown (judged_view c.in-Some-Show.files) c.in-Some-Show.at x.0 x.1 x.2 view.snapshot (sym c.in-Some-Show.ensures ∙ ap (λ (a : Asked). Some (asked_view a)) is) x.3
+    (ap (λ (w : Tables). snapshot_text w view.snapshot) x.4) refl
+
+pub returns-in-Err-show_files-clause-err : goal.returns-in-Err-show_files-clause-err
+returns-in-Err-show_files-clause-err g c =
+    let is : c.in-Some-Show.field-0 ≡ code.Show c.in-Some-Show.files c.in-Some-Show.at = cc in
+    of_show (judged_view c.in-Some-Show.files) c.in-Some-Show.at (sym c.in-Some-Show.ensures ∙ ap (λ (a : Asked). Some (asked_view a)) is) c.in-Err-show_files.ensures.err

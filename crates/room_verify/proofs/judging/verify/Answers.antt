@@ -1,11 +1,14 @@
-use Rattle.std.proofs.Common.{List, length, sym, ap, ◌∙◌, arith}
+use Rattle.std.proofs.Common.{true, List, length, None, sym, ap, ◌∙◌, subst, arith}
 use Rattle.std.proofs.lemmas.List.FromFn.{length-map-range_with_len}
 use Rattle.journal.specs.declared.entry.Entry.{Entry}
+use Rattle.actor_merge.specs.World.{Placed}
 use Rattle.actor_world.specs.Journals.{lines_of}
 use Rattle.actor_world.specs.Start.{start_entries}
 use Rattle.controller_actors.specs.Plants.{model_of}
 use Rattle.model_run.specs.part_posts.Items.{items_of}
 use Rattle.room_verify.proofs.JudgeLaw.{order_else, start_else, passed_nothing, entry_else}
+use Rattle.room_verify.specs.Merging.{AreUpTo}
+use Rattle.room_verify.proofs.UntilLaw.{whole}
 use Rattle.room_verify.proofs.judging.verify.Goals as goal
 
 pub first_out_of_order-requires : goal.first_out_of_order-requires
@@ -35,10 +38,16 @@ returns-in-Some-first_wrong_start c =
 pub replay_merge-requires-clause-passed : goal.replay_merge-requires-clause-passed
 replay_merge-requires-clause-passed c =
     let plant = c.args.plant.now in
+    let h =
     passed_nothing plant c.args.lines.now c.args.fuel c.args.j.now c.requires.count c.as_slice-starts.result.now (c.as_slice-starts.ensures.value ∙ c.in_ok-begun.ensures.entries)
     (rw c.in_default.is at c.first_out_of_order.ensures) (rw c.in_default-first_wrong_start.is at c.first_wrong_start.ensures) c.in_ok-begun.begun.replay
-    (c.in_ok-begun.ensures.world (lines_of (items_of plant.wiring c.args.lines.now))) (c.in_ok-begun.ensures.replays c.args.lines.now) c.in_ok-passed.passed.items c.in_ok-passed.ensures
+    (c.in_ok-begun.ensures.world (lines_of (items_of plant.wiring c.args.lines.now))) (c.in_ok-begun.ensures.replays c.args.lines.now) c.in_ok-passed.passed.items c.in_ok-passed.ensures in
+    record { passing = h.0; low = subst (λ (z : List Placed). AreUpTo None true z) (sym h.1) tt }
 
 pub returns-in-Refused : goal.returns-in-Refused
 returns-in-Refused c =
-    entry_else c.args.plant.now c.args.lines.now c.args.fuel c.args.j.now c.requires.count c.in-Refused.party c.in-Refused.stamp (rw c.in-Refused.is at c.in_ok-outcome.ensures)
+    entry_else c.args.plant.now c.args.lines.now c.args.fuel c.args.j.now c.requires.count c.in-Refused.party c.in-Refused.stamp (rw c.in-Refused.is at c.in_ok-outcome.ensures).0
+
+pub verdict_at-requires-clause-reached : goal.verdict_at-requires-clause-reached
+verdict_at-requires-clause-reached c =
+    whole c.args.plant.now c.args.lines.now c.args.j.now c.in-Reached.replay (rw c.in-Reached.is at c.in_ok-outcome.ensures)

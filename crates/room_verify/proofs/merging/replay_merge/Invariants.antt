@@ -1,5 +1,5 @@
-use Rattle.room_verify.specs.Merging.{HasPassed}
+use Rattle.room_verify.specs.Merging.{HasPassedUpTo}
 use Rattle.room_verify.proofs.merging.replay_merge.Given as goal
 
 abbrev pub invariant-loop-entry : goal.invariant-loop-entry
-invariant-loop-entry l = HasPassed l.plant l.lines l.j l.passed.items l.replay
+invariant-loop-entry l = HasPassedUpTo l.plant l.lines l.j l.until l.passed.items l.replay

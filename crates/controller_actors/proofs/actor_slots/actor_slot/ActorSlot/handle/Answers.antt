@@ -6,7 +6,7 @@ use Rattle.room_kinds.specs.declared.command.Command.{Command}
 use Rattle.room_kinds.specs.declared.numbers.Incarnation.{Incarnation}
 use Rattle.room_wiring.specs.declared.tables.Tables.{Tables as Wiring}
 use Rattle.actor_duties.specs.State.{Frame, Links}
-use Rattle.controller_commands.specs.declared.command_sends.output.Output.{Output}
+use Rattle.controller_actors.specs.declared.actor_commands.command_sends.output.Output.{Output}
 use Rattle.controller_mail.specs.declared.mail_queues.TurnResult.{TurnResult}
 use Rattle.controller_actors.specs.declared.actor_slots.actor_slot.ActorSlot.{ActorSlot}
 use Rattle.controller_actors.specs.actor_slots.Occupants.{Reacts}

@@ -1,8 +1,8 @@
 use Rattle.std.proofs.Common.{◌≡◌, Bool, false, List, refl, subst}
 use Rattle.room_kinds.specs.declared.message.Msg.{Msg}
-use Rattle.controller_commands.specs.declared.command_sends.output.Output.{Output}
-use Rattle.controller_commands.specs.declared.doing.Doing.{Doing}
-use Rattle.controller_commands.specs.Doings.{AppliesAll}
+use Rattle.controller_actors.specs.declared.actor_commands.command_sends.output.Output.{Output}
+use Rattle.controller_actors.specs.declared.actor_commands.doing.Doing.{Doing}
+use Rattle.controller_actors.specs.actor_commands.Doings.{AppliesAll}
 use Rattle.controller_actors.proofs.actor_slots.actor_slot.ActorSlot.work_through.Goals as goal
 
 -- equal parts make equal doings

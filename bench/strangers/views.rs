@@ -1,0 +1,87 @@
+//! What the program of the views tells of strangers.
+
+use crate::calls::Answer;
+use crate::judging::Named;
+use crate::random::Random;
+use crate::{Stranger, Text, words};
+
+/// A model above this length isn't asked why it is refused, since `why` tries many texts.
+const MOST_OF_WHY: usize = 4_000;
+
+/// The name behind a word of a text, one of those that stand there.
+fn name_behind(random: &mut Random, word: &str, text: &[u8]) -> Option<String> {
+    let text = String::from_utf8_lossy(text);
+    let all: Vec<&str> = text.split_whitespace().collect();
+    let names: Vec<&str> = all.windows(2).filter(|pair| pair[0] == word).map(|pair| pair[1]).collect();
+    (!names.is_empty()).then(|| names[random.below(names.len())].to_string())
+}
+
+/// What is wrong with a page, where the model is accepted or refused, and journals are those of a run.
+fn judge_page(answer: &Answer, is_accepted: bool) -> Option<String> {
+    let Some(status) = answer.status else {
+        return Some(format!("signal {} of a view", answer.signal.unwrap_or_default()));
+    };
+    let may_come = if is_accepted { matches!(status, 0 | 1) } else { status == 2 };
+    // A page stands on standard output; that the words name nothing is told in a note.
+    if !may_come {
+        Some(format!("status {status} of a view"))
+    } else if answer.out.is_empty() != (status == 1) || answer.notes.is_empty() == (status == 1) {
+        Some(format!("notes of status {status} of a view"))
+    } else {
+        None
+    }
+}
+
+impl Stranger<'_> {
+    /// The page for some words, which is judged.
+    fn ask_for_page(&self, all: &[&str], is_accepted: bool) -> Option<Text> {
+        let views = self.lane.views.as_ref()?;
+        let answer = self.lane.answer_of(views, &words(all));
+        if let Some(what) = judge_page(&answer, is_accepted) {
+            self.tell(&format!("{what}, {}", all.join(" ")));
+        }
+        let status = answer.status.map_or("none".to_string(), |status| status.to_string());
+        self.count(format!("views, {}: {status}", all[0]));
+        Some(answer.out)
+    }
+
+    /// Of some strangers a view of the model, and one of its journals: what a run printed is a run of its model.
+    pub fn ask_for_views(&self, random: &mut Random, named: &Named, is_accepted: bool, journals: Option<Text>) {
+        if self.lane.views.is_none() || !random.percent(8) {
+            return;
+        }
+        self.lane.put("model", named.model);
+        self.lane.put("inject", named.injections);
+        if !is_accepted {
+            if named.model.len() < MOST_OF_WHY {
+                self.ask_for_page(&["why", "model"], false);
+            }
+            return;
+        }
+        let form = random.one_of(&["--svg", "--dot", "--mermaid"]);
+        let class = name_behind(random, "ActorClass", named.model).unwrap_or_default();
+        match random.below(4) {
+            0 => self.ask_for_page(&["lint", "model"], true),
+            1 => self.ask_for_page(&["doors", "model"], true),
+            2 => self.ask_for_page(&["wiring", "model", form], true),
+            _ => self.ask_for_page(&["chart", "model", &class, form], true),
+        };
+        if let Some(journals) = journals {
+            self.lane.put("journals", &journals);
+            self.ask_of_run(random, form);
+        }
+    }
+
+    fn ask_of_run(&self, random: &mut Random, form: &str) {
+        let page = match random.below(6) {
+            0 => self.ask_for_page(&["end", "model", "journals"], true),
+            1 => self.ask_for_page(&["outputs", "model", "journals"], true),
+            2 => self.ask_for_page(&["run", "model", "journals", form], true),
+            3 => self.ask_for_page(&["explain", "model", "inject", "journals", "env@1"], true),
+            _ => self.ask_for_page(&["story", "model", "journals"], true),
+        };
+        if page.is_some_and(|page| String::from_utf8_lossy(&page).contains("! not a run")) {
+            self.tell("a view says that a run is none");
+        }
+    }
+}
