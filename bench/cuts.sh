@@ -89,9 +89,9 @@ tell_otherwise() {
 
 # The fronts of one lane.
 try_lane() {
-    local front="$work/front.$2" size
+    local front="$in_memory/front.$2" size
     for ((size = $2 * each; size <= $3; size += lanes * each)); do
-        head -c "$size" "$work/text" >"$front"
+        head -c "$size" "$in_memory/text" >"$front"
         "$1" "$front" "$size"
     done
 }
@@ -100,25 +100,25 @@ try_lane() {
 try_fronts() {
     local name="$1" judge="$2" most="$3" lane
     for ((lane = 0; lane < lanes; lane++)); do
-        try_lane "$judge" "$lane" "$most" >"$work/otherwise.$lane" &
+        try_lane "$judge" "$lane" "$most" >"$in_memory/otherwise.$lane" &
     done
     wait
-    cat "$work"/otherwise.* >"$work/otherwise"
-    rm "$work"/otherwise.*
-    tried=$((tried + most / each + 1)) otherwise=$((otherwise + $(wc -l <"$work/otherwise")))
-    echo "$name: $((most / each + 1)) fronts, $(wc -l <"$work/otherwise") otherwise"
-    head -n 20 "$work/otherwise"
+    cat "$in_memory"/otherwise.* >"$in_memory/otherwise"
+    rm "$in_memory"/otherwise.*
+    tried=$((tried + most / each + 1)) otherwise=$((otherwise + $(wc -l <"$in_memory/otherwise")))
+    echo "$name: $((most / each + 1)) fronts, $(wc -l <"$in_memory/otherwise") otherwise"
+    head -n 20 "$in_memory/otherwise"
 }
 
 begin_measuring
-cp "$model" "$work/text"
-try_fronts model judge_model "$(($(stat -c %s "$work/text") - 1))"
-cp "$top/cases/runs/ping-pong/inject.txt" "$work/text"
-try_fronts injections judge_injections "$(stat -c %s "$work/text")"
-cp "$top/cases/runs/ping-pong/out" "$work/text"
-try_fronts 'journals in form 2' judge_journals "$(($(stat -c %s "$work/text") - 1))"
-cp "$top/cases/journals/ping-pong-is-converted/journals.txt" "$work/text"
-try_fronts 'journals in form 1' judge_journals "$(($(stat -c %s "$work/text") - 1))"
+cp "$model" "$in_memory/text"
+try_fronts model judge_model "$(($(stat -c %s "$in_memory/text") - 1))"
+cp "$top/cases/runs/ping-pong/inject.txt" "$in_memory/text"
+try_fronts injections judge_injections "$(stat -c %s "$in_memory/text")"
+cp "$top/cases/runs/ping-pong/out" "$in_memory/text"
+try_fronts 'journals in form 2' judge_journals "$(($(stat -c %s "$in_memory/text") - 1))"
+cp "$top/cases/journals/ping-pong-is-converted/journals.txt" "$in_memory/text"
+try_fronts 'journals in form 1' judge_journals "$(($(stat -c %s "$in_memory/text") - 1))"
 tell_load
 echo "$tried fronts tried, $otherwise otherwise"
 [ "$otherwise" = 0 ]

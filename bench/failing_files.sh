@@ -23,37 +23,38 @@ set -eu
 . "$top/bench/refusing.sh"
 
 judge_right() {
-    if is_right "$1"; then echo right; else wrong "$1"; fi
+    if is_right; then echo right; else wrong; fi
 }
 
 judge_read() {
-    if is_right "$1"; then echo right
-    elif is_unread "$1"; then echo unread
-    else wrong "$1"
-    fi
+    if is_right; then echo right; else judge_unread; fi
+}
+
+judge_unread() {
+    if is_unread; then echo unread; else wrong; fi
 }
 
 # Whether a file is told not to have been read, and nothing else; a view tells which one.
 is_unread() {
     local word
     if [ "$program" != "$views" ]; then
-        is_refusal "$1" 6 'room: read fault'
+        is_refusal 6 'room: read fault'
         return
     fi
-    [ "$status" = 6 ] && [ ! -s "$work/$1.notes" ] || return
+    [ "$status" = 6 ] && [ -z "$notes_text" ] || return
     for word in "${words[@]}"; do
-        [ "$(cat "$work/$1.out")" != "$word was not read" ] || return 0
+        [ "$out_text" != "$word was not read|" ] || return 0
     done
     return 1
 }
 
 judge_write() {
-    if [ "$status" = 7 ] && is_front "$1" out && is_front "$1" notes; then echo unwritten; else wrong "$1"; fi
+    if [ "$status" = 7 ] && is_front; then echo unwritten; else wrong; fi
 }
 
 # At a terminal the lines before the one that was refused stand there.
 judge_line() {
-    if [ "$(wc -l <"$work/$1.out")" = "$(($2 - 1))" ]; then judge_write "$1"; else wrong "$1"; fi
+    if [ "$out_lines" = "$((number - 1))" ]; then judge_write; else wrong; fi
 }
 
 # The program reads models and injections again where it couldn't read them beforehand. So a failing call
@@ -64,7 +65,7 @@ judge_together() {
     'files alone check '* | 'files alone tree '* | 'files alone run '*) [ "$program" = "$views" ] || unwanted=unread ;;
     'files behind '*' '[04]) unwanted=right ;;
     esac
-    [ -z "$unwanted" ] || sed -i "s/ $unwanted\$/ ! $unwanted/" "$work/verdicts"
+    [ -z "$unwanted" ] || sed -i "s/ $unwanted\$/ ! $unwanted/" "$in_memory/verdicts"
 }
 
 # The answer where a stream goes nowhere in one of three ways.
@@ -76,12 +77,8 @@ answer_to() {
     'notes to a full device') run_words 2>/dev/full ;;
     'closed notes') run_words 2>&- ;;
     'notes without a reader') run_words 2>&"$unread" ;;
-    'closed streams') run_words <&- >&- 2>&- ;;
-    esac >"$work/stream.out" 2>"$work/stream.notes"
-}
-
-run_words() {
-    "$program" "${words[@]}" || status=$?
+    'closed streams') "$program" "${words[@]}" <&- >&- 2>&- ;;
+    esac >"$in_memory/stream.out" 2>"$in_memory/stream.notes"
 }
 
 # The statuses where streams go nowhere: 7 where there is something to be told there, else the right one.
@@ -90,42 +87,47 @@ try_streams() {
     for stream in 'output to a full device' 'closed output' 'output without a reader' \
         'notes to a full device' 'closed notes' 'notes without a reader' 'closed streams'; do
         case "$stream" in
-        *output*) told="$work/right.out" ;;
-        *notes*) told="$work/right.notes" ;;
-        *) told="$work/right.both" ;;
+        *output*) told="$(head -c 1 "$in_memory/right.out")" ;;
+        *notes*) told="$(head -c 1 "$in_memory/right.notes")" ;;
+        *) told="$(cat "$in_memory/right.out" "$in_memory/right.notes" | head -c 1)" ;;
         esac
         status=0
-        answer_to "$stream"
-        if [ -s "$told" ]; then judge_write stream; else judge_right stream; fi | sed 's/^/1 /'
-    done >"$work/verdicts"
+        answer_to "$stream" || status=$?
+        if [ -n "$told" ]; then judge_stream judge_write; else judge_stream judge_right; fi | sed 's/^/1 /'
+    done >"$in_memory/verdicts"
     tell_verdicts 'streams that go nowhere'
+}
+
+# The answer that is read and written a byte each time.
+try_short() {
+    status=0
+    REFUSE=short LD_PRELOAD="$work/refusing.so" run_words >"$in_memory/stream.out" 2>"$in_memory/stream.notes" || status=$?
+    judge_stream judge_right | sed 's/^/1 /' >"$in_memory/verdicts"
+    tell_verdicts 'one byte each time'
 }
 
 # Everything that is tried with some words in a folder.
 try_words() {
     ask "$@"
-    cat "$work/right.out" "$work/right.notes" >"$work/right.both"
     sweep judge_read files alone
     sweep judge_read files behind
     sweep judge_write output alone
     sweep judge_write output behind
-    if [ -s "$work/right.out" ]; then
+    if [ -s "$in_memory/right.out" ]; then
         TERMINAL=1 sweep judge_line output alone
         TERMINAL=1 sweep judge_line output behind
     fi
     try_streams
-    answer short short 0 0
-    judge_right short | sed 's/^/1 /' >"$work/verdicts"
-    tell_verdicts 'one byte each time'
+    try_short
 }
 
 # A long answer whose reader goes away behind its first byte.
 try_going_reader() {
     cd "$1"
     words=("${@:2}")
-    "$program" "${words[@]}" 2>"$work/stream.notes" | head -c 1 >"$work/stream.out"
+    "$program" "${words[@]}" 2>"$in_memory/stream.notes" | head -c 1 >"$in_memory/stream.out"
     status="${PIPESTATUS[0]}"
-    judge_write stream | sed 's/^/1 /' >"$work/verdicts"
+    judge_stream judge_write | sed 's/^/1 /' >"$in_memory/verdicts"
     tell_verdicts 'a reader that goes away'
 }
 
@@ -145,9 +147,9 @@ words_with() {
 try_unreadable() {
     while read -r -a words; do
         status=0
-        cat model.room | "$program" "${words[@]}" >"$work/stream.out" 2>"$work/stream.notes" || status=$?
-        if is_unread stream; then echo '1 unread'; else echo "1 $(wrong stream)"; fi
-    done < <(words_with "$1" "$2") >"$work/verdicts"
+        cat model.room | "$program" "${words[@]}" >"$in_memory/stream.out" 2>"$in_memory/stream.notes" || status=$?
+        judge_stream judge_unread | sed 's/^/1 /'
+    done < <(words_with "$1" "$2") >"$in_memory/verdicts"
     words=("$1")
     tell_verdicts 'a file that is unreadable'
 }
@@ -181,8 +183,8 @@ try_views() {
         mapfile -t case_words <"$top/cases/views/$case/words"
         try_words "$top/cases/views/$case" "${case_words[@]}"
     done
-    try_going_reader "$work/long" story model.room out
-    try_going_reader "$work/long" run model.room out --svg
+    try_going_reader "$in_memory/long" story model.room out
+    try_going_reader "$in_memory/long" run model.room out --svg
     cd "$top/cases/runs/ping-pong"
     for path in . nowhere /dev/stdin; do try_unreadable "$path" view_commands; done
 }
@@ -192,18 +194,14 @@ try_launcher() {
     local program="$top/room" word
     cd "$top"
     for word in --help --forms --version --manual nonsense; do
-        words=("$word")
-        status=0
-        run_words >"$work/right.out" 2>"$work/right.notes"
-        right="$status"
-        cat "$work/right.out" "$work/right.notes" >"$work/right.both"
+        ask . "$word"
         try_streams
     done
 }
 
 views="${ROOM_VIEW_PROGRAM:-$top/crates/room_view/out/room_view}"
-mkfifo "$work/pipe"
-exec {reader}<>"$work/pipe" {unread}>"$work/pipe" {reader}<&-
+mkfifo "$in_memory/pipe"
+exec {reader}<>"$in_memory/pipe" {unread}>"$in_memory/pipe" {reader}<&-
 begin_measuring
 for model in runs/ping-pong services/import-and-second-plug-refused runs/ping-pong-two-controllers timers/timer-expires; do
     try_each "$top/cases/$model" commands
@@ -214,14 +212,14 @@ for case in examples/broken-chart-6 injections/injection-unknown-signal journals
     mapfile -t case_words <"$top/cases/$case/words"
     try_words "$top/cases/$case" "${case_words[@]}"
 done
-mkdir "$work/long"
+mkdir "$in_memory/long"
 one_actor 'Transition i: initial -> A State A
-Transition k: A -> A { triggers { <kick: go> } action { "n = n + data;" } }' >"$work/long/model.room"
-kicks 1500 >"$work/long/inject.txt"
-try_words "$work/long" run model.room inject.txt
-"$program" run "$work/long/model.room" "$work/long/inject.txt" >"$work/long/out"
-try_going_reader "$work/long" run model.room inject.txt
-try_going_reader "$work/long" convert model.room out
+Transition k: A -> A { triggers { <kick: go> } action { "n = n + data;" } }' >"$in_memory/long/model.room"
+kicks 1500 >"$in_memory/long/inject.txt"
+try_words "$in_memory/long" run model.room inject.txt
+"$program" run "$in_memory/long/model.room" "$in_memory/long/inject.txt" >"$in_memory/long/out"
+try_going_reader "$in_memory/long" run model.room inject.txt
+try_going_reader "$in_memory/long" convert model.room out
 cd "$top/cases/runs/ping-pong"
 for path in . nowhere /dev/stdin; do try_unreadable "$path" commands; done
 [ ! -x "$views" ] || try_views

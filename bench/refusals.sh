@@ -23,11 +23,11 @@ set -eu
 . "$top/bench/refusing.sh"
 
 judge() {
-    if is_right "$1"; then echo right
-    elif is_refusal "$1" 5 'room: memory'; then echo memory
-    elif is_refusal "$1" 5 ''; then echo nothing
-    elif is_refusal "$1" 6 'room: read fault'; then echo unread
-    else wrong "$1"
+    if is_right; then echo right
+    elif is_refusal 5 'room: memory'; then echo memory
+    elif is_refusal 5 ''; then echo nothing
+    elif is_refusal 6 'room: read fault'; then echo unread
+    else wrong
     fi
 }
 
@@ -35,8 +35,8 @@ judge() {
 judge_together() {
     awk '$2 != "nothing" { others = 1 }
         $2 == "nothing" && others { print $1, "! nothing, behind another answer"; next } 1' \
-        "$work/verdicts" >"$work/judged"
-    mv "$work/judged" "$work/verdicts"
+        "$in_memory/verdicts" >"$in_memory/judged"
+    mv "$in_memory/judged" "$in_memory/verdicts"
 }
 
 try_words() {

@@ -37,42 +37,53 @@ knows_show() {
 ask() {
     cd "$1"
     words=("${@:2}")
-    answer right none 0 0
-    right="$status"
+    right=0
+    run_words >"$in_memory/right.out" 2>"$in_memory/right.notes" || right=$?
 }
 
-# The program's answer to the words, where calls of a kind from one number to another are refused:
-# `status`, and the output and the notes of this name. What the shell says of a signal isn't wanted.
-answer() {
-    status=0
-    {
-        TOLD="$work/$1.told" REFUSE="$2" FIRST="$3" LAST="$4" LD_PRELOAD="$work/refusing.so" \
-            "$program" "${words[@]}" </dev/null >"$work/$1.out" 2>"$work/$1.notes" || status=$?
-    } 2>/dev/null
+run_words() {
+    "$program" "${words[@]}" </dev/null
 }
 
+# A judge looks at an answer: its `status`; of its output whether this is the `same`, a `front` of what is right,
+# or `other` (`out`), how many bytes and lines it has, and how it begins, with `|` for the end of a line
+# (`out_size`, `out_lines`, `out_text`); and the same of its notes.
 is_right() {
-    [ "$status" = "$right" ] && cmp -s "$work/right.out" "$work/$1.out" &&
-        cmp -s "$work/right.notes" "$work/$1.notes"
+    [ "$status $out $notes" = "$right same same" ]
 }
 
 # Whether an answer is a refusal of this status, with nothing but this line of notes, or none.
 is_refusal() {
-    local notes
-    [ "$status" = "$2" ] && [ ! -s "$work/$1.out" ] || return
-    IFS= read -r -d '' notes <"$work/$1.notes" || true
-    [ "$notes" = "${3:+$3$'\n'}" ]
+    [ "$status $out_size" = "$1 0" ] && [ "$notes_text" = "${2:+$2|}" ]
 }
 
-# Whether a file of an answer is a front of that of the right one.
 is_front() {
-    head -c "$(stat -c %s "$work/$1.$2")" "$work/right.$2" | cmp -s - "$work/$1.$2"
+    [ "$out" != other ] && [ "$notes" != other ]
 }
 
 # The verdict on an answer that is wrong; it begins with `!`.
 wrong() {
-    echo "! status $status, $(stat -c %s "$work/$1.out") bytes of output," \
-        "notes \`$(head -c 200 "$work/$1.notes" | tr '\n' '|')\`"
+    echo "! status $status, $out_size bytes of output, notes \`$notes_text\`"
+}
+
+# What a judge says of an answer whose output and notes stand in `stream.out` and `stream.notes`.
+judge_stream() {
+    local out notes out_size out_lines out_text notes_text
+    out="$(likeness out)"
+    notes="$(likeness notes)"
+    out_size="$(stat -c %s "$in_memory/stream.out")"
+    out_lines="$(wc -l <"$in_memory/stream.out")"
+    out_text="$(head -c 200 "$in_memory/stream.out" | tr '\n' '|')"
+    notes_text="$(head -c 200 "$in_memory/stream.notes" | tr '\n' '|')"
+    "$1"
+}
+
+likeness() {
+    if cmp -s "$in_memory/stream.$1" "$in_memory/right.$1"; then echo same
+    elif head -c "$(stat -c %s "$in_memory/stream.$1")" "$in_memory/right.$1" | cmp -s - "$in_memory/stream.$1"; then
+        echo front
+    else echo other
+    fi
 }
 
 # What can be judged only of all verdicts of a sweep; a script may have a judgement of its own.
@@ -80,28 +91,31 @@ judge_together() {
     :
 }
 
+# The answers of one lane to the words, each with a number, where calls of a kind are refused.
+answers() {
+    SWEEP="$2" REFUSE="$1" FIRST=$((1 + $3 * each)) STEP=$((lanes * each)) ANSWER="$in_memory/$3" RIGHT="$in_memory/right" \
+        LD_PRELOAD="$work/refusing.so" run_words
+}
+
 # The numbers of the calls of one lane, each with the verdict on the answer where it is refused.
 try_lane() {
-    local judge="$1" kind="$2" mode="$3" lane="$4" number last
-    for ((number = 1 + lane * each; number <= count; number += lanes * each)); do
-        last="$number"
-        [ "$mode" = alone ] || last=1000000000
-        answer "$lane" "$kind" "$number" "$last"
-        echo "$number $("$judge" "$lane" "$number")"
-    done
+    local number status out out_size out_lines out_text notes notes_size notes_lines notes_text
+    answers "${@:2}" |
+        while IFS=$'\037' read -r number status out out_size out_lines out_text notes notes_size notes_lines notes_text; do
+            printf '%s ' "$number"
+            "$1"
+        done
 }
 
 # Refuses each call of a kind, `alone` or with all `behind` it, on all processors, and tells a row.
 sweep() {
-    local judge="$1" kind="$2" mode="$3" lane count
-    answer counted "$kind" 0 0
-    count="$(od -An -t d8 "$work/counted.told" | awk '{ print $1 }')"
+    local judge="$1" kind="$2" mode="$3" lane
     for ((lane = 0; lane < lanes; lane++)); do
-        try_lane "$judge" "$kind" "$mode" "$lane" >"$work/$lane.verdicts" &
+        try_lane "$judge" "$kind" "$mode" "$lane" >"$in_memory/$lane.verdicts" &
     done
     wait
-    cat "$work"/*.verdicts | sort -n >"$work/verdicts"
-    rm "$work"/*.verdicts
+    cat "$in_memory"/*.verdicts | sort -n >"$in_memory/verdicts"
+    rm "$in_memory"/*.verdicts
     judge_together "$kind" "$mode"
     tell_verdicts "$kind${TERMINAL:+ to a terminal} $mode"
 }
@@ -109,13 +123,13 @@ sweep() {
 # A row with the number of verdicts and how often each came, and below it the first wrong ones.
 tell_verdicts() {
     local count
-    count="$(wc -l <"$work/verdicts")"
+    count="$(wc -l <"$in_memory/verdicts")"
     [ "$count" -gt 0 ] || return 0
     tried=$((tried + count))
-    otherwise=$((otherwise + $(grep -c '^[^ ]* !' "$work/verdicts" || true)))
+    otherwise=$((otherwise + $(grep -c '^[^ ]* !' "$in_memory/verdicts" || true)))
     printf '%-34s %-20s %6s %s:' "${PWD##*/}" "${words[*]%%.*}" "$count" "$1"
-    awk '{ seen[$2]++ } END { for (v in seen) printf " %d %s", seen[v], v; print "" }' "$work/verdicts"
-    grep '^[^ ]* !' "$work/verdicts" | head -n 20 | sed 's/^/    /' || true
+    awk '{ seen[$2]++ } END { for (v in seen) printf " %d %s", seen[v], v; print "" }' "$in_memory/verdicts"
+    grep '^[^ ]* !' "$in_memory/verdicts" | head -n 20 | sed 's/^/    /' || true
 }
 
 # The last line, and the status of the script.

@@ -6,19 +6,20 @@
 # A row tells the storm, its runs, how many came out otherwise, and how many journals differed; the
 # journals of a run that came out otherwise are kept, and the script fails.
 #
-#   bench/storms.sh             each storm 200 times, beside one busy loop for each processor
+#   bench/storms.sh             each storm 200 times, two runs at a time, beside one busy loop for each processor
 #   RUNS=10 bench/storms.sh     10 times
+#   LANES=1 bench/storms.sh     one run at a time
 #   BUSY=0 bench/storms.sh      beside what else the machine does
 #   STORMS='swaps lines' bench/storms.sh
 set -eu
 . "$(dirname "${BASH_SOURCE[0]}")/timing.sh"
 runs="${RUNS:-200}"
 busy="${BUSY:-$(nproc)}"
-kept=
+lanes="${LANES:-2}"
 
 # A storm is a folder with a model, injections, and what is asked of its journals.
 new_storm() {
-    storm="$work/$1"
+    storm="$in_memory/$1"
     mkdir -p "$storm"
 }
 
@@ -116,64 +117,69 @@ MODEL
     done >"$storm/out.lines"
 }
 
-# What is wrong with the journals in `journals`, beyond what is asked of them line by line: whatever is
-# handed on keeps its order; whoever is spent has taken just as many turns as the fuel allows. The file
-# `within` is there once the fuel ended between the wish that the actor ends and the news that it did.
+# What is wrong with the journals of a lane, beyond what is asked of them line by line: whatever is handed on
+# keeps its order; whoever is spent has taken just as many turns as the fuel allows. The file `within` is
+# there once the fuel ended between the wish that the actor ends and the news that it did.
 judge_lines() {
     awk '$2 == "post" && $5 != "-" { if (from == $5 && $NF <= last) print "out of order: " $0; from = $5; last = $NF }' \
-        "$storm/journals"
+        "$own/journals"
 }
 
 judge_spent() {
     awk -v fuel="$1" '/^controller 0 / { own = 1 } /^controller 1 / { own = 0 } own && $2 == "turn" { turns++ }
-        END { if (turns != fuel) print turns " turns, fuel " fuel; if ($0 != "spent") print "not spent" }' "$storm/journals"
+        END { if (turns != fuel) print turns " turns, fuel " fuel; if ($0 != "spent") print "not spent" }' "$own/journals"
     if awk '$2 == "post" && $NF == "Destroy" { wished++ } $2 == "post" && $7 == "destroyed" { ended++ }
-        END { exit wished == ended }' "$storm/journals"; then
+        END { exit wished == ended }' "$own/journals"; then
         : >"$storm/within"
     fi
 }
 
 # What is wrong with one run of a storm; nothing where it is well. `fuel` is that of the run.
 try_run() {
-    local status=0 expected=0 verdict words=(run "$storm/model.room" "$storm/inject.txt")
+    local status=0 expected=0 fuel verdict words=(run "$storm/model.room" "$storm/inject.txt")
     case "$1" in
     spent) expected=4 fuel=$((40 + $2 % 24)) words+=(--fuel "$fuel") ;;
     esac
-    timeout 100 "$program" "${words[@]}" >"$storm/journals" 2>"$storm/notes" || status=$?
+    timeout 100 "$program" "${words[@]}" >"$own/journals" 2>"$own/notes" || status=$?
     [ "$status" = "$expected" ] || echo "status $status"
-    cat "$storm/notes"
-    [ ! -e "$storm/out.lines" ] || awk -f "$top/.ci/lines.awk" "$storm/out.lines" "$storm/journals" || true
+    cat "$own/notes"
+    [ ! -e "$storm/out.lines" ] || awk -f "$top/.ci/lines.awk" "$storm/out.lines" "$own/journals" || true
     case "$1" in
     spent) judge_spent "$fuel" ;;
     lines) judge_lines ;;
     esac
-    "$program" convert "$storm/model.room" "$storm/journals" 2>&1 | cmp - "$storm/journals" 2>&1 || true
-    verdict="$("$program" verify "$storm/model.room" "$storm/inject.txt" "$storm/journals" "${words[@]:3}" 2>&1 || true)"
+    "$program" convert "$storm/model.room" "$own/journals" 2>&1 | cmp - "$own/journals" 2>&1 || true
+    verdict="$("$program" verify "$storm/model.room" "$storm/inject.txt" "$own/journals" "${words[@]:3}" 2>&1 || true)"
     [ "$verdict" = lawful ] || echo "$verdict"
 }
 
-# Keeps what a run came to that is otherwise, and says why.
-keep() {
-    [ -n "$kept" ] || kept="$(mktemp -d)"
-    cp "$storm/journals" "$kept/$1.$2"
-    echo "    run $2 of $1 (kept in $kept): $(head -n 3 "$work/told" | tr '\n' ';')"
+# The runs of one lane, in a folder of its own, which keeps what a run came to that is otherwise, and tells why.
+try_lane() {
+    local number own="$storm/lane.$2"
+    mkdir "$own"
+    for ((number = 1 + $2; number <= runs; number += lanes)); do
+        try_run "$1" "$number" >"$own/told"
+        cksum <"$own/journals" >>"$own/sums"
+        [ -s "$own/told" ] || continue
+        cp "$own/journals" "$kept/$1.$number"
+        echo "    run $number of $1 (kept in $kept): $(head -n 3 "$own/told" | tr '\n' ';')" | tee -a "$own/otherwise"
+    done
 }
 
 try_storm() {
-    local number failed=0
+    local lane working=() failed
     "make_$1"
-    for ((number = 1; number <= runs; number++)); do
-        try_run "$1" "$number" >"$work/told"
-        cksum <"$storm/journals" >>"$storm/sums"
-        [ -s "$work/told" ] || continue
-        failed=$((failed + 1))
-        keep "$1" "$number"
+    for ((lane = 0; lane < lanes; lane++)); do
+        try_lane "$1" "$lane" &
+        working+=("$!")
     done
+    wait "${working[@]}"
+    failed="$(cat "$storm"/lane.*/otherwise 2>/dev/null | wc -l)"
     if [ "$1" = spent ] && [ ! -e "$storm/within" ]; then
         failed=$((failed + 1))
         echo '    no run was spent while the actor ended'
     fi
-    printf '%-8s %6s %10s %14s\n' "$1" "$runs" "$failed" "$(sort -u "$storm/sums" | wc -l)"
+    printf '%-8s %6s %10s %14s\n' "$1" "$runs" "$failed" "$(sort -u "$storm"/lane.*/sums | wc -l)"
     otherwise=$((otherwise + failed))
 }
 
@@ -184,16 +190,18 @@ be_busy() {
 
 begin_measuring
 load=()
-trap '[ "${#load[@]}" -eq 0 ] || kill "${load[@]}"; rm -rf "$work"' EXIT
+trap '[ "${#load[@]}" -eq 0 ] || kill "${load[@]}"; rm -rf "$work" "$in_memory"' EXIT
 for ((number = 0; number < busy; number++)); do
     be_busy &
     load+=("$!")
 done
 otherwise=0
+kept="$(mktemp -d)"
 printf '%-8s %6s %10s %14s\n' storm runs otherwise 'journals seen'
 for name in ${STORMS:-swaps talk spent lines}; do
     try_storm "$name"
 done
 tell_load
 echo "$otherwise otherwise"
+rmdir "$kept" 2>/dev/null || true
 [ "$otherwise" = 0 ]

@@ -32,11 +32,11 @@ is_lawful() {
     ! grep -qs '^advance ' "$1/${words[2]}" || return 0
     (
         cd "$1"
-        "$program" "${words[@]}" >"$work/printed" 2>/dev/null </dev/null || true
-        "$program" verify "${words[1]}" "${words[2]}" "$work/printed" "${words[@]:3}" </dev/null 2>&1
-    ) >"$work/verdict" || true
-    [ "$(cat "$work/verdict")" = lawful ] && return
-    echo "$1: $(cat "$work/verdict")"
+        "$program" "${words[@]}" >"$in_memory/printed" 2>/dev/null </dev/null || true
+        "$program" verify "${words[1]}" "${words[2]}" "$in_memory/printed" "${words[@]:3}" </dev/null 2>&1
+    ) >"$in_memory/verdict" || true
+    [ "$(cat "$in_memory/verdict")" = lawful ] && return
+    echo "$1: $(cat "$in_memory/verdict")"
     return 1
 }
 
@@ -48,7 +48,7 @@ be_busy() {
 begin_measuring
 mapfile -t cases < <(threaded_cases)
 load=()
-trap '[ "${#load[@]}" -eq 0 ] || kill "${load[@]}"; rm -rf "$work"' EXIT
+trap '[ "${#load[@]}" -eq 0 ] || kill "${load[@]}"; rm -rf "$work" "$in_memory"' EXIT
 for ((number = 0; number < busy; number++)); do
     be_busy &
     load+=("$!")
@@ -57,9 +57,9 @@ done
 failed=0
 unlawful=0
 for _ in $(seq "$runs"); do
-    "$top/.ci/cases" "$program" "${cases[@]}" >"$work/told" || true
-    some="$(sed -n '$s/.* passed, \([0-9]*\) failed$/\1/p' "$work/told")"
-    [ "$some" = 0 ] || cat "$work/told"
+    "$top/.ci/cases" "$program" "${cases[@]}" >"$in_memory/told" || true
+    some="$(sed -n '$s/.* passed, \([0-9]*\) failed$/\1/p' "$in_memory/told")"
+    [ "$some" = 0 ] || cat "$in_memory/told"
     failed=$((failed + some))
     for folder in "${cases[@]}"; do is_lawful "$folder" || unlawful=$((unlawful + 1)); done
 done

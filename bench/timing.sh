@@ -3,7 +3,10 @@
 export LC_ALL=C
 top="$(cd "$(dirname "${BASH_SOURCE[0]}")/.." && pwd)"
 work="$(mktemp -d)"
-trap 'rm -rf "$work"' EXIT
+# What very many calls write stands in memory where the system has a folder there.
+in_memory="$work"
+[ ! -w /dev/shm ] || in_memory="$(mktemp -d -p /dev/shm)"
+trap 'rm -rf "$work" "$in_memory"' EXIT
 program="${ROOM_PROGRAM:-$top/crates/room/out/room}"
 
 # Proves and builds the program where none is named, and tells how busy the machine is.

@@ -6,7 +6,9 @@
 #
 # Told are the bytes of the text, the processor's seconds and the most memory of both, and the ratios; behind
 # them stands `!` where `verify` takes more than three times the time, or twice the memory, of `convert`, and
-# the script fails. Each is the least of RUNS times, 3 where it isn't given.
+# the script fails. Below them stands what `show` takes at the end of the same text, and in its middle, with the
+# ratios to `verify`; and `!` where at the end it takes more than 1.2 times the time, or twice the memory: it
+# lets the same happen, and then prints. Each is the least of RUNS times, 3 where it isn't given.
 #
 #   bench/verify.sh               64 and 256 MiB
 #   SIZES='2 8' bench/verify.sh   so many MiB
@@ -65,7 +67,23 @@ measure() {
         END { printf "%.2f %d\n", least, most }'
 }
 
-# Judges and converts a text of this name, and tells what it took.
+# Shows the system at a stamp of a text, and tells what that took beside its judgement, which is the caller's.
+show_at() {
+    local took space times spaces mark=
+    read -r took space < <(measure show "$work/model.room" "$work/inject.txt" "$1" --at "$2")
+    [ "$(tail -n 1 "$work/answer")" = end ] || mark=' not shown' slow=1
+    times="$(ratio "$took" "$judged")"
+    spaces="$(ratio "$space" "$room")"
+    if awk -v t="$times" -v s="$spaces" 'BEGIN { exit !(t > 1.2 || s > 2) }'; then mark="$mark !" slow=1; fi
+    echo "    show --at $2: $took s, $(ratio "$space" 1024 0) MiB; ratios to verify $times, $spaces$mark"
+}
+
+# A stamp in the middle of a text.
+middle() {
+    awk '$1 ~ /^[0-9]+$/ && $1 + 0 > last { last = $1 + 0 } END { printf "%d\n", last / 2 }' "$1"
+}
+
+# Judges, converts and shows a text of this name, and tells what it took.
 judge() {
     local converted judged memory room times spaces mark=
     read -r converted memory < <(measure convert "$work/model.room" "$2")
@@ -76,6 +94,8 @@ judge() {
     if awk -v t="$times" -v s="$spaces" 'BEGIN { exit !(t > 3 || s > 2) }'; then mark="$mark !" slow=1; fi
     echo "$1, $(stat -c %s "$2") bytes: convert $converted s, $(ratio "$memory" 1024 0) MiB;" \
         "verify $judged s, $(ratio "$room" 1024 0) MiB; ratios $times, $spaces$mark"
+    show_at "$2" 9223372036854775807
+    show_at "$2" "$(middle "$2")"
 }
 
 begin_measuring

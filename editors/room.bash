@@ -37,7 +37,12 @@ _room_offers() {
     MODEL | INJECT | JOURNALS) compgen -f -- "$2" ;;
     PREFIX) compgen -d -- "$2" ;;
     FORM) compgen -W '--svg --dot --mermaid' -- "$2" ;;
-    OPTION) compgen -W "$options" -- "$2" ;;
+    OPTION)
+        case "${words[-1]}" in
+        --actor | --signal | --from | --to) ;;
+        *) compgen -W "$options" -- "$2" ;;
+        esac
+        ;;
     CLASS) compgen -W "$(sed -n 's/^.*ActorClass  *\([A-Za-z_0-9]*\).*/\1/p' "${words[1]}" 2>/dev/null)" -- "$2" ;;
     [[:upper:]]*) ;;
     *) compgen -W "$1" -- "$2" ;;

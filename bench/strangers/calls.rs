@@ -1,17 +1,26 @@
-//! Calls of the program, and what they came to.
+//! Calls of a program, and what they came to.
 
-use std::fs::{self, File};
+use std::cell::RefCell;
+use std::fs;
+use std::io::{Read, Write};
 use std::os::unix::process::ExitStatusExt;
 use std::path::{Path, PathBuf};
-use std::process::{Child, Command, ExitStatus, Stdio};
+use std::process::{Child, ChildStdin, ChildStdout, Command, ExitStatus, Stdio};
 
 /// A folder in which one call after another is made.
 pub struct Lane {
     pub folder: PathBuf,
-    pub program: PathBuf,
+    pub program: Server,
     /// The program of the views, if they are tried.
-    pub views: Option<PathBuf>,
-    pub library: PathBuf,
+    pub views: Option<Server>,
+}
+
+/// A program that waits for words in the folder of a lane, as shims/measuring.c says.
+pub struct Server {
+    folder: PathBuf,
+    process: Child,
+    /// Where words go to, and ends come from; none once no more words are to come.
+    ends: RefCell<Option<(ChildStdin, ChildStdout)>>,
 }
 
 pub struct Answer {
@@ -30,49 +39,51 @@ impl Lane {
     pub fn put(&self, name: &str, text: &[u8]) {
         fs::write(self.folder.join(name), text).expect("the folder of a lane can be written");
     }
+}
 
-    pub fn answer(&self, words: &[String]) -> Answer {
-        self.answer_of(&self.program, words)
-    }
-
-    pub fn answer_of(&self, program: &Path, words: &[String]) -> Answer {
-        let [told, out, notes] = ["told", "out", "notes"].map(|name| self.folder.join(name));
-        let create = |path: &PathBuf| File::create(path).expect("the folder of a lane can be written");
-        let child = Command::new(program)
-            .args(words)
-            .current_dir(&self.folder)
-            .env("LD_PRELOAD", &self.library)
-            .env("TOLD", &told)
-            .stdin(Stdio::null())
-            .stdout(create(&out))
-            .stderr(create(&notes))
+impl Server {
+    pub fn start(program: &str, library: &str, folder: &Path) -> Server {
+        let mut process = Command::new(program)
+            .current_dir(folder)
+            .env("LD_PRELOAD", library)
+            .stdin(Stdio::piped())
+            .stdout(Stdio::piped())
             .spawn()
             .expect("the program can be called");
-        let (status, microseconds) = end_of(child);
-        let most = fs::read(told).ok().and_then(|bytes| bytes.try_into().ok()).map_or(0, u64::from_le_bytes);
+        let ends = process.stdin.take().zip(process.stdout.take());
+        Server { folder: folder.into(), process, ends: RefCell::new(ends) }
+    }
+
+    pub fn answer(&self, words: &[&str]) -> Answer {
+        let mut ends = self.ends.borrow_mut();
+        let (ask, told) = ends.as_mut().expect("the program waits");
+        let mut bytes = b"room\0".to_vec();
+        for word in words {
+            bytes.extend_from_slice(word.as_bytes());
+            bytes.push(0);
+        }
+        let list = [&(bytes.len() as u32).to_ne_bytes()[..], &bytes].concat();
+        ask.write_all(&list).expect("the program waits for words");
+        let [status, microseconds, most] = [(); 3].map(|()| {
+            let mut number = [0; 8];
+            told.read_exact(&mut number).expect("the program tells how a call ended");
+            u64::from_ne_bytes(number)
+        });
+        let status = ExitStatus::from_raw(status as i32);
         Answer {
             status: status.code(),
             signal: status.signal(),
-            out: fs::read(out).unwrap_or_default(),
-            notes: fs::read(notes).unwrap_or_default(),
+            out: fs::read(self.folder.join("out")).unwrap_or_default(),
+            notes: fs::read(self.folder.join("notes")).unwrap_or_default(),
             most,
             microseconds,
         }
     }
 }
 
-unsafe extern "C" {
-    fn wait4(process: i32, status: *mut i32, options: i32, usage: *mut [i64; 18]) -> i32;
-}
-
-/// Waits for the end of a program: its status, and its microseconds of processor time.
-fn end_of(child: Child) -> (ExitStatus, u64) {
-    let mut status = 0;
-    // Seconds and microseconds of its own, then those of the system for it, then 14 numbers more.
-    let mut usage = [0; 18];
-    // SAFETY: the child has not been waited for; both places are as large as Linux asks on x86-64.
-    let ended = unsafe { wait4(child.id() as i32, &mut status, 0, &mut usage) };
-    assert_eq!(ended, child.id() as i32, "the program can be waited for");
-    let microseconds = (usage[0] + usage[2]) * 1_000_000 + usage[1] + usage[3];
-    (ExitStatus::from_raw(status), microseconds as u64)
+impl Drop for Server {
+    fn drop(&mut self) {
+        self.ends.take();
+        let _ = self.process.wait();
+    }
 }

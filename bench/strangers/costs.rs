@@ -2,7 +2,6 @@
 
 use crate::calls::{Answer, Lane};
 use crate::judging::Named;
-use crate::words;
 use std::fmt::Write;
 
 /// The most controllers of a model.
@@ -50,11 +49,11 @@ fn cost_of_smallest(lane: &Lane, controllers: usize) -> (Memory, u64) {
     let (model, lines) = smallest(controllers);
     lane.put("model", model.as_bytes());
     lane.put("inject", lines.as_bytes());
-    let run = lane.answer(&words(&["run", "model", "inject"]));
+    let run = lane.program.answer(&["run", "model", "inject"]);
     assert_eq!(run.status, Some(0), "the smallest model runs");
     lane.put("journals", &run.out);
-    let convert = lane.answer(&words(&["convert", "model", "journals"]));
-    let verify = lane.answer(&words(&["verify", "model", "inject", "journals"]));
+    let convert = lane.program.answer(&["convert", "model", "journals"]);
+    let verify = lane.program.answer(&["verify", "model", "inject", "journals"]);
     (Memory { run: run.most, convert: convert.most, verify: verify.most }, run.microseconds)
 }
 
@@ -95,6 +94,10 @@ fn controllers_of(journals: &[u8]) -> usize {
     journals.split(|byte| *byte == b'\n').filter(|line| line.starts_with(b"controller ")).count()
 }
 
+/// The most places of a model, and the most bytes that each takes.
+const PLACES: u64 = 65_536;
+const OF_A_PLACE: u64 = 80;
+
 /// Numbers in brackets stand for places and slots that no text names one by one.
 fn has_a_large_number_in_brackets(text: &[u8]) -> bool {
     let mut digits = None;
@@ -109,20 +112,40 @@ fn has_a_large_number_in_brackets(text: &[u8]) -> bool {
     false
 }
 
+/// How many bytes of a model stand in quotes, as actions and guards do.
+fn quoted_bytes(text: &[u8]) -> u64 {
+    let mut count = 0;
+    let mut rest = text;
+    while !rest.is_empty() {
+        let Some(quote) = [&b"'''"[..], b"\""].into_iter().find(|quote| rest.starts_with(quote)) else {
+            rest = &rest[1..];
+            continue;
+        };
+        rest = &rest[quote.len()..];
+        let end = rest.windows(quote.len()).position(|window| window == quote).unwrap_or(rest.len());
+        count += end;
+        rest = &rest[(end + quote.len()).min(rest.len())..];
+    }
+    count as u64
+}
+
 fn count_of(word: &[u8], text: &[u8]) -> u64 {
     text.windows(word.len()).filter(|window| *window == word).count() as u64
 }
 
-/// Whether an answer took more memory than 60 bytes for each byte that came in or went out, or more time
-/// than a second for each 100 KB of them, beyond what the smallest model of as many controllers takes: a run
-/// has a mail between each two of these, however little is sent. Classes that extend others stand for the text
-/// of these, and large numbers in brackets for up to 65,536 places. The time of a run depends on its actions.
+/// Whether an answer took more memory than 60 bytes for each byte that came in or went out, and 180 more for each
+/// byte of an action, or more time than a second for each 100 KB, beyond what the smallest model of as many
+/// controllers takes: a run has a mail between each two of these, however little is sent. Classes that extend
+/// others stand for the text of these, and large numbers in brackets for up to 65,536 places. The time of a run
+/// depends on its actions.
 pub fn judge_cost(word: &str, answer: &Answer, named: &Named, tree: &[u8], limits: &Limits) -> Option<String> {
     let given = named.model.len() + named.injections.len() + named.journals.len();
-    let bytes = (given + answer.out.len() + tree.len()) as u64 * (1 + count_of(b"extends", named.model));
-    let places = if has_a_large_number_in_brackets(named.model) { 65_536 * 60 } else { 0 };
+    let copies = 1 + count_of(b"extends", named.model);
+    let bytes = (given + answer.out.len() + tree.len()) as u64 * copies;
+    let of_actions = 180 * quoted_bytes(named.model) * copies;
+    let of_places = if has_a_large_number_in_brackets(named.model) { PLACES * OF_A_PLACE } else { 0 };
     let controllers = controllers_of(if word == "run" { &answer.out } else { named.journals });
-    if answer.most > 60 * bytes + places + limits.least(word, controllers) + SPARE {
+    if answer.most > 60 * bytes + of_actions + of_places + limits.least(word, controllers) + SPARE {
         return Some(format!("{} bytes of memory of {word} for {bytes} bytes", answer.most));
     }
     let most = limits.slower * (bytes * 10 + limits.microseconds);

@@ -10,9 +10,10 @@ mod costs;
 mod judging;
 mod making;
 mod random;
+mod shows;
 mod views;
 
-use calls::{Answer, Lane};
+use calls::{Answer, Lane, Server};
 use costs::{Limits, judge_cost};
 use judging::{Named, judge};
 use random::Random;
@@ -41,6 +42,8 @@ struct Search {
     kept: PathBuf,
     /// How often each kind of stranger had each status, or another end.
     seen: Mutex<BTreeMap<String, u64>>,
+    /// How many calls of each word there were, and their microseconds of processor time.
+    calls: Mutex<BTreeMap<String, (u64, u64)>>,
     wrong: AtomicU64,
 }
 
@@ -73,7 +76,8 @@ fn read_seeds() -> Seeds {
 fn summary(answer: &Answer) -> String {
     let status = answer.status.map_or("none".to_string(), |status| status.to_string());
     let notes = String::from_utf8_lossy(&answer.notes);
-    let told = match notes.split_whitespace().skip(3).collect::<Vec<&str>>().as_slice() {
+    let told = notes.rsplit_once(": ").map_or("", |(_, told)| told);
+    let told = match told.split_whitespace().collect::<Vec<&str>>().as_slice() {
         ["rule", number] => format!(" rule {number}"),
         ["wiring", number] => format!(" wiring {number}"),
         ["chart", _, number] => format!(" chart {number}"),
@@ -82,10 +86,6 @@ fn summary(answer: &Answer) -> String {
         [] => String::new(),
     };
     status + &told
-}
-
-fn words(all: &[&str]) -> Vec<String> {
-    all.iter().map(|word| word.to_string()).collect()
 }
 
 impl Stranger<'_> {
@@ -104,9 +104,19 @@ impl Stranger<'_> {
         *self.search.seen.lock().expect("nobody panicked").entry(what).or_insert(0) += 1;
     }
 
+    /// The answer of a program to some words, which counts as one of calls with this name.
+    fn call(&self, program: &Server, name: &str, all: &[&str]) -> Answer {
+        let answer = program.answer(all);
+        let mut calls = self.search.calls.lock().expect("nobody panicked");
+        let (count, microseconds) = calls.entry(name.to_string()).or_insert((0, 0));
+        *count += 1;
+        *microseconds += answer.microseconds;
+        answer
+    }
+
     /// The answer to some words, which is judged alone.
     fn ask(&self, all: &[&str], named: &Named, tree: &[u8]) -> Answer {
-        let answer = self.lane.answer(&words(all));
+        let answer = self.call(&self.lane.program, all[0], all);
         let told = judge(all[0], &answer, named).or_else(|| judge_cost(all[0], &answer, named, tree, &self.search.limits));
         if let Some(what) = told {
             self.tell(&what);
@@ -161,6 +171,7 @@ impl Stranger<'_> {
         self.lane.put("inject", named.injections);
         let answer = self.ask(&["verify", "model", "inject", "journals", "--fuel", fuel], named, &[]);
         self.count(format!("{}, {how}: {}", self.kind, summary(&answer)));
+        self.ask_for_system(named, &answer);
         answer
     }
 
@@ -267,6 +278,7 @@ impl Stranger<'_> {
         if matches!(verdict.status, Some(0 | 8)) && !are_read || verdict.status == Some(9) && are_read {
             self.tell("convert and verify differ");
         }
+        self.ask_for_views_of_journals(random, are_read, &verdict);
     }
 
     /// Words that nobody would write, over files that are there.
@@ -279,7 +291,7 @@ impl Stranger<'_> {
         let count = 1 + random.below(6);
         let some = ["run", "check", "tree", "convert", "verify", "show", "--at", "made", "--fuel", "model", "model", "inject", "3", "0", "007", "-1", "", "--", "é", "100001"];
         let all: Vec<&str> = (0..count).map(|_| some[random.below(some.len())]).collect();
-        let answer = self.lane.answer(&words(&all));
+        let answer = self.call(&self.lane.program, self.kind, &all);
         let told = if all.contains(&"inject") || !matches!(answer.status, Some(1 | 6)) {
             // What the second file is can't be told here of each list of words.
             answer.signal.map(|signal| format!("signal {signal}"))
@@ -310,8 +322,8 @@ impl Stranger<'_> {
 fn lane(folder: &str, number: u64, [program, views, library]: [&str; 3]) -> Lane {
     let folder = PathBuf::from(folder).join(format!("lane.{number}"));
     fs::create_dir_all(&folder).expect("the folder can be written");
-    let views = (!views.is_empty()).then(|| views.into());
-    Lane { folder, program: program.into(), views, library: library.into() }
+    let views = (!views.is_empty()).then(|| Server::start(views, library, &folder));
+    Lane { program: Server::start(program, library, &folder), views, folder }
 }
 
 fn main() {
@@ -332,6 +344,7 @@ fn main() {
         limits,
         kept: kept.into(),
         seen: Mutex::default(),
+        calls: Mutex::default(),
         wrong: AtomicU64::new(0),
     };
     let next = AtomicU64::new(first);
@@ -352,6 +365,9 @@ fn main() {
     });
     for (what, times) in search.seen.lock().expect("nobody panicked").iter() {
         println!("{times:8} {what}");
+    }
+    for (word, (times, microseconds)) in search.calls.lock().expect("nobody panicked").iter() {
+        println!("{times:8} calls of {word}, of {} microseconds", microseconds / times);
     }
     println!("{count} strangers of seed {seed}, {} wrong", search.wrong.load(Ordering::Relaxed));
 }

@@ -3,7 +3,7 @@
 use crate::calls::Answer;
 use crate::judging::Named;
 use crate::random::Random;
-use crate::{Stranger, Text, words};
+use crate::{Stranger, Text};
 
 /// A model above this length isn't asked why it is refused, since `why` tries many texts.
 const MOST_OF_WHY: usize = 4_000;
@@ -16,14 +16,13 @@ fn name_behind(random: &mut Random, word: &str, text: &[u8]) -> Option<String> {
     (!names.is_empty()).then(|| names[random.below(names.len())].to_string())
 }
 
-/// What is wrong with a page, where the model is accepted or refused, and journals are those of a run.
-fn judge_page(answer: &Answer, is_accepted: bool) -> Option<String> {
+/// What is wrong with a page, of which these statuses may come.
+fn judge_page(answer: &Answer, may_come: &[i32]) -> Option<String> {
     let Some(status) = answer.status else {
         return Some(format!("signal {} of a view", answer.signal.unwrap_or_default()));
     };
-    let may_come = if is_accepted { matches!(status, 0 | 1) } else { status == 2 };
     // A page stands on standard output; that the words name nothing is told in a note.
-    if !may_come {
+    if !may_come.contains(&status) {
         Some(format!("status {status} of a view"))
     } else if answer.out.is_empty() != (status == 1) || answer.notes.is_empty() == (status == 1) {
         Some(format!("notes of status {status} of a view"))
@@ -32,17 +31,41 @@ fn judge_page(answer: &Answer, is_accepted: bool) -> Option<String> {
     }
 }
 
+/// What `why` answers of journals of which `verify` told this.
+fn status_of_why(verdict: &Answer) -> i32 {
+    match verdict.status {
+        Some(9) => 3,
+        Some(status) => status,
+        None => -1,
+    }
+}
+
 impl Stranger<'_> {
     /// The page for some words, which is judged.
-    fn ask_for_page(&self, all: &[&str], is_accepted: bool) -> Option<Text> {
+    fn ask_for_page(&self, all: &[&str], may_come: &[i32]) -> Option<Text> {
         let views = self.lane.views.as_ref()?;
-        let answer = self.lane.answer_of(views, &words(all));
-        if let Some(what) = judge_page(&answer, is_accepted) {
+        let answer = self.call(views, &format!("views, {}", all[0]), all);
+        if let Some(what) = judge_page(&answer, may_come) {
             self.tell(&format!("{what}, {}", all.join(" ")));
         }
         let status = answer.status.map_or("none".to_string(), |status| status.to_string());
         self.count(format!("views, {}: {status}", all[0]));
         Some(answer.out)
+    }
+
+    /// Of some changed journals, which stand in their file, why they aren't lawful, or what they tell.
+    pub fn ask_for_views_of_journals(&self, random: &mut Random, are_read: bool, verdict: &Answer) {
+        if self.lane.views.is_none() || !random.percent(8) {
+            return;
+        }
+        let told = if verdict.status == Some(2) { 2 } else if are_read { 0 } else { 3 };
+        match random.below(6) {
+            0 => self.ask_for_page(&["story", "model", "journals"], &[told]),
+            1 => self.ask_for_page(&["end", "model", "journals"], &[told]),
+            2 => self.ask_for_page(&["outputs", "model", "journals"], &[told]),
+            3 => self.ask_for_page(&["run", "model", "journals", "--svg"], &[told]),
+            _ => self.ask_for_page(&["why", "model", "inject", "journals"], &[status_of_why(verdict)]),
+        };
     }
 
     /// Of some strangers a view of the model, and one of its journals: what a run printed is a run of its model.
@@ -54,17 +77,17 @@ impl Stranger<'_> {
         self.lane.put("inject", named.injections);
         if !is_accepted {
             if named.model.len() < MOST_OF_WHY {
-                self.ask_for_page(&["why", "model"], false);
+                self.ask_for_page(&["why", "model"], &[2]);
             }
             return;
         }
         let form = random.one_of(&["--svg", "--dot", "--mermaid"]);
         let class = name_behind(random, "ActorClass", named.model).unwrap_or_default();
         match random.below(4) {
-            0 => self.ask_for_page(&["lint", "model"], true),
-            1 => self.ask_for_page(&["doors", "model"], true),
-            2 => self.ask_for_page(&["wiring", "model", form], true),
-            _ => self.ask_for_page(&["chart", "model", &class, form], true),
+            0 => self.ask_for_page(&["lint", "model"], &[0, 1]),
+            1 => self.ask_for_page(&["doors", "model"], &[0, 1]),
+            2 => self.ask_for_page(&["wiring", "model", form], &[0, 1]),
+            _ => self.ask_for_page(&["chart", "model", &class, form], &[0, 1]),
         };
         if let Some(journals) = journals {
             self.lane.put("journals", &journals);
@@ -74,11 +97,11 @@ impl Stranger<'_> {
 
     fn ask_of_run(&self, random: &mut Random, form: &str) {
         let page = match random.below(6) {
-            0 => self.ask_for_page(&["end", "model", "journals"], true),
-            1 => self.ask_for_page(&["outputs", "model", "journals"], true),
-            2 => self.ask_for_page(&["run", "model", "journals", form], true),
-            3 => self.ask_for_page(&["explain", "model", "inject", "journals", "env@1"], true),
-            _ => self.ask_for_page(&["story", "model", "journals"], true),
+            0 => self.ask_for_page(&["end", "model", "journals"], &[0, 1]),
+            1 => self.ask_for_page(&["outputs", "model", "journals"], &[0, 1]),
+            2 => self.ask_for_page(&["run", "model", "journals", form], &[0, 1]),
+            3 => self.ask_for_page(&["explain", "model", "inject", "journals", "env@1"], &[0, 1]),
+            _ => self.ask_for_page(&["story", "model", "journals"], &[0, 1]),
         };
         if page.is_some_and(|page| String::from_utf8_lossy(&page).contains("! not a run")) {
             self.tell("a view says that a run is none");

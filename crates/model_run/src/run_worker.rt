@@ -2,7 +2,7 @@
 //!
 //! Over any mail: each turn is prompt, and what the controller's end has posted and taken is just what its
 //! journal says.
-ghost use Rattle.std.specs.Prelude.{◌≡◌, ◌+◌, ◌<◌, [], length, IfOk, OnOk};
+ghost use Rattle.std.specs.Prelude.{◌≡◌, ◌+◌, ◌<◌, ◌≤◌, [], length, IfOk, OnOk};
 ghost use Rattle.mail_core.specs.Tied.{IsTied, StaysTied};
 ghost use Rattle.controller.specs.Controllers.{IsOf};
 ghost use Rattle.model_run.specs.run_worker.Works.{Counted, Did, Works};
@@ -13,8 +13,15 @@ use mail_core::Mail;
 use room_outside::{ControllerNo, Gate};
 use std::alloc::AllocError;
 
-/// After so many steps in a row that fetched and turned nothing a worker ends.
+/// After so many steps in a row that fetched and turned nothing a worker ends, unless it works alone.
 const IDLE_STEPS: u32 = 64;
+
+/// After how many such steps it ends. What one that works alone hasn't found isn't there.
+fn most_idle_steps(is_alone: bool) -> u32
+    ensures { result ≤ 64 }
+{
+    if is_alone { 1 } else { IDLE_STEPS }
+}
 
 /// A poll, and a turn if a message waits for one: then the controller first enters the gate, under its
 /// number and with the turns that it has taken. It answers whether it took a turn. If not, it fetched nothing
@@ -76,8 +83,8 @@ fn step<M: Mail, G: Gate>(
 }
 
 /// A controller posts what it has to post, and then goes step by step until 64 steps in a row fetched and
-/// turned nothing, or until its fuel is spent: then it polls no more. Before each turn, and nowhere else, it
-/// enters the gate.
+/// turned nothing, or one where it works alone, or until its fuel is spent: then it polls no more. Before each
+/// turn, and nowhere else, it enters the gate.
 pub fn work<M: Mail, G: Gate, W: Pauses>(
     number: ControllerNo,
     controller: &mut Controller,
@@ -98,8 +105,9 @@ pub fn work<M: Mail, G: Gate, W: Pauses>(
     ensures tied { StaysTied M.tied (M.log end.old).party office.old office.new end.old end.new }
 {
     controller.post_all(plant, office, end)?;
+    let most = most_idle_steps(pauses.is_alone());
     let mut idle = 0u32;
-    while !controller.is_spent() && idle < IDLE_STEPS {
+    while !controller.is_spent() && idle < most {
         pauses.before_step(idle);
         let turned = step(number, controller, plant, office, end, gate)?;
         idle = if turned { 0 } else { idle + 1 };

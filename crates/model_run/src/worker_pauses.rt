@@ -20,6 +20,9 @@ const ASKS: u32 = 9;
 
 /// What a worker does before a step.
 pub trait Pauses {
+    /// Whether nobody else works at the same time.
+    fn is_alone(&self) -> bool;
+
     /// Behind so many steps in a row that fetched and turned nothing.
     fn before_step(&mut self, idle: u32);
 }
@@ -29,6 +32,10 @@ pub trait Pauses {
 pub struct NoPauses;
 
 impl Pauses for NoPauses {
+    fn is_alone(&self) -> bool {
+        true
+    }
+
     fn before_step(&mut self, _idle: u32) {}
 }
 
@@ -37,6 +44,8 @@ impl Pauses for NoPauses {
 pub struct SharedPauses<'b> {
     /// How many of the workers have something to do.
     busy: &'b AtomicU32,
+    /// Whether there is only this one.
+    is_alone: bool,
     /// Whether this one is counted among them.
     is_busy: bool,
     /// Whether nobody had anything to do when it last asked.
@@ -45,9 +54,10 @@ pub struct SharedPauses<'b> {
 
 impl<'b> SharedPauses<'b> {
     /// Of a worker that is counted among those that have something to do.
-    pub fn new(busy: &'b AtomicU32) -> SharedPauses<'b> {
+    pub fn new(busy: &'b AtomicU32, is_alone: bool) -> SharedPauses<'b> {
         SharedPauses {
             busy,
+            is_alone,
             is_busy: true,
             is_calm: false,
         }
@@ -100,6 +110,10 @@ impl<'b> SharedPauses<'b> {
 }
 
 impl<'b> Pauses for SharedPauses<'b> {
+    fn is_alone(&self) -> bool {
+        self.is_alone
+    }
+
     fn before_step(&mut self, idle: u32) {
         if idle == 0 {
             self.has_work();

@@ -1,12 +1,14 @@
 //! The program `room_view`: tells people why a text is refused, and where; where messages can come in; what the
 //! journals of a run tell; and draws pictures of models and of runs.
 //!
-//! `why MODEL [INJECT]`, `why MODEL INJECT JOURNALS [--fuel N]`, `doors MODEL`, `lint MODEL [INJECT]`, `story MODEL JOURNALS ..`, `outputs MODEL JOURNALS`,
-//! `end MODEL JOURNALS`, `explain MODEL INJECT JOURNALS MESSAGE`, `wiring MODEL [FORM]`, `chart MODEL CLASS [FORM]` and
-//! `run MODEL JOURNALS [FORM] ..` write a page to standard output; of a model that is refused all tell why. The status
-//! is that of `room` for these files: 0 where nothing is refused, 1 where the words have another form, or name what the
-//! model or the journals don't have, 2 where the model is refused, 3 where the injections or the journals are, 5 for
-//! want of memory, 6 where a file wasn't read, 7 where the page or a note wasn't written, 8 where journals are unlawful.
+//! `why MODEL [INJECT]`, `why MODEL INJECT JOURNALS [--fuel N]`, `doors MODEL`, `lint MODEL [INJECT]`,
+//! `story MODEL JOURNALS ..`, `outputs MODEL JOURNALS`, `end MODEL JOURNALS`, `explain MODEL INJECT JOURNALS MESSAGE`,
+//! `diff MODEL INJECT JOURNALS S1 S2`, `wiring MODEL [FORM]`, `wiring MODEL INJECT JOURNALS --at S [FORM]`,
+//! `chart MODEL CLASS [FORM]` and `run MODEL JOURNALS [FORM] ..` write a page to standard output; of a model that is
+//! refused all tell why. The status is that of `room` for these files: 0 where nothing is refused, 1 where the words
+//! have another form, or name what the model or the journals don't have, 2 where the model is refused, 3 where the
+//! injections or the journals are, 5 for want of memory, 6 where a file wasn't read, 7 where the page or a note wasn't
+//! written, 8 where journals are unlawful.
 #![tactic(auto)]
 
 mod accepted;
@@ -30,7 +32,7 @@ use crate::messages::tell_message_of;
 use crate::pictures::{tell_picture, tell_run_picture};
 use crate::runs::{tell_end_of, tell_outputs_of, tell_story_of};
 use crate::texts::read_model;
-use crate::verdicts::tell_verdict_of;
+use crate::verdicts::{Asking, tell_journals};
 use crate::why::tell_model;
 use crate::words::{Asked, FORMS, Question, question_of};
 use room_outside::{OutSink, TextFile, read_file, write_whole};
@@ -119,7 +121,15 @@ fn tell(
         Asked::Doors => tell_doors(rt.alloc(), page, wiring)?,
         Asked::Lint(injections) => return tell_lint(rt, page, model, wiring, injections),
         Asked::Injections(name) => return tell_injections(rt, page, wiring, name),
-        Asked::Verdict(judgement) => return tell_verdict_of(rt, page, &accepted, judgement),
+        Asked::Journals(judgement) => {
+            let asking = Asking {
+                alloc: rt.alloc(),
+                model: &accepted,
+                text: model.text,
+                words,
+            };
+            return tell_journals(rt, page, asking, judgement);
+        }
         Asked::Story(name, options) => return tell_story_of(rt, page, &accepted, name, options),
         Asked::Explain(message) => return tell_message_of(rt, page, &accepted, message),
         Asked::End(name) => return tell_end_of(rt, page, &accepted, name),

@@ -2,9 +2,10 @@
 use crate::accepted::Accepted;
 use crate::runs::{knows, run_of, wanted_of};
 use crate::titles::title_of;
+use crate::verdicts::Asking;
 use crate::words::Options;
 use room_ast::Model;
-use room_lexer::{LexFault, lex};
+use room_lexer::{LexFault, Token, lex};
 use room_run::Status;
 use std::alloc::{AllocError, Global};
 use view_charts::Source;
@@ -13,7 +14,10 @@ use view_drawing::{
     put_sequence_svg, put_svg,
 };
 use view_journals::view_pages::Page;
-use view_pictures::{chart_picture, machine_of, run_picture, tell_machines, wiring_picture};
+use view_pictures::{
+    Scene, chart_picture, machine_of, run_picture, scene_picture, tell_machines, wiring_picture,
+};
+use view_verdicts::Moment;
 
 /// The form of a picture.
 #[derive(Clone, Copy, Debug, PartialEq, Eq)]
@@ -77,14 +81,18 @@ fn tell_no_chart(page: &mut Page, model: &Model, class: &str) -> Result<Status, 
     Ok(Status::WordsRefused)
 }
 
+/// The tokens of the text of an accepted model, which has some.
+fn tokens_of(alloc: Global, text: &[u8]) -> Result<Vec<Token>, AllocError> {
+    match lex(alloc, text) {
+        Ok(tokens) => Ok(tokens),
+        Err(LexFault::Memory) => Err(AllocError),
+        Err(_) => Ok(Vec::new(alloc)),
+    }
+}
+
 /// The picture of the actors of a model with this text.
 fn wiring_of(alloc: Global, text: &[u8], model: &Accepted) -> Result<Diagram, AllocError> {
-    let tokens = match lex(alloc, text) {
-        Ok(tokens) => tokens,
-        Err(LexFault::Memory) => return Err(AllocError),
-        // the text of an accepted model has tokens
-        Err(_) => Vec::new(alloc),
-    };
+    let tokens = tokens_of(alloc, text)?;
     let source = Source {
         alloc,
         text,
@@ -113,6 +121,29 @@ pub(crate) fn tell_picture(
     diagram.title = title_of(alloc, tree, words)?;
     put_picture(page, &diagram, picture.form)?;
     Ok(Status::Done)
+}
+
+/// Puts a picture of those who live at a stamp of journals.
+pub(crate) fn tell_scene(
+    page: &mut Page,
+    asking: Asking<'_>,
+    moment: &Moment,
+    form: Form,
+) -> Result<(), AllocError> {
+    let tokens = tokens_of(asking.alloc, asking.text)?;
+    let source = Source {
+        alloc: asking.alloc,
+        text: asking.text,
+        tokens: tokens.as_slice(),
+    };
+    let scene = Scene {
+        wiring: asking.model.wiring(),
+        snapshot: &moment.snapshot,
+        waiting: moment.waiting.as_slice(),
+    };
+    let mut diagram = scene_picture(source, &asking.model.tree, scene)?;
+    diagram.title = title_of(asking.alloc, &asking.model.tree, asking.words)?;
+    put_picture(page, &diagram, form)
 }
 
 fn put_run(page: &mut Page, sequence: &Sequence, form: Form) -> Result<(), AllocError> {

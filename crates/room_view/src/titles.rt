@@ -27,26 +27,38 @@ fn is_form(word: Option<&String>) -> bool {
     }
 }
 
-fn is_run(words: &[String]) -> bool {
-    match words.first() {
-        Some(command) => command.as_str() == "run",
+/// Whether a word stands in a place.
+fn has_word(words: &[String], place: usize, expected: &str) -> bool {
+    match words.get(place) {
+        Some(word) => word.as_str() == expected,
         None => false,
+    }
+}
+
+/// How many words behind the command are names of files, where the picture is one of a run or not.
+fn file_count(words: &[String], is_run: bool) -> usize {
+    if is_run {
+        2
+    } else if has_word(words, 4, "--at") {
+        3
+    } else {
+        1
     }
 }
 
 /// Adds the words of a command: files without their folders, and behind the journals of a run the form that is meant
 /// where none is named.
 fn add_command(alloc: Global, title: &mut Vec<u8>, words: &[String]) -> Result<(), AllocError> {
-    let is_run = is_run(words);
+    let is_run = has_word(words, 0, "run");
+    let files = file_count(words, is_run);
     for (number, word) in words.iter().enumerate() {
         let word = word.as_str().as_bytes();
-        let is_journals = is_run && number == 2;
-        if number == 1 || is_journals {
+        if 0 < number && number <= files {
             add_word(alloc, title, file_name(word))?;
         } else {
             add_word(alloc, title, word)?;
         }
-        if is_journals && !is_form(words.get(3)) {
+        if is_run && number == files && !is_form(words.get(3)) {
             add_word(alloc, title, b"--svg")?;
         }
     }

@@ -4,7 +4,7 @@ use text_reading::{are_digits, value};
 
 /// What is told where words have another form.
 pub(crate) const FORMS: &[u8] =
-    b"room_view: words refused; why MODEL [INJECT], why MODEL INJECT JOURNALS [--fuel N], doors MODEL, lint MODEL [INJECT], story MODEL JOURNALS [--actor PATH] [--signal NAME] [--from STAMP] [--to STAMP] [--only-trouble] [--no-system], end MODEL JOURNALS, outputs MODEL JOURNALS, explain MODEL INJECT JOURNALS MESSAGE, wiring MODEL [FORM], chart MODEL CLASS [FORM] or run MODEL JOURNALS [FORM] with the options of story; FORM is --svg, --dot or --mermaid\n";
+    b"room_view: words refused; why MODEL [INJECT], why MODEL INJECT JOURNALS [--fuel N], doors MODEL, lint MODEL [INJECT], story MODEL JOURNALS [--actor PATH] [--signal NAME] [--from STAMP] [--to STAMP] [--only-trouble] [--no-system], end MODEL JOURNALS, outputs MODEL JOURNALS, explain MODEL INJECT JOURNALS MESSAGE, diff MODEL INJECT JOURNALS S1 S2, wiring MODEL [FORM], wiring MODEL INJECT JOURNALS --at S [FORM], chart MODEL CLASS [FORM] or run MODEL JOURNALS [FORM] with the options of story; FORM is --svg, --dot or --mermaid\n";
 
 /// The fuel of a run of which no other one is named.
 const USUAL_FUEL: u64 = 10_000;
@@ -39,13 +39,23 @@ pub(crate) struct Message<'a> {
     pub(crate) name: MessageName<'a>,
 }
 
-/// What a verdict is about: the injections and the journals of these files, and the most turns that each
-/// controller may have taken.
+/// What is asked of journals over injections.
+#[derive(Clone, Copy)]
+pub(crate) enum Look {
+    /// Whether they are those of a run in which each controller took at most so many turns, and why not.
+    Verdict { fuel: u64 },
+    /// What changed from one stamp to another, which isn't below it.
+    Changes { first: u64, second: u64 },
+    /// A picture of those who live at a stamp.
+    Wiring { at: u64, form: Form },
+}
+
+/// What is asked of the journals of a file over the injections of another one.
 #[derive(Clone, Copy)]
 pub(crate) struct Judgement<'a> {
     pub(crate) injections: &'a str,
     pub(crate) journals: &'a str,
-    pub(crate) fuel: u64,
+    pub(crate) look: Look,
 }
 
 /// What is asked of a model that isn't refused.
@@ -55,8 +65,8 @@ pub(crate) enum Asked<'a> {
     Nothing,
     /// Whether the injections of this file are refused, and why.
     Injections(&'a str),
-    /// Whether the journals of a file are those of a run, and why not.
-    Verdict(Judgement<'a>),
+    /// Something of journals over injections.
+    Journals(Judgement<'a>),
     /// Where messages can come in.
     Doors,
     /// What its author hardly meant; in the injections of this file too, if there is one.
@@ -104,6 +114,19 @@ fn flag_of(word: &str) -> Option<Flag> {
 /// The stamp that a word names.
 fn stamp_of(word: &str) -> Option<u64> {
     number_of(word.as_bytes())
+}
+
+/// The largest stamp that can be asked for.
+const LAST_STAMP: u64 = 9_223_372_036_854_775_807;
+
+/// The stamp at which the system is asked for: 0 to the largest one, without a leading zero.
+fn moment_of(word: &str) -> Option<u64> {
+    let digits = word.as_bytes();
+    let stamp = number_of(digits)?;
+    if stamp > LAST_STAMP || digits.len() > 1 && digits.starts_with(b"0") {
+        return None;
+    }
+    Some(stamp)
 }
 
 /// The number of up to 19 digits.
@@ -254,6 +277,46 @@ fn form_and_rest(words: &[String]) -> (Form, &[String]) {
     (Form::Svg, words)
 }
 
+/// The look at journals that words ask for behind the names of the files, with this command.
+fn look_of(command: &str, words: &[String]) -> Option<Look> {
+    match (command, words) {
+        ("why", fuel) => Some(Look::Verdict {
+            fuel: fuel_of(fuel)?,
+        }),
+        ("diff", [first, second]) => {
+            let first = moment_of(first.as_str())?;
+            let second = moment_of(second.as_str())?;
+            (first <= second).then_some(Look::Changes { first, second })
+        }
+        ("wiring", [flag, at, form @ ..]) if flag.as_str() == "--at" => {
+            let (form, rest) = form_and_rest(form);
+            let at = moment_of(at.as_str())?;
+            rest.is_empty().then_some(Look::Wiring { at, form })
+        }
+        _ => None,
+    }
+}
+
+/// Whether words behind a model are on a stamp of journals.
+fn is_at_stamp(words: &[String]) -> bool {
+    match words.get(2) {
+        Some(flag) => flag.as_str() == "--at",
+        None => false,
+    }
+}
+
+/// What words ask of the journals of a file over the injections of another one, with this command.
+fn judgement_of<'a>(command: &str, words: &'a [String]) -> Option<Asked<'a>> {
+    let [injections, journals, rest @ ..] = words else {
+        return None;
+    };
+    Some(Asked::Journals(Judgement {
+        injections: injections.as_str(),
+        journals: journals.as_str(),
+        look: look_of(command, rest)?,
+    }))
+}
+
 fn ask<'a>(model: &'a String, asked: Asked<'a>) -> Option<Question<'a>> {
     Some(Question {
         model: model.as_str(),
@@ -267,14 +330,9 @@ pub(crate) fn question_of(words: &[String]) -> Option<Question<'_>> {
     match (command.as_str(), rest) {
         ("why", [model]) => ask(model, Asked::Nothing),
         ("why", [model, injections]) => ask(model, Asked::Injections(injections.as_str())),
-        ("why", [model, injections, journals, fuel @ ..]) => {
-            let fuel = fuel_of(fuel)?;
-            let judgement = Judgement {
-                injections: injections.as_str(),
-                journals: journals.as_str(),
-                fuel,
-            };
-            ask(model, Asked::Verdict(judgement))
+        ("why" | "diff", [model, rest @ ..]) => ask(model, judgement_of(command.as_str(), rest)?),
+        ("wiring", [model, rest @ ..]) if is_at_stamp(rest) => {
+            ask(model, judgement_of(command.as_str(), rest)?)
         }
         ("doors", [model]) => ask(model, Asked::Doors),
         ("lint", [model]) => ask(model, Asked::Lint(None)),

@@ -43,6 +43,8 @@ pub enum Leads {
     Outside,
     /// To points that aren't drawn as joined: they come together only later.
     Later,
+    /// To nobody at the moment that is drawn.
+    Nobody,
 }
 
 /// A block of a picture.
@@ -161,7 +163,7 @@ impl Point {
     pub fn lost(&self) -> u32 {
         match self.leads {
             Leads::Within => self.unjoined,
-            Leads::Outside | Leads::Later => 0,
+            Leads::Outside | Leads::Later | Leads::Nobody => 0,
         }
     }
 }

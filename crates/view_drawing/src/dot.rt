@@ -126,6 +126,7 @@ fn put_leads(page: &mut Page, point: &Point) -> Result<(), AllocError> {
         }
         Leads::Outside => page.put(b" color=\"#1f8a3a\" tooltip=\"leads outside\""),
         Leads::Later => page.put(b" color=\"#6b3fa0\" tooltip=\"joined later\""),
+        Leads::Nobody => page.put(b" color=\"#777777\" tooltip=\"leads to nobody\""),
     }
 }
 

@@ -4,7 +4,7 @@ use crate::grid::{CLOCK, Grid, HEAD, LOOP, TOP, grid_of};
 use crate::place::{PAD, ROW, sum, text_width};
 use crate::sequence::{Event, Lead, Row, Sequence, Way};
 use crate::shapes::{
-    Anchor, Area, BLACK, Ink, RED, WHITE, before, behind, plain_ink, put_area, put_circle,
+    Anchor, Area, BLACK, GREY, Ink, RED, WHITE, before, behind, plain_ink, put_area, put_circle,
     put_corners, put_head, put_line_to, put_path, put_title, put_tooltip, put_words,
 };
 use std::alloc::AllocError;
@@ -14,8 +14,6 @@ use view_journals::view_pages::Page;
 const TITLE: usize = TOP + 15;
 
 const BLUE: &[u8] = b"#1f4e79";
-
-const GREY: &[u8] = b"#777777";
 
 /// The arrows' tips.
 fn put_tips(page: &mut Page) -> Result<(), AllocError> {

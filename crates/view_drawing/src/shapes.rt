@@ -11,6 +11,8 @@ pub const GREEN: &[u8] = b"#1f8a3a";
 
 pub const VIOLET: &[u8] = b"#6b3fa0";
 
+pub const GREY: &[u8] = b"#777777";
+
 pub const WHITE: &[u8] = b"#ffffff";
 
 /// A rectangle.

@@ -4,9 +4,9 @@ use crate::diagram::{Block, Diagram, End, Key, Leads, Link, Mark, Point, Shape, 
 use crate::layout::{Layout, LinkPlace, lay_out};
 use crate::place::{LINE, PAD, Place, ROW, text_width};
 use crate::shapes::{
-    Anchor, Area, BLACK, GREEN, Ink, RED, VIOLET, WHITE, before, begin_text, behind, plain_ink,
-    put_area, put_circle, put_corners, put_head, put_path, put_text, put_title, put_tooltip,
-    put_words,
+    Anchor, Area, BLACK, GREEN, GREY, Ink, RED, VIOLET, WHITE, before, begin_text, behind,
+    plain_ink, put_area, put_circle, put_corners, put_head, put_path, put_text, put_title,
+    put_tooltip, put_words,
 };
 use std::alloc::AllocError;
 use view_journals::view_pages::Page;
@@ -114,6 +114,7 @@ fn colour_of_leads(leads: Leads) -> &'static [u8] {
         Leads::Within => RED,
         Leads::Outside => GREEN,
         Leads::Later => VIOLET,
+        Leads::Nobody => GREY,
     }
 }
 

@@ -46,3 +46,28 @@ pub fn put_attributes(
     }
     Ok(())
 }
+
+/// Those attributes of an actor of a class whose numbers are others than before: the numbers before, and those after.
+/// Both are in order of declaration. Nothing where all are the same.
+pub fn put_changed_attributes(
+    page: &mut Page,
+    class: &ClassNames,
+    before: &[i64],
+    after: &[i64],
+) -> Result<(), AllocError> {
+    let mut lead: &[u8] = b"; attributes: ";
+    let mut start = 0usize;
+    for attribute in class.attributes.as_slice() {
+        let end = start.saturating_add(attribute.numbers as usize);
+        let old = before.get(start..end).unwrap_or(&[]);
+        let new = after.get(start..end).unwrap_or(&[]);
+        if old != new {
+            page.put(lead)?;
+            page.put(attribute.name.as_bytes())?;
+            put_change(page, old, new)?;
+            lead = b", ";
+        }
+        start = end;
+    }
+    Ok(())
+}

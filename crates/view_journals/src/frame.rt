@@ -71,8 +71,8 @@ fn put_reference(
     Ok(())
 }
 
-/// The actor of a number.
-fn actor_of(wiring: &Wiring, number: i64) -> Option<Incarnation> {
+/// The actor of a number, as actions have it; none of a slot that isn't there.
+pub fn actor_of_number(wiring: &Wiring, number: i64) -> Option<Incarnation> {
     let slot = u16::try_from(number.div_euclid(NUMBERS_OF_A_SLOT)).ok()?;
     let generation = u32::try_from(number.rem_euclid(NUMBERS_OF_A_SLOT)).ok()?;
     if u32::from(slot) >= wiring.slot_count() {
@@ -84,8 +84,9 @@ fn actor_of(wiring: &Wiring, number: i64) -> Option<Incarnation> {
     })
 }
 
-fn put_actor_number(page: &mut Page, wiring: &Wiring, number: i64) -> Result<(), AllocError> {
-    match actor_of(wiring, number) {
+/// The name of the actor of a number.
+pub fn put_actor_number(page: &mut Page, wiring: &Wiring, number: i64) -> Result<(), AllocError> {
+    match actor_of_number(wiring, number) {
         Some(who) => put_actor(page, wiring, who),
         None => page.put_signed(number),
     }

@@ -27,15 +27,18 @@ mod turns;
 mod unheard;
 pub mod view_pages;
 
-pub use attributes::put_attributes;
+pub use attributes::{put_attributes, put_changed_attributes};
 pub use differs::{put_difference, tell_difference};
 pub use end::tell_end;
 pub use fetched::{Fetched, Name};
 pub use filter::Wanted;
+pub use frame::{actor_of_number, put_actor_number};
 pub use lines::{end_word, put_left, tell_turn, word_of};
 pub use messages::{actor_at, put_end, put_incoming, put_received};
 pub use moments::{Arming, Moment, arming_before, is_timeout, moments_of, put_arming, put_moment};
-pub use names::{find_signal, place_count, put_actor, put_controller, put_name};
+pub use names::{
+    find_signal, place_count, put_actor, put_controller, put_name, put_port, put_state, put_states,
+};
 pub use notes::{is_trouble_note, put_note};
 pub use outputs::tell_outputs;
 pub use ports::{

@@ -56,7 +56,7 @@ fn name_in(path: &[u8]) -> &[u8] {
     }
 }
 
-fn shape_of(kind: ReferenceKind) -> Shape {
+pub fn shape_of(kind: ReferenceKind) -> Shape {
     match kind {
         ReferenceKind::Fixed => Shape::Actor,
         ReferenceKind::Optional => Shape::OptionalActor,
@@ -64,7 +64,7 @@ fn shape_of(kind: ReferenceKind) -> Shape {
     }
 }
 
-fn mark_of(port: &PortNames) -> Mark {
+pub fn mark_of(port: &PortNames) -> Mark {
     match (port.kind, port.conjugated) {
         (PortKind::Frame, _) => Mark::Hidden,
         (PortKind::Relay, false) => Mark::Relay,
@@ -434,7 +434,7 @@ fn add_controller(diagram: &mut Diagram, wiring: &Wiring, number: u8) -> Result<
 }
 
 /// A line of the legend for each controller.
-fn add_controllers(diagram: &mut Diagram, wiring: &Wiring) -> Result<(), AllocError> {
+pub fn add_controllers(diagram: &mut Diagram, wiring: &Wiring) -> Result<(), AllocError> {
     for number in 0..wiring.controller_count() {
         add_controller(diagram, wiring, number)?;
     }

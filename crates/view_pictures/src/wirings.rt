@@ -36,7 +36,7 @@ fn add_keys(diagram: &mut Diagram) -> Result<(), AllocError> {
 }
 
 /// Whether a point has places that aren't joined, and leads there.
-fn has_leads(diagram: &Diagram, leads: Leads) -> bool {
+pub(crate) fn has_leads(diagram: &Diagram, leads: Leads) -> bool {
     let points = diagram.points.as_slice();
     points
         .iter()

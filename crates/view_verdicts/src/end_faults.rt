@@ -6,7 +6,7 @@ use crate::entry_faults::made_follows;
 use crate::judged::{entries_of, turns_in};
 use crate::open_events::{Event, first_open, open_at};
 use crate::places::Part;
-use crate::reached::{Reached, reach};
+use crate::reached::{Reached, Stop, reach};
 use crate::refused::{Made, asks, happens, lines_ahead, next_line};
 use crate::sheet::{Sheet, Sources};
 use crate::words::put_name_of;
@@ -199,7 +199,7 @@ pub(crate) fn end_fault(
 ) -> Result<Option<Unended>, AllocError>
     requires fit { LinesFit plant.now.wiring lines.now }
 {
-    let Some(reached) = reach(alloc, plant, lines, journals, None)? else {
+    let Some(reached) = reach(alloc, plant, lines, journals, Stop::End)? else {
         return Ok(None);
     };
     let controllers = plant.wiring.controller_count();

@@ -4,7 +4,7 @@ ghost use Rattle.inject_reader.specs.Fitting.{LinesFit};
 use crate::earlier::Front;
 use crate::entry_text::put_left;
 use crate::places::Part;
-use crate::reached::reach;
+use crate::reached::{Stop, reach};
 use crate::sheet::{Sheet, Sources};
 use controller_actors::Plant;
 use inject_reader::Line;
@@ -90,7 +90,11 @@ fn add_lanes(
 
 /// What is left in the world of a replay, by receiver: what waits there, and then what is on its way, by
 /// priority.
-fn lefts_of(alloc: Global, replay: &Replay, controllers: u8) -> Result<Vec<Left>, AllocError> {
+pub(crate) fn lefts_of(
+    alloc: Global,
+    replay: &Replay,
+    controllers: u8,
+) -> Result<Vec<Left>, AllocError> {
     let mut all = Vec::new(alloc);
     for number in 0..controllers {
         let c = ControllerId(number);
@@ -113,7 +117,7 @@ pub(crate) fn lefts_in(
 ) -> Result<Option<Lefts>, AllocError>
     requires fit { LinesFit plant.now.wiring lines.now }
 {
-    let Some(reached) = reach(alloc, plant, lines, journals, None)? else {
+    let Some(reached) = reach(alloc, plant, lines, journals, Stop::End)? else {
         return Ok(None);
     };
     let all = lefts_of(alloc, &reached.replay, plant.wiring.controller_count())?;

@@ -2,17 +2,24 @@
 //! would have stood there or why nothing could, and from which earlier entries that follows
 //! (`tell_verdict`). In one line it is told by the views of single messages (`tell_unlawful`).
 //!
-//! The verdict is that of `room_verify`, which is proved. What is told of it is safe and ends; that it is
-//! right is shown by cases.
+//! And how the system stood at stamps of journals (docs/SHOW.md): what is seen there, and which messages wait
+//! (`moment_at`, `moments_at`), and what changed from one stamp to another (`tell_changes`).
+//!
+//! The verdict and the snapshots are those of `room_verify`, which is proved. What is told of them is safe and ends;
+//! that it is right is shown by cases.
 #![tactic(auto)]
 
+mod actor_changes;
+mod changes;
 mod earlier;
 mod end_faults;
 mod entry_faults;
 mod entry_text;
 mod judged;
 mod left_faults;
+mod moments;
 mod open_events;
+mod peer_changes;
 mod places;
 mod reached;
 mod refused;
@@ -20,8 +27,11 @@ mod shape_faults;
 mod sheet;
 mod supposed;
 mod telling;
+mod waiting_changes;
 mod words;
 
+pub use changes::tell_changes;
 pub use judged::{Judged, Texts, fuel_told};
+pub use moments::{Moment, moment_at, moments_at};
 pub use supposed::tell_no_run;
 pub use telling::{tell_unlawful, tell_verdict};

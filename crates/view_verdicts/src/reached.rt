@@ -63,25 +63,65 @@ fn pass(passed: &mut Vec<usize>, party: usize) {
     }
 }
 
-/// Leads a replay along the merge of journals up to an entry, and without one to the end of all; none where
-/// an entry before it is refused, or there is none such.
-pub(crate) fn reach(
-    alloc: Global,
+/// Where a replay is led that goes along the merge of journals.
+#[derive(Clone, Copy)]
+pub(crate) enum Stop {
+    /// Behind all entries.
+    End,
+    /// Before this entry.
+    Before(Spot),
+    /// Behind all entries that have at most this stamp.
+    Behind(u64),
+}
+
+/// The stamp of the entry at a place.
+fn stamp_at(journals: &Journals, spot: Spot) -> u64 {
+    match entries_of(journals, spot.party).get(spot.at) {
+        Some(entry) => stamp_of(entry),
+        None => u64::MAX,
+    }
+}
+
+/// Whether a replay has come to where it is led, before the entry that goes next.
+fn is_there(journals: &Journals, stop: Stop, next: Option<Spot>) -> bool {
+    match (stop, next) {
+        (Stop::End, None) | (Stop::Behind(_), None) => true,
+        (Stop::End, Some(_)) | (Stop::Before(_), None) => false,
+        (Stop::Before(spot), Some(next)) => next == spot,
+        (Stop::Behind(stamp), Some(next)) => stamp_at(journals, next) > stamp,
+    }
+}
+
+/// A replay at the start of a plant, to be led along journals over these lines.
+pub(crate) fn begin(alloc: Global, plant: &Plant, lines: &[Line]) -> Result<Reached, AllocError>
+    ensures { IfOk result (λ it. Replays plant.now lines.now it.replay) }
+{
+    let _lines = lines;
+    let begun = Replay::start(alloc, plant)?;
+    let passed = passed_at_start(alloc, begun.entries.as_slice())?;
+    Ok(Reached {
+        replay: begun.replay,
+        passed,
+    })
+}
+
+/// Leads a replay on along the merge of journals; none where an entry on its way is refused, or there is no such
+/// place.
+pub(crate) fn lead_on(
+    mut reached: Reached,
     plant: &Plant,
     lines: &[Line],
     journals: &Journals,
-    stop: Option<Spot>,
+    stop: Stop,
 ) -> Result<Option<Reached>, AllocError>
+    requires replays { Replays plant.now lines.now reached.replay }
     requires fit { LinesFit plant.now.wiring lines.now }
     ensures { IfOk result (λ r. IfSome r (λ it. Replays plant.now lines.now it.replay)) }
 {
-    let begun = Replay::start(alloc, plant)?;
-    let mut passed = passed_at_start(alloc, begun.entries.as_slice())?;
-    let mut replay = begun.replay;
     for _entry in 0..u64::MAX {
-        let next = next_spot(journals, passed.as_slice());
-        if next == stop {
-            return Ok(Some(Reached { replay, passed }));
+        let next = next_spot(journals, reached.passed.as_slice());
+        if is_there(journals, stop, next) {
+            return Ok(Some(reached));
         }
         let Some(spot) = next else {
             return Ok(None);
@@ -89,10 +129,29 @@ pub(crate) fn reach(
         let Some(entry) = entries_of(journals, spot.party).get(spot.at) else {
             return Ok(None);
         };
-        if !replay.step(plant, lines, party_id(spot.party), entry)? {
+        if !reached
+            .replay
+            .step(plant, lines, party_id(spot.party), entry)?
+        {
             return Ok(None);
         }
-        pass(&mut passed, spot.party);
+        pass(&mut reached.passed, spot.party);
     }
     Ok(None)
+}
+
+/// Leads a replay from the start along the merge of journals; none where an entry on its way is refused, or there is
+/// no such place.
+pub(crate) fn reach(
+    alloc: Global,
+    plant: &Plant,
+    lines: &[Line],
+    journals: &Journals,
+    stop: Stop,
+) -> Result<Option<Reached>, AllocError>
+    requires fit { LinesFit plant.now.wiring lines.now }
+    ensures { IfOk result (λ r. IfSome r (λ it. Replays plant.now lines.now it.replay)) }
+{
+    let begun = begin(alloc, plant, lines)?;
+    lead_on(begun, plant, lines, journals, stop)
 }

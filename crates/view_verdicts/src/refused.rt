@@ -6,7 +6,7 @@ ghost use Rattle.room_verify.specs.Worlds.{Replays};
 use crate::judged::{entries_of, party_id};
 use crate::open_events::{Event, entry_for, first_open, has_waiting, open_at};
 use crate::places::Spot;
-use crate::reached::{Reached, reach};
+use crate::reached::{Reached, Stop, reach};
 use controller_actors::Plant;
 use inject_reader::{Line, What};
 use journal::{Entry, Journals};
@@ -255,7 +255,7 @@ pub(crate) fn first_refused(
     let Some(entry) = entries_of(journals, spot.party).get(spot.at) else {
         return Ok(None);
     };
-    match reach(alloc, plant, lines, journals, Some(spot))? {
+    match reach(alloc, plant, lines, journals, Stop::Before(spot))? {
         Some(reached) => Ok(Some(refused_at(alloc, plant, lines, reached, spot.party, entry)?)),
         None => Ok(None),
     }

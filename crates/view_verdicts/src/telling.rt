@@ -148,9 +148,24 @@ pub fn tell_verdict(
         page.put_line(b"lawful")?;
         return Ok(true);
     }
+    tell_whole(alloc, page, judged, texts, verdict)?;
+    Ok(false)
+}
+
+/// Tells a verdict on journals: what it means, the place in their text, what would have stood there or why nothing
+/// could, and from which earlier entries that follows.
+pub(crate) fn tell_whole(
+    alloc: Global,
+    page: &mut Page,
+    judged: Judged<'_>,
+    texts: Texts<'_>,
+    verdict: Verdict,
+) -> Result<(), AllocError>
+    requires fit { LinesFit judged.plant.now.wiring judged.lines.now }
+{
     let sheet = Sheet {
         alloc,
-        wiring: &plant.wiring,
+        wiring: &judged.plant.wiring,
         journals: judged.journals,
         texts,
         fuel: judged.fuel,
@@ -161,8 +176,7 @@ pub fn tell_verdict(
     page.end_line()?;
     page.put_meaning(meaning_of(verdict))?;
     page.end_line()?;
-    tell_fault(page, sheet, plant, lines, verdict)?;
-    Ok(false)
+    tell_fault(page, sheet, judged.plant, judged.lines, verdict)
 }
 
 /// The verdict on journals, where it isn't that they are lawful.

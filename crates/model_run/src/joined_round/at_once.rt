@@ -35,10 +35,12 @@ pub(crate) fn work_at_once<M: Mail<Office = ()> + Send + Drop, G: Gate + Sync, R
         unreachable!()
     };
     let idle = mem::replace(controllers, Vec::new(alloc));
-    let mut seats = seated(alloc, plant.wiring.controller_count(), idle, ends)?;
+    let count = plant.wiring.controller_count();
+    let mut seats = seated(alloc, count, idle, ends)?;
     let shared = Shared {
         gate,
-        busy: AtomicU32::new(u32::from(plant.wiring.controller_count())),
+        busy: AtomicU32::new(u32::from(count)),
+        is_one: count == 1,
     };
     work_halves(rt, plant, &shared, seats.as_mut_slice())?;
     let (worked, mut after) = unseated(alloc, seats)?;

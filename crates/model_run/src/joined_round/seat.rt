@@ -25,6 +25,8 @@ pub(crate) struct Shared<'g, G> {
     pub(crate) gate: &'g G,
     /// How many of them have something to do.
     pub(crate) busy: AtomicU32,
+    /// Whether there is only one.
+    pub(crate) is_one: bool,
 }
 
 impl<'g, M: Mail<Office = ()>, G: Gate> Works<Plant, Shared<'g, G>> for Seat<M> {
@@ -35,7 +37,7 @@ impl<'g, M: Mail<Office = ()>, G: Gate> Works<Plant, Shared<'g, G>> for Seat<M> 
     ghost did = { HasWorked M.log M.tied };
 
     fn work(&mut self, plant: &Plant, shared: &Shared<'g, G>) -> Result<(), AllocError> {
-        let mut pauses = SharedPauses::new(&shared.busy);
+        let mut pauses = SharedPauses::new(&shared.busy, shared.is_one);
         let worked = work(
             self.number,
             &mut self.controller,

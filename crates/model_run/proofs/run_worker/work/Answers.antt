@@ -53,11 +53,11 @@ returns-after-loop-pauses-clause-of g c = c.loop-pauses.invariant.of
 pub returns-after-loop-pauses-clause-tied : goal.returns-after-loop-pauses-clause-tied
 returns-after-loop-pauses-clause-tied g c = c.loop-pauses.invariant.tied
 
-pub returns-else-idle-lt-IDLE_STEPS-clause-ok : goal.returns-else-idle-lt-IDLE_STEPS-clause-ok
-returns-else-idle-lt-IDLE_STEPS-clause-ok g c = c.loop-pauses.invariant.works
+pub returns-else-idle-most-clause-ok : goal.returns-else-idle-most-clause-ok
+returns-else-idle-most-clause-ok g c = c.loop-pauses.invariant.works
 
-pub returns-else-idle-lt-IDLE_STEPS-clause-of : goal.returns-else-idle-lt-IDLE_STEPS-clause-of
-returns-else-idle-lt-IDLE_STEPS-clause-of g c = c.loop-pauses.invariant.of
+pub returns-else-idle-most-clause-of : goal.returns-else-idle-most-clause-of
+returns-else-idle-most-clause-of g c = c.loop-pauses.invariant.of
 
-pub returns-else-idle-lt-IDLE_STEPS-clause-tied : goal.returns-else-idle-lt-IDLE_STEPS-clause-tied
-returns-else-idle-lt-IDLE_STEPS-clause-tied g c = c.loop-pauses.invariant.tied
+pub returns-else-idle-most-clause-tied : goal.returns-else-idle-most-clause-tied
+returns-else-idle-most-clause-tied g c = c.loop-pauses.invariant.tied

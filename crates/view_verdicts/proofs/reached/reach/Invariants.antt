@@ -1,5 +1,0 @@
-use Rattle.room_verify.specs.Worlds.{Replays}
-use Rattle.view_verdicts.proofs.reached.reach.Given as goal
-
-abbrev pub invariant-loop-entry : goal.invariant-loop-entry
-invariant-loop-entry l = Replays l.plant l.lines l.replay

@@ -1,0 +1,200 @@
+//! What changed from one stamp of journals to another.
+use crate::actor_changes::tell_actors;
+use crate::moments::Moment;
+use crate::waiting_changes::tell_waiting_but;
+use room_kinds::{PlaceState, SlotId};
+use room_show::{ControllerView, Snapshot};
+use room_wiring::Wiring;
+use std::alloc::{AllocError, Global};
+use view_journals::view_pages::Page;
+use view_journals::{put_actor_number, put_controller};
+
+/// A number before and after.
+fn put_numbers(page: &mut Page, before: u64, after: u64) -> Result<(), AllocError> {
+    page.put_number(before)?;
+    page.put(b" -> ")?;
+    page.put_number(after)
+}
+
+/// Tells of a controller its clock, if it did anything, and how many turns it has taken, if it took any.
+fn tell_controller(
+    page: &mut Page,
+    wiring: &Wiring,
+    number: usize,
+    before: &ControllerView,
+    after: &ControllerView,
+) -> Result<(), AllocError> {
+    if before.clock == after.clock {
+        return Ok(());
+    }
+    put_controller(page, wiring, number)?;
+    page.put(b": clock ")?;
+    put_numbers(page, before.clock.0, after.clock.0)?;
+    if before.turns != after.turns {
+        page.put(b", turns ")?;
+        put_numbers(page, before.turns, after.turns)?;
+    }
+    page.end_line()
+}
+
+fn tell_controllers(
+    page: &mut Page,
+    wiring: &Wiring,
+    before: &Snapshot,
+    after: &Snapshot,
+) -> Result<(), AllocError> {
+    let old = before.controllers.as_slice();
+    let new = after.controllers.as_slice();
+    for (number, (old, new)) in old.iter().zip(new).enumerate() {
+        tell_controller(page, wiring, number, old, new)?;
+    }
+    Ok(())
+}
+
+/// The import places of live containers, by the slots' numbers.
+fn places_of(
+    alloc: Global,
+    wiring: &Wiring,
+    snapshot: &Snapshot,
+) -> Result<Vec<Option<PlaceState>>, AllocError> {
+    let mut places = vec![in alloc; None; wiring.slot_count() as usize]?;
+    for controller in snapshot.controllers.as_slice() {
+        for place in controller.places.as_slice() {
+            let slot = usize::from(place.slot.0);
+            if let Some(kept) = places.as_mut_slice().get_mut(slot) {
+                *kept = Some(place.state);
+            }
+        }
+    }
+    Ok(places)
+}
+
+/// An actor by its number, behind a word.
+fn put_home(page: &mut Page, wiring: &Wiring, word: &[u8], home: u64) -> Result<(), AllocError> {
+    page.put(word)?;
+    match i64::try_from(home) {
+        Ok(number) => put_actor_number(page, wiring, number),
+        Err(_) => page.put_number(home),
+    }
+}
+
+/// What an import place holds, if its container lives.
+fn put_place(
+    page: &mut Page,
+    wiring: &Wiring,
+    state: Option<PlaceState>,
+) -> Result<(), AllocError> {
+    match state {
+        None => page.put(b"not there"),
+        Some(PlaceState::Empty) => page.put(b"empty"),
+        Some(PlaceState::Asking(home)) => put_home(page, wiring, b"asks for ", home),
+        Some(PlaceState::Held(home)) => put_home(page, wiring, b"holds ", home),
+        Some(PlaceState::Leaving(home)) => put_home(page, wiring, b"gives back ", home),
+    }
+}
+
+/// Tells what an import place holds, and held before.
+fn tell_place(
+    page: &mut Page,
+    wiring: &Wiring,
+    slot: SlotId,
+    before: Option<PlaceState>,
+    after: Option<PlaceState>,
+) -> Result<(), AllocError> {
+    page.put(b"    ")?;
+    if let Some(slot) = wiring.get_slot(slot) {
+        page.put_path(&slot.path)?;
+    }
+    page.put(b": ")?;
+    put_place(page, wiring, before)?;
+    page.put(b" -> ")?;
+    put_place(page, wiring, after)?;
+    page.end_line()
+}
+
+/// What the import place of a slot holds, if there is one.
+fn place_at(places: &[Option<PlaceState>], slot: SlotId) -> Option<PlaceState> {
+    match places.get(usize::from(slot.0)) {
+        Some(place) => *place,
+        None => None,
+    }
+}
+
+/// Tells which import places hold others than before, if any do.
+fn tell_places(
+    page: &mut Page,
+    wiring: &Wiring,
+    before: &[Option<PlaceState>],
+    after: &[Option<PlaceState>],
+) -> Result<(), AllocError> {
+    let mut is_first = true;
+    for number in 0..wiring.slot_count() {
+        let slot = SlotId(number as u16);
+        let (old, new) = (place_at(before, slot), place_at(after, slot));
+        if old == new {
+            continue;
+        }
+        if is_first {
+            page.put_line(b"what imported slots hold:")?;
+            is_first = false;
+        }
+        tell_place(page, wiring, slot, old, new)?;
+    }
+    Ok(())
+}
+
+/// Tells which messages wait that didn't before, and which did and don't any more.
+fn tell_waiting(
+    alloc: Global,
+    page: &mut Page,
+    wiring: &Wiring,
+    before: &Moment,
+    after: &Moment,
+) -> Result<(), AllocError> {
+    let old = before.waiting.as_slice();
+    let new = after.waiting.as_slice();
+    tell_waiting_but(
+        alloc,
+        page,
+        wiring,
+        b"messages that wait, and didn't before:",
+        new,
+        old,
+    )?;
+    tell_waiting_but(
+        alloc,
+        page,
+        wiring,
+        b"messages that waited before, and don't now:",
+        old,
+        new,
+    )
+}
+
+/// Tells what changed between two moments of a run, of which the first one was before the second one: what the
+/// controllers did, who came, who went, how those changed who stayed, what imported slots hold, and which messages
+/// wait.
+pub fn tell_changes(
+    alloc: Global,
+    page: &mut Page,
+    wiring: &Wiring,
+    before: &Moment,
+    after: &Moment,
+) -> Result<(), AllocError> {
+    page.put(b"from ")?;
+    page.put_number(before.snapshot.at)?;
+    page.put(b" to ")?;
+    page.put_number(after.snapshot.at)?;
+    page.end_line()?;
+    let told = page.bytes().len();
+    tell_controllers(page, wiring, &before.snapshot, &after.snapshot)?;
+    tell_actors(alloc, page, wiring, &before.snapshot, &after.snapshot)?;
+    let old = places_of(alloc, wiring, &before.snapshot)?;
+    let new = places_of(alloc, wiring, &after.snapshot)?;
+    tell_places(page, wiring, old.as_slice(), new.as_slice())?;
+    tell_waiting(alloc, page, wiring, before, after)?;
+    if page.bytes().len() == told {
+        page.put_line(b"nothing changed")?;
+    }
+    Ok(())
+}
