@@ -3,7 +3,8 @@
 random, in form 1 and in form 2, or their injections or their fuel are, and the verdict of the program is compared
 with one that is worked out here from crates/room_verify/specs, of which nothing of the program is used. What a turn
 makes of its message is taken from the journals as they were, so it is known as long as each party has done what it
-did there; where a change leads beyond that, the verdict is unknown, and all that is asked is that it isn't `lawful`.
+did there; where a change leads beyond that, the verdict is unknown, and all that is asked is that it isn't `lawful`,
+unless it is the same that happened, but that messages were fetched in another order.
 
     bench/changed_journals.py                         1,000 changes of the seed 1
     COUNT=100 SEED=7 bench/changed_journals.py        the first 100 of the seed 7
@@ -527,7 +528,8 @@ def left(chance, lines):
 
 def note(chance, lines):
     at = some_line(chance, lines, lambda line: line.startswith("start") or " turn " in line)
-    lines.insert(at + 1, chance.choice(("note zero", "note recall 1", "note nomessage")))
+    if at is not None:
+        lines.insert(at + 1, chance.choice(("note zero", "note recall 1", "note nomessage")))
 
 
 CHANGES = [drop, double, exchange, move, cut, cut_end, number, number, outcome, state, word, word, contents("fetch"),
@@ -562,6 +564,16 @@ def changed_once(chance, case):
     return "".join(line + "\n" for line in lines).encode(), inject, fuel, change.__name__
 
 
+def has_too_much(inject):
+    """Whether injections are refused since lines were doubled."""
+    return len(inject.encode()) > 1_048_576 or inject.count("\n") > 10_000
+
+
+def what_happened(text):
+    """The lines, whatever the order in which messages were fetched: those of two lanes may come in either order."""
+    return sorted(re.sub(r"^\d+ (?=fetch )", "", line) for line in text.decode().split("\n"))
+
+
 def judge(case, text, inject, fuel, folder):
     """What the program says of a changed text, and what is otherwise than it should be."""
     for name, data in (("inject.txt", inject.encode()), ("journals.txt", text)):
@@ -571,13 +583,16 @@ def judge(case, text, inject, fuel, folder):
     if status == 9:
         other = answer(["convert", case.model, "journals.txt"], folder)
         return "no journals", None if other == (status, out, notes) else f"{notes!r}, and convert {other!r}"
+    if status == 3 and has_too_much(inject):
+        return "refused", None
     told = told_verdict(status, out, notes)
     if told is None:
         return "none", f"{status} {out!r} {notes!r}"
     lines, settles = read_lines(inject)
     right = verdict_on(read_journals(text), case.known, case.messages, lines, settles, fuel)
     if right is UNKNOWN:
-        return "unknown", "lawful, of journals that were changed" if told == "lawful" else None
+        is_wrong = told == "lawful" and what_happened(text) != what_happened(case.text)
+        return "unknown", "lawful, of journals that were changed" if is_wrong else None
     return told.split(" ")[0], None if told == right else f"{told}, and not {right}"
 
 

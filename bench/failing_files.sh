@@ -123,8 +123,7 @@ try_words() {
 
 # A long answer whose reader goes away behind its first byte.
 try_going_reader() {
-    cd "$1"
-    words=("${@:2}")
+    ask "$@"
     "$program" "${words[@]}" 2>"$in_memory/stream.notes" | head -c 1 >"$in_memory/stream.out"
     status="${PIPESTATUS[0]}"
     judge_stream judge_write | sed 's/^/1 /' >"$in_memory/verdicts"
@@ -170,6 +169,8 @@ view_commands() {
     echo end model.room out
     echo outputs model.room out
     echo explain model.room inject.txt out env@1
+    echo diff model.room inject.txt out 0 9
+    echo wiring model.room inject.txt out --at 9
 }
 
 # Everything that is tried with the views.

@@ -3,14 +3,27 @@
 # All kinds. `long_` stands for names and paths of 200 letters and more, `chain` for mappings nested as
 # deep as the text goes, each in an actor inside the one before. Of `leaves` and `teeth` each actor of a
 # chain holds another one beside the next, which is empty or holds one itself.
-all_kinds="references mappings nested_mappings chain bindings layers ports classes derived refinements messages states
-transitions choices branches points subgraphs composites attributes data_classes services long_bindings
-long_mappings long_chain long_leaves long_teeth long_classes long_states long_services injections journals read_journals"
+all_kinds="references mappings nested_mappings chain bindings layers ports classes empty_classes derived refinements messages
+states transitions choices branches points subgraphs composites attributes data_classes services assignments conditions sums
+long_bindings long_mappings long_chain long_leaves long_teeth long_classes long_states long_services injections journals
+read_journals"
+
+# The most bytes of memory for each byte of a kind. Of actions, where a byte or two is a part of the tree that they
+# are read as, and of classes with nothing in them these are more.
+most_for_a_byte() {
+    case "$1" in
+    assignments | conditions | sums) echo 240 ;;
+    empty_classes) echo 120 ;;
+    *) echo 60 ;;
+    esac
+}
 
 head='RoomModel M {\nLogicalSystem L { SubSystemRef s: S }\nProtocolClass P { incoming { Message go() } outgoing { Message ok() } }\n'
 top_class='SubSystemClass S { ActorRef a: A }\n'
 chart="${head}${top_class}ActorClass A { Interface { Port p: P } Structure { external Port p } Behavior { StateMachine {\nTransition b: initial -> S\nState S\n"
 chart_end='} } } }'
+action="${head}${top_class}ActorClass A { Structure { Attribute x: int32 } Behavior { StateMachine {\nState S Transition b: initial -> S { action { '''\n"
+action_end="''' } } } } } }"
 long="$(printf 'name%.0s' {1..50})"
 end_class='ActorClass B { Interface { Port p: P conjugated Port q: P } Structure { external Port p external Port q } }\n'
 
@@ -77,6 +90,7 @@ text_of() {
     layers) fill "$most" "${head}${top_class}ActorClass C { Structure { SAP s: P } }\nActorClass D { Interface { SPP s: P } }\nActorClass A { Structure { ActorRef d: D\n" 'ActorRef r#: C LayerConnection ref r# satisfied_by d.s\n' '} }\n}' ;;
     ports) fill "$most" "${head}${top_class}ActorClass A { Structure {\n" 'Port p#: P\n' '} }\n}' 60000 ;;
     classes) fill "$most" "${head}${top_class}ActorClass A { }\n" 'ActorClass C# { Interface { Port p: P } Structure { external Port p ActorRef a: A } }\n' '}' 59000 ;;
+    empty_classes) fill "$most" "${head}${top_class}ActorClass A { }\n" 'ActorClass C# { }\n' '}' 59000 ;;
     derived) fill "$most" "${head}${top_class}ActorClass A { }\nActorClass B { Interface { Port p: P } Structure { external Port p } }\n" 'ActorClass C# extends B { Structure { ActorRef a: A } }\n' '}' 59000 ;;
     refinements)
         fill "$((most / 2))" "${head}${top_class}ActorClass B { Interface { Port p: P } Structure { external Port p } Behavior { StateMachine {\nTransition b: initial -> S\nState S\n" 'State S# Transition t#: S# -> S# { triggers { <go: p> } }\n' '} } }\n'
@@ -93,6 +107,9 @@ text_of() {
     attributes) fill "$most" "${head}${top_class}ActorClass A { Structure {\n" 'Attribute an_attribute_with_a_longer_name_#: int8 = 1\n' '} }\n}' 4096 ;;
     data_classes) fill "$most" "${head}${top_class}ActorClass A { }\n" 'DataClass D# { Attribute x: int8 = 1 Attribute y: int16 }\n' '}' 59000 ;;
     services) fill "$most" "$chart" "Transition t#: S -> S { triggers { <go: p> } action { \"register p as name_#;\" } }\n" "$chart_end" ;;
+    assignments) fill "$most" "$action" 'x=x+1;\n' "$action_end" ;;
+    conditions) fill "$most" "$action" 'if(1){x=1;}\n' "$action_end" ;;
+    sums) fill "$most" "${action}x=1" '+1' ";${action_end}" ;;
     long_bindings) fill "$most" "${head}${top_class}${end_class}ActorClass A { Structure { ActorRef ${long}0: B\n" "ActorRef ${long}#: B Binding ${long}#.p and ${long}@.q\n" '} }\n}' ;;
     long_mappings) fill "$most" "${head}ActorClass B { }\nActorClass A { Structure { ActorRef ${long}: B } }\nSubSystemClass S { LogicalThread $long\n" "ActorRef ${long}#: A ActorInstanceMapping ${long}#/${long} -> ${long}\n" '}\n}' ;;
     long_chain) chain "$most" "$long" ;;

@@ -33,6 +33,11 @@ classes_of() {
     "$view" chart "$1" '' 2>&1 >/dev/null | sed -n 's/.*; it has those of //p' | sed 's/, / /g'
 }
 
+# A stamp in the middle of a journal.
+middle() {
+    awk '$1 ~ /^[0-9]+$/ && $1 + 0 > last { last = $1 + 0 } END { printf "%d\n", last / 2 }' "$1"
+}
+
 echo '<!DOCTYPE html><meta charset="ascii"><title>Pictures of the examples</title>' >"$page"
 for model in "$top"/examples/*/model.room; do
     example="$(basename "$(dirname "$model")")"
@@ -42,7 +47,11 @@ for model in "$top"/examples/*/model.room; do
         show "$example-chart-$class" chart "$model" "$class"
     done
     journals="${model%/*}/journal.txt"
-    [ ! -f "$journals" ] || show "$example-run" run "$model" "$journals"
+    [ -f "$journals" ] || continue
+    show "$example-run" run "$model" "$journals"
+    # how the system stood is told of no run that moved the time on
+    grep -q '^advance' "${model%/*}/inject.txt" ||
+        show "$example-at" wiring "$model" "${model%/*}/inject.txt" "$journals" --at "$(middle "$journals")"
 done
 echo "$page"
 [ "$#" -eq 0 ] || exit 0

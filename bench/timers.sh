@@ -11,9 +11,10 @@
 # the timers are armed and nothing more, is `start`, in milliseconds. Behind the times stand the
 # instructions of the same, of whole runs, where valgrind is installed; here lines are read too.
 #
-# A timeout that is alone at its moment has a part of its own, so it is to cost no more than a message
-# that has one; a timeout among those of one moment no more than a line among others; and all that
-# expire one by one take at most twice the time of as many lines. The last lines say so, `!` where not.
+# What a timer costs grows with the armed timers by their logarithm: so the numbers of a column are to
+# stay much the same from row to row. A timeout that is alone at its moment has a part of its own, so it
+# is to cost no more than a message that has one; and a timeout among those of one moment no more than a
+# line among others. The last lines say so, `!` where it is more than a tenth above that.
 set -eu
 . "$(dirname "${BASH_SOURCE[0]}")/timing.sh"
 
@@ -107,11 +108,10 @@ tell_ratio() {
 begin_measuring
 printf '%6s %9s %8s %9s %11s %8s\n' actors start lines settled 'one by one' 'at once'
 for actors in 1000 2000 4000; do measure "$actors"; done
-tell_ratio "$apart" "$settled" 1 'timeouts one by one, beside messages in parts of their own'
-tell_ratio "$at_once" "$lines" 1 'timeouts at one moment, beside lines in one part'
-tell_ratio "$apart" "$lines" 2 'timeouts one by one, beside lines in one part'
+tell_ratio "$apart" "$settled" 1.1 'timeouts one by one, beside messages in parts of their own'
+tell_ratio "$at_once" "$lines" 1.1 'timeouts at one moment, beside lines in one part'
 if command -v valgrind >/dev/null; then
     echo 'instructions'
-    for actors in 500 1000; do count "$actors"; done
+    for actors in 500 1000 4000; do count "$actors"; done
 fi
 tell_load

@@ -100,8 +100,8 @@ judge() {
 
 begin_measuring
 for size in ${SIZES:-64 256}; do
-    # A turn has at most 152 bytes in form 1, with its fetch and its post.
-    turns=$((size * 1048576 / 152))
+    # A turn has at most 168 bytes in form 1, with its fetch and its post.
+    turns=$((size * 1048576 / 168))
     controllers=$(((turns + 98999) / 99000))
     pairs "$controllers" >"$work/model.room"
     for ((c = 0; c < controllers; c++)); do echo "top/a:$c.go kick $((turns / controllers - 2))"; done >"$work/inject.txt"

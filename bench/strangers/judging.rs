@@ -2,12 +2,13 @@
 
 use crate::calls::Answer;
 
-/// The texts that the words name; empty ones where they name none.
+/// The texts that the words name, and what `tree` prints of the model where that is known; empty ones for none.
 #[derive(Clone, Copy, Default)]
 pub struct Named<'a> {
     pub model: &'a [u8],
     pub injections: &'a [u8],
     pub journals: &'a [u8],
+    pub tree: &'a [u8],
 }
 
 fn number(word: &str) -> Option<usize> {

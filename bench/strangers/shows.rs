@@ -39,7 +39,7 @@ impl Stranger<'_> {
             return;
         }
         let at = some_stamp(&mut random, named.journals);
-        let answer = self.ask(&["show", "model", "inject", "journals", "--at", &at.to_string()], named, &[]);
+        let answer = self.ask(&["show", "model", "inject", "journals", "--at", &at.to_string()], named);
         self.count(format!("{}, show: {}", self.kind, summary(&answer)));
         if !is_to_be_shown(verdict, at) {
             if (answer.status, &answer.notes) != (verdict.status, &verdict.notes) {

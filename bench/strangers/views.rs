@@ -16,15 +16,17 @@ fn name_behind(random: &mut Random, word: &str, text: &[u8]) -> Option<String> {
     (!names.is_empty()).then(|| names[random.below(names.len())].to_string())
 }
 
-/// What is wrong with a page, of which these statuses may come.
-fn judge_page(answer: &Answer, may_come: &[i32]) -> Option<String> {
+/// What is wrong with a page of a view, of which these statuses may come.
+fn judge_page(word: &str, answer: &Answer, may_come: &[i32]) -> Option<String> {
     let Some(status) = answer.status else {
         return Some(format!("signal {} of a view", answer.signal.unwrap_or_default()));
     };
-    // A page stands on standard output; that the words name nothing is told in a note.
+    // A page stands on standard output, and that the words name nothing in a note; a model may have no door.
     if !may_come.contains(&status) {
         Some(format!("status {status} of a view"))
-    } else if answer.out.is_empty() != (status == 1) || answer.notes.is_empty() == (status == 1) {
+    } else if answer.notes.is_empty() == (status == 1)
+        || answer.out.is_empty() != (status == 1) && (word, status) != ("doors", 0)
+    {
         Some(format!("notes of status {status} of a view"))
     } else {
         None
@@ -45,7 +47,7 @@ impl Stranger<'_> {
     fn ask_for_page(&self, all: &[&str], may_come: &[i32]) -> Option<Text> {
         let views = self.lane.views.as_ref()?;
         let answer = self.call(views, &format!("views, {}", all[0]), all);
-        if let Some(what) = judge_page(&answer, may_come) {
+        if let Some(what) = judge_page(all[0], &answer, may_come) {
             self.tell(&format!("{what}, {}", all.join(" ")));
         }
         let status = answer.status.map_or("none".to_string(), |status| status.to_string());
@@ -54,16 +56,22 @@ impl Stranger<'_> {
     }
 
     /// Of some changed journals, which stand in their file, why they aren't lawful, or what they tell.
-    pub fn ask_for_views_of_journals(&self, random: &mut Random, are_read: bool, verdict: &Answer) {
+    pub fn ask_for_views_of_journals(&self, random: &mut Random, verdict: &Answer) {
         if self.lane.views.is_none() || !random.percent(8) {
             return;
         }
-        let told = if verdict.status == Some(2) { 2 } else if are_read { 0 } else { 3 };
+        let may_come: &[i32] = match verdict.status {
+            Some(2) => &[2],
+            // The injections are refused, and nothing is known of the journals.
+            Some(3) => &[0, 3],
+            Some(9) => &[3],
+            _ => &[0],
+        };
         match random.below(6) {
-            0 => self.ask_for_page(&["story", "model", "journals"], &[told]),
-            1 => self.ask_for_page(&["end", "model", "journals"], &[told]),
-            2 => self.ask_for_page(&["outputs", "model", "journals"], &[told]),
-            3 => self.ask_for_page(&["run", "model", "journals", "--svg"], &[told]),
+            0 => self.ask_for_page(&["story", "model", "journals"], may_come),
+            1 => self.ask_for_page(&["end", "model", "journals"], may_come),
+            2 => self.ask_for_page(&["outputs", "model", "journals"], may_come),
+            3 => self.ask_for_page(&["run", "model", "journals", "--svg"], may_come),
             _ => self.ask_for_page(&["why", "model", "inject", "journals"], &[status_of_why(verdict)]),
         };
     }

@@ -1,5 +1,6 @@
 pub mod Lists
-pub mod DueTimes
+pub mod Order
+pub mod Placed
 pub mod Places
 pub mod Computing
 pub mod Later

@@ -1,6 +1,6 @@
 pub mod Services
 pub mod Timers
-pub mod DueTimes
+pub mod Turns
 pub mod Expansion
 pub mod Examples
 pub mod Laws

@@ -7,10 +7,15 @@
 //! own.
 #![tactic(auto)]
 
-mod due_times;
+mod armed;
+mod due_queue;
+mod due_turn;
+mod ends;
 mod examples;
 mod laws;
+mod place;
 mod services;
+mod timeouts;
 mod timer;
 mod timers;
 

@@ -1,84 +1,42 @@
-//! The timers that are armed.
-ghost use Rattle.std.specs.Prelude.{◌≡◌, ◌≤◌, ◌<◌, ◌∷◌, [], map, filter, not, length, position, slice_get, true, Some, None, IfOk, IfSome, OnOk, OnErr, MatchOption};
-ghost use Rattle.std.specs.List.{list_any, remove};
-ghost use Rattle.std.specs.Option.{option_map_or};
-ghost use Rattle.actor_duties.specs.Words.{is_endpoint};
-ghost use Rattle.room_timer.specs.Timers.{no_timers, delay_of, is_at, disarmed, armed_at, asked, sent_at, is_down, outlives, saw, due_by, is_due, timeout_line, moment};
-ghost use Rattle.room_timer.specs.DueTimes.{due_count, IsDue, IsNext};
+//! The virtual time, and the timers that are armed.
+ghost use Rattle.std.specs.Prelude.{◌≡◌, ◌≤◌, map, filter, not, slice_get, Some, None, IfOk, OnOk, OnErr, MatchOption};
+ghost use Rattle.room_timer.specs.Timers.{no_timers, delay_of, disarmed, armed_at, asked, sent_at, outlives, saw, due_by, is_due, moment};
 
-use crate::due_times::{Due, DueTimes, add_time, drop_time, next_due, no_times};
+use crate::armed::ArmedTimers;
 use crate::services::{hears_timeout, is_timing};
 use crate::timer::Timer;
-use inject_reader::{Line, What};
+use inject_reader::Line;
 use journal::Entry;
-use room_kinds::{ControllerId, Endpoint, Generation, Msg, Note, Payload, Priority};
+use room_kinds::{ControllerId, Endpoint, Msg, Note};
 use room_wiring::Wiring;
 use std::alloc::{AllocError, Global};
 use std::marker::Model;
 
-/// The numbers of the signals of a timing service, and the priority at which timeouts come.
+/// The numbers of the signals that a timing service is sent.
 const START_TIMER: u16 = 0;
 
 const KILL_TIMER: u16 = 1;
 
-const TIMEOUT: u16 = 2;
-
-const GENERAL: u8 = 3;
-
-/// The virtual time, and the timers that are armed, in order of arming, with the times at which they
-/// are due. A call takes time in proportion to these timers at most, and most entries that are seen
-/// take a few look-ups.
+/// The virtual time, and the timers that are armed, in order of arming. They are kept by their turns
+/// of arming, by their places, and by the times at which they are due; so to arm one, to disarm one,
+/// and each timeout take a few look-ups among the armed timers. A turn in which an actor went down
+/// looks at all of them, and most entries that are seen at none.
 #[derive(Drop)]
 pub struct TimerTable {
     time: u64,
-    armed: Vec<Timer>,
-    times: DueTimes,
+    armed: ArmedTimers,
 }
 
 impl Model for TimerTable {
     ghost use Rattle.std.specs.Prelude.{◌≤◌};
+    ghost use Rattle.std.specs.Map.{values_of};
     ghost use Rattle.room_timer.specs.Timers.{Timers};
-    ghost use Rattle.room_timer.specs.DueTimes.{Covers};
 
     ghost Value = { Timers };
 
-    ghost view = { λ t. record { time = t.time; armed = t.armed.items } };
+    ghost view = { λ t. record { time = t.time; armed = values_of t.armed } };
 
-    ghost invariant = { λ t. (t.time ≤ 4611686018427387904) × Covers t.times t.armed.items };
-}
-
-fn is_same_place(a: Endpoint, b: Endpoint) -> bool
-    ensures { result ≡ is_endpoint a b }
-{
-    a.slot == b.slot && a.generation == b.generation && a.port == b.port && a.place == b.place
-}
-
-/// Whether a note tells that the actor of a place went down.
-fn is_down(at: Endpoint, note: &Note) -> bool
-    ensures { result ≡ is_down at note.now }
-{
-    match note {
-        Note::Down { who, .. } => who.slot == at.slot && who.generation == at.generation,
-        Note::Zero
-        | Note::NoMessage
-        | Note::Unbound { .. }
-        | Note::Recall { .. }
-        | Note::Up { .. } => false,
-    }
-}
-
-/// Whether one of these notes tells that the actor of a place went down.
-fn went_down(notes: &[Note], at: Endpoint) -> bool
-    ensures { result ≡ list_any (is_down at) notes.now }
-{
-    notes.iter().any(|note| is_down(at, note))
-}
-
-/// Whether a timer's actor didn't go down by these notes.
-fn outlives(notes: &[Note], timer: &Timer) -> bool
-    ensures { result ≡ outlives notes.now timer.now }
-{
-    !went_down(notes, timer.at)
+    ghost invariant = { λ t. t.time ≤ 4611686018427387904 };
 }
 
 /// The time that a delay takes, 1 at least.
@@ -89,108 +47,6 @@ fn delay_of(delay: i64) -> u64
     if delay < 1 { 1 } else { delay.unsigned_abs() }
 }
 
-/// Whether a timer is that of a place.
-fn is_at(at: Endpoint, timer: &Timer) -> bool
-    ensures { result ≡ is_at at timer.now }
-{
-    is_same_place(timer.at, at)
-}
-
-/// Where the timer of a place stands, if it is armed.
-fn place_of(armed: &[Timer], at: Endpoint) -> Option<usize>
-    ensures place { result ≡ position (is_at at) armed.now }
-    ensures bound { IfSome result (λ i. i < length armed.now) }
-{
-    armed.iter().position(|timer| is_at(at, timer))
-}
-
-/// A timeout comes to whoever stands there, under the number of a line.
-fn timeout_line(alloc: Global, number: u32, timer: Timer) -> Line
-    ensures { result ≡ timeout_line number timer }
-{
-    let target = Endpoint {
-        slot: timer.at.slot,
-        generation: Generation(0),
-        port: timer.at.port,
-        place: timer.at.place,
-    };
-    let what = What::Message {
-        target,
-        signal: TIMEOUT,
-        payload: Payload::empty(alloc),
-        prio: Priority(GENERAL),
-    };
-    Line { number, what }
-}
-
-/// The timeouts of the timers that are due at a time, in order of arming.
-fn lines_at(alloc: Global, armed: &[Timer], number: u32, time: u64) -> Result<Vec<Line>, AllocError>
-    ensures { IfOk result (λ ls. ls.items
-        ≡ map (timeout_line number) (filter (is_due time) armed.now)) }
-{
-    let mut lines = Vec::new(alloc);
-    for timer in armed {
-        if timer.due == time {
-            lines.push(timeout_line(alloc, number, *timer))?;
-        }
-    }
-    Ok(lines)
-}
-
-/// A line alone.
-fn only_line(alloc: Global, line: Line) -> Result<Vec<Line>, AllocError>
-    ensures { IfOk result (λ ls. ls.items ≡ line ∷ []) }
-{
-    let mut lines = Vec::new(alloc);
-    lines.push(line)?;
-    Ok(lines)
-}
-
-/// The timeouts of the timers that are due next, in order of arming.
-fn timeout_lines(
-    alloc: Global,
-    armed: &[Timer],
-    number: u32,
-    due: Due,
-) -> Result<Vec<Line>, AllocError>
-    requires { IsDue armed.now due.time due.place due.together }
-    ensures { IfOk result (λ ls. ls.items
-        ≡ map (timeout_line number) (filter (is_due due.time) armed.now)) }
-{
-    if due.together {
-        lines_at(alloc, armed, number, due.time)
-    } else {
-        only_line(alloc, timeout_line(alloc, number, armed[due.place]))
-    }
-}
-
-/// Timers end with their actors.
-fn keep_outliving(armed: &mut Vec<Timer>, notes: &[Note])
-    ensures { armed.new.items ≡ filter (outlives notes.now) armed.old.items }
-{
-    armed.retain(|timer| outlives(notes, timer));
-}
-
-/// Timers that are due at a time go.
-fn remove_at(armed: &mut Vec<Timer>, time: u64)
-    ensures { armed.new.items ≡ filter (λ x. not (is_due time x)) armed.old.items }
-{
-    armed.retain(|timer| timer.due != time);
-}
-
-/// The timers that are due next go.
-#[tactic(auto, using(crate::proofs::DueTimes::others))]
-fn remove_due(armed: &mut Vec<Timer>, due: Due)
-    requires { IsDue armed.old.items due.time due.place due.together }
-    ensures { armed.new.items ≡ filter (λ x. not (is_due due.time x)) armed.old.items }
-{
-    if due.together {
-        remove_at(armed, due.time);
-    } else {
-        armed.remove(due.place);
-    }
-}
-
 impl TimerTable {
     /// Time 0, with no timers. It takes no memory.
     pub fn new(alloc: Global) -> TimerTable
@@ -198,8 +54,7 @@ impl TimerTable {
     {
         TimerTable {
             time: 0,
-            armed: Vec::new(alloc),
-            times: no_times(alloc),
+            armed: ArmedTimers::new(alloc),
         }
     }
 
@@ -211,47 +66,28 @@ impl TimerTable {
         self.time
     }
 
-    /// The timers that are armed, in order of arming.
-    pub fn armed(&self) -> &[Timer]
-        ensures { result.now ≡ self.now.armed }
+    /// The timer that was armed first of those that are armed, if any is.
+    pub fn first_armed(&self) -> Option<Timer>
+        ensures { result ≡ slice_get self.now.armed 0 }
     {
-        self.armed.as_slice()
-    }
-
-    /// The timer at a place of the table goes, if there is one.
-    fn take_out(&mut self, place: Option<usize>)
-        requires { IfSome place (λ i. i < length self.old.armed) }
-        ensures { self.new ≡ record self.old {
-          armed = option_map_or (remove self.old.armed) place self.old.armed;
-        } }
-    {
-        if let Some(place) = place {
-            self.armed.remove(place);
-        }
+        self.armed.first()
     }
 
     /// Disarms the timer of a place, if it is armed.
-    #[tactic(auto, unfolding(crate::specs::Timers::disarmed))]
     fn disarm(&mut self, at: Endpoint)
         ensures { self.new ≡ record self.old { armed = disarmed at self.old.armed } }
     {
-        let place = place_of(self.armed.as_slice(), at);
-        self.take_out(place);
+        self.armed.disarm(at);
     }
 
     /// Arms the timer of a place, in place of the one that was armed there. After a refusal nothing
     /// has changed.
-    #[tactic(auto, using(crate::proofs::Lists::removed_before), unfolding(crate::specs::Timers::disarmed))]
     fn arm(&mut self, at: Endpoint, delay: i64) -> Result<(), AllocError>
         ensures ok { OnOk result (self.new ≡ armed_at self.old at delay) }
         ensures err { OnErr result (self.new ≡ self.old) }
     {
         let due = self.time + delay_of(delay);
-        add_time(&mut self.times, due)?;
-        let place = place_of(self.armed.as_slice(), at);
-        self.armed.push(Timer { at, due })?;
-        self.take_out(place);
-        Ok(())
+        self.armed.arm(Timer { at, due })
     }
 
     /// What a timing service is asked for by a place.
@@ -299,7 +135,7 @@ impl TimerTable {
         } }
     {
         if !notes.is_empty() {
-            keep_outliving(&mut self.armed, notes);
+            self.armed.keep_outliving(notes);
         }
     }
 
@@ -330,18 +166,18 @@ impl TimerTable {
         }
     }
 
-    /// The time has come at which these timers are due; they go.
-    fn expire(&mut self, until: u64, due: Due)
-        requires next { IsNext until self.old.armed due.time due.place due.together }
+    /// The time has come at which the next timers are due; they go.
+    fn expire(&mut self, until: u64, time: u64)
+        requires due { due_by until self.old.armed ≡ Some time }
+        requires by { time ≤ until }
         requires bound { until ≤ 4611686018427387904 }
         ensures { self.new ≡ record {
-          time = due.time;
-          armed = filter (λ x. not (is_due due.time x)) self.old.armed;
+          time = time;
+          armed = filter (λ x. not (is_due time x)) self.old.armed;
         } }
     {
-        remove_due(&mut self.armed, due);
-        drop_time(&mut self.times, due.time);
-        self.time = due.time;
+        self.armed.expire(time);
+        self.time = time;
     }
 
     /// The timeouts of the next moment at which a timer is due, until this time, as lines under a
@@ -360,12 +196,12 @@ impl TimerTable {
             (λ ls. moment number self.old until ≡ Some (ls.items, self.new))) }
         ensures err { OnErr result (self.new ≡ self.old) }
     {
-        let Some(due) = next_due(&mut self.times, self.armed.as_slice(), until) else {
+        let Some(time) = self.armed.next_due(until) else {
             self.time = until;
             return Ok(None);
         };
-        let lines = timeout_lines(alloc, self.armed.as_slice(), number, due)?;
-        self.expire(until, due);
+        let lines = self.armed.lines_at(alloc, number, time)?;
+        self.expire(until, time);
         Ok(Some(lines))
     }
 }

@@ -31,7 +31,7 @@ fn arms(
     };
     let mut table = TimerTable::new(alloc);
     table.see(wiring, ControllerId(0), &Entry::Post { stamp, msg })?;
-    Ok(!table.armed().is_empty())
+    Ok(table.first_armed().is_some())
 }
 
 fn end_at(slot: SlotId, port: u16, place: u32) -> Endpoint {

@@ -115,7 +115,7 @@ fn timer_of(
 ) -> Result<Option<Timer>, AllocError> {
     let mut table = TimerTable::new(alloc);
     table.see(wiring, controller, entry)?;
-    Ok(table.armed().first().copied())
+    Ok(table.first_armed())
 }
 
 /// Adds the timers that the posts of a controller armed.
