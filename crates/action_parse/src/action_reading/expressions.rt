@@ -3,11 +3,11 @@ ghost use Rattle.std.specs.Prelude.{◌≡◌, ◌≤◌, ◌∷◌, IfOk, map};
 ghost use Rattle.room_lexer.specs.declared.token.Mark.TheVariants as marks;
 ghost use Rattle.room_tokens.specs.Reader.{Gives, ◌⊕◌, reads_as, all_while};
 ghost use Rattle.room_tokens.specs.action_tokens.Single.{left, mark, name_at};
-ghost use Rattle.action_program.specs.Named.{expr_view, step_view, a_paren, a_unary};
+ghost use Rattle.action_program.specs.Named.{expr_view, step_view, path_view, an_attribute, a_paren, a_unary};
 ghost use Rattle.action_parse.specs.action_reading.Written.{below as below_of};
 ghost use Rattle.action_parse.specs.action_reading.ExprReading.{operator_of, operator_comes, op_at, op_comes, step_at, chain_of, level, path_at, small_number_at, datum_at, under, operand};
 
-use action_program::{BinaryOp, Expr, Step, UnaryOp};
+use action_program::{BinaryOp, Chain, Expr, Path, Step, Unary, UnaryOp};
 use room_ast::Name;
 use room_lexer::Mark;
 use room_tokens::action_tokens::{ActionWord, Kind, Rest};
@@ -106,9 +106,9 @@ fn part<'a>(alloc: Global, rest: Rest<'a>) -> Result<(Name, Rest<'a>), ReadFault
     name(alloc, rest)
 }
 
-/// A dotted name.
+/// The parts of a dotted name.
 #[tactic(auto, unfolding(crate::specs::action_reading::ExprReading::path_at))]
-pub fn path<'a>(alloc: Global, rest: Rest<'a>) -> Result<(Vec<Name>, Rest<'a>), ReadFault>
+fn parts<'a>(alloc: Global, rest: Rest<'a>) -> Result<(Vec<Name>, Rest<'a>), ReadFault>
     ensures { Gives (λ x. (x.0.items, left x.1)) result (path_at (left rest.entry)) }
 {
     let (first, mut rest) = name(alloc, rest)?;
@@ -120,6 +120,30 @@ pub fn path<'a>(alloc: Global, rest: Rest<'a>) -> Result<(Vec<Name>, Rest<'a>), 
         rest = after;
     }
     Ok((path, rest))
+}
+
+/// A dotted name. One without a dot needs no list.
+#[tactic(auto, unfolding(crate::specs::action_reading::ExprReading::path_at), using(crate::proofs::action_reading::Turns::one_part))]
+pub fn path<'a>(alloc: Global, rest: Rest<'a>) -> Result<(Path, Rest<'a>), ReadFault>
+    ensures { Gives (λ x. (path_view x.0, left x.1)) result (path_at (left rest.entry)) }
+{
+    let (first, after) = name(alloc, rest)?;
+    if !comes(after, Mark::Dot) {
+        return Ok((Path::Attribute(first), after));
+    }
+    let (mut parts, rest) = parts(alloc, rest)?;
+    parts.shrink_to_fit();
+    Ok((Path::Within(parts), rest))
+}
+
+/// The value of what a path names.
+fn attribute(alloc: Global, path: Path) -> Result<Expr, AllocError>
+    ensures { IfOk result (λ e. expr_view e ≡ an_attribute (path_view path)) }
+{
+    match path {
+        Path::Attribute(name) => Ok(Expr::Attribute(Box::new(alloc, name)?)),
+        Path::Within(parts) => Ok(Expr::Within(Box::new(alloc, parts)?)),
+    }
 }
 
 /// The number of a place of the payload.
@@ -156,7 +180,9 @@ fn chain(alloc: Global, first: Expr, steps: Vec<Step>) -> Result<Expr, AllocErro
     if steps.is_empty() {
         return Ok(first);
     }
-    Ok(Expr::Chain(Box::new(alloc, first)?, steps))
+    let mut steps = steps;
+    steps.shrink_to_fit();
+    Ok(Expr::Chain(Box::new(alloc, Chain { first, steps })?))
 }
 
 /// An operator whose operands stand at a level, and its right side.
@@ -264,7 +290,9 @@ fn unary<'a>(
         (reads_as (a_unary op) (under depth) (left rest.entry)) }
 {
     let (inner, rest) = nested(alloc, depth, rest)?;
-    Ok((Expr::Unary(op, Box::new(alloc, inner)?), rest))
+    let operand = inner;
+    let unary = Box::new(alloc, Unary { op, operand })?;
+    Ok((Expr::Unary(unary), rest))
 }
 
 /// An operand.
@@ -292,7 +320,7 @@ pub fn operand<'a>(
         Kind::Word(ActionWord::Me) => Ok((Expr::Me, after)),
         Kind::Name => {
             let (path, rest) = path(alloc, rest)?;
-            Ok((Expr::Attribute(path), rest))
+            Ok((attribute(alloc, path)?, rest))
         }
         Kind::Mark(Mark::OpenParen) => paren(alloc, depth, after),
         Kind::Mark(Mark::Minus) => unary(alloc, UnaryOp::Negate, depth, after),
