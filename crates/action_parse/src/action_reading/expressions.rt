@@ -10,7 +10,7 @@ ghost use Rattle.action_parse.specs.action_reading.ExprReading.{operator_of, ope
 use action_program::{BinaryOp, Chain, Expr, Path, Step, Unary, UnaryOp};
 use room_ast::Name;
 use room_lexer::Mark;
-use room_tokens::action_tokens::{ActionWord, Kind, Rest};
+use room_tokens::action_tokens::{ActionToken, ActionWord, Rest};
 use room_tokens::{ReadFault, comes, name, next, number, place, skip, take_mark};
 use std::alloc::{AllocError, Global};
 
@@ -65,8 +65,8 @@ pub fn operator_comes(rest: Rest) -> bool
     ensures { result ≡ operator_comes (left rest.entry) }
 {
     match next(rest) {
-        Some((token, _)) => match token.kind {
-            Kind::Mark(mark) => operator_of(mark).is_some(),
+        Some((token, _)) => match token {
+            ActionToken::Mark(mark) => operator_of(mark).is_some(),
             _ => false,
         },
         None => false,
@@ -81,7 +81,7 @@ fn op_at(rest: Rest, k: usize) -> Option<BinaryOp>
     let Some((token, _)) = next(rest) else {
         return None;
     };
-    let Kind::Mark(mark) = token.kind else {
+    let ActionToken::Mark(mark) = token else {
         return None;
     };
     let Some(op) = operator_of(mark) else {
@@ -308,23 +308,23 @@ pub fn operand<'a>(
     let Some((token, after)) = next(rest) else {
         return Err(ReadFault::Syntax(place(rest)));
     };
-    match token.kind {
-        Kind::Number(n) => Ok((Expr::Number(n), after)),
-        Kind::Word(ActionWord::True) => Ok((Expr::True, after)),
-        Kind::Word(ActionWord::False) => Ok((Expr::False, after)),
-        Kind::Word(ActionWord::Data) => {
+    match token {
+        ActionToken::Number(n) => Ok((Expr::Number(n), after)),
+        ActionToken::Word(ActionWord::True) => Ok((Expr::True, after)),
+        ActionToken::Word(ActionWord::False) => Ok((Expr::False, after)),
+        ActionToken::Word(ActionWord::Data) => {
             let (k, rest) = datum(after)?;
             Ok((Expr::Data(k), rest))
         }
-        Kind::Word(ActionWord::Place) => Ok((Expr::Place, after)),
-        Kind::Word(ActionWord::Me) => Ok((Expr::Me, after)),
-        Kind::Name => {
+        ActionToken::Word(ActionWord::Place) => Ok((Expr::Place, after)),
+        ActionToken::Word(ActionWord::Me) => Ok((Expr::Me, after)),
+        ActionToken::Name { .. } => {
             let (path, rest) = path(alloc, rest)?;
             Ok((attribute(alloc, path)?, rest))
         }
-        Kind::Mark(Mark::OpenParen) => paren(alloc, depth, after),
-        Kind::Mark(Mark::Minus) => unary(alloc, UnaryOp::Negate, depth, after),
-        Kind::Mark(Mark::Bang) => unary(alloc, UnaryOp::Not, depth, after),
+        ActionToken::Mark(Mark::OpenParen) => paren(alloc, depth, after),
+        ActionToken::Mark(Mark::Minus) => unary(alloc, UnaryOp::Negate, depth, after),
+        ActionToken::Mark(Mark::Bang) => unary(alloc, UnaryOp::Not, depth, after),
         _ => Err(ReadFault::Syntax(place(rest))),
     }
 }

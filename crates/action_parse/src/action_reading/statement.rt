@@ -14,7 +14,7 @@ use action_program::{
 };
 use room_kinds::Priority;
 use room_lexer::Mark;
-use room_tokens::action_tokens::{ActionWord, Kind, Rest};
+use room_tokens::action_tokens::{ActionToken, ActionWord, Rest};
 use room_tokens::{
     ReadFault, comes, comes_word, name, next, number, place, skip, take_mark, take_word,
 };
@@ -117,7 +117,7 @@ fn prio_word<'a>(rest: Rest<'a>) -> Result<(Priority, Rest<'a>), ReadFault>
     let Some((token, after)) = next(rest) else {
         return Err(ReadFault::Syntax(place(rest)));
     };
-    let Kind::Word(word) = token.kind else {
+    let ActionToken::Word(word) = token else {
         return Err(ReadFault::Syntax(place(rest)));
     };
     match prio_of(word) {
@@ -400,20 +400,25 @@ fn statement<'a>(alloc: Global, depth: usize, rest: Rest<'a>) -> Result<(Stmt, R
     let Some((token, after)) = next(rest) else {
         return Err(ReadFault::Syntax(place(rest)));
     };
-    match token.kind {
-        Kind::Mark(Mark::Semicolon) => Ok((Stmt::Empty, after)),
-        Kind::Name => named(alloc, depth, rest),
-        Kind::Word(ActionWord::If) => choose(alloc, depth, after),
-        Kind::Word(ActionWord::Repeat) => repeat(alloc, depth, after),
-        Kind::Word(ActionWord::Defer) => alone(Stmt::Defer, after),
-        Kind::Word(ActionWord::Recall) => alone(Stmt::Recall, after),
-        Kind::Word(ActionWord::RecallAll) => alone(Stmt::RecallAll, after),
-        Kind::Word(ActionWord::Incarnate) => frame(alloc, FrameVerb::Incarnate, depth, after),
-        Kind::Word(ActionWord::Destroy) => frame(alloc, FrameVerb::Destroy, depth, after),
-        Kind::Word(ActionWord::Deport) => frame(alloc, FrameVerb::Deport, depth, after),
-        Kind::Word(ActionWord::Import) => import(alloc, depth, after),
-        Kind::Word(ActionWord::Register) => register(alloc, after),
-        Kind::Word(ActionWord::Withdraw) => withdraw(alloc, after),
+    match token {
+        ActionToken::Mark(Mark::Semicolon) => Ok((Stmt::Empty, after)),
+        ActionToken::Name { .. } => named(alloc, depth, rest),
+        ActionToken::Word(ActionWord::If) => choose(alloc, depth, after),
+        ActionToken::Word(ActionWord::Repeat) => repeat(alloc, depth, after),
+        ActionToken::Word(ActionWord::Defer) => alone(Stmt::Defer, after),
+        ActionToken::Word(ActionWord::Recall) => alone(Stmt::Recall, after),
+        ActionToken::Word(ActionWord::RecallAll) => alone(Stmt::RecallAll, after),
+        ActionToken::Word(ActionWord::Incarnate) => frame(
+            alloc,
+            FrameVerb::Incarnate,
+            depth,
+            after,
+        ),
+        ActionToken::Word(ActionWord::Destroy) => frame(alloc, FrameVerb::Destroy, depth, after),
+        ActionToken::Word(ActionWord::Deport) => frame(alloc, FrameVerb::Deport, depth, after),
+        ActionToken::Word(ActionWord::Import) => import(alloc, depth, after),
+        ActionToken::Word(ActionWord::Register) => register(alloc, after),
+        ActionToken::Word(ActionWord::Withdraw) => withdraw(alloc, after),
         _ => Err(ReadFault::Syntax(place(rest))),
     }
 }
