@@ -11,6 +11,8 @@ use Rattle.room_ast.specs.Tokens.{model_tokens}
 use Rattle.room_inherit.specs.Flat.{flat}
 use Rattle.room_inherit.specs.Flattening.{IsFlattened}
 use Rattle.room_inherit.specs.Rules.{lowest_broken}
+use Rattle.room_inherit.specs.BaseRules.{number_of as number_of_base}
+use Rattle.room_inherit.specs.declared.base_rule.BaseRule.{BaseRule}
 use Rattle.room_inherit.specs.declared.fault.InheritFault.{InheritFault}
 use Rattle.room_inherit.specs.declared.fault.InheritFault.TheVariants as bases
 use Rattle.room_inherit.proofs.NamesLaw.{names_stay}
@@ -32,7 +34,8 @@ use Rattle.law_models.proofs.settled_models.Controllers.{controllers_few}
 use Rattle.room_run.proofs.model_plants.Tabled.{all_sound}
 use Rattle.room_run.proofs.settled.Compiled.{all_compiled}
 use Rattle.structure_check.specs.Rules.{first_broken, IsLowest}
-use Rattle.structure_check.specs.List.{all_rules}
+use Rattle.structure_check.specs.List.{rule_of, all_rules}
+use Rattle.structure_check.specs.declared.flat_rule.FlatRule.{FlatRule}
 use Rattle.structure_check.specs.Checks.{TellsLowest}
 use Rattle.structure_check.specs.declared.fault.CheckFault.{CheckFault}
 use Rattle.structure_check.specs.declared.fault.CheckFault.TheVariants as check_faults
@@ -100,10 +103,10 @@ tree_flat text written tree h allowed is = record {
 }
 
 -- the lowest rule on bases that is broken was told
-pub base_rule_told : (text : List ℕ) (written : ModelTree) (rule : ℕ) (e : InheritFault) → length text ≤ most_bytes → IsWrittenOnce text written → IsFlattened written (Err e) → e ≡ bases.Rule rule → SoundCauses text (faults.Rule rule)
-base_rule_told text written rule (bases.Rule n) short h told is =
-    let same : n ≡ rule = cc in
-    breaks_base_rule rule (record { short = short; written = written; is = h.is; lowest = subst (λ k. lowest_broken written ≡ Some k) same told })
+pub base_rule_told : (text : List ℕ) (written : ModelTree) (rule : BaseRule) (e : InheritFault) → length text ≤ most_bytes → IsWrittenOnce text written → IsFlattened written (Err e) → e ≡ bases.Rule rule → SoundCauses text (faults.Rule (number_of_base rule))
+base_rule_told text written rule (bases.Rule r) short h told is =
+    let same : r ≡ rule = cc in
+    breaks_base_rule (number_of_base rule) (record { short = short; written = written; is = h.is; lowest = subst (λ (z : BaseRule). lowest_broken written ≡ Some (number_of_base z)) same told })
 base_rule_told text written rule bases.Memory short h told is = absurd cc
 
 parsed_none : (ts : List TokenValue) (line : ℕ) (e : ParseFault) → IsParsed ts (Err e) → e ≡ parsing.Syntax line → HasNoModel ts
@@ -116,13 +119,13 @@ no_model text tokens line e short h parsed is = no_tree line (record { short = s
 
 -- ---- the rules
 
-rule_lowest : (m : ModelTree) (n : ℕ) (e : CheckFault) → TellsLowest m (Err e) → e ≡ check_faults.Rule n → IsLowest all_rules m (Some n)
-rule_lowest m n (check_faults.Rule k) h is = let same : k ≡ n = cc in subst (λ x. IsLowest all_rules m (Some x)) same h
-rule_lowest m n check_faults.Memory h is = absurd cc
+rule_lowest : (m : ModelTree) (r : FlatRule) (e : CheckFault) → TellsLowest m (Err e) → e ≡ check_faults.Rule r → IsLowest all_rules m (Some (rule_of r).number)
+rule_lowest m r (check_faults.Rule x) h is = let same : x ≡ r = cc in subst (λ (z : FlatRule). IsLowest all_rules m (Some (rule_of z).number)) same h
+rule_lowest m r check_faults.Memory h is = absurd cc
 
 -- the lowest rule that is broken was told
-pub rule_told : (m : ModelTree) (n : ℕ) (e : CheckFault) → TellsLowest m (Err e) → e ≡ check_faults.Rule n → TreeCauses m (faults.Rule n)
-rule_told m n e h is = breaks n (rule_lowest m n e h is)
+pub rule_told : (m : ModelTree) (r : FlatRule) (e : CheckFault) → TellsLowest m (Err e) → e ≡ check_faults.Rule r → TreeCauses m (faults.Rule (rule_of r).number)
+rule_told m r e h is = breaks (rule_of r).number (rule_lowest m r e h is)
 
 -- ---- the wiring
 

@@ -69,7 +69,7 @@ fn read_tree(alloc: Global, text: &[u8]) -> Result<Model, ModelFault>
     };
     match flatten(alloc, written) {
         Ok(tree) => Ok(tree),
-        Err(InheritFault::Rule(rule)) => Err(ModelFault::Rule(rule)),
+        Err(InheritFault::Rule(rule)) => Err(ModelFault::Rule(rule.number())),
         Err(InheritFault::Memory) => Err(ModelFault::Memory),
     }
 }
@@ -81,7 +81,7 @@ fn keep_rules(alloc: Global, tree: &Model) -> Result<Checked<'_>, ModelFault>
 {
     match check(alloc, tree) {
         Ok(checked) => Ok(checked),
-        Err(CheckFault::Rule(rule)) => Err(ModelFault::Rule(rule)),
+        Err(CheckFault::Rule(rule)) => Err(ModelFault::Rule(rule.number())),
         Err(CheckFault::Memory) => Err(ModelFault::Memory),
     }
 }

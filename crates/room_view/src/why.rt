@@ -413,7 +413,7 @@ fn tell_tree(
         Ok(tree) => Ok(Some(tree)),
         Err(InheritFault::Memory) => Err(AllocError),
         Err(InheritFault::Rule(rule)) => {
-            let fault = ModelFault::Rule(rule);
+            let fault = ModelFault::Rule(rule.number());
             tell_fault(alloc, page, named, tokens, &fault, None)?;
             Ok(None)
         }
