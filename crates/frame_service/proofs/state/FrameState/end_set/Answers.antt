@@ -10,7 +10,7 @@ use Rattle.frame_service.proofs.frame_endings.EndSet.{ended_there, set_ended}
 use Rattle.frame_service.proofs.state.FrameState.end_set.Goals as goal
 
 pub ending-requires : goal.ending-requires
-ending-requires c = record { order = c.requires.fits.order; runs = c.requires.fits.runs; there = c.requires.there }
+ending-requires c = record { site = record { order = c.requires.fits.order; runs = c.requires.fits.runs }; there = c.requires.there }
 
 pub returns : goal.returns
 returns c =
