@@ -4,26 +4,24 @@
 # deep as the text goes, each in an actor inside the one before. Of `leaves` and `teeth` each actor of a
 # chain holds another one beside the next, which is empty or holds one itself.
 all_kinds="references mappings nested_mappings chain bindings layers ports classes empty_classes derived refinements messages
-states transitions choices branches points subgraphs composites attributes data_classes services assignments conditions sums
-long_bindings long_mappings long_chain long_leaves long_teeth long_classes long_states long_services injections journals
-read_journals"
-
-# The most bytes of memory for each byte of a kind. Of actions, where a byte or two is a part of the tree that they
-# are read as, and of classes with nothing in them these are more.
-most_for_a_byte() {
-    case "$1" in
-    assignments | conditions | sums) echo 240 ;;
-    empty_classes) echo 120 ;;
-    *) echo 60 ;;
-    esac
-}
+states transitions choices branches points subgraphs composites attributes data_classes services long_bindings
+long_mappings long_chain long_leaves long_teeth long_classes long_states long_services empty_statements assignments
+short_assignments dotted_assignments sends sends_of_numbers sends_at_places ifs nested_ifs else_ifs elses filled_ifs
+repetitions verbs imports registrations deferrals sums products attribute_sums dotted_sums signs signed_sums parentheses
+guards injections journals read_journals"
 
 head='RoomModel M {\nLogicalSystem L { SubSystemRef s: S }\nProtocolClass P { incoming { Message go() } outgoing { Message ok() } }\n'
 top_class='SubSystemClass S { ActorRef a: A }\n'
 chart="${head}${top_class}ActorClass A { Interface { Port p: P } Structure { external Port p } Behavior { StateMachine {\nTransition b: initial -> S\nState S\n"
 chart_end='} } } }'
-action="${head}${top_class}ActorClass A { Structure { Attribute x: int32 } Behavior { StateMachine {\nState S Transition b: initial -> S { action { '''\n"
-action_end="''' } } } } } }"
+# A model of one action, between these two; its class has what statements name.
+action='RoomModel M {\nLogicalSystem L { SubSystemRef s: S }\nSubSystemClass S { ActorRef a: A }
+ProtocolClass P { incoming { Message go() } outgoing { Message ok() Message n(int8) } }
+ActorClass B { }\nDataClass D { Attribute m: int8 }
+ActorClass A { Interface { Port p: P SPP s: P }
+Structure { external Port p optional ActorRef o: B imported ActorRef i: B Attribute x: int32 Attribute d: D }
+Behavior { StateMachine {\nTransition b: initial -> S\nState S\nTransition t: S -> S { triggers { <go: p> } action { "'
+action_end='" } }\n} } } }'
 long="$(printf 'name%.0s' {1..50})"
 end_class='ActorClass B { Interface { Port p: P conjugated Port q: P } Structure { external Port p external Port q } }\n'
 
@@ -32,11 +30,14 @@ end_class='ActorClass B { Interface { Port p: P conjugated Port q: P } Structure
 fill() {
     awk -v most="$1" -v start="$2" -v line="$3" -v stop="$4" -v limit="${5:-1000000}" 'BEGIN {
         size = length(start) + length(stop)
+        numbered = line ~ /[#@]/
         printf "%s", start
         for (i = 1; i <= limit; i++) {
             text = line
-            gsub(/#/, i, text)
-            gsub(/@/, i - 1, text)
+            if (numbered) {
+                gsub(/#/, i, text)
+                gsub(/@/, i - 1, text)
+            }
             if (size + length(text) > most) break
             printf "%s", text
             size += length(text)
@@ -78,6 +79,13 @@ comb() {
     }'
 }
 
+# An action of at most so many bytes: a beginning, these bytes again and again, and an end.
+act() { fill "$1" "$action$2" "$3" "$4$action_end" 2000000; }
+
+# A beginning, a text 60 times, a middle, another text as often, and an end: 60 is nearly as deep as
+# actions may nest.
+nested() { printf '%s' "$1" "$(printf -- "$2%.0s" {1..60})" "$3" "$(printf -- "$4%.0s" {1..60})" "$5"; }
+
 # The text of a kind, of at most so many bytes.
 text_of() {
     local most="$2"
@@ -107,9 +115,6 @@ text_of() {
     attributes) fill "$most" "${head}${top_class}ActorClass A { Structure {\n" 'Attribute an_attribute_with_a_longer_name_#: int8 = 1\n' '} }\n}' 4096 ;;
     data_classes) fill "$most" "${head}${top_class}ActorClass A { }\n" 'DataClass D# { Attribute x: int8 = 1 Attribute y: int16 }\n' '}' 59000 ;;
     services) fill "$most" "$chart" "Transition t#: S -> S { triggers { <go: p> } action { \"register p as name_#;\" } }\n" "$chart_end" ;;
-    assignments) fill "$most" "$action" 'x=x+1;\n' "$action_end" ;;
-    conditions) fill "$most" "$action" 'if(1){x=1;}\n' "$action_end" ;;
-    sums) fill "$most" "${action}x=1" '+1' ";${action_end}" ;;
     long_bindings) fill "$most" "${head}${top_class}${end_class}ActorClass A { Structure { ActorRef ${long}0: B\n" "ActorRef ${long}#: B Binding ${long}#.p and ${long}@.q\n" '} }\n}' ;;
     long_mappings) fill "$most" "${head}ActorClass B { }\nActorClass A { Structure { ActorRef ${long}: B } }\nSubSystemClass S { LogicalThread $long\n" "ActorRef ${long}#: A ActorInstanceMapping ${long}#/${long} -> ${long}\n" '}\n}' ;;
     long_chain) chain "$most" "$long" ;;
@@ -118,6 +123,31 @@ text_of() {
     long_classes) fill "$most" "${head}${top_class}ActorClass A { }\n" "ActorClass ${long}# { Interface { Port ${long}: P } Structure { external Port ${long} ActorRef a: A } }\n" '}' ;;
     long_states) fill "$most" "$chart" "State ${long}# Transition ${long}#: ${long}# -> ${long}# { triggers { <go: p> } }\n" "$chart_end" ;;
     long_services) fill "$most" "$chart" "Transition t#: S -> S { triggers { <go: p> } action { \"register p as ${long}#;\" } }\n" "$chart_end" ;;
+    empty_statements) act "$most" '' ';' '' ;;
+    assignments) act "$most" '' 'x=x+1;' '' ;;
+    short_assignments) act "$most" '' 'x=x;' '' ;;
+    dotted_assignments) act "$most" '' 'd.m=d.m;' '' ;;
+    sends) act "$most" '' 'p.ok();' '' ;;
+    sends_of_numbers) act "$most" '' 'p.n(1);' '' ;;
+    sends_at_places) act "$most" '' 'p[0].ok();' '' ;;
+    ifs) act "$most" '' 'if(1){}' '' ;;
+    nested_ifs) act "$most" '' "$(nested '' 'if(1){' '' '}' '')" '' ;;
+    else_ifs) act "$most" 'if(1){}' 'else if(1){}' '' ;;
+    elses) act "$most" '' 'if(1){}else{}' '' ;;
+    filled_ifs) act "$most" '' 'if(1){;}' '' ;;
+    repetitions) act "$most" '' 'repeat 1{}' '' ;;
+    verbs) act "$most" '' 'destroy o;' '' ;;
+    imports) act "$most" '' 'import i=1;' '' ;;
+    registrations) act "$most" '' 'register s as n;' '' ;;
+    deferrals) act "$most" '' 'defer;' '' ;;
+    sums) act "$most" 'x=1' '+1' ';' ;;
+    products) act "$most" 'x=1' '+1*1' ';' ;;
+    attribute_sums) act "$most" 'x=x' '+x' ';' ;;
+    dotted_sums) act "$most" 'x=d.m' '+d.m' ';' ;;
+    signs) act "$most" '' "$(nested 'x=' - 1 '' ';')" '' ;;
+    signed_sums) act "$most" 'x=1' '+-1' ';' ;;
+    parentheses) act "$most" '' "$(nested 'x=' '(' 1 ')' ';')" '' ;;
+    guards) fill "$most" "$chart" 'Transition t#: S -> S { triggers { <go: p guard { "1==1" }> } }\n' "$chart_end" ;;
     *) return 1 ;;
     esac
 }

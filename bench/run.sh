@@ -17,6 +17,19 @@
 # 0. Where the program has `made N`, which makes the same ring on four controllers, runs it and writes
 # a summary alone, its time is told too.
 #
+# At last three whole runs of the ring of 4,000 stand beside others, each with its journal, which a
+# process writes to /dev/null:
+#   messages     how many its journal treats
+#   ms, its ms   the times of the run, and of what stands beside it
+#   ratio, mark  the first of these divided by the second, and what it should be at most; `!` above
+# 100,000 messages on one controller, at which a run is spent, stand beside the whole process of a
+# plain Rust program that does the same work (bench/peers/tokens.rs). It reads no model; that it prints
+# the same journal is tried. Four controllers stand beside what CAF takes on four threads to spawn the
+# ring and to run it, as it tells itself, without a journal and without its start and end. 360,000
+# messages on four controllers stand beside as many on one. A run has no fuel for those: what 88,000
+# messages take there is measured, as a run of 96,000 less one of 8,000 over the same actors, and the
+# time of 360,000 is that of the 8,000 and four times this.
+#
 # Four controllers show what they can only where four processors are free.
 set -eu
 . "$(dirname "${BASH_SOURCE[0]}")/timing.sh"
@@ -41,6 +54,11 @@ ring() {
     }'
 }
 
+# Kicks each of so many actors with a number.
+kick_all() {
+    awk -v actors="$1" -v number="$2" 'BEGIN { for (k = 0; k < actors; k++) print "r" k ".go kick " number }'
+}
+
 # Runs the ring over some injections, with as much fuel as there is.
 ring_run() {
     "$1" "$program" run "$work/ring.room" "$work/$2" --fuel 100000
@@ -50,7 +68,7 @@ ring_run() {
 measure() {
     local actors="$1" controllers="$2" model refused started ran whole run
     ring "$actors" "$controllers" >"$work/ring.room"
-    awk -v actors="$actors" 'BEGIN { for (k = 0; k < actors; k++) print "r" k ".go kick 7" }' >"$work/kicks"
+    kick_all "$actors" 7 >"$work/kicks"
     # A last line that is refused: all lines are read, and nothing runs.
     (cat "$work/kicks" && echo nothing) >"$work/faulty"
     : >"$work/empty"
@@ -72,6 +90,71 @@ compare() {
     peer_rate="$(ratio 36000000 "$(peer_best "${@:3}")" 0)"
     printf '%-8s %8s %18s %18s %8s\n' "$peer" "$threads" "$peer_rate" "${rates[threads]}" \
         "$(ratio "${rates[threads]}" "$peer_rate")"
+}
+
+# Makes the ring of 4,000 on so many controllers, each actor kicked with a number, and sets `took`,
+# the time of its whole run.
+run_whole() {
+    ring 4000 "$1" >"$work/ring.room"
+    kick_all 4000 "$2" >"$work/kicks"
+    took="$(ring_run best kicks)"
+}
+
+# Tells the ring made last, on so many controllers, beside the time that something else took (0 where
+# it isn't there), and what their ratio should be at most.
+tell_beside() {
+    local controllers="$1" name="$2" other="$3" mark="$4" messages
+    ring_run command kicks >"$work/journal" 2>/dev/null || true
+    messages="$(grep -c ' turn ' "$work/journal" || true)"
+    awk -v messages="$messages" -v controllers="$controllers" -v took="$took" -v name="$name" -v other="$other" \
+        -v mark="$mark" 'BEGIN {
+        theirs = other ? sprintf("%.1f", other / 1000) : "-"
+        ratio = other ? sprintf("%.2f", took / other) : "-"
+        above = (other && took > mark * other) ? " !" : ""
+        printf "%8d %11d %8.1f  %-30s %8s %6s %5.2f%s\n", messages, controllers, took / 1000, name, theirs,
+            ratio, mark, above
+    }'
+}
+
+# 100,000 messages on one controller, beside the same work in plain Rust.
+beside_plain() {
+    run_whole 1 1000
+    if ! command -v rustc >/dev/null ||
+        ! rustc -O --edition 2024 -o "$work/tokens" "$top/bench/peers/tokens.rs"; then
+        tell_beside 1 'rustc is not installed' 0 1
+        return
+    fi
+    tell_beside 1 'plain Rust' "$(best "$work/tokens" 4000 "$work/kicks" 100000)" 1
+    "$work/tokens" 4000 "$work/kicks" 100000 >"$work/plain"
+    cmp "$work/journal" "$work/plain" || echo 'plain Rust prints another journal'
+}
+
+# The least of five times that CAF tells for spawning and running the ring on four threads, in
+# microseconds.
+caf_spawns_and_runs() {
+    for _ in 1 2 3 4 5; do N=4000 "$work/ring_caf" --scheduler.max-threads=4; done |
+        sed -n 's/.* spawn \([0-9]*\) us, run \([0-9]*\) us.*/\1 \2/p' | awk '{ print $1 + $2 }' | sort -n | head -n 1
+}
+
+# The ring of 4,000 on four controllers, beside CAF.
+beside_caf() {
+    run_whole 4 7
+    if [ -x "$work/ring_caf" ]; then
+        tell_beside 4 'CAF, spawned and run' "$(caf_spawns_and_runs)" 2
+    else
+        tell_beside 4 'CAF is not installed' 0 2
+    fi
+}
+
+# 360,000 messages on four controllers, beside one.
+beside_one() {
+    local few many
+    run_whole 1 0
+    few="$took"
+    run_whole 1 22
+    many="$took"
+    run_whole 4 88
+    tell_beside 4 'as many on one controller' "$((few + 4 * (many - few)))" 0.6667
 }
 
 begin_measuring
@@ -105,3 +188,9 @@ if command -v erlc >/dev/null && erlc -o "$work" "$top/bench/peers/ring.erl"; th
 else
     echo 'Erlang is not installed'
 fi
+
+printf '%8s %11s %8s  %-30s %8s %6s %5s\n' messages controllers ms beside 'its ms' ratio mark
+beside_plain
+beside_caf
+beside_one
+tell_load

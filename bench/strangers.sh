@@ -22,8 +22,7 @@
 # that journals which a run printed, or which were converted, aren't converted to the same bytes; that what
 # a run printed isn't lawful, where its injections don't move the time on, or a view calls it no run; more
 # memory and more time than strangers/costs.rs says, which is 60 bytes for each byte that came in or went
-# out, 180 more for each byte of an action, and a second for each 100 KB, beyond what the smallest model of
-# as many controllers takes.
+# out and a second for each 100 KB, beyond what the smallest model of as many controllers takes.
 #
 # Each call is a process of its own. It is forked from one that has loaded the program and stopped just
 # before it begins (shims/measuring.c), and its files stand in memory where the system has /dev/shm: a call

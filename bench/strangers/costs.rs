@@ -99,6 +99,10 @@ const MOST_PLACES: u64 = 65_536;
 const MOST_SLOTS: u64 = 4_096;
 const MOST_NUMBERS: u64 = 4_096;
 
+/// The most bytes for each byte that came in or went out: 60 that are asked for, and what the allocator adds, which
+/// sets 24 aside where one is asked for.
+const OF_A_BYTE: u64 = 64;
+
 /// The most bytes that each of them takes, and a class, however little stands in it.
 const OF_A_CLASS: u64 = 2_100;
 const OF_A_PLACE: u64 = 80;
@@ -119,52 +123,34 @@ fn has_a_large_number_in_brackets(text: &[u8]) -> bool {
     false
 }
 
-/// What a model may take for what it stands for: a reference for slots, and for a place of each port; an attribute
-/// of a data class for its numbers.
+/// What a model may take for what it stands for: references, each in an actor of another one, for slots, and these
+/// for a place of each port; an attribute of a data class for its numbers.
 fn of_what_it_stands_for(model: &[u8]) -> u64 {
     let references = count_of(b"ActorRef", model);
-    let slots = if has_a_large_number_in_brackets(model) { MOST_SLOTS } else { MOST_SLOTS.min(references * references) };
+    let is_large = has_a_large_number_in_brackets(model);
+    let slots = if is_large { MOST_SLOTS } else { MOST_SLOTS.min(references.pow(3)) };
     let ports = count_of(b"Port", model) + count_of(b"SAP", model) + count_of(b"SPP", model);
-    let places = if slots == MOST_SLOTS { MOST_PLACES } else { MOST_PLACES.min(slots * ports) };
+    let places = if is_large { MOST_PLACES } else { MOST_PLACES.min(slots * ports) };
     let classes = count_of(b"ActorClass", model);
     let numbers = if count_of(b"DataClass", model) > 0 { MOST_NUMBERS * classes } else { 0 };
     classes * OF_A_CLASS + places * OF_A_PLACE + slots * OF_A_SLOT + numbers * OF_A_NUMBER
-}
-
-/// How many bytes of a model stand in quotes, as actions and guards do.
-fn quoted_bytes(text: &[u8]) -> u64 {
-    let mut count = 0;
-    let mut rest = text;
-    while !rest.is_empty() {
-        let Some(quote) = [&b"'''"[..], b"\""].into_iter().find(|quote| rest.starts_with(quote)) else {
-            rest = &rest[1..];
-            continue;
-        };
-        rest = &rest[quote.len()..];
-        let end = rest.windows(quote.len()).position(|window| window == quote).unwrap_or(rest.len());
-        count += end;
-        rest = &rest[(end + quote.len()).min(rest.len())..];
-    }
-    count as u64
 }
 
 fn count_of(word: &[u8], text: &[u8]) -> u64 {
     text.windows(word.len()).filter(|window| *window == word).count() as u64
 }
 
-/// Whether an answer took more memory than 60 bytes for each byte that came in or went out, and 180 more for each
-/// byte of an action, or more time than a second for each 100 KB, beyond what the smallest model of as many
-/// controllers takes: a run has a mail between each two of these, however little is sent. Classes that extend
-/// others stand for the text of these, and a text may stand for more than it names. The time of a run depends on its
-/// actions.
+/// Whether an answer took more memory than 60 bytes for each byte that came in or went out, or more time than a
+/// second for each 100 KB, beyond what the smallest model of as many controllers takes: a run has a mail between each
+/// two of these, however little is sent. Classes that extend others stand for the text of these, and a text may stand
+/// for more than it names. The time of a run depends on its actions.
 pub fn judge_cost(word: &str, answer: &Answer, named: &Named, limits: &Limits) -> Option<String> {
     let given = named.model.len() + named.injections.len() + named.journals.len();
     let copies = 1 + count_of(b"extends", named.model);
     let bytes = (given + answer.out.len() + named.tree.len()) as u64 * copies;
-    let of_actions = 180 * quoted_bytes(named.model) * copies;
     let controllers = controllers_of(if word == "run" { &answer.out } else { named.journals });
     let least = limits.least(word, controllers) + SPARE;
-    if answer.most > 60 * bytes + of_actions + of_what_it_stands_for(named.model) + least {
+    if answer.most > OF_A_BYTE * bytes + of_what_it_stands_for(named.model) + least {
         return Some(format!("{} bytes of memory of {word} for {bytes} bytes", answer.most));
     }
     let most = limits.slower * (bytes * 10 + limits.microseconds);

@@ -10,7 +10,9 @@ pub mod action_check;
 pub use crate::action_check::{ServiceNames, check_action, check_cond};
 pub use action_parse::{parse_action, parse_cond};
 pub use action_program::{
-    ActionFault, Argument, BinaryOp, Bound, BoundBranch, BoundExpr, BoundIf, BoundSend, BoundStep,
-    BoundStmt, Branch, Effects, Expr, FrameVerb, IfStmt, Moment, Program, SendStmt, Step, Stmt,
-    UnaryOp, Vars, eval, test,
+    ActionFault, Argument, AssignStmt, BinaryOp, Bound, BoundAssign, BoundBranch, BoundChain,
+    BoundExpr, BoundFrame, BoundIf, BoundImport, BoundRepeat, BoundSend, BoundStep, BoundStmt,
+    BoundUnary, Branch, Chain, Effects, Expr, FrameStmt, FrameVerb, IfStmt, ImportStmt, Moment,
+    Path, Program, RegisterStmt, RepeatStmt, SendStmt, Step, Stmt, Unary, UnaryOp, Vars,
+    WithdrawStmt, eval, test,
 };

@@ -47,7 +47,8 @@ fn shallow_program(
     ensures { Gives program_view result
         (to_end (stmts_at (statement 64)) (map (token_value bytes.now) tokens.now)) }
 {
-    let (statements, rest) = statements(alloc, DEPTH, Rest { bytes, tokens })?;
+    let (mut statements, rest) = statements(alloc, DEPTH, Rest { bytes, tokens })?;
+    statements.shrink_to_fit();
     match rest.tokens {
         [] => Ok(Program { statements }),
         [_, ..] => Err(ReadFault::Syntax(place(rest))),

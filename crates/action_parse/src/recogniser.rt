@@ -14,7 +14,7 @@ use crate::action_reading::{
 };
 use crate::goal::Goal;
 use room_lexer::Mark;
-use room_tokens::action_tokens::{ActionWord, Kind, Rest};
+use room_tokens::action_tokens::{ActionToken, ActionWord, Rest};
 use room_tokens::{ReadFault, comes, comes_word, name, next, number, place, skip, take_mark};
 use std::alloc::{AllocError, Global};
 
@@ -141,9 +141,9 @@ fn operand_here<'a>(alloc: Global, rest: Rest<'a>) -> Result<(&'static [Goal], R
     let Some((token, after)) = next(rest) else {
         return flat_operand(alloc, rest);
     };
-    match token.kind {
-        Kind::Mark(Mark::OpenParen) => Ok((&IN_PARENS, after)),
-        Kind::Mark(Mark::Minus | Mark::Bang) => Ok((&OPERAND, after)),
+    match token {
+        ActionToken::Mark(_, Mark::OpenParen) => Ok((&IN_PARENS, after)),
+        ActionToken::Mark(_, Mark::Minus | Mark::Bang) => Ok((&OPERAND, after)),
         _ => flat_operand(alloc, rest),
     }
 }
@@ -225,11 +225,11 @@ fn statements<'a>(alloc: Global, rest: Rest<'a>) -> Result<(&'static [Goal], Res
     let Some((token, after)) = next(rest) else {
         return Ok((&NOTHING, rest));
     };
-    match token.kind {
-        Kind::Mark(Mark::CloseBrace) => Ok((&NOTHING, rest)),
-        Kind::Mark(Mark::Semicolon) => Ok((&STATEMENTS, after)),
-        Kind::Name => named(alloc, rest),
-        Kind::Word(word) => worded(alloc, word, after),
+    match token {
+        ActionToken::Mark(_, Mark::CloseBrace) => Ok((&NOTHING, rest)),
+        ActionToken::Mark(_, Mark::Semicolon) => Ok((&STATEMENTS, after)),
+        ActionToken::Name { .. } => named(alloc, rest),
+        ActionToken::Word(_, word) => worded(alloc, word, after),
         _ => Err(ReadFault::Syntax(place(rest))),
     }
 }

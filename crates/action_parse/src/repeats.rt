@@ -27,19 +27,19 @@ fn stmt_repeats(statement: &Stmt, most: u8) -> bool
 {
     match statement {
         Stmt::If(choice) => choice_repeats(choice, most),
-        Stmt::Repeat { times, body } => {
-            *times <= MOST_TIMES && most > 0 && repeats_within(body, most - 1)
+        Stmt::Repeat(repeat) => {
+            repeat.times <= MOST_TIMES && most > 0 && repeats_within(&repeat.body, most - 1)
         }
         Stmt::Empty
-        | Stmt::Assign { .. }
+        | Stmt::Assign(_)
         | Stmt::Send(_)
         | Stmt::Defer
         | Stmt::Recall
         | Stmt::RecallAll
-        | Stmt::Frame { .. }
-        | Stmt::Import { .. }
-        | Stmt::Register { .. }
-        | Stmt::Withdraw { .. } => true,
+        | Stmt::Frame(_)
+        | Stmt::Import(_)
+        | Stmt::Register(_)
+        | Stmt::Withdraw(_) => true,
     }
 }
 

@@ -7,14 +7,19 @@ use Rattle.action_program.specs.declared.operator.BinaryOp.{BinaryOp}
 use Rattle.action_program.specs.declared.operator.FrameVerb.{FrameVerb}
 use Rattle.action_program.specs.declared.program.Expr.{Expr}
 use Rattle.action_program.specs.declared.program.Expr.TheFolds.{fold-Expr, fold-Step}
-use Rattle.action_program.specs.declared.program.Expr.TheOpen.{Expr-F, Step-F}
+use Rattle.action_program.specs.declared.program.Expr.TheOpen.{Expr-F, Chain-F, Step-F, Unary-F}
 use Rattle.action_program.specs.declared.program.Step.{Step}
 use Rattle.action_program.specs.declared.program.Stmt.{Stmt}
 use Rattle.action_program.specs.declared.program.Stmt.TheFolds.{fold-Stmt, fold-Branch, fold-IfStmt}
-use Rattle.action_program.specs.declared.program.Stmt.TheOpen.{Stmt-F, Branch-F, IfStmt-F}
+use Rattle.action_program.specs.declared.program.Stmt.TheOpen.{Stmt-F, Branch-F, IfStmt-F, RepeatStmt-F}
 use Rattle.action_program.specs.declared.program.Branch.{Branch}
 use Rattle.action_program.specs.declared.program.IfStmt.{IfStmt}
+use Rattle.action_program.specs.declared.program.Path.{Path}
+use Rattle.action_program.specs.declared.program.Path.TheVariants as paths
+use Rattle.action_program.specs.declared.program.AssignStmt.{AssignStmt}
 use Rattle.action_program.specs.declared.program.SendStmt.{SendStmt}
+use Rattle.action_program.specs.declared.program.FrameStmt.{FrameStmt}
+use Rattle.action_program.specs.declared.program.ImportStmt.{ImportStmt}
 use Rattle.action_program.specs.declared.program.Program.{Program}
 
 -- ---- expressions
@@ -42,28 +47,40 @@ abbrev pub steps_of : List (BinaryOp × ExprTree) → Steps
 steps_of [] = no_step
 steps_of (s ∷ ss) = a_step s.0 s.1 (steps_of ss)
 
-abbrev pub expr_layer : Expr-F ExprTree (BinaryOp × ExprTree) → ExprTree
+abbrev pub expr_layer : Expr-F ExprTree ExprTree (BinaryOp × ExprTree) ExprTree → ExprTree
 expr_layer (Expr-F.Number n) = a_number n
 expr_layer Expr-F.True = the_true
 expr_layer Expr-F.False = the_false
 expr_layer (Expr-F.Data k) = a_datum k
 expr_layer Expr-F.Place = the_place
 expr_layer Expr-F.Me = the_self
-expr_layer (Expr-F.Attribute path) = an_attribute path.items
+expr_layer (Expr-F.Attribute name) = an_attribute (name.value ∷ [])
+expr_layer (Expr-F.Within path) = an_attribute (path.value.items)
 expr_layer (Expr-F.Paren e) = a_paren e.value
-expr_layer (Expr-F.Unary op e) = a_unary op e.value
-expr_layer (Expr-F.Chain e steps) = a_chain e.value (steps_of steps.items)
+expr_layer (Expr-F.Unary e) = e.value
+expr_layer (Expr-F.Chain e) = e.value
 
-abbrev pub step_layer : Step-F ExprTree (BinaryOp × ExprTree) → BinaryOp × ExprTree
+abbrev pub chain_layer : Chain-F ExprTree ExprTree (BinaryOp × ExprTree) ExprTree → ExprTree
+chain_layer e = a_chain e.first (steps_of e.steps.items)
+
+abbrev pub step_layer : Step-F ExprTree ExprTree (BinaryOp × ExprTree) ExprTree → BinaryOp × ExprTree
 step_layer s = (s.op, s.operand)
+
+abbrev pub unary_layer : Unary-F ExprTree ExprTree (BinaryOp × ExprTree) ExprTree → ExprTree
+unary_layer e = a_unary e.op e.operand
 
 -- The tree of an expression.
 abbrev pub expr_view : Expr → ExprTree
-expr_view = fold-Expr ExprTree (BinaryOp × ExprTree) expr_layer step_layer
+expr_view = fold-Expr ExprTree ExprTree (BinaryOp × ExprTree) ExprTree expr_layer chain_layer step_layer unary_layer
 
 -- An operator and the tree of its right side.
 abbrev pub step_view : Step → BinaryOp × ExprTree
-step_view = fold-Step ExprTree (BinaryOp × ExprTree) expr_layer step_layer
+step_view = fold-Step ExprTree ExprTree (BinaryOp × ExprTree) ExprTree expr_layer chain_layer step_layer unary_layer
+
+-- The parts of a path.
+abbrev pub path_view : Path → List (List ℕ)
+path_view (paths.Attribute name) = name ∷ []
+path_view (paths.Within parts) = parts.items
 
 -- ---- statements
 
@@ -118,6 +135,9 @@ abbrev pub otherwise_of : Option (Vec StmtTree) → Otherwise
 otherwise_of None = no_else
 otherwise_of (Some body) = an_else (stmts_of body.items)
 
+abbrev pub assign_view : AssignStmt → StmtTree
+assign_view s = assign (path_view s.attribute) (expr_view s.value)
+
 abbrev pub send_view : SendStmt → SendTree
 send_view s = record {
   port = s.port;
@@ -127,37 +147,46 @@ send_view s = record {
   prio = s.prio;
 }
 
-abbrev pub stmt_layer : Stmt-F StmtTree (ExprTree × Stmts) (Branches × Otherwise) → StmtTree
+abbrev pub frame_view : FrameStmt → StmtTree
+frame_view s = frame s.verb s.reference (option_map expr_view s.index)
+
+abbrev pub import_view : ImportStmt → StmtTree
+import_view s = import_at s.reference (option_map expr_view s.index) (expr_view s.id)
+
+abbrev pub stmt_layer : Stmt-F StmtTree (ExprTree × Stmts) (Branches × Otherwise) StmtTree → StmtTree
 stmt_layer Stmt-F.Empty = empty
-stmt_layer (Stmt-F.Assign attribute value) = assign attribute.items (expr_view value)
-stmt_layer (Stmt-F.If c) = choose c.0 c.1
-stmt_layer (Stmt-F.Repeat times body) = repeat times (stmts_of body.items)
-stmt_layer (Stmt-F.Send s) = send (send_view s)
+stmt_layer (Stmt-F.Assign s) = assign_view s.value
+stmt_layer (Stmt-F.If c) = choose c.value.0 c.value.1
+stmt_layer (Stmt-F.Repeat s) = s.value
+stmt_layer (Stmt-F.Send s) = send (send_view s.value)
 stmt_layer Stmt-F.Defer = defer
 stmt_layer Stmt-F.Recall = recall
 stmt_layer Stmt-F.RecallAll = recall_all
-stmt_layer (Stmt-F.Frame verb reference index) = frame verb reference (option_map expr_view index)
-stmt_layer (Stmt-F.Import reference index id) = import_at reference (option_map expr_view index) (expr_view id)
-stmt_layer (Stmt-F.Register port name) = register port name
-stmt_layer (Stmt-F.Withdraw port) = withdraw port
+stmt_layer (Stmt-F.Frame s) = frame_view s.value
+stmt_layer (Stmt-F.Import s) = import_view s.value
+stmt_layer (Stmt-F.Register s) = register s.value.port s.value.name
+stmt_layer (Stmt-F.Withdraw s) = withdraw s.value.port
 
-abbrev pub if_layer : IfStmt-F StmtTree (ExprTree × Stmts) (Branches × Otherwise) → Branches × Otherwise
+abbrev pub branch_layer : Branch-F StmtTree (ExprTree × Stmts) (Branches × Otherwise) StmtTree → ExprTree × Stmts
+branch_layer b = (expr_view b.condition, stmts_of b.body.items)
+
+abbrev pub if_layer : IfStmt-F StmtTree (ExprTree × Stmts) (Branches × Otherwise) StmtTree → Branches × Otherwise
 if_layer c = (branches_of c.branches.items, otherwise_of c.otherwise)
 
-abbrev pub branch_layer : Branch-F StmtTree (ExprTree × Stmts) (Branches × Otherwise) → ExprTree × Stmts
-branch_layer b = (expr_view b.condition, stmts_of b.body.items)
+abbrev pub repeat_layer : RepeatStmt-F StmtTree (ExprTree × Stmts) (Branches × Otherwise) StmtTree → StmtTree
+repeat_layer s = repeat s.times (stmts_of s.body.items)
 
 -- The tree of a statement.
 abbrev pub stmt_view : Stmt → StmtTree
-stmt_view = fold-Stmt StmtTree (ExprTree × Stmts) (Branches × Otherwise) stmt_layer branch_layer if_layer
+stmt_view = fold-Stmt StmtTree (ExprTree × Stmts) (Branches × Otherwise) StmtTree stmt_layer branch_layer if_layer repeat_layer
 
 -- Conditions with their blocks, and the last block.
 abbrev pub if_view : IfStmt → Branches × Otherwise
-if_view = fold-IfStmt StmtTree (ExprTree × Stmts) (Branches × Otherwise) stmt_layer branch_layer if_layer
+if_view = fold-IfStmt StmtTree (ExprTree × Stmts) (Branches × Otherwise) StmtTree stmt_layer branch_layer if_layer repeat_layer
 
 -- A condition and its block.
 abbrev pub branch_view : Branch → ExprTree × Stmts
-branch_view = fold-Branch StmtTree (ExprTree × Stmts) (Branches × Otherwise) stmt_layer branch_layer if_layer
+branch_view = fold-Branch StmtTree (ExprTree × Stmts) (Branches × Otherwise) StmtTree stmt_layer branch_layer if_layer repeat_layer
 
 -- A last block, if there is one.
 abbrev pub else_view : Option (Vec Stmt) → Otherwise

@@ -7,14 +7,17 @@ use Rattle.action_program.specs.declared.operator.BinaryOp.{BinaryOp}
 use Rattle.action_program.specs.declared.operator.FrameVerb.{FrameVerb}
 use Rattle.action_program.specs.declared.bound.BoundExpr.{BoundExpr}
 use Rattle.action_program.specs.declared.bound.BoundExpr.TheFolds.{fold-BoundExpr, fold-BoundStep}
-use Rattle.action_program.specs.declared.bound.BoundExpr.TheOpen.{BoundExpr-F, BoundStep-F}
+use Rattle.action_program.specs.declared.bound.BoundExpr.TheOpen.{BoundExpr-F, BoundStep-F, BoundUnary-F, BoundChain-F}
 use Rattle.action_program.specs.declared.bound.BoundStep.{BoundStep}
 use Rattle.action_program.specs.declared.bound.BoundStmt.{BoundStmt}
 use Rattle.action_program.specs.declared.bound.BoundStmt.TheFolds.{fold-BoundStmt, fold-BoundBranch, fold-BoundIf}
-use Rattle.action_program.specs.declared.bound.BoundStmt.TheOpen.{BoundStmt-F, BoundBranch-F, BoundIf-F}
+use Rattle.action_program.specs.declared.bound.BoundStmt.TheOpen.{BoundStmt-F, BoundBranch-F, BoundIf-F, BoundRepeat-F}
 use Rattle.action_program.specs.declared.bound.BoundBranch.{BoundBranch}
 use Rattle.action_program.specs.declared.bound.BoundIf.{BoundIf}
 use Rattle.action_program.specs.declared.bound.BoundSend.{BoundSend}
+use Rattle.action_program.specs.declared.bound.BoundAssign.{BoundAssign}
+use Rattle.action_program.specs.declared.bound.BoundFrame.{BoundFrame}
+use Rattle.action_program.specs.declared.bound.BoundImport.{BoundImport}
 use Rattle.action_program.specs.declared.bound.Argument.{Argument}
 use Rattle.action_program.specs.declared.bound.Bound.{Bound}
 
@@ -40,25 +43,31 @@ abbrev pub steps_of : List (BinaryOp × ExprTree) → Steps
 steps_of [] = no_step
 steps_of (s ∷ ss) = a_step s.0 s.1 (steps_of ss)
 
-abbrev pub expr_layer : BoundExpr-F ExprTree (BinaryOp × ExprTree) → ExprTree
+abbrev pub expr_layer : BoundExpr-F ExprTree ExprTree (BinaryOp × ExprTree) ExprTree → ExprTree
 expr_layer (BoundExpr-F.Number n) = a_number n
 expr_layer (BoundExpr-F.Data k) = a_datum k
 expr_layer BoundExpr-F.Place = the_place
 expr_layer BoundExpr-F.Me = the_self
 expr_layer (BoundExpr-F.Attribute k) = an_attribute k
-expr_layer (BoundExpr-F.Unary op e) = a_unary op e.value
-expr_layer (BoundExpr-F.Chain e steps) = a_chain e.value (steps_of steps.items)
+expr_layer (BoundExpr-F.Unary e) = e.value
+expr_layer (BoundExpr-F.Chain e) = e.value
 
-abbrev pub step_layer : BoundStep-F ExprTree (BinaryOp × ExprTree) → BinaryOp × ExprTree
+abbrev pub chain_layer : BoundChain-F ExprTree ExprTree (BinaryOp × ExprTree) ExprTree → ExprTree
+chain_layer e = a_chain e.first (steps_of e.steps.items)
+
+abbrev pub step_layer : BoundStep-F ExprTree ExprTree (BinaryOp × ExprTree) ExprTree → BinaryOp × ExprTree
 step_layer s = (s.op, s.operand)
+
+abbrev pub unary_layer : BoundUnary-F ExprTree ExprTree (BinaryOp × ExprTree) ExprTree → ExprTree
+unary_layer e = a_unary e.op e.operand
 
 -- The tree of an expression.
 abbrev pub expr_view : BoundExpr → ExprTree
-expr_view = fold-BoundExpr ExprTree (BinaryOp × ExprTree) expr_layer step_layer
+expr_view = fold-BoundExpr ExprTree ExprTree (BinaryOp × ExprTree) ExprTree expr_layer chain_layer step_layer unary_layer
 
 -- An operator and the tree of its right side.
 abbrev pub step_view : BoundStep → BinaryOp × ExprTree
-step_view = fold-BoundStep ExprTree (BinaryOp × ExprTree) expr_layer step_layer
+step_view = fold-BoundStep ExprTree ExprTree (BinaryOp × ExprTree) ExprTree expr_layer chain_layer step_layer unary_layer
 
 -- ---- statements
 
@@ -121,37 +130,49 @@ send_view s = record {
   prio = s.prio;
 }
 
-abbrev pub stmt_layer : BoundStmt-F StmtTree (ExprTree × Stmts) (Branches × Stmts) → StmtTree
+abbrev pub assign_view : BoundAssign → StmtTree
+assign_view s = assign s.attribute s.kind (expr_view s.value)
+
+abbrev pub frame_view : BoundFrame → StmtTree
+frame_view s = frame s.verb s.reference (expr_view s.index)
+
+abbrev pub import_view : BoundImport → StmtTree
+import_view s = import_at s.reference (expr_view s.index) (expr_view s.id)
+
+abbrev pub stmt_layer : BoundStmt-F StmtTree (ExprTree × Stmts) (Branches × Stmts) StmtTree → StmtTree
 stmt_layer BoundStmt-F.Empty = empty
-stmt_layer (BoundStmt-F.Assign attribute kind value) = assign attribute kind (expr_view value)
-stmt_layer (BoundStmt-F.If c) = choose c.0 c.1
-stmt_layer (BoundStmt-F.Repeat times body) = repeat times (stmts_of body.items)
-stmt_layer (BoundStmt-F.Send s) = send (send_view s)
+stmt_layer (BoundStmt-F.Assign s) = assign_view s.value
+stmt_layer (BoundStmt-F.If c) = choose c.value.0 c.value.1
+stmt_layer (BoundStmt-F.Repeat s) = s.value
+stmt_layer (BoundStmt-F.Send s) = send (send_view s.value)
 stmt_layer BoundStmt-F.Defer = defer
 stmt_layer BoundStmt-F.Recall = recall
 stmt_layer BoundStmt-F.RecallAll = recall_all
-stmt_layer (BoundStmt-F.Frame verb reference index) = frame verb reference (expr_view index)
-stmt_layer (BoundStmt-F.Import reference index id) = import_at reference (expr_view index) (expr_view id)
+stmt_layer (BoundStmt-F.Frame s) = frame_view s.value
+stmt_layer (BoundStmt-F.Import s) = import_view s.value
 stmt_layer (BoundStmt-F.Register port name) = register port name
 stmt_layer (BoundStmt-F.Withdraw port) = withdraw port
 
-abbrev pub branch_layer : BoundBranch-F StmtTree (ExprTree × Stmts) (Branches × Stmts) → ExprTree × Stmts
+abbrev pub branch_layer : BoundBranch-F StmtTree (ExprTree × Stmts) (Branches × Stmts) StmtTree → ExprTree × Stmts
 branch_layer b = (expr_view b.condition, stmts_of b.body.items)
 
-abbrev pub if_layer : BoundIf-F StmtTree (ExprTree × Stmts) (Branches × Stmts) → Branches × Stmts
+abbrev pub if_layer : BoundIf-F StmtTree (ExprTree × Stmts) (Branches × Stmts) StmtTree → Branches × Stmts
 if_layer c = (branches_of c.branches.items, stmts_of c.otherwise.items)
+
+abbrev pub repeat_layer : BoundRepeat-F StmtTree (ExprTree × Stmts) (Branches × Stmts) StmtTree → StmtTree
+repeat_layer s = repeat s.times (stmts_of s.body.items)
 
 -- The tree of a statement.
 abbrev pub stmt_view : BoundStmt → StmtTree
-stmt_view = fold-BoundStmt StmtTree (ExprTree × Stmts) (Branches × Stmts) stmt_layer branch_layer if_layer
+stmt_view = fold-BoundStmt StmtTree (ExprTree × Stmts) (Branches × Stmts) StmtTree stmt_layer branch_layer if_layer repeat_layer
 
 -- A condition and its block.
 abbrev pub branch_view : BoundBranch → ExprTree × Stmts
-branch_view = fold-BoundBranch StmtTree (ExprTree × Stmts) (Branches × Stmts) stmt_layer branch_layer if_layer
+branch_view = fold-BoundBranch StmtTree (ExprTree × Stmts) (Branches × Stmts) StmtTree stmt_layer branch_layer if_layer repeat_layer
 
 -- Conditions with their blocks, and the last block.
 abbrev pub if_view : BoundIf → Branches × Stmts
-if_view = fold-BoundIf StmtTree (ExprTree × Stmts) (Branches × Stmts) stmt_layer branch_layer if_layer
+if_view = fold-BoundIf StmtTree (ExprTree × Stmts) (Branches × Stmts) StmtTree stmt_layer branch_layer if_layer repeat_layer
 
 -- The tree of a program.
 abbrev pub program_view : Bound → Stmts

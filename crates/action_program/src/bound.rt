@@ -1,7 +1,8 @@
 //! Programs whose names are numbers.
 //!
 //! A chain of operators of one level, a list of statements and a chain of `else if` are vectors
-//! here, so that only what nests makes a tree deep.
+//! here, so that only what nests makes a tree deep. A statement and an expression are two words, and
+//! what takes more stands in a box, so that a program takes room in proportion to its text.
 
 use crate::operator::{BinaryOp, FrameVerb, UnaryOp};
 use room_kinds::{NumberType, Priority};
@@ -25,9 +26,26 @@ pub enum BoundExpr {
     /// The number of the actor.
     Me,
     Attribute(u32),
-    Unary(UnaryOp, Box<BoundExpr>),
-    /// Operators of one level with their right sides, from left to right.
-    Chain(Box<BoundExpr>, Vec<BoundStep>),
+    Unary(Box<BoundUnary>),
+    Chain(Box<BoundChain>),
+}
+
+const _: () = prove!(size_of::<BoundExpr>() <= 16);
+
+/// An operator before a value.
+#[cycle(bound_expression)]
+#[derive(Drop, Debug)]
+pub struct BoundUnary {
+    pub op: UnaryOp,
+    pub operand: BoundExpr,
+}
+
+/// Operators of one level with their right sides, from left to right, behind their first operand.
+#[cycle(bound_expression)]
+#[derive(Drop, Debug)]
+pub struct BoundChain {
+    pub first: BoundExpr,
+    pub steps: Vec<BoundStep>,
 }
 
 /// An operator and its right side.
@@ -43,37 +61,51 @@ pub struct BoundStep {
 #[derive(Drop, Debug)]
 pub enum BoundStmt {
     Empty,
-    Assign {
-        attribute: u32,
-        kind: NumberType,
-        value: BoundExpr,
-    },
-    If(BoundIf),
-    Repeat {
-        times: u64,
-        body: Vec<BoundStmt>,
-    },
-    Send(BoundSend),
+    Assign(Box<BoundAssign>),
+    If(Box<BoundIf>),
+    Repeat(Box<BoundRepeat>),
+    Send(Box<BoundSend>),
     Defer,
     Recall,
     RecallAll,
-    Frame {
-        verb: FrameVerb,
-        reference: u16,
-        index: BoundExpr,
-    },
-    Import {
-        reference: u16,
-        index: BoundExpr,
-        id: BoundExpr,
-    },
-    Register {
-        port: u16,
-        name: u32,
-    },
-    Withdraw {
-        port: u16,
-    },
+    Frame(Box<BoundFrame>),
+    Import(Box<BoundImport>),
+    Register { port: u16, name: u32 },
+    Withdraw { port: u16 },
+}
+
+const _: () = prove!(size_of::<BoundStmt>() <= 16);
+
+/// The value that an attribute gets, reduced to its type.
+#[derive(Drop, Debug)]
+pub struct BoundAssign {
+    pub attribute: u32,
+    pub kind: NumberType,
+    pub value: BoundExpr,
+}
+
+/// A block that is run so often.
+#[cycle(bound_statement)]
+#[derive(Drop, Debug)]
+pub struct BoundRepeat {
+    pub times: u64,
+    pub body: Vec<BoundStmt>,
+}
+
+/// What is asked of the reference with this number.
+#[derive(Drop, Debug)]
+pub struct BoundFrame {
+    pub verb: FrameVerb,
+    pub reference: u16,
+    pub index: BoundExpr,
+}
+
+/// The import of an actor into the reference with this number.
+#[derive(Drop, Debug)]
+pub struct BoundImport {
+    pub reference: u16,
+    pub index: BoundExpr,
+    pub id: BoundExpr,
 }
 
 /// The block of the first branch whose condition isn't 0, else the last block.

@@ -64,7 +64,7 @@ fn rest(x: i64, y: i64) -> i64
 }
 
 #[tactic(auto, using(std::proofs::lemmas::Int::wraps))]
-fn unary(op: UnaryOp, x: i64) -> i64
+fn unary_value(op: UnaryOp, x: i64) -> i64
     ensures { result ≡ unary_value op x }
 {
     match op {
@@ -74,7 +74,7 @@ fn unary(op: UnaryOp, x: i64) -> i64
 }
 
 #[tactic(auto, using(std::proofs::lemmas::Int::wraps))]
-fn binary(op: BinaryOp, x: i64, y: i64) -> i64
+fn binary_value(op: BinaryOp, x: i64, y: i64) -> i64
     ensures { result ≡ binary_value op x y }
 {
     match op {
@@ -125,13 +125,13 @@ pub fn value(e: &BoundExpr, vars: &Vars, at: &Moment, notes: &mut Notes) -> Resu
         BoundExpr::Place => Ok(place(at)),
         BoundExpr::Me => Ok(own_number(at.me.slot.0, at.me.generation.0)),
         BoundExpr::Attribute(k) => Ok(vars.number(*k)),
-        BoundExpr::Unary(op, operand) => {
-            let x = value(operand, vars, at, notes)?;
-            Ok(unary(*op, x))
+        BoundExpr::Unary(unary) => {
+            let x = value(&unary.operand, vars, at, notes)?;
+            Ok(unary_value(unary.op, x))
         }
-        BoundExpr::Chain(first, steps) => {
-            let x = value(first, vars, at, notes)?;
-            value_behind(steps, vars, at, x, notes)
+        BoundExpr::Chain(chain) => {
+            let x = value(&chain.first, vars, at, notes)?;
+            value_behind(&chain.steps, vars, at, x, notes)
         }
     }
 }
@@ -152,7 +152,7 @@ fn value_behind(
     for step in steps {
         let y = value(&step.operand, vars, at, notes)?;
         note_zero(step.op, y, notes)?;
-        x = binary(step.op, x, y);
+        x = binary_value(step.op, x, y);
     }
     Ok(x)
 }

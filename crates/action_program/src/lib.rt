@@ -15,12 +15,16 @@ pub mod program_copies;
 mod running;
 
 pub use bound::{
-    Argument, Bound, BoundBranch, BoundExpr, BoundIf, BoundSend, BoundStep, BoundStmt,
+    Argument, Bound, BoundAssign, BoundBranch, BoundChain, BoundExpr, BoundFrame, BoundIf,
+    BoundImport, BoundRepeat, BoundSend, BoundStep, BoundStmt, BoundUnary,
 };
 pub use evaluation::test;
 pub use fault::ActionFault;
 pub use moment::{Effects, Moment, Vars};
 pub use operator::{BinaryOp, FrameVerb, UnaryOp};
-pub use program::{Branch, Expr, IfStmt, Program, SendStmt, Step, Stmt};
+pub use program::{
+    AssignStmt, Branch, Chain, Expr, FrameStmt, IfStmt, ImportStmt, Path, Program, RegisterStmt,
+    RepeatStmt, SendStmt, Step, Stmt, Unary, WithdrawStmt,
+};
 pub use program_copies::{copy_guard, copy_program};
 pub use running::eval;

@@ -1,13 +1,15 @@
 //! Running a program.
 ghost use Rattle.std.specs.Prelude.{◌≡◌, ◌++◌, [], ◌∷◌, IfOk, OnOk, map, option_map, length, ◌≤◌};
-ghost use Rattle.action_program.specs.Numbered.{assign, choose, frame, import_at, expr_view, stmt_view, if_view, send_view, argument_view, stmts_of, program_view};
+ghost use Rattle.action_program.specs.Numbered.{assign_view, choose, frame_view, import_view, expr_view, stmt_view, if_view, send_view, argument_view, stmts_of, program_view};
 ghost use Rattle.action_program.specs.Meaning.{value_of, notes_of, carried, payload_of, argument_notes, place_notes, send_command, send_notes, frame_command, ran, asked, noted, assigned, times, run, run_all};
 
-use crate::bound::{Argument, Bound, BoundExpr, BoundIf, BoundSend, BoundStmt};
+use crate::bound::{
+    Argument, Bound, BoundAssign, BoundExpr, BoundFrame, BoundIf, BoundImport, BoundSend, BoundStmt,
+};
 use crate::evaluation::{test, value};
 use crate::moment::{Effects, Moment, Vars};
 use crate::operator::FrameVerb;
-use room_kinds::{Command, FrameCommand, NameCommand, Notes, NumberType, Payload};
+use room_kinds::{Command, FrameCommand, NameCommand, Notes, Payload};
 use std::alloc::{AllocError, Global};
 
 /// The most numbers that a message carries.
@@ -101,49 +103,36 @@ fn send(
 }
 
 fn assign(
-    attribute: u32,
-    kind: NumberType,
-    e: &BoundExpr,
+    s: &BoundAssign,
     vars: &mut Vars,
     at: &Moment,
     out: &mut Effects,
 ) -> Result<(), AllocError>
-    ensures { OnOk result (ran vars.new out.new ≡ run (assign attribute kind (expr_view e.now)) at.now (ran vars.old out.old)) }
+    ensures { OnOk result (ran vars.new out.new ≡ run (assign_view s.now) at.now (ran vars.old out.old)) }
 {
-    let x = value(e, vars, at, &mut out.notes)?;
-    vars.write(attribute, kind.reduce(x));
+    let x = value(&s.value, vars, at, &mut out.notes)?;
+    vars.write(s.attribute, s.kind.reduce(x));
     Ok(())
 }
 
-fn frame(
-    verb: FrameVerb,
-    reference: u16,
-    index: &BoundExpr,
-    vars: &Vars,
-    at: &Moment,
-    out: &mut Effects,
-) -> Result<(), AllocError>
-    ensures { OnOk result (ran vars.now out.new ≡ run (frame verb reference (expr_view index.now)) at.now (ran vars.now out.old)) }
+fn frame(s: &BoundFrame, vars: &Vars, at: &Moment, out: &mut Effects) -> Result<(), AllocError>
+    ensures { OnOk result (ran vars.now out.new ≡ run (frame_view s.now) at.now (ran vars.now out.old)) }
 {
-    let index = value(index, vars, at, &mut out.notes)?;
-    ask(Command::Frame(frame_command(verb, reference, index)), out)
+    let index = value(&s.index, vars, at, &mut out.notes)?;
+    ask(
+        Command::Frame(frame_command(s.verb, s.reference, index)),
+        out,
+    )
 }
 
-fn import(
-    reference: u16,
-    index: &BoundExpr,
-    id: &BoundExpr,
-    vars: &Vars,
-    at: &Moment,
-    out: &mut Effects,
-) -> Result<(), AllocError>
-    ensures { OnOk result (ran vars.now out.new ≡ run (import_at reference (expr_view index.now) (expr_view id.now)) at.now (ran vars.now out.old)) }
+fn import(s: &BoundImport, vars: &Vars, at: &Moment, out: &mut Effects) -> Result<(), AllocError>
+    ensures { OnOk result (ran vars.now out.new ≡ run (import_view s.now) at.now (ran vars.now out.old)) }
 {
-    let index = value(index, vars, at, &mut out.notes)?;
-    let id = value(id, vars, at, &mut out.notes)?;
+    let index = value(&s.index, vars, at, &mut out.notes)?;
+    let id = value(&s.id, vars, at, &mut out.notes)?;
     ask(
         Command::Frame(FrameCommand::Import {
-            reference,
+            reference: s.reference,
             index,
             id,
         }),
@@ -163,27 +152,15 @@ fn run(
 {
     match s {
         BoundStmt::Empty => Ok(()),
-        BoundStmt::Assign {
-            attribute,
-            kind,
-            value,
-        } => assign(*attribute, *kind, value, vars, at, out),
+        BoundStmt::Assign(s) => assign(s, vars, at, out),
         BoundStmt::If(choice) => choose(alloc, choice, vars, at, out),
-        BoundStmt::Repeat { times, body } => repeat(alloc, *times, body, vars, at, out),
+        BoundStmt::Repeat(s) => repeat(alloc, s.times, &s.body, vars, at, out),
         BoundStmt::Send(s) => send(alloc, s, vars, at, out),
         BoundStmt::Defer => ask(Command::Defer, out),
         BoundStmt::Recall => ask(Command::Recall, out),
         BoundStmt::RecallAll => ask(Command::RecallAll, out),
-        BoundStmt::Frame {
-            verb,
-            reference,
-            index,
-        } => frame(*verb, *reference, index, vars, at, out),
-        BoundStmt::Import {
-            reference,
-            index,
-            id,
-        } => import(*reference, index, id, vars, at, out),
+        BoundStmt::Frame(s) => frame(s, vars, at, out),
+        BoundStmt::Import(s) => import(s, vars, at, out),
         BoundStmt::Register { port, name } => ask(
             Command::Name(NameCommand::Register {
                 port: *port,

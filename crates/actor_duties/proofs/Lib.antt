@@ -1,1 +1,4 @@
 pub mod Orderly
+pub mod Each
+pub mod NameSends
+pub mod FrameSends

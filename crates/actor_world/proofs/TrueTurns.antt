@@ -336,7 +336,7 @@ module _ (t : Tables) (me : ℕ) (g : ℕ → ℕ) (f : Frame) (before : (s : �
   duty_of_fine m kinds.ImportDone a b s = plainly_fine _ m.payload _ (λ h own. record { sent = told_silent g _ (silent_import_done t me f.lives f.places a b); last = tt; told = before })
   duty_of_fine m kinds.ImportRefused a b s = number_fine _ m.payload _ (λ n own. record { sent = told_silent g _ (silent_import_refused t me f.lives f.places a b n); last = tt; told = before })
   duty_of_fine m kinds.ImportEnded a b s = plainly_fine _ m.payload _ (λ h own. record { sent = told_silent g _ (silent_import_ended t me f.lives f.places a b); last = tt; told = before })
-  duty_of_fine m kinds.Deport a b s = plainly_fine _ m.payload _ (λ h own. record { sent = told_silent g _ (silent_deport me f.lives f.plugs m a b); last = tt; told = before })
+  duty_of_fine m kinds.Deport a b s = plainly_fine _ m.payload _ (λ h own. record { sent = told_silent g _ (silent_deport t me f.lives f.plugs m a b); last = tt; told = before })
   duty_of_fine m kinds.DeportDone a b s = plainly_fine _ m.payload _ (λ h own. record { sent = told_silent g _ (silent_deport_done t me f.lives f.places a b); last = tt; told = before })
   duty_of_fine m kinds.Announce a b s =
       number_fine _ m.payload _ (λ n. natural_fine n _ (λ k own. record { sent = tt; last = tt; told = announce_fine (whose a) k (s (whose a) refl) }))

@@ -1,3 +1,2 @@
-mod Lists
-pub mod Served
+pub mod TurnSends
 pub mod Turning

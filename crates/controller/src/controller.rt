@@ -82,9 +82,13 @@ impl Controller {
         ensures err { OnErr result (self.new ≡ self.old) }
     {
         self.journal.reserve(1)?;
-        let entry = self.state.fetch(m)?;
-        self.journal.push_reserved(entry);
-        Ok(())
+        match self.state.fetch(m) {
+            Ok(entry) => {
+                self.journal.push_reserved(entry);
+                Ok(())
+            }
+            Err(refused) => Err(refused),
+        }
     }
 
     /// Posts the front of the outbox, if there is one, and keeps the entry: the message is given as it goes on
@@ -97,11 +101,14 @@ impl Controller {
         ensures err { OnErr result (self.new ≡ self.old) }
     {
         self.journal.reserve(1)?;
-        let Some(posted) = self.state.post()? else {
-            return Ok(None);
-        };
-        self.journal.push_reserved(posted.entry);
-        Ok(Some(posted.message))
+        match self.state.post() {
+            Ok(Some(posted)) => {
+                self.journal.push_reserved(posted.entry);
+                Ok(Some(posted.message))
+            }
+            Ok(None) => Ok(None),
+            Err(refused) => Err(refused),
+        }
     }
 
     /// The controller has failed for want of memory: it gives no other answer from now on.
@@ -237,11 +244,14 @@ impl Controller {
         ensures me { self.new.me ≡ self.old.me }
     {
         self.journal.reserve(1)?;
-        let Some(entry) = self.state.turn(plant)? else {
-            return Ok(false);
-        };
-        self.journal.push_reserved(entry);
-        Ok(true)
+        match self.state.turn(plant) {
+            Ok(Some(entry)) => {
+                self.journal.push_reserved(entry);
+                Ok(true)
+            }
+            Ok(None) => Ok(false),
+            Err(refused) => Err(refused),
+        }
     }
 
     /// The controller's number. It takes no memory.

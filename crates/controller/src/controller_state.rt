@@ -75,8 +75,7 @@ impl ControllerState {
         ensures of { (plant : AnyPlant) → IsStateOf plant self.old → IsStateOf plant self.new }
         ensures err { OnErr result (self.new ≡ self.old) }
     {
-        let entry = self.mail.fetch(m)?;
-        Ok(entry)
+        self.mail.fetch(m)
     }
 
     /// Takes a turn: of the pending lists from priority 0 to 5 the first that isn't empty gives its front,
@@ -98,9 +97,13 @@ impl ControllerState {
             return Ok(None);
         };
         let (from, sent) = (m.from, m.stamp);
-        let done = self.actors.treat(plant, self.me, m)?;
-        let entry = self.mail.end_turn(from, sent, done)?;
-        Ok(Some(entry))
+        match self.actors.treat(plant, self.me, m) {
+            Ok(done) => match self.mail.end_turn(from, sent, done) {
+                Ok(entry) => Ok(Some(entry)),
+                Err(refused) => Err(refused),
+            },
+            Err(refused) => Err(refused),
+        }
     }
 
     /// Posts the front of the outbox, if there is one. After want of memory nothing has changed.
@@ -118,10 +121,7 @@ impl ControllerState {
         ensures of { (plant : AnyPlant) → IsStateOf plant self.old → IsStateOf plant self.new }
         ensures err { OnErr result (self.new ≡ self.old) }
     {
-        let Some(posted) = self.mail.post(self.me)? else {
-            return Ok(None);
-        };
-        Ok(Some(posted))
+        self.mail.post(self.me)
     }
 
     /// The controller's number. It takes no memory.

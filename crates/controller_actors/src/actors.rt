@@ -137,10 +137,10 @@ impl Actors {
         };
         let tables = plant.tables_of(who.slot);
         let actor_slot = &mut self.slots[plant.row_of(who.slot)];
-        let handled = actor_slot.handle(alloc, &speaker, &mut self.services, tables, m)?;
-        match handled {
-            Some(done) => Ok(done),
-            None => Ok(nobody_there(alloc, target)),
+        match actor_slot.handle(alloc, &speaker, &mut self.services, tables, m) {
+            Ok(Some(done)) => Ok(done),
+            Ok(None) => Ok(nobody_there(alloc, target)),
+            Err(refused) => Err(refused),
         }
     }
 
@@ -189,8 +189,7 @@ impl Actors {
             let target = whose(m.target);
             return Ok(discarded(self.alloc, Did::Stale { target }));
         }
-        let done = self.handle(plant, me, who, m)?;
-        Ok(done)
+        self.handle(plant, me, who, m)
     }
 
     /// What a turn of controller `me` makes of a message. After want of memory the actors are unspecified:
@@ -210,10 +209,8 @@ impl Actors {
         ensures back { IfOk result (λ done. All IsForActors done.back) }
     {
         if m.prio.0 == 0 {
-            let done = self.duty(plant, me, &m)?;
-            return Ok(done);
+            return self.duty(plant, me, &m);
         }
-        let done = self.dispatch(plant, me, m)?;
-        Ok(done)
+        self.dispatch(plant, me, m)
     }
 }

@@ -1,3 +1,4 @@
+pub mod LineFaults
 pub mod Meaning
 pub mod Answer
 pub mod Gives

@@ -7,6 +7,7 @@ ghost use Rattle.inject_reader.specs.Meaning.{reduced_all, payload_meant, messag
 use crate::directory::Directory;
 use crate::fault::InjectFault;
 use crate::inject_lines::{Advances, Form, Wanted, What, read_form};
+use crate::line_fault::LineFault;
 use room_kinds::{Endpoint, Generation, NumberType, Payload};
 use std::alloc::{AllocError, Global};
 
@@ -40,17 +41,29 @@ fn message(
 {
     let target = wanted.target;
     let Some(slot) = directory.slot(target.path) else {
-        return Err(InjectFault::Code { line, code: 2 });
+        return Err(InjectFault::Code {
+            line,
+            fault: LineFault::NoSlot,
+        });
     };
     let Some(end) = directory.end(slot, target.port, target.place) else {
-        return Err(InjectFault::Code { line, code: 3 });
+        return Err(InjectFault::Code {
+            line,
+            fault: LineFault::NoEnd,
+        });
     };
     let Some((signal, names)) = directory.signal(slot, end.port, end.names, wanted.signal) else {
-        return Err(InjectFault::Code { line, code: 4 });
+        return Err(InjectFault::Code {
+            line,
+            fault: LineFault::NoSignal,
+        });
     };
     let numbers = wanted.load.numbers.as_slice();
     let Some(payload) = payload(alloc, names.numbers.as_slice(), numbers)? else {
-        return Err(InjectFault::Code { line, code: 5 });
+        return Err(InjectFault::Code {
+            line,
+            fault: LineFault::OtherNumbers,
+        });
     };
     Ok(What::Message {
         target: Endpoint {
@@ -70,7 +83,10 @@ fn advance(advances: Advances, line: u32, time: u32) -> Result<What, InjectFault
 {
     match advances {
         Advances::Taken => Ok(What::Advance(time)),
-        Advances::Refused => Err(InjectFault::Code { line, code: 7 }),
+        Advances::Refused => Err(InjectFault::Code {
+            line,
+            fault: LineFault::NoTime,
+        }),
     }
 }
 
@@ -86,7 +102,10 @@ pub fn read_line(
     ensures { Gives (λ w. w) result (line_meant advances directory.now line text.now) }
 {
     let Some(form) = read_form(alloc, text)? else {
-        return Err(InjectFault::Code { line, code: 1 });
+        return Err(InjectFault::Code {
+            line,
+            fault: LineFault::NoForm,
+        });
     };
     match form {
         Form::Settle => Ok(What::Settle),

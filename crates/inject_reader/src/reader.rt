@@ -9,6 +9,7 @@ ghost use Rattle.inject_reader.specs.Answer.{is_passed_over, entry_at, entries_f
 use crate::directory::Directory;
 use crate::fault::InjectFault;
 use crate::inject_lines::{Advances, Line};
+use crate::line_fault::LineFault;
 use crate::lines::{first_line, line_count};
 use crate::meaning::read_line;
 use room_wiring::Wiring;
@@ -81,7 +82,7 @@ fn read(
     if line_count(bytes) > MOST_LINES {
         return Err(InjectFault::Code {
             line: 10_001,
-            code: 6,
+            fault: LineFault::TooManyLines,
         });
     }
     let directory = Directory::of(alloc, wiring)?;

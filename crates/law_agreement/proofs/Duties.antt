@@ -176,7 +176,7 @@ module _ (t : Tables) (me : ℕ) (f : Frame) where
   duty_of_says m kinds.ImportDone a b = by_plainly Says none_says _ m.payload _ (λ h. still _ refl tt (plain_import_done t me f.lives f.places a b))
   duty_of_says m kinds.ImportRefused a b = by_number Says none_says _ m.payload _ (λ n. still _ refl tt (plain_import_refused t me f.lives f.places a b n))
   duty_of_says m kinds.ImportEnded a b = by_plainly Says none_says _ m.payload _ (λ h. still _ refl tt (plain_import_ended t me f.lives f.places a b))
-  duty_of_says m kinds.Deport a b = by_plainly Says none_says _ m.payload _ (λ h. still _ refl tt (plain_deport me f.lives f.plugs m a b))
+  duty_of_says m kinds.Deport a b = by_plainly Says none_says _ m.payload _ (λ h. still _ refl tt (plain_deport t me f.lives f.plugs m a b))
   duty_of_says m kinds.DeportDone a b = by_plainly Says none_says _ m.payload _ (λ h. still _ refl tt (plain_deport_done t me f.lives f.places a b))
   duty_of_says m kinds.Announce a b = by_number Says none_says _ m.payload _ (λ n. by_natural Says none_says n _ (λ k. still _ refl tt tt))
   duty_of_says m kinds.Register a b = none_says

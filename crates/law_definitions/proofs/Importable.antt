@@ -22,13 +22,13 @@ use Rattle.room_wiring.specs.declared.slot.Slot.{Slot}
 use Rattle.check_tables.specs.class_tables.Containers.{actor_container, actor_containers, subsystem_container, subsystem_containers, class_names, tables_with, tables_of}
 use Rattle.check_tables.specs.declared.class_tables.container.Container.{Container}
 use Rattle.check_classes.specs.class_rules.Ends.{structure_has_class, references_have_classes, has_known_actors}
-use Rattle.check_bindings.specs.structure_rules.AnyPlaces.{any_places_at_end_ports}
 use Rattle.check_bindings.specs.structure_rules.Imported.{can_be_imported, is_importable, imports_fit, importable_classes, imported_classes_have_end_ports}
 use Rattle.check_bindings.specs.structure_rules.Replication.{replicates_in_range}
 use Rattle.check_bindings.specs.structure_rules.Subsystems.{is_fixed, has_plain_references, subsystem_references_are_plain}
 use Rattle.structure_check.specs.Rules.{first_broken}
-use Rattle.structure_check.specs.List.{name_rules, data_rules, end_rules, place_rules, joint_rules, outer_rules, part_rules, later_rules, single_rules, count_rules, all_rules}
-use Rattle.structure_check.proofs.KeptRules.{none_first, none_later, all_few}
+use Rattle.structure_check.specs.List.{all_rules}
+use Rattle.structure_check.specs.declared.flat_rule.FlatRule.TheVariants as rules
+use Rattle.structure_check.proofs.KeptRules.{rule_kept, all_few}
 use Rattle.wiring_plan.specs.structure_plan.Parts.{short, reference_plan}
 use Rattle.wiring_plan.specs.structure_plan.Plans.{actor_plan, subsystem_plan, no_plan, plan_of}
 use Rattle.wiring_plan.specs.structure_plan.Steps.{first_named}
@@ -53,28 +53,9 @@ then_second false b i h = absurd cc
 
 -- ---- rules on places that are kept
 
-kept_of_four : (a b c d : Bool) (i j k l : ℕ) → cond a (cond b (cond c (cond d None (Some l)) (Some k)) (Some j)) (Some i) ≡ None → (a ≡ true) × (c ≡ true) × (d ≡ true)
-kept_of_four true true true true i j k l e = (refl, refl, refl)
-kept_of_four true true true false i j k l e = absurd cc
-kept_of_four true true false d i j k l e = absurd cc
-kept_of_four true false c d i j k l e = absurd cc
-kept_of_four false b c d i j k l e = absurd cc
-
-places_kept : (m : ModelTree) → first_broken all_rules m ≡ None → first_broken place_rules m ≡ None
-unfolding single_rules later_rules part_rules outer_rules
-places_kept m e =
-    none_first place_rules joint_rules m (none_later end_rules outer_rules m
-    (none_later data_rules part_rules m (none_later name_rules later_rules m (none_first single_rules count_rules m e))))
-
-pub rules_kept : (m : ModelTree) → first_broken place_rules m ≡ None
-    → (replicates_in_range (tables_of m) ≡ true) × (subsystem_references_are_plain (tables_of m) ≡ true) × (imported_classes_have_end_ports (tables_of m) ≡ true)
-unfolding place_rules
-rules_kept m e =
-    kept_of_four (replicates_in_range (tables_of m)) (any_places_at_end_ports (tables_of m)) (subsystem_references_are_plain (tables_of m)) (imported_classes_have_end_ports (tables_of m)) 14 15 16 17 e
-
 pub model_rules : (m : ModelTree) → first_broken all_rules m ≡ None
     → (replicates_in_range (tables_of m) ≡ true) × (subsystem_references_are_plain (tables_of m) ≡ true) × (imported_classes_have_end_ports (tables_of m) ≡ true)
-model_rules m keeps = rules_kept m (places_kept m keeps)
+model_rules m keeps = (rule_kept m keeps rules.Replication, rule_kept m keeps rules.PlainSubsystems, rule_kept m keeps rules.ImportedEnds)
 
 -- ---- the references of a class
 

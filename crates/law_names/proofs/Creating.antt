@@ -19,7 +19,7 @@ use Rattle.actor_duties.specs.Messages.{to_owner, coded, NameTaken}
 use Rattle.actor_duties.specs.Lives.{last_of, comes_up, lives_made, lives_ended, ended_slots, goes_down}
 use Rattle.actor_duties.specs.Frame.{FrameDone}
 use Rattle.actor_duties.specs.Names.{name_reply_to, both_told, at_place, same_table, Linking, linked_users, linked_first, meet_with, meet, provide, use_service, unmet, in_service, register_spp, register_sap, links_ended, link_ended, user_ended, is_user, waiting, leave, unprovide, unuse, is_provider, stands_in, withdraw, register, is_name_request, table_duty_of, table_duty_from, table_duty}
-use Rattle.actor_duties.specs.Links.{same_links, point_of, is_entered, name_reply, replied, links_duty_of, links_duty_from, links_duty, register_from, register_command, withdraw_from, withdraw_command, name_request, end_of, is_own_point}
+use Rattle.actor_duties.specs.Links.{point_of, is_entered, register_from, register_command, withdraw_from, withdraw_command, name_request, end_of}
 use Rattle.actor_world.specs.Body.{Body}
 use Rattle.actor_world.specs.Turns.{all_kinds}
 use Rattle.actor_world.proofs.LifeSteps.{down_parts}
@@ -28,7 +28,7 @@ use Rattle.actor_world.proofs.TrueTurns.{own_owner}
 use Rattle.law_names.specs.Created.{asker_by, asker, hearer_by, hearer, told_of_by, told_of}
 use Rattle.law_names.specs.Registrations.{is_asking_kind, is_asking, is_reply, RepliesOne}
 use Rattle.law_names.proofs.Standing.{own_reply}
-use Rattle.law_names.proofs.OffNames.{is_name_kind, IsOffNames, AllOffNames}
+use Rattle.law_names.proofs.OffNames.{is_name_kind, IsOffNames, AllOffNames, links_off}
 use Rattle.law_names.proofs.Naming.{LivesBy, stays, makes, ends, all_ended, IsNameWalk, IsOf, Turns, treats, hears, leads}
 
 -- a message off names asks nobody and tells nobody
@@ -72,34 +72,6 @@ asks_none m h = go (m.prio.0 == 0) (slice_get all_kinds m.signal) h
     go true (Some kinds.Register) q = absurd cc
     go true (Some kinds.Withdraw) q = absurd cc
     go true (Some kind) q = refl
-
--- registrations and links send nothing on names
-module _ (t : Tables) (me : ℕ) where
-  links_if : {C : Type 0} (b : Bool) (x y : Done C) → AllOffNames x.sent → AllOffNames y.sent → AllOffNames (if b then x else y).sent
-  links_if true x y h k = h
-  links_if false x y h k = k
-
-  replied_off : (l : Links) (e : Endpoint) (code : ℕ) (r : Registration) → AllOffNames (replied me l e code r).sent
-  replied_off l e code Asked = links_if (code == 0) _ _ (refl, tt) (links_if (code == 8) _ _ (refl, tt) tt)
-  replied_off l e code Leaving = (refl, tt)
-  replied_off l e code Unnamed = tt
-  replied_off l e code Registered = tt
-
-  links_of_off : (l : Links) (k : SysKind) (a b : Endpoint) (payload : List ℤ) → AllOffNames (links_duty_of t me l k a b payload).sent
-  unfolding name_reply
-  links_of_off l kinds.Bound a b [] = links_if (is_own_point t me b) _ _ tt tt
-  links_of_off l kinds.Ended a b [] = links_if (is_own_point t me b) _ _ tt tt
-  links_of_off l kinds.NameReply a b (pos code ∷ []) =
-      links_if (is_own_point t me b && is_endpoint a b && (b.place == 0)) (name_reply me l b code) (same_links l) (replied_off l b code (l.registrations b.slot.0 b.port)) tt
-  links_of_off l _ a b _ = tt
-
-  links_from_off : (l : Links) (k : SysKind) (o : Option Endpoint) (m : Msg) → AllOffNames (links_duty_from t me l k o m).sent
-  links_from_off l k None m = tt
-  links_from_off l k (Some a) m = links_of_off l k a m.target m.payload
-
-  pub links_off : (l : Links) (live : Bool) (k : SysKind) (m : Msg) → AllOffNames (links_duty t me l live k m).sent
-  unfolding links_duty
-  links_off l live k m = links_if live _ _ (links_from_off l k m.source m) tt
 
 module _ (t : Tables) (Q : Incarnation → Type 0) where
   -- a message that controller me sends goes where such messages go, and names what was created

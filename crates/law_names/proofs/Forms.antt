@@ -30,9 +30,9 @@ use Rattle.law_agreement.proofs.Moving.{turn_from, world_after, controller_moves
 use Rattle.law_agreement.proofs.Agreeing.{IsForetold, start_foretold, controller_foretold, environment_foretold, environment_moves, fresh_trail}
 use Rattle.law_names.specs.Created.{asker}
 use Rattle.law_names.specs.Registrations.{asked, is_asking_kind, is_asking, is_reply_kind, is_reply, RepliesOne, HasForm}
-use Rattle.law_names.proofs.OffNames.{is_name_kind, IsOffNames, AllOffNames}
+use Rattle.law_names.proofs.OffNames.{is_name_kind, IsOffNames, AllOffNames, links_off}
 use Rattle.law_names.proofs.Naming.{all_ended, IsNameWalk, Turns, treats, hears, leads, treat_turns, start_asks}
-use Rattle.law_names.proofs.Creating.{links_off, table_plain, table_replies}
+use Rattle.law_names.proofs.Creating.{table_plain, table_replies}
 use Rattle.law_names.proofs.CreatedRuns.{ask_somehow}
 use Rattle.law_names.proofs.Standing.{self_endpoint}
 

@@ -30,9 +30,8 @@ use Rattle.law_names.specs.Links.{table_peer, without, linked_by, link_heard, Is
 use Rattle.law_names.proofs.Standing.{same_endpoint}
 use Rattle.law_names.proofs.Soundness.{now_of, stays_sound}
 use Rattle.law_names.proofs.LinkTelling.{home, told, table_told}
-use Rattle.law_names.proofs.OffNames.{is_name_kind, IsOffNames, AllOffNames}
+use Rattle.law_names.proofs.OffNames.{is_name_kind, IsOffNames, AllOffNames, links_off}
 use Rattle.law_names.proofs.Naming.{LivesBy, stays, makes, ends, all_ended, IsNameWalk, IsOf, is_table_kind, is_links_kind, links_hear, Follows, Turns, treats, hears, leads, treat_turns, start_asks, start_lives, start_table}
-use Rattle.law_names.proofs.Creating.{links_off}
 use Rattle.law_names.proofs.CreatedRuns.{ask_somehow}
 
 -- links whose places rise, from this one on

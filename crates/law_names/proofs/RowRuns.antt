@@ -33,9 +33,9 @@ use Rattle.law_agreement.proofs.Moving.{Ranked, next_front, kept_by, post_from, 
 use Rattle.law_agreement.proofs.Agreeing.{put_each, environment_moves, world_then, fresh_trail}
 use Rattle.law_names.specs.Created.{asker_by, asker, hearer_by, hearer, last_at, NamesTheCreated}
 use Rattle.law_names.specs.Registrations.{IsOfPoint, RegistersPoints, Stage, NotYet, is_point, stage_by, stage, asked, replied, stands, IsRow, stage_in, AreInRows}
-use Rattle.law_names.proofs.OffNames.{AllOffNames}
+use Rattle.law_names.proofs.OffNames.{AllOffNames, links_off}
 use Rattle.law_names.proofs.Naming.{AsksSo, IsOf, is_table_kind, is_links_kind, Turns, treats, hears, leads, treat_turns, start_asks, start_lives, start_table}
-use Rattle.law_names.proofs.Creating.{off_nobody, links_off, AllSent, table_asks}
+use Rattle.law_names.proofs.Creating.{off_nobody, AllSent, table_asks}
 use Rattle.law_names.proofs.CreatedRuns.{WasCreated, IsNamed, hand_named, creates, step_named, start_sent, start_named}
 use Rattle.law_names.proofs.Rows.{stage_after, row_replied, TableStep, asks_known, row_treated}
 use Rattle.law_names.proofs.Standing.{flat_append, table_steps}

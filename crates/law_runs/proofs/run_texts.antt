@@ -7,6 +7,5 @@ pub mod Lengths
 pub mod InTime
 pub mod Party
 pub mod SameRuns
-pub mod Sends
 pub mod Priorities
 pub mod TextsLaw

@@ -18,4 +18,4 @@ pub mod poll;
 mod steps;
 
 pub use ends::{LocalOffice, MailLocal};
-pub use mail::{Mail, PostRefused};
+pub use mail::{Mail, Outlook, PostRefused};

@@ -2,7 +2,7 @@
 use crate::boxes::{box_count, lane_in};
 use crate::ends::{LocalOffice, MailLocal};
 use crate::local_lane::MessageWithCopy;
-use crate::mail::{Mail, PostRefused};
+use crate::mail::{Mail, Outlook, PostRefused};
 use room_kinds::Msg;
 use std::alloc::{AllocError, Global};
 use std::collections::LinkedList;
@@ -105,6 +105,13 @@ impl Mail for MailLocal {
         self.add_look(b);
         None
     }
+
+    /// Nobody else works at the same time.
+    fn rest(&self) -> Outlook {
+        Outlook::Calm
+    }
+
+    fn leave(&self) {}
 
     fn close(
         alloc: Global,

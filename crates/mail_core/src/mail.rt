@@ -16,6 +16,17 @@ pub struct PostRefused {
     pub message: Msg,
 }
 
+/// What a party that rests may expect of the others.
+#[derive(Clone, Copy, Drop, Debug, PartialEq, Eq)]
+pub enum Outlook {
+    /// Something that another party posted to it waits for it.
+    Called,
+    /// Another controller doesn't rest, or something is on its way to one.
+    Open,
+    /// All controllers rest, and nothing is on its way to any: so it stays, unless the environment posts.
+    Calm,
+}
+
 /// The end of one party. An end posts the messages of its own party and takes those that go to it.
 ///
 /// What all ends share is the office; where each end holds its part of the lanes itself, the office
@@ -83,6 +94,13 @@ pub trait Mail: Sized {
         ensures none { IfNone result (OwnIsTaken in_box (log self.old) b) }
         ensures tied { StaysTied tied (log self.old).party office.old office.new self.old
             self.new };
+
+    /// The party rests: it has done all that came of what it took, and looks again later. It tells the others so,
+    /// and is told what to expect of them. That is advice alone: no clause speaks of it, and the end stays as it is.
+    fn rest(&self) -> Outlook;
+
+    /// The party takes nothing and posts nothing any more. It tells the others so, who wait for it no longer.
+    fn leave(&self);
 
     /// Ends the mail. What was posted and not taken comes back, a list for each controller in order,
     /// each in the order of a poll. After a refusal the messages are given up.

@@ -2,6 +2,7 @@
 #![tactic(auto)]
 
 mod address;
+pub mod bells;
 mod close;
 pub mod ends;
 pub mod lane;

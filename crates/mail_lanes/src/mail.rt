@@ -3,7 +3,7 @@ use crate::close::all_left;
 use crate::ends::MailLanes;
 use crate::make::all_ends;
 use mail_core::boxes::{box_count, lane_in};
-use mail_core::{Mail, PostRefused};
+use mail_core::{Mail, Outlook, PostRefused};
 use room_kinds::Msg;
 use std::alloc::{AllocError, Global};
 
@@ -50,11 +50,15 @@ impl Mail for MailLanes {
         let to = m.to.0;
         let prio = m.prio.0;
         match self.post_to(to, prio, m) {
-            Ok(()) => Ok(()),
+            Ok(()) => {
+                self.bells.ring(self.party, to);
+                Ok(())
+            }
             Err(message) => Err(PostRefused { message }),
         }
     }
 
+    #[inline(always)]
     #[tactic(auto, using(crate::proofs::TiedLemmas::tied_steps), unfolding(mail_core::specs::EndLog::taking))]
     fn take(&mut self, _office: &mut (), b: u32) -> Option<Msg> {
         let lane = lane_in(self.parties, b);
@@ -63,13 +67,33 @@ impl Mail for MailLanes {
         if !in_use {
             return None;
         }
-        let mut found = None;
         if lane.sender == self.party {
+            let mut found = None;
             self.take_own(lane.prio, &mut found);
             return found;
         }
+        if self.bells.are_quiet(self.party) {
+            return None;
+        }
+        let mut found = None;
         self.take_from(lane.sender, lane.prio, &mut found);
+        self.bells.hear(&found);
         found
+    }
+
+    fn rest(&self) -> Outlook {
+        self.bells.rest(self.party);
+        if !self.bells.are_quiet(self.party) {
+            Outlook::Called
+        } else if self.bells.are_calm() {
+            Outlook::Calm
+        } else {
+            Outlook::Open
+        }
+    }
+
+    fn leave(&self) {
+        self.bells.leave(self.party);
     }
 
     fn close(alloc: Global, _office: (), ends: Vec<MailLanes>) -> Result<Vec<Vec<Msg>>, AllocError>

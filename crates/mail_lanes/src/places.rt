@@ -22,6 +22,7 @@ pub(crate) fn post_at(outlets: &mut Vec<Outlet>, at: usize, m: Msg) -> Result<()
     outlet.post(m)
 }
 
+#[inline(always)]
 #[tactic(auto, using(crate::proofs::PlaceLemmas::place_steps))]
 pub(crate) fn pop_at(outlets: &mut Vec<Outlet>, at: usize, found: &mut Option<Msg>)
     requires within { at < length outlets.old.items }
@@ -38,9 +39,10 @@ pub(crate) fn pop_at(outlets: &mut Vec<Outlet>, at: usize, found: &mut Option<Ms
         MatchOption found.new (Unit {0}) (λ m. IsFor o.from o.to o.prio m) }
 {
     let outlet = &mut outlets[at];
-    outlet.take_to(found)
+    outlet.look_to(found)
 }
 
+#[inline(always)]
 #[tactic(auto, using(crate::proofs::PlaceLemmas::place_steps))]
 pub(crate) fn steal_at(inlets: &mut Vec<Option<Inlet>>, at: usize, found: &mut Option<Msg>)
     requires within { at < length inlets.old.items }

@@ -24,6 +24,8 @@ impl Outlet {
             × ((out_lane self.new).posted ≡ (out_lane self.old).posted)
             × ((out_lane self.new).taken ≡ (in_lane inlet).taken) }
     {
+        // Another party took from the lane, so what waits in it isn't known.
+        self.own = false;
         self.owner.absorb::<Roles>(inlet.pass);
     }
 

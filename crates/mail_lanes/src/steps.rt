@@ -9,6 +9,7 @@ impl MailLanes {
     ghost use Rattle.mail_core.specs.Lanes.{IsFor};
     ghost use Rattle.mail_lanes.specs.Ends.{log_of, wiring_of};
 
+    #[inline(always)]
     #[tactic(auto, using(crate::proofs::EndLemmas::end_steps))]
     pub(crate) fn add_look(&mut self, b: u32)
         requires { b < self.old.parties * 6 }
@@ -35,6 +36,7 @@ impl MailLanes {
         post_at(&mut self.outlets, at, m)
     }
 
+    #[inline(always)]
     #[tactic(auto, using(crate::proofs::EndLemmas::end_steps))]
     pub(crate) fn take_own(&mut self, prio: u8, found: &mut Option<Msg>)
         requires controller { self.old.party + 1 < self.old.parties }
@@ -54,6 +56,7 @@ impl MailLanes {
         pop_at(&mut self.outlets, at, found)
     }
 
+    #[inline(always)]
     #[tactic(auto, using(crate::proofs::EndLemmas::end_steps))]
     pub(crate) fn take_from(&mut self, sender: u8, prio: u8, found: &mut Option<Msg>)
         requires controller { self.old.party + 1 < self.old.parties }

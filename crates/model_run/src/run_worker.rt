@@ -108,7 +108,7 @@ pub fn work<M: Mail, G: Gate, W: Pauses>(
     let most = most_idle_steps(pauses.is_alone());
     let mut idle = 0u32;
     while !controller.is_spent() && idle < most {
-        pauses.before_step(idle);
+        pauses.before_step(idle, end);
         let turned = step(number, controller, plant, office, end, gate)?;
         idle = if turned { 0 } else { idle + 1 };
     }

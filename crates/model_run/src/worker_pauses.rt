@@ -2,10 +2,11 @@
 //!
 //! Workers on threads of their own wait for each other's messages. One that has found nothing pauses before it
 //! looks again, first for a moment, then for longer: so it is still there when a message comes round, and leaves
-//! the processor to those that work. Once no worker has anything to do there is nothing to wait for, and it
-//! pauses no more. Its steps are the same with pauses and without: no clause speaks of them.
+//! the processor to those that work. A pause ends at once when something is posted to the worker, and when all
+//! workers rest and nothing is on its way: then there is nothing to wait for, and it pauses no more. Its steps are
+//! the same with pauses and without: no clause speaks of them.
 
-use std::sync::atomic::{AtomicU32, Ordering};
+use mail_core::{Mail, Outlook};
 use std::{hint, thread};
 
 /// Steps behind which a pause spins; it yields behind later ones.
@@ -14,17 +15,18 @@ const SPINNING_STEPS: u32 = 8;
 /// Behind so many idle steps in a row pauses grow faster.
 const SHORT_STEPS: u32 = 24;
 
-/// A worker asks so many times in a row whether anyone has something to do before it takes it that nobody has. A
-/// message on its way is counted by nobody, so once isn't enough.
-const ASKS: u32 = 9;
+/// By so many yields a later pause is longer than the one before. All pauses of a worker together are some six
+/// thousand yields: enough for a message to go round many workers on few processors, and not much longer than the
+/// round that is lost where a worker waits in vain.
+const LATER_GROWTH: u32 = 8;
 
 /// What a worker does before a step.
 pub trait Pauses {
     /// Whether nobody else works at the same time.
     fn is_alone(&self) -> bool;
 
-    /// Behind so many steps in a row that fetched and turned nothing.
-    fn before_step(&mut self, idle: u32);
+    /// Behind so many steps in a row that fetched and turned nothing, of the worker with this end of the mail.
+    fn before_step<M: Mail>(&mut self, idle: u32, end: &M);
 }
 
 /// No pauses: for a worker beside which nobody works.
@@ -36,115 +38,66 @@ impl Pauses for NoPauses {
         true
     }
 
-    fn before_step(&mut self, _idle: u32) {}
+    fn before_step<M: Mail>(&mut self, _idle: u32, _end: &M) {}
 }
 
 /// The pauses of one of several workers.
 #[derive(Drop)]
-pub struct SharedPauses<'b> {
-    /// How many of the workers have something to do.
-    busy: &'b AtomicU32,
+pub struct WorkerPauses {
     /// Whether there is only this one.
     is_alone: bool,
-    /// Whether this one is counted among them.
-    is_busy: bool,
-    /// Whether nobody had anything to do when it last asked.
+    /// Whether all have nothing to do any more.
     is_calm: bool,
 }
 
-impl<'b> SharedPauses<'b> {
-    /// Of a worker that is counted among those that have something to do.
-    pub fn new(busy: &'b AtomicU32, is_alone: bool) -> SharedPauses<'b> {
-        SharedPauses {
-            busy,
+impl WorkerPauses {
+    pub fn new(is_alone: bool) -> WorkerPauses {
+        WorkerPauses {
             is_alone,
-            is_busy: true,
             is_calm: false,
         }
     }
-
-    /// The worker has ended.
-    pub fn end(self) {
-        if self.is_busy {
-            self.busy.fetch_sub(1, Ordering::SeqCst);
-        }
-    }
-
-    fn has_work(&mut self) {
-        if !self.is_busy {
-            self.busy.fetch_add(1, Ordering::SeqCst);
-            self.is_busy = true;
-            self.is_calm = false;
-        }
-    }
-
-    fn has_none(&mut self) {
-        if self.is_busy {
-            self.busy.fetch_sub(1, Ordering::SeqCst);
-            self.is_busy = false;
-        }
-    }
-
-    fn sees_someone_busy(&self) -> bool {
-        self.busy.load(Ordering::SeqCst) > 0
-    }
-
-    /// Whether some worker has something to do. It takes it for true while it isn't sure.
-    fn may_wait_for_someone(&mut self) -> bool {
-        if self.sees_someone_busy() {
-            self.is_calm = false;
-            return true;
-        }
-        if self.is_calm {
-            return false;
-        }
-        for _ in 0..ASKS {
-            thread::yield_now();
-            if self.sees_someone_busy() {
-                return true;
-            }
-        }
-        self.is_calm = true;
-        false
-    }
 }
 
-impl<'b> Pauses for SharedPauses<'b> {
+impl Pauses for WorkerPauses {
     fn is_alone(&self) -> bool {
         self.is_alone
     }
 
-    fn before_step(&mut self, idle: u32) {
-        if idle == 0 {
-            self.has_work();
-            return;
-        }
-        self.has_none();
-        if self.may_wait_for_someone() {
-            pause(idle);
+    fn before_step<M: Mail>(&mut self, idle: u32, end: &M) {
+        if idle > 0 && !self.is_calm {
+            self.is_calm = pause(idle, end);
         }
     }
 }
 
-/// A pause behind so many idle steps in a row: 1 to 128 spins at first, then 1 to 8 yields, then 9 and more.
-fn pause(idle: u32) {
+/// A pause behind so many idle steps in a row, of a worker that rests. It answers whether all is calm.
+fn pause<M: Mail>(idle: u32, end: &M) -> bool {
+    for _ in 0..moments(idle) {
+        match end.rest() {
+            Outlook::Called => return false,
+            Outlook::Calm => return true,
+            Outlook::Open => give_way(idle),
+        }
+    }
+    false
+}
+
+/// How many moments a pause has: 1 to 128 spins at first, then 1 to 8 yields, then 8 to 312.
+fn moments(idle: u32) -> u32 {
     if idle <= SPINNING_STEPS {
-        spin((1 << idle) / 2);
+        (1 << idle) / 2
     } else if idle <= SHORT_STEPS {
-        yield_times((idle - SPINNING_STEPS + 1) / 2);
+        (idle - SPINNING_STEPS + 1) / 2
     } else {
-        yield_times(idle - SHORT_STEPS + SPINNING_STEPS);
+        (idle - SHORT_STEPS).saturating_mul(LATER_GROWTH)
     }
 }
 
-fn spin(times: u32) {
-    for _ in 0..times {
+fn give_way(idle: u32) {
+    if idle <= SPINNING_STEPS {
         hint::spin_loop();
-    }
-}
-
-fn yield_times(times: u32) {
-    for _ in 0..times {
+    } else {
         thread::yield_now();
     }
 }

@@ -9,11 +9,26 @@ use crate::piece::{Cause, Kind, front};
 use crate::token::Token;
 use std::alloc::{AllocError, Global};
 
+/// For how many tokens more than a half of them there is room when a list grows.
+const FEW_TOKENS: usize = 16;
+
+/// Makes room for another token. Lists grow by a half, so that tokens take less room than twice
+/// that of those that are there.
+fn make_room(tokens: &mut Vec<Token>) -> Result<(), AllocError>
+    ensures { tokens.new.items ≡ tokens.old.items }
+{
+    if tokens.len() < tokens.capacity() {
+        return Ok(());
+    }
+    tokens.reserve_exact(tokens.len() / 2 + FEW_TOKENS)
+}
+
 /// Adds the token of a piece, if it is one.
 fn add(tokens: &mut Vec<Token>, kind: Kind, start: usize, end: usize) -> Result<(), AllocError>
     ensures { OnOk result (tokens.new.items ≡ tokens.old.items ++ tokens_of kind start end) }
 {
     if let Kind::Token(kind) = kind {
+        make_room(tokens)?;
         tokens.push(Token { kind, start, end })?;
     }
     Ok(())
@@ -31,7 +46,7 @@ fn fault(cause: Cause, at: usize) -> LexFault
 }
 
 /// What stands at the front, which is not empty and no longer than the bytes.
-fn next_piece(bytes: &[u8]) -> Result<(Kind, usize), Cause>
+pub fn next_piece(bytes: &[u8]) -> Result<(Kind, usize), Cause>
     ensures value { result ≡ front bytes.now }
     ensures within { IfOk result (λ x. (0 < x.1) × (x.1 ≤ length bytes.now)) }
 {

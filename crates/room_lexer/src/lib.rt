@@ -12,8 +12,8 @@ mod piece;
 mod token;
 mod word;
 
-pub use cutting::{lex, spans};
+pub use cutting::{lex, next_piece, spans};
 pub use fault::LexFault;
-pub use piece::word_len;
+pub use piece::{Cause, Kind, word_len};
 pub use token::{Mark, Token, TokenKind};
 pub use word::{Word, spelling, words_with};

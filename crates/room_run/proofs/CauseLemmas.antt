@@ -13,6 +13,7 @@ use Rattle.inject_reader.specs.Answer.{answer}
 use Rattle.inject_reader.specs.declared.inject_lines.accepted.Advances.{Advances}
 use Rattle.inject_reader.specs.declared.inject_lines.accepted.Advances.TheVariants.{Taken, Refused}
 use Rattle.inject_reader.specs.Gives.{Fails}
+use Rattle.inject_reader.specs.LineFaults.{code_of}
 use Rattle.inject_reader.specs.declared.fault.InjectFault.{InjectFault}
 use Rattle.inject_reader.specs.declared.fault.InjectFault.TheVariants as inject_faults
 use Rattle.room_run.specs.Causes.{IsInjections, HasBadLine, TextIs, AreOf, ModelCauses, model_refused, LinesCauses, faulty_line, no_memory_for_lines, refusal_of_lines, InjectionsCauses, injections_unread, injections_long, bad_line, injections_no_memory, RunCauses, of_injections}
@@ -55,7 +56,7 @@ lines_cause before after name bytes k w (Err _) is no_memory_for_lines = injecti
 
 -- a line is faulty
 pub line_told : (k : Advances) (w : Tables) (bytes : List ℕ) (e : InjectFault) → length bytes ≤ most_bytes → Fails e (answer k w bytes) → LinesCauses k w bytes (refusal_of_lines e)
-line_told k w bytes (inject_faults.Code n code) short h = faulty_line n code (record { short = short; faulty = h })
+line_told k w bytes (inject_faults.Code n fault) short h = faulty_line n (code_of fault) (record { short = short; faulty = h })
 line_told k w bytes inject_faults.Memory short h = no_memory_for_lines
 
 -- ---- both

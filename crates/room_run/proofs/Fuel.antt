@@ -5,8 +5,8 @@ use Rattle.std.specs.List.{list_all}
 use Rattle.std.specs.Char.{is_ascii_digit}
 use Rattle.std.proofs.lemmas.Bool.{and_parts}
 use Rattle.std.proofs.lemmas.Bool.Decides.{nat_tests}
-use Rattle.text_reading.specs.Numerals.{are_digits, value_from, value_of}
-use Rattle.room_run.specs.Words.{Files, Judged, Asked, Check, Tree, Run, Verify, Show, Made, is_word, number_in, number_of, fuel_of, actors_of, run_asked, convert_asked, verify_asked, show_asked, stamp_of, usual_fuel, asked_by}
+use Rattle.text_reading.specs.Numerals.{are_digits, value_from, value_of, digits_in, plain_in}
+use Rattle.room_run.specs.Words.{Files, Judged, Asked, Check, Tree, Run, Verify, Show, Made, is_word, fuel_of, actors_of, run_asked, convert_asked, verify_asked, show_asked, stamp_of, usual_fuel, asked_by}
 
 -- a number from 1 to 100,000
 abbrev IsFuel : ℕ → Type 0
@@ -23,7 +23,7 @@ chosen : {A : Type 0} (t : Bool) (x y : A) → cond t (Some x) None ≡ Some y �
 chosen true x y h = (refl, cc)
 chosen false x y h = absurd cc
 
-plain_number : (most b n : ℕ) (bs : List ℕ) → (b == 48) ≡ false → number_in most (b ∷ bs) ≡ Some n → (1 ≤ n) × (n ≤ most)
+plain_number : (most b n : ℕ) (bs : List ℕ) → (b == 48) ≡ false → digits_in most (b ∷ bs) ≡ Some n → (1 ≤ n) × (n ≤ most)
 unfolding value_of
 plain_number most b n bs other h =
     let test = chosen (are_digits (b ∷ bs) && nat_le (value_of (b ∷ bs)) most) (value_of (b ∷ bs)) n h in
@@ -37,12 +37,12 @@ plain_number most b n bs other h =
     let from_one : 1 ≤ b - 48 = grind (arith, nat_tests) in
     (omega (arith, large, is, from_one), grind (arith, nat_tests))
 
-number_named : (most n : ℕ) (word : List ℕ) → number_of most word ≡ Some n → (1 ≤ n) × (n ≤ most)
-unfolding number_of
+number_named : (most n : ℕ) (word : List ℕ) → plain_in most word ≡ Some n → (1 ≤ n) × (n ≤ most)
+unfolding plain_in
 number_named most n [] h = absurd cc
 number_named most n (b ∷ bs) h = by_test (b == 48) refl h
   where
-    by_test : (t : Bool) → (b == 48) ≡ t → cond t None (number_in most (b ∷ bs)) ≡ Some n → (1 ≤ n) × (n ≤ most)
+    by_test : (t : Bool) → (b == 48) ≡ t → cond t None (digits_in most (b ∷ bs)) ≡ Some n → (1 ≤ n) × (n ≤ most)
     by_test true e h = absurd cc
     by_test false e h = plain_number most b n bs e h
 

@@ -32,7 +32,8 @@ use Rattle.law_models.proofs.settled_models.Controllers.{controllers_few}
 use Rattle.room_run.proofs.model_plants.Tabled.{all_sound}
 use Rattle.room_run.proofs.settled.Compiled.{all_compiled}
 use Rattle.structure_check.specs.Rules.{first_broken, IsLowest}
-use Rattle.structure_check.specs.List.{all_rules}
+use Rattle.structure_check.specs.List.{rule_of, all_rules}
+use Rattle.structure_check.specs.declared.flat_rule.FlatRule.{FlatRule}
 use Rattle.structure_check.specs.Checks.{TellsLowest}
 use Rattle.structure_check.specs.declared.fault.CheckFault.{CheckFault}
 use Rattle.structure_check.specs.declared.fault.CheckFault.TheVariants as check_faults
@@ -116,13 +117,13 @@ no_model text tokens line e short h parsed is = no_tree line (record { short = s
 
 -- ---- the rules
 
-rule_lowest : (m : ModelTree) (n : ℕ) (e : CheckFault) → TellsLowest m (Err e) → e ≡ check_faults.Rule n → IsLowest all_rules m (Some n)
-rule_lowest m n (check_faults.Rule k) h is = let same : k ≡ n = cc in subst (λ x. IsLowest all_rules m (Some x)) same h
-rule_lowest m n check_faults.Memory h is = absurd cc
+rule_lowest : (m : ModelTree) (r : FlatRule) (e : CheckFault) → TellsLowest m (Err e) → e ≡ check_faults.Rule r → IsLowest all_rules m (Some (rule_of r).number)
+rule_lowest m r (check_faults.Rule x) h is = let same : x ≡ r = cc in subst (λ (z : FlatRule). IsLowest all_rules m (Some (rule_of z).number)) same h
+rule_lowest m r check_faults.Memory h is = absurd cc
 
 -- the lowest rule that is broken was told
-pub rule_told : (m : ModelTree) (n : ℕ) (e : CheckFault) → TellsLowest m (Err e) → e ≡ check_faults.Rule n → TreeCauses m (faults.Rule n)
-rule_told m n e h is = breaks n (rule_lowest m n e h is)
+pub rule_told : (m : ModelTree) (r : FlatRule) (e : CheckFault) → TellsLowest m (Err e) → e ≡ check_faults.Rule r → TreeCauses m (faults.Rule (rule_of r).number)
+rule_told m r e h is = breaks (rule_of r).number (rule_lowest m r e h is)
 
 -- ---- the wiring
 

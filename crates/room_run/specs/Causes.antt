@@ -16,6 +16,7 @@ use Rattle.inject_reader.specs.declared.inject_lines.accepted.Advances.{Advances
 use Rattle.inject_reader.specs.declared.inject_lines.accepted.Advances.TheVariants.{Taken, Refused}
 use Rattle.inject_reader.specs.declared.inject_lines.accepted.Line.{Line}
 use Rattle.inject_reader.specs.Answer.{answer}
+use Rattle.inject_reader.specs.LineFaults.{code_of}
 use Rattle.inject_reader.specs.declared.fault.InjectFault.{InjectFault}
 use Rattle.inject_reader.specs.declared.fault.InjectFault.TheVariants as inject_faults
 use Rattle.journal_reader.specs.declared.fault.ReadFaultOf.{ReadFaultOf}
@@ -157,7 +158,7 @@ pub data ModelCauses (before after : Shown) (name : List ℕ) : Refusal → Type
 
 -- why injections are refused whose lines have this fault
 abbrev pub refusal_of_lines : InjectFault → Refusal
-refusal_of_lines (inject_faults.Code number code) = refusals.InjectionsLine number code
+refusal_of_lines (inject_faults.Code number fault) = refusals.InjectionsLine number (code_of fault)
 refusal_of_lines inject_faults.Memory = refusals.Memory
 
 -- why a text of injections may be refused

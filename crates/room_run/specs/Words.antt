@@ -1,7 +1,7 @@
 -- What the words of a call ask for.
-use Rattle.std.specs.Prelude.{ℕ, List, [], ◌∷◌, Bool, ◌==◌, ◌&&◌, nat_le, Option, Some, None, option_map, if◌then◌else◌, nat_eq, codes}
+use Rattle.std.specs.Prelude.{ℕ, List, [], ◌∷◌, Bool, ◌&&◌, Option, Some, None, option_map, if◌then◌else◌, nat_eq, codes}
 use lib.Pointwise.{pointwise}
-use Rattle.text_reading.specs.Numerals.{are_digits, value_of}
+use Rattle.text_reading.specs.Numerals.{plain_in}
 use Rattle.room_run.specs.declared.asked.Asked.{Asked as CodeAsked}
 use Rattle.room_run.specs.declared.asked.Asked.TheVariants as code
 use Rattle.room_run.specs.declared.asked.Files.{Files as CodeFiles}
@@ -41,26 +41,17 @@ is_word = pointwise nat_eq
 abbrev pub usual_fuel : ℕ
 usual_fuel = 10000
 
--- the number of digits, where it is at most so large
-abbrev pub number_in : ℕ → List ℕ → Option ℕ
-number_in most digits = if are_digits digits && nat_le (value_of digits) most then Some (value_of digits) else None
-
--- the number that a word names: digits without a leading zero, whose number is at most so large; so it isn't 0
-unfoldable pub number_of : ℕ → List ℕ → Option ℕ
-number_of most [] = None
-number_of most (b ∷ bs) = if b == 48 then None else number_in most (b ∷ bs)
-
 -- the fuel that a word names, from 1 to 100,000
 abbrev pub fuel_of : List ℕ → Option ℕ
-fuel_of word = number_of 100000 word
+fuel_of word = plain_in 100000 word
 
 -- the stamp that a word names, from 0 to 9,223,372,036,854,775,807
 abbrev pub stamp_of : List ℕ → Option ℕ
-stamp_of word = if is_word word (codes "0") then Some 0 else number_of 9223372036854775807 word
+stamp_of word = if is_word word (codes "0") then Some 0 else plain_in 9223372036854775807 word
 
 -- how many actors a word names, from 1 to 4,000
 abbrev pub actors_of : List ℕ → Option ℕ
-actors_of word = number_of 4000 word
+actors_of word = plain_in 4000 word
 
 -- what a word asks for of a model, or of so many actors
 abbrev pub asked_of : List ℕ → List ℕ → Option Asked

@@ -1,9 +1,9 @@
 //! What the words of a call ask for.
 ghost use Rattle.std.specs.Prelude.{◌≡◌, ◌<◌, option_map, map};
 ghost use Rattle.std.specs.String.{string_bytes};
-ghost use Rattle.room_run.specs.Words.{Made, Run, Show, Verify, actors_of, asked_by, asked_of, asked_of_files, asked_of_journals, asked_of_journals_with, asked_view, asked_with, files_view, fuel_of, judged_view, number_in, number_of, record_view, stamp_of};
+ghost use Rattle.room_run.specs.Words.{Made, Run, Show, Verify, actors_of, asked_by, asked_of, asked_of_files, asked_of_journals, asked_of_journals_with, asked_view, asked_with, files_view, fuel_of, judged_view, record_view, stamp_of};
 
-use text_reading::{are_digits, value};
+use text_reading::plain_number;
 
 /// The fuel of a run whose words name none: the most turns that each controller takes.
 pub(crate) const USUAL_FUEL: u64 = 10_000;
@@ -58,45 +58,14 @@ pub(crate) enum Asked<'a> {
     Made(u64),
 }
 
-/// The number of digits, where it is at most so large.
-fn number_in(most: u64, digits: &[u8]) -> Option<u64>
-    requires { most < 18446744073709551615 }
-    ensures { result ≡ number_in most digits.now }
-{
-    let number = value(digits);
-    if are_digits(digits) && number <= most {
-        Some(number)
-    } else {
-        None
-    }
-}
-
-/// The number that a word names: digits without a leading zero, whose number is at most so large.
-#[tactic(auto, unfolding(crate::specs::Words::number_of))]
-fn number_of(most: u64, word: &[u8]) -> Option<u64>
-    requires { most < 18446744073709551615 }
-    ensures { result ≡ number_of most word.now }
-{
-    match word {
-        [] => None,
-        [first, ..] => {
-            if *first == b'0' {
-                None
-            } else {
-                number_in(most, word)
-            }
-        }
-    }
-}
-
 /// The stamp that a word names: 0, or digits without a leading zero.
-fn stamp_of(word: &str) -> Option<u64>
+pub fn stamp_of(word: &str) -> Option<u64>
     ensures { result ≡ stamp_of word.now }
 {
     if word == "0" {
         return Some(0);
     }
-    number_of(MOST_STAMP, word.as_bytes())
+    plain_number(MOST_STAMP, word.as_bytes())
 }
 
 /// The files of these names.
@@ -137,7 +106,7 @@ fn verify_with<'a>(files: Judged<'a>, word: &[u8]) -> Option<Asked<'a>>
     ensures { option_map asked_view result
         ≡ option_map (Verify (judged_view files.entry)) (fuel_of word.now) }
 {
-    match number_of(MOST_FUEL, word) {
+    match plain_number(MOST_FUEL, word) {
         Some(fuel) => Some(Asked::Verify(files, fuel)),
         None => None,
     }
@@ -159,7 +128,7 @@ fn run_with<'a>(files: Files<'a>, word: &[u8]) -> Option<Asked<'a>>
     ensures { option_map asked_view result
         ≡ option_map (Run (files_view files.entry)) (fuel_of word.now) }
 {
-    match number_of(MOST_FUEL, word) {
+    match plain_number(MOST_FUEL, word) {
         Some(fuel) => Some(Asked::Run(files, fuel)),
         None => None,
     }
@@ -169,7 +138,7 @@ fn run_with<'a>(files: Files<'a>, word: &[u8]) -> Option<Asked<'a>>
 fn made_of<'a>(word: &[u8]) -> Option<Asked<'a>>
     ensures { option_map asked_view result ≡ option_map Made (actors_of word.now) }
 {
-    match number_of(MOST_ACTORS, word) {
+    match plain_number(MOST_ACTORS, word) {
         Some(actors) => Some(Asked::Made(actors)),
         None => None,
     }

@@ -81,7 +81,7 @@ fn keep_rules(alloc: Global, tree: &Model) -> Result<Checked<'_>, ModelFault>
 {
     match check(alloc, tree) {
         Ok(checked) => Ok(checked),
-        Err(CheckFault::Rule(rule)) => Err(ModelFault::Rule(rule)),
+        Err(CheckFault::Rule(rule)) => Err(ModelFault::Rule(rule.number())),
         Err(CheckFault::Memory) => Err(ModelFault::Memory),
     }
 }

@@ -30,6 +30,7 @@ pub use answers::{
     accepted_calls_end, conversions_keep_journals, one_answer, printed_runs_are_lawful,
     printed_runs_are_shown, shows_are_exact, verdicts_are_exact,
 };
+pub use asked::stamp_of;
 pub use fitting_journals::{fitting_journals_fit, fitting_runs_journals};
 pub use fitting_plants::{fitting_runs_settle, fitting_worlds_agree, plants_fit};
 pub use judge::{read_plant, read_wiring};

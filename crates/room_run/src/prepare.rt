@@ -128,7 +128,10 @@ fn refusal_of_lines(fault: InjectFault) -> Refusal
     ensures { result ≡ refusal_of_lines fault }
 {
     match fault {
-        InjectFault::Code { line, code } => Refusal::InjectionsLine { line, code },
+        InjectFault::Code { line, fault } => Refusal::InjectionsLine {
+            line,
+            code: fault.code(),
+        },
         InjectFault::Memory => Refusal::Memory,
     }
 }

@@ -1,2 +1,3 @@
 pub mod WordNumbers
 pub mod Singles
+pub mod Cuts

@@ -6,5 +6,5 @@
 mod token;
 mod word;
 
-pub use token::{ActionToken, Kind, Rest, action_tokens};
+pub use token::{ActionToken, Rest, action_tokens};
 pub use word::ActionWord;

@@ -63,12 +63,14 @@ fn tell_slot(page: &mut Page, wiring: &Wiring, id: SlotId, slot: &Slot) -> Resul
 }
 
 /// Every place at which a message can be injected, with the messages that come in there and the types of their
-/// numbers, a line each, in order of slot, port and message; and how far the time moves, where actors have timers.
+/// numbers, a line each, in order of slot, port and message; and how far the time moves, where actors have timers. Where
+/// there is none of all this, that is told.
 pub(crate) fn tell_doors(
     alloc: Global,
     page: &mut Page,
     wiring: &Wiring,
 ) -> Result<(), AllocError> {
+    let before = page.bytes().len();
     for number in 0..wiring.slot_count() {
         let id = SlotId(number as u16);
         if let Some(slot) = wiring.get_slot(id) {
@@ -78,5 +80,8 @@ pub(crate) fn tell_doors(
     if has_timers(alloc, wiring)? {
         page.put_line(b"advance 1..2147483647")?;
     }
-    Ok(())
+    if page.bytes().len() > before {
+        return Ok(());
+    }
+    page.put_line(b"none")
 }

@@ -221,9 +221,10 @@ pub(crate) fn tell_lines(
     wiring: &Wiring,
     fault: InjectFault,
 ) -> Result<(), AllocError> {
-    let InjectFault::Code { line, code } = fault else {
+    let InjectFault::Code { line, fault } = fault else {
         return Err(AllocError);
     };
+    let code = fault.code();
     page.put(named.name.as_bytes())?;
     page.put(b" is refused: line ")?;
     page.put_number(u64::from(line))?;

@@ -26,6 +26,7 @@ mod verdicts;
 mod why;
 mod words;
 
+use crate::accepted::Accepted;
 use crate::doors::tell_doors;
 use crate::lines::injections_of;
 use crate::messages::tell_message_of;
@@ -96,6 +97,44 @@ fn tell_lint(
     Ok(Status::Done)
 }
 
+/// The page for what these words ask of a model that isn't refused, and the status.
+fn tell_asked(
+    rt: HostRuntime,
+    page: &mut Page,
+    words: &[String],
+    asked: Asked<'_>,
+    model: Named<'_>,
+    accepted: &Accepted,
+) -> Result<Status, AllocError> {
+    let wiring = accepted.wiring();
+    match asked {
+        Asked::Nothing => page.put_line(b"ok")?,
+        Asked::Doors => tell_doors(rt.alloc(), page, wiring)?,
+        Asked::Lint(injections) => return tell_lint(rt, page, model, wiring, injections),
+        Asked::Injections(name) => return tell_injections(rt, page, wiring, name),
+        Asked::Journals(judgement) => {
+            let asking = Asking {
+                alloc: rt.alloc(),
+                model: accepted,
+                text: model.text,
+                words,
+            };
+            return tell_journals(rt, page, asking, judgement);
+        }
+        Asked::Story(name, options) => return tell_story_of(rt, page, accepted, name, options),
+        Asked::Explain(message) => return tell_message_of(rt, page, accepted, message),
+        Asked::End(name) => return tell_end_of(rt, page, accepted, name),
+        Asked::Outputs(name) => return tell_outputs_of(rt, page, accepted, name),
+        Asked::Picture(picture) => {
+            return tell_picture(rt.alloc(), page, model.text, accepted, words, picture);
+        }
+        Asked::Run(name, form, options) => {
+            return tell_run_picture(rt, page, accepted, words, name, form, options);
+        }
+    }
+    Ok(Status::Done)
+}
+
 /// The page for a question, which these words ask, and the status. The model may have been read before.
 fn tell(
     rt: HostRuntime,
@@ -112,36 +151,10 @@ fn tell(
         name: question.model,
         text: text.as_slice(),
     };
-    let Some(accepted) = tell_model(rt.alloc(), page, model)? else {
-        return Ok(Status::ModelRefused);
-    };
-    let wiring = accepted.wiring();
-    match question.asked {
-        Asked::Nothing => page.put_line(b"ok")?,
-        Asked::Doors => tell_doors(rt.alloc(), page, wiring)?,
-        Asked::Lint(injections) => return tell_lint(rt, page, model, wiring, injections),
-        Asked::Injections(name) => return tell_injections(rt, page, wiring, name),
-        Asked::Journals(judgement) => {
-            let asking = Asking {
-                alloc: rt.alloc(),
-                model: &accepted,
-                text: model.text,
-                words,
-            };
-            return tell_journals(rt, page, asking, judgement);
-        }
-        Asked::Story(name, options) => return tell_story_of(rt, page, &accepted, name, options),
-        Asked::Explain(message) => return tell_message_of(rt, page, &accepted, message),
-        Asked::End(name) => return tell_end_of(rt, page, &accepted, name),
-        Asked::Outputs(name) => return tell_outputs_of(rt, page, &accepted, name),
-        Asked::Picture(picture) => {
-            return tell_picture(rt.alloc(), page, model.text, &accepted, words, picture);
-        }
-        Asked::Run(name, form, options) => {
-            return tell_run_picture(rt, page, &accepted, words, name, form, options);
-        }
+    match tell_model(rt.alloc(), page, model)? {
+        Some(accepted) => tell_asked(rt, page, words, question.asked, model, &accepted),
+        None => Ok(Status::ModelRefused),
     }
-    Ok(Status::Done)
 }
 
 /// Tells on standard error why there is no page, which ends with this status.

@@ -24,6 +24,44 @@ fn sender_of(wiring: &Wiring, name: MessageName<'_>) -> Option<ControllerId> {
     }
 }
 
+/// Writes the way of the message that a controller sent at a stamp, of a run that was done again; whether journals have
+/// it. That they aren't those of a run over the injections is told on the page.
+fn tell_replayed(
+    alloc: Global,
+    page: &mut Page,
+    body: &mut Page,
+    told: Explained<'_>,
+    plant: &Plant,
+    sender: ControllerId,
+    sent: Stamp,
+) -> Result<bool, AllocError> {
+    let is_told = tell_message(alloc, body, told, sender, sent)?;
+    if is_told && told.redone.differs.is_none() {
+        tell_if_unlawful(alloc, page, plant, told.injections.text, told.journals)?;
+    }
+    Ok(is_told)
+}
+
+/// As `tell_replayed`, of a run that is done again.
+fn tell_way(
+    alloc: Global,
+    page: &mut Page,
+    body: &mut Page,
+    told: Explained<'_>,
+    plant: &Plant,
+    sender: ControllerId,
+    sent: Stamp,
+) -> Result<bool, AllocError> {
+    let wanted = Some(Name::new(sender, sent));
+    let replays = replays_of(alloc, plant, told.journals, wanted)?;
+    let told = Explained {
+        redone: &replays.redone,
+        replays: replays.of_message.as_slice(),
+        ..told
+    };
+    tell_replayed(alloc, page, body, told, plant, sender, sent)
+}
+
 /// Explains a message by a model, the text of injections and journals. That the journals aren't those of a run over the
 /// injections is told before all.
 fn tell(
@@ -33,22 +71,11 @@ fn tell(
     plant: &Plant,
     name: MessageName<'_>,
 ) -> Result<Status, AllocError> {
-    let sent = Stamp(name.sent);
     let mut body = Page::new(alloc);
     let is_told = match sender_of(told.wiring, name) {
         Some(sender) => {
-            let wanted = Some(Name::new(sender, sent));
-            let replays = replays_of(alloc, plant, told.journals, wanted)?;
-            let told = Explained {
-                redone: &replays.redone,
-                replays: replays.of_message.as_slice(),
-                ..told
-            };
-            let is_told = tell_message(alloc, &mut body, told, sender, sent)?;
-            if is_told && replays.redone.differs.is_none() {
-                tell_if_unlawful(alloc, page, plant, told.injections.text, told.journals)?;
-            }
-            is_told
+            let sent = Stamp(name.sent);
+            tell_way(alloc, page, &mut body, told, plant, sender, sent)?
         }
         None => false,
     };

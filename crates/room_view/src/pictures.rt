@@ -13,6 +13,7 @@ use view_drawing::{
     Diagram, Sequence, put_dot, put_mermaid, put_sequence_dot, put_sequence_mermaid,
     put_sequence_svg, put_svg,
 };
+use view_journals::Wanted;
 use view_journals::view_pages::Page;
 use view_pictures::{
     Scene, chart_picture, machine_of, run_picture, scene_picture, tell_machines, wiring_picture,
@@ -20,7 +21,7 @@ use view_pictures::{
 use view_verdicts::Moment;
 
 /// The form of a picture.
-#[derive(Clone, Copy, Debug, PartialEq, Eq)]
+#[derive(Clone, Copy, PartialEq, Eq)]
 pub(crate) enum Form {
     Svg,
     Dot,
@@ -154,6 +155,23 @@ fn put_run(page: &mut Page, sequence: &Sequence, form: Form) -> Result<(), Alloc
     }
 }
 
+/// The picture of what is wanted of the run of the journals of a file, or what is told of it and the status.
+fn sequence_of(
+    rt: HostRuntime,
+    page: &mut Page,
+    model: &Accepted,
+    name: &str,
+    wanted: Wanted<'_>,
+) -> Result<Result<Sequence, Status>, AllocError> {
+    let run = match run_of(rt, page, model, name)? {
+        Ok(run) => run,
+        Err(status) => return Ok(Err(status)),
+    };
+    let wiring = model.wiring();
+    let sequence = run_picture(rt.alloc(), wiring, &run.journals, &run.redone, wanted)?;
+    Ok(Ok(sequence))
+}
+
 /// Puts a picture of what options ask for of the run of the journals of a file, for which these words ask.
 pub(crate) fn tell_run_picture(
     rt: HostRuntime,
@@ -168,12 +186,10 @@ pub(crate) fn tell_run_picture(
     if !knows(page, wiring, options)? {
         return Ok(Status::WordsRefused);
     }
-    let run = match run_of(rt, page, model, name)? {
-        Ok(run) => run,
+    let mut sequence = match sequence_of(rt, page, model, name, wanted_of(wiring, options))? {
+        Ok(sequence) => sequence,
         Err(status) => return Ok(status),
     };
-    let wanted = wanted_of(wiring, options);
-    let mut sequence = run_picture(rt.alloc(), wiring, &run.journals, &run.redone, wanted)?;
     sequence.title = title_of(rt.alloc(), &model.tree, words)?;
     put_run(page, &sequence, form)?;
     Ok(Status::Done)

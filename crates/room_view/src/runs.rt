@@ -195,6 +195,26 @@ fn tell_if_no_run(
     tell_no_run(alloc, page, &model.plant, &run.journals)
 }
 
+/// The story of a run, of which these lines are wanted.
+fn tell_story_in(
+    alloc: Global,
+    page: &mut Page,
+    model: &Accepted,
+    run: &RunOf,
+    wanted: Wanted<'_>,
+) -> Result<Status, AllocError> {
+    tell_if_no_run(alloc, page, model, run)?;
+    tell_story(
+        alloc,
+        page,
+        model.wiring(),
+        &run.journals,
+        &run.redone,
+        wanted,
+    )?;
+    Ok(Status::Done)
+}
+
 /// The story of the journals of a file.
 pub(crate) fn tell_story_of(
     rt: HostRuntime,
@@ -209,12 +229,20 @@ pub(crate) fn tell_story_of(
     }
     let wanted = wanted_of(wiring, options);
     match run_of(rt, page, model, name)? {
-        Ok(run) => {
-            tell_if_no_run(rt.alloc(), page, model, &run)?;
-            tell_story(rt.alloc(), page, wiring, &run.journals, &run.redone, wanted)?;
-        }
-        Err(status) => return Ok(status),
+        Ok(run) => tell_story_in(rt.alloc(), page, model, &run, wanted),
+        Err(status) => Ok(status),
     }
+}
+
+/// What was still open where a run ended.
+fn tell_end_in(
+    alloc: Global,
+    page: &mut Page,
+    model: &Accepted,
+    run: &RunOf,
+) -> Result<Status, AllocError> {
+    tell_if_no_run(alloc, page, model, run)?;
+    tell_end(alloc, page, model.wiring(), &run.journals, &run.redone)?;
     Ok(Status::Done)
 }
 
@@ -226,13 +254,9 @@ pub(crate) fn tell_end_of(
     name: &str,
 ) -> Result<Status, AllocError> {
     match run_of(rt, page, model, name)? {
-        Ok(run) => {
-            tell_if_no_run(rt.alloc(), page, model, &run)?;
-            tell_end(rt.alloc(), page, model.wiring(), &run.journals, &run.redone)?;
-        }
-        Err(status) => return Ok(status),
+        Ok(run) => tell_end_in(rt.alloc(), page, model, &run),
+        Err(status) => Ok(status),
     }
-    Ok(Status::Done)
 }
 
 /// What nobody hears in the run of the journals of a file.

@@ -1,5 +1,6 @@
 //! What the words of a call ask for.
 use crate::pictures::{Form, Picture, form_of, picture_of};
+use room_run::stamp_of;
 use text_reading::{are_digits, value};
 
 /// What is told where words have another form.
@@ -111,24 +112,6 @@ fn flag_of(word: &str) -> Option<Flag> {
     }
 }
 
-/// The stamp that a word names.
-fn stamp_of(word: &str) -> Option<u64> {
-    number_of(word.as_bytes())
-}
-
-/// The largest stamp that can be asked for.
-const LAST_STAMP: u64 = 9_223_372_036_854_775_807;
-
-/// The stamp at which the system is asked for: 0 to the largest one, without a leading zero.
-fn moment_of(word: &str) -> Option<u64> {
-    let digits = word.as_bytes();
-    let stamp = number_of(digits)?;
-    if stamp > LAST_STAMP || digits.len() > 1 && digits.starts_with(b"0") {
-        return None;
-    }
-    Some(stamp)
-}
-
 /// The number of up to 19 digits.
 fn number_of(digits: &[u8]) -> Option<u64> {
     if digits.is_empty() || digits.len() > 19 || !are_digits(digits) {
@@ -199,8 +182,8 @@ impl Places {
         match flag {
             Flag::Actor if self.actor.is_none() => places.actor = Some(place),
             Flag::Signal if self.signal.is_none() => places.signal = Some(place),
-            Flag::From if self.from.is_none() => places.from = Some(stamp_of(word)?),
-            Flag::To if self.to.is_none() => places.to = Some(stamp_of(word)?),
+            Flag::From if self.from.is_none() => places.from = Some(number_of(word.as_bytes())?),
+            Flag::To if self.to.is_none() => places.to = Some(number_of(word.as_bytes())?),
             _ => return None,
         }
         Some(places)
@@ -284,13 +267,13 @@ fn look_of(command: &str, words: &[String]) -> Option<Look> {
             fuel: fuel_of(fuel)?,
         }),
         ("diff", [first, second]) => {
-            let first = moment_of(first.as_str())?;
-            let second = moment_of(second.as_str())?;
+            let first = stamp_of(first.as_str())?;
+            let second = stamp_of(second.as_str())?;
             (first <= second).then_some(Look::Changes { first, second })
         }
         ("wiring", [flag, at, form @ ..]) if flag.as_str() == "--at" => {
             let (form, rest) = form_and_rest(form);
-            let at = moment_of(at.as_str())?;
+            let at = stamp_of(at.as_str())?;
             rest.is_empty().then_some(Look::Wiring { at, form })
         }
         _ => None,

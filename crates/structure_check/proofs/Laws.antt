@@ -1,23 +1,7 @@
 -- The first rule that is broken is the lowest.
-use Rattle.std.proofs.Common.{◌≡◌, inl, inr, ℕ, ◌<◌, ◌≤◌, Bool, true, false, cond, List, [], ◌∷◌, ◌++◌, Option, Some, None, refl, sym, ◌∙◌, arith}
+use Rattle.std.proofs.Common.{◌≡◌, inl, inr, ℕ, ◌<◌, ◌≤◌, Bool, true, false, cond, List, [], ◌∷◌, Option, Some, None, refl, sym, ◌∙◌, arith}
 use Rattle.room_ast.specs.Trees.{ModelTree}
 use Rattle.structure_check.specs.Rules.{Rule, first_broken, IsBroken, RiseAbove, IsLowest}
-
-pick_first : (b : Bool) (number n : ℕ) (a c : Option ℕ) → (a ≡ Some n → c ≡ Some n) → cond b a (Some number) ≡ Some n → cond b c (Some number) ≡ Some n
-pick_first true number n a c f e = f e
-pick_first false number n a c f e = e
-
-pub broken_first : (xs ys : List Rule) (m : ModelTree) (n : ℕ) → first_broken xs m ≡ Some n → first_broken (xs ++ ys) m ≡ Some n
-broken_first [] ys m n e = absurd cc
-broken_first (x ∷ xs) ys m n e = pick_first (x.keeps m) x.number n (first_broken xs m) (first_broken (xs ++ ys) m) (λ f. broken_first xs ys m n f) e
-
-pick_later : (b : Bool) (number : ℕ) (a c d : Option ℕ) → (a ≡ None → c ≡ d) → cond b a (Some number) ≡ None → cond b c (Some number) ≡ d
-pick_later true number a c d f e = f e
-pick_later false number a c d f e = absurd cc
-
-pub broken_later : (xs ys : List Rule) (m : ModelTree) → first_broken xs m ≡ None → first_broken (xs ++ ys) m ≡ first_broken ys m
-broken_later [] ys m e = refl
-broken_later (x ∷ xs) ys m e = pick_later (x.keeps m) x.number (first_broken xs m) (first_broken (xs ++ ys) m) (first_broken ys m) (λ f. broken_later xs ys m f) e
 
 -- a rule that is broken has a number above that from which the numbers rise
 above : (k : ℕ) (rs : List Rule) (m : ModelTree) (n : ℕ) → RiseAbove k rs → IsBroken rs m n → k < n

@@ -2,11 +2,11 @@
 use Rattle.std.proofs.Common.{◌≡◌, ℕ, Option, sym, subst, lit<}
 use Rattle.room_ast.specs.Trees.{ModelTree}
 use Rattle.structure_check.specs.Rules.{first_broken, RiseAbove, IsLowest}
-use Rattle.structure_check.specs.List.{name_rules, data_rules, end_rules, place_rules, binding_rules, thread_rules, joint_rules, outer_rules, part_rules, later_rules, single_rules, count_rules, all_rules}
+use Rattle.structure_check.specs.List.{all_rules}
 use Rattle.structure_check.proofs.Laws.{lowest}
 
 numbers_rise : RiseAbove 0 all_rules
-unfolding name_rules data_rules end_rules place_rules binding_rules thread_rules joint_rules outer_rules part_rules later_rules single_rules count_rules
+unfolding all_rules
 numbers_rise = (lit< tt, (lit< tt, (lit< tt, (lit< tt, (lit< tt, (lit< tt, (lit< tt, (lit< tt, (lit< tt, (lit< tt, (lit< tt, (lit< tt, (lit< tt, (lit< tt, (lit< tt, (lit< tt, (lit< tt, (lit< tt, (lit< tt, (lit< tt, (lit< tt, (lit< tt, (lit< tt, (lit< tt, (lit< tt, tt)))))))))))))))))))))))))
 
 pub lowest_broken : (m : ModelTree) (o : Option ℕ) → o ≡ first_broken all_rules m → IsLowest all_rules m o

@@ -1,8 +1,10 @@
 -- The rules of ROOM models, in order of their numbers.
-use Rattle.std.specs.Prelude.{◌&&◌, Bool, List, [], ◌∷◌, ◌++◌}
+use Rattle.std.specs.Prelude.{◌&&◌, Bool, List, [], ◌∷◌, map}
 use Rattle.room_ast.specs.Trees.{ModelTree}
 use Rattle.check_tables.specs.class_tables.Containers.{tables_of}
 use Rattle.structure_check.specs.Rules.{Rule}
+use Rattle.structure_check.specs.declared.flat_rule.FlatRule.{FlatRule}
+use Rattle.structure_check.specs.declared.flat_rule.FlatRule.TheVariants as rules
 use Rattle.check_classes.specs.class_rules.Names.{has_one_system, has_class_names, has_part_names, has_message_names, has_field_names}
 use Rattle.check_classes.specs.class_rules.Types.{has_known_types, has_fitting_values}
 use Rattle.check_classes.specs.class_rules.Ends.{has_known_protocols, has_own_ports, has_known_actors}
@@ -17,66 +19,48 @@ use Rattle.check_bindings.specs.structure_rules.Threads.{threads_are_few}
 use Rattle.check_bindings.specs.binding_rules.Rules.{any_places_bind_once, binding_sides_agree, binding_sides_exist, layers_are_known}
 use Rattle.check_mappings.specs.mapping_rules.Rules.{mappings_are_allowed, mappings_are_distinct, mappings_are_known}
 
--- The rules on names.
-unfoldable pub name_rules : List Rule
-name_rules =
-    record { number = 1; keeps = has_one_system } ∷ record { number = 2; keeps = has_class_names } ∷ record { number = 3; keeps = has_part_names }
-    ∷ record { number = 4; keeps = has_message_names } ∷ record { number = 5; keeps = has_field_names } ∷ []
-
--- The rules on types and data classes.
-unfoldable pub data_rules : List Rule
-data_rules = record { number = 6; keeps = has_known_types } ∷ record { number = 7; keeps = data_is_finite } ∷ record { number = 8; keeps = has_small_classes } ∷ []
-
--- The rules on initial values, ports and references.
-unfoldable pub end_rules : List Rule
-end_rules =
-    record { number = 9; keeps = has_fitting_values } ∷ record { number = 10; keeps = has_known_protocols } ∷ record { number = 11; keeps = has_own_ports }
-    ∷ record { number = 12; keeps = has_known_actors } ∷ record { number = 13; keeps = actors_are_finite } ∷ []
-
--- The rules on replication, ports with `[*]`, the references of subsystems and imported classes.
-unfoldable pub place_rules : List Rule
-place_rules =
-    record { number = 14; keeps = λ m. replicates_in_range (tables_of m) } ∷ record { number = 15; keeps = λ m. any_places_at_end_ports (tables_of m) }
-    ∷ record { number = 16; keeps = λ m. subsystem_references_are_plain (tables_of m) } ∷ record { number = 17; keeps = λ m. imported_classes_have_end_ports (tables_of m) } ∷ []
-
--- The rules on bindings and layer connections.
-unfoldable pub binding_rules : List Rule
-binding_rules =
-    record { number = 18; keeps = binding_sides_exist } ∷ record { number = 19; keeps = binding_sides_agree } ∷ record { number = 20; keeps = any_places_bind_once }
-    ∷ record { number = 21; keeps = layers_are_known } ∷ []
-
 -- Every mapping names a reference path that exists, with indexes in range, and a thread, and no path is mapped twice.
 abbrev pub mappings_hold : ModelTree → Bool
 mappings_hold m = mappings_are_known m && mappings_are_distinct m
 
--- The rules on threads and mappings.
-unfoldable pub thread_rules : List Rule
-thread_rules = record { number = 22; keeps = threads_are_few } ∷ record { number = 23; keeps = mappings_hold } ∷ record { number = 24; keeps = mappings_are_allowed } ∷ []
+-- The number of each rule, and what it asks.
+abbrev pub rule_of : FlatRule → Rule
+rule_of rules.OneSystem = record { number = 1; keeps = has_one_system }
+rule_of rules.ClassNames = record { number = 2; keeps = has_class_names }
+rule_of rules.PartNames = record { number = 3; keeps = has_part_names }
+rule_of rules.MessageNames = record { number = 4; keeps = has_message_names }
+rule_of rules.FieldNames = record { number = 5; keeps = has_field_names }
+rule_of rules.KnownTypes = record { number = 6; keeps = has_known_types }
+rule_of rules.FiniteData = record { number = 7; keeps = data_is_finite }
+rule_of rules.SmallClasses = record { number = 8; keeps = has_small_classes }
+rule_of rules.FittingValues = record { number = 9; keeps = has_fitting_values }
+rule_of rules.KnownProtocols = record { number = 10; keeps = has_known_protocols }
+rule_of rules.OwnPorts = record { number = 11; keeps = has_own_ports }
+rule_of rules.KnownActors = record { number = 12; keeps = has_known_actors }
+rule_of rules.FiniteActors = record { number = 13; keeps = actors_are_finite }
+rule_of rules.Replication = record { number = 14; keeps = λ m. replicates_in_range (tables_of m) }
+rule_of rules.AnyPlacesAtEnds = record { number = 15; keeps = λ m. any_places_at_end_ports (tables_of m) }
+rule_of rules.PlainSubsystems = record { number = 16; keeps = λ m. subsystem_references_are_plain (tables_of m) }
+rule_of rules.ImportedEnds = record { number = 17; keeps = λ m. imported_classes_have_end_ports (tables_of m) }
+rule_of rules.BindingSides = record { number = 18; keeps = binding_sides_exist }
+rule_of rules.SidesAgree = record { number = 19; keeps = binding_sides_agree }
+rule_of rules.AnyPlacesOnce = record { number = 20; keeps = any_places_bind_once }
+rule_of rules.KnownLayers = record { number = 21; keeps = layers_are_known }
+rule_of rules.FewThreads = record { number = 22; keeps = threads_are_few }
+rule_of rules.KnownMappings = record { number = 23; keeps = mappings_hold }
+rule_of rules.AllowedMappings = record { number = 24; keeps = mappings_are_allowed }
+rule_of rules.FewParts = record { number = 25; keeps = has_few_parts }
 
--- The rules from bindings on.
-unfoldable pub joint_rules : List Rule
-joint_rules = binding_rules ++ thread_rules
-
--- The rules from replication on.
-unfoldable pub outer_rules : List Rule
-outer_rules = place_rules ++ joint_rules
-
--- The rules from initial values on.
-unfoldable pub part_rules : List Rule
-part_rules = end_rules ++ outer_rules
-
--- The rules behind those on names.
-unfoldable pub later_rules : List Rule
-later_rules = data_rules ++ part_rules
-
--- The rules on single parts of a model: all but that on how many parts there are.
-unfoldable pub single_rules : List Rule
-single_rules = name_rules ++ later_rules
-
--- The rule on how many parts there are.
-unfoldable pub count_rules : List Rule
-count_rules = record { number = 25; keeps = has_few_parts } ∷ []
+-- All rules by name, in order of their numbers.
+abbrev pub flat_rules : List FlatRule
+flat_rules =
+    rules.OneSystem ∷ rules.ClassNames ∷ rules.PartNames ∷ rules.MessageNames ∷ rules.FieldNames
+    ∷ rules.KnownTypes ∷ rules.FiniteData ∷ rules.SmallClasses ∷ rules.FittingValues
+    ∷ rules.KnownProtocols ∷ rules.OwnPorts ∷ rules.KnownActors ∷ rules.FiniteActors
+    ∷ rules.Replication ∷ rules.AnyPlacesAtEnds ∷ rules.PlainSubsystems ∷ rules.ImportedEnds
+    ∷ rules.BindingSides ∷ rules.SidesAgree ∷ rules.AnyPlacesOnce ∷ rules.KnownLayers
+    ∷ rules.FewThreads ∷ rules.KnownMappings ∷ rules.AllowedMappings ∷ rules.FewParts ∷ []
 
 -- All rules that are checked, in order of their numbers.
-abbrev pub all_rules : List Rule
-all_rules = single_rules ++ count_rules
+unfoldable pub all_rules : List Rule
+all_rules = map rule_of flat_rules

@@ -1,17 +1,18 @@
 //! Checking a model.
 
-ghost use Rattle.std.specs.Prelude.{◌≡◌, true, IfOk, None, List};
+ghost use Rattle.std.specs.Prelude.{◌≡◌, ◌<◌, true, IfOk, None, List, option_map};
 ghost use Rattle.check_tables.specs.containment_rules.Circles.{data_is_finite};
 ghost use Rattle.room_ast.specs.Trees.{ModelTree, model_view};
 ghost use Rattle.check_tables.specs.class_tables.Containers.{tables_of};
 ghost use Rattle.structure_check.specs.Rules.{Rule, first_broken, IsLowest, RiseAbove};
-ghost use Rattle.structure_check.specs.List.{name_rules, data_rules, end_rules, place_rules, binding_rules, mappings_hold, thread_rules, joint_rules, outer_rules, part_rules, later_rules, single_rules, count_rules, all_rules};
+ghost use Rattle.structure_check.specs.List.{mappings_hold, rule_of, flat_rules, all_rules};
 ghost use Rattle.structure_check.specs.Checks.{IsChecked, TellsLowest};
 ghost use Rattle.structure_check.specs.Classes.{HasClasses};
 ghost use Rattle.structure_check.specs.Ranks.{ReferencesFall};
 
 use crate::checked_model::Checked;
 use crate::fault::CheckFault;
+use crate::flat_rule::FlatRule;
 use check_bindings::{
     any_places_at_end_ports, any_places_bind_once, binding_sides_agree, binding_sides_exist,
     imported_classes_have_end_ports, layers_are_known, replicates_in_range,
@@ -30,118 +31,34 @@ use check_tables::{Tables, actors_are_finite, data_is_finite, tables_of};
 use room_ast::Model;
 use std::alloc::{AllocError, Global};
 
-/// The first rule on names that a model breaks.
-#[tactic(auto, unfolding(crate::specs::List::name_rules))]
-fn broken_name_rule(alloc: Global, model: &Model, tables: &Tables) -> Result<Option<u8>, AllocError>
-    requires { tables.now ≡ tables_of (model_view model.now) }
-    ensures { IfOk result (λ n. n ≡ first_broken name_rules (model_view model.now)) }
-{
-    if !has_one_system(alloc, model, tables)? {
-        return Ok(Some(1));
-    }
-    if !has_class_names(alloc, model)? {
-        return Ok(Some(2));
-    }
-    if !has_part_names(alloc, model)? {
-        return Ok(Some(3));
-    }
-    if !has_message_names(alloc, model)? {
-        return Ok(Some(4));
-    }
-    if !has_field_names(alloc, model)? {
-        return Ok(Some(5));
-    }
-    Ok(None)
-}
-
-/// The first rule on types and data classes that a model breaks.
-#[tactic(auto, unfolding(crate::specs::List::data_rules))]
-fn broken_data_rule(alloc: Global, model: &Model, tables: &Tables) -> Result<Option<u8>, AllocError>
-    requires { tables.now ≡ tables_of (model_view model.now) }
-    ensures { IfOk result (λ n. n ≡ first_broken data_rules (model_view model.now)) }
-{
-    if !has_known_types(model, tables) {
-        return Ok(Some(6));
-    }
-    if !data_is_finite(alloc, model, tables)? {
-        return Ok(Some(7));
-    }
-    if !has_small_classes(alloc, tables)? {
-        return Ok(Some(8));
-    }
-    Ok(None)
-}
-
-/// The first rule on initial values, ports and references that a model breaks.
-#[tactic(auto, unfolding(crate::specs::List::end_rules))]
-fn broken_end_rule(alloc: Global, model: &Model, tables: &Tables) -> Result<Option<u8>, AllocError>
-    requires { tables.now ≡ tables_of (model_view model.now) }
-    ensures { IfOk result (λ n. n ≡ first_broken end_rules (model_view model.now)) }
-{
-    if !has_fitting_values(model) {
-        return Ok(Some(9));
-    }
-    if !has_known_protocols(model, tables) {
-        return Ok(Some(10));
-    }
-    if !has_own_ports(alloc, model)? {
-        return Ok(Some(11));
-    }
-    if !has_known_actors(model, tables) {
-        return Ok(Some(12));
-    }
-    if !actors_are_finite(alloc, model, tables)? {
-        return Ok(Some(13));
-    }
-    Ok(None)
-}
-
-/// The first rule on replication, ports with `[*]`, the references of subsystems and imported classes
-/// that a model breaks.
-#[tactic(auto, unfolding(crate::specs::List::place_rules))]
-fn broken_place_rule(
-    alloc: Global,
-    model: &Model,
-    tables: &Tables,
-) -> Result<Option<u8>, AllocError>
-    requires { tables.now ≡ tables_of (model_view model.now) }
-    ensures { IfOk result (λ n. n ≡ first_broken place_rules (model_view model.now)) }
-{
-    if !replicates_in_range(tables) {
-        return Ok(Some(14));
-    }
-    if !any_places_at_end_ports(tables) {
-        return Ok(Some(15));
-    }
-    if !subsystem_references_are_plain(alloc, tables)? {
-        return Ok(Some(16));
-    }
-    if !imported_classes_have_end_ports(alloc, tables)? {
-        return Ok(Some(17));
-    }
-    Ok(None)
-}
-
-/// The first rule on bindings and layer connections that a model breaks.
-#[tactic(auto, unfolding(crate::specs::List::binding_rules))]
-fn broken_binding_rule(model: &Model, tables: &Tables) -> Option<u8>
-    requires { tables.now ≡ tables_of (model_view model.now) }
-    ensures { result ≡ first_broken binding_rules (model_view model.now) }
-{
-    if !binding_sides_exist(model, tables) {
-        return Some(18);
-    }
-    if !binding_sides_agree(model, tables) {
-        return Some(19);
-    }
-    if !any_places_bind_once(model, tables) {
-        return Some(20);
-    }
-    if !layers_are_known(model, tables) {
-        return Some(21);
-    }
-    None
-}
+/// All rules, in the order in which they are told.
+const RULES: [FlatRule; 25] = [
+    FlatRule::OneSystem,
+    FlatRule::ClassNames,
+    FlatRule::PartNames,
+    FlatRule::MessageNames,
+    FlatRule::FieldNames,
+    FlatRule::KnownTypes,
+    FlatRule::FiniteData,
+    FlatRule::SmallClasses,
+    FlatRule::FittingValues,
+    FlatRule::KnownProtocols,
+    FlatRule::OwnPorts,
+    FlatRule::KnownActors,
+    FlatRule::FiniteActors,
+    FlatRule::Replication,
+    FlatRule::AnyPlacesAtEnds,
+    FlatRule::PlainSubsystems,
+    FlatRule::ImportedEnds,
+    FlatRule::BindingSides,
+    FlatRule::SidesAgree,
+    FlatRule::AnyPlacesOnce,
+    FlatRule::KnownLayers,
+    FlatRule::FewThreads,
+    FlatRule::KnownMappings,
+    FlatRule::AllowedMappings,
+    FlatRule::FewParts,
+];
 
 /// Whether every mapping names a path that exists and a thread, and no path is mapped twice.
 fn mappings_hold(alloc: Global, model: &Model, tables: &Tables) -> Result<bool, AllocError>
@@ -155,135 +72,60 @@ fn mappings_hold(alloc: Global, model: &Model, tables: &Tables) -> Result<bool, 
     Ok(distinct)
 }
 
-/// The first rule on threads and mappings that a model breaks.
-#[tactic(auto, unfolding(crate::specs::List::thread_rules))]
-fn broken_thread_rule(
-    alloc: Global,
-    model: &Model,
-    tables: &Tables,
-) -> Result<Option<u8>, AllocError>
-    requires { tables.now ≡ tables_of (model_view model.now) }
-    ensures { IfOk result (λ n. n ≡ first_broken thread_rules (model_view model.now)) }
-{
-    if !threads_are_few(alloc, model)? {
-        return Ok(Some(22));
-    }
-    if !mappings_hold(alloc, model, tables)? {
-        return Ok(Some(23));
-    }
-    if !mappings_are_allowed(alloc, model, tables)? {
-        return Ok(Some(24));
-    }
-    Ok(None)
-}
-
-/// The first rule from bindings on that a model breaks.
-#[tactic(auto, using(crate::proofs::Laws::broken_first, crate::proofs::Laws::broken_later), unfolding(crate::specs::List::joint_rules))]
-fn broken_joint_rule(
-    alloc: Global,
-    model: &Model,
-    tables: &Tables,
-) -> Result<Option<u8>, AllocError>
-    requires { tables.now ≡ tables_of (model_view model.now) }
-    ensures { IfOk result (λ n. n ≡ first_broken joint_rules (model_view model.now)) }
-{
-    if let Some(rule) = broken_binding_rule(model, tables) {
-        return Ok(Some(rule));
-    }
-    broken_thread_rule(alloc, model, tables)
-}
-
-/// The first rule from replication on that a model breaks.
-#[tactic(auto, using(crate::proofs::Laws::broken_first, crate::proofs::Laws::broken_later), unfolding(crate::specs::List::outer_rules))]
-fn broken_outer_rule(
-    alloc: Global,
-    model: &Model,
-    tables: &Tables,
-) -> Result<Option<u8>, AllocError>
-    requires { tables.now ≡ tables_of (model_view model.now) }
-    ensures { IfOk result (λ n. n ≡ first_broken outer_rules (model_view model.now)) }
-{
-    if let Some(rule) = broken_place_rule(alloc, model, tables)? {
-        return Ok(Some(rule));
-    }
-    broken_joint_rule(alloc, model, tables)
-}
-
-/// The first rule from initial values on that a model breaks.
-#[tactic(auto, using(crate::proofs::Laws::broken_first, crate::proofs::Laws::broken_later), unfolding(crate::specs::List::part_rules))]
-fn broken_part_rule(alloc: Global, model: &Model, tables: &Tables) -> Result<Option<u8>, AllocError>
-    requires { tables.now ≡ tables_of (model_view model.now) }
-    ensures { IfOk result (λ n. n ≡ first_broken part_rules (model_view model.now)) }
-{
-    if let Some(rule) = broken_end_rule(alloc, model, tables)? {
-        return Ok(Some(rule));
-    }
-    broken_outer_rule(alloc, model, tables)
-}
-
-/// The first of the rules behind those on names that a model breaks.
-#[tactic(auto, using(crate::proofs::Laws::broken_first, crate::proofs::Laws::broken_later), unfolding(crate::specs::List::later_rules))]
-fn broken_later_rule(
-    alloc: Global,
-    model: &Model,
-    tables: &Tables,
-) -> Result<Option<u8>, AllocError>
-    requires { tables.now ≡ tables_of (model_view model.now) }
-    ensures { IfOk result (λ n. n ≡ first_broken later_rules (model_view model.now)) }
-{
-    if let Some(rule) = broken_data_rule(alloc, model, tables)? {
-        return Ok(Some(rule));
-    }
-    broken_part_rule(alloc, model, tables)
-}
-
-/// The first of the rules on single parts that a model breaks.
-#[tactic(auto, using(crate::proofs::Laws::broken_first, crate::proofs::Laws::broken_later), unfolding(crate::specs::List::single_rules))]
-fn broken_single_rule(
-    alloc: Global,
-    model: &Model,
-    tables: &Tables,
-) -> Result<Option<u8>, AllocError>
-    requires { tables.now ≡ tables_of (model_view model.now) }
-    ensures { IfOk result (λ n. n ≡ first_broken single_rules (model_view model.now)) }
-{
-    if let Some(rule) = broken_name_rule(alloc, model, tables)? {
-        return Ok(Some(rule));
-    }
-    broken_later_rule(alloc, model, tables)
-}
-
-/// The rule on how many parts there are, if a model breaks it.
-#[tactic(auto, unfolding(crate::specs::List::count_rules))]
-fn broken_count_rule(
-    alloc: Global,
-    model: &Model,
-    tables: &Tables,
-) -> Result<Option<u8>, AllocError>
+/// Whether a model keeps a rule. Those behind the seventh take it for granted that no data class contains
+/// itself.
+fn keeps(alloc: Global, model: &Model, tables: &Tables, rule: FlatRule) -> Result<bool, AllocError>
     requires tables { tables.now ≡ tables_of (model_view model.now) }
-    requires finite { data_is_finite (model_view model.now) ≡ true }
-    ensures { IfOk result (λ n. n ≡ first_broken count_rules (model_view model.now)) }
+    requires finite { 7 < (rule_of rule).number → data_is_finite (model_view model.now) ≡ true }
+    ensures { IfOk result (λ b. b ≡ (rule_of rule).keeps (model_view model.now)) }
 {
-    if !has_few_parts(alloc, model, tables)? {
-        return Ok(Some(25));
+    match rule {
+        FlatRule::OneSystem => has_one_system(alloc, model, tables),
+        FlatRule::ClassNames => has_class_names(alloc, model),
+        FlatRule::PartNames => has_part_names(alloc, model),
+        FlatRule::MessageNames => has_message_names(alloc, model),
+        FlatRule::FieldNames => has_field_names(alloc, model),
+        FlatRule::KnownTypes => Ok(has_known_types(model, tables)),
+        FlatRule::FiniteData => data_is_finite(alloc, model, tables),
+        FlatRule::SmallClasses => has_small_classes(alloc, tables),
+        FlatRule::FittingValues => Ok(has_fitting_values(model)),
+        FlatRule::KnownProtocols => Ok(has_known_protocols(model, tables)),
+        FlatRule::OwnPorts => has_own_ports(alloc, model),
+        FlatRule::KnownActors => Ok(has_known_actors(model, tables)),
+        FlatRule::FiniteActors => actors_are_finite(alloc, model, tables),
+        FlatRule::Replication => Ok(replicates_in_range(tables)),
+        FlatRule::AnyPlacesAtEnds => Ok(any_places_at_end_ports(tables)),
+        FlatRule::PlainSubsystems => subsystem_references_are_plain(alloc, tables),
+        FlatRule::ImportedEnds => imported_classes_have_end_ports(alloc, tables),
+        FlatRule::BindingSides => Ok(binding_sides_exist(model, tables)),
+        FlatRule::SidesAgree => Ok(binding_sides_agree(model, tables)),
+        FlatRule::AnyPlacesOnce => Ok(any_places_bind_once(model, tables)),
+        FlatRule::KnownLayers => Ok(layers_are_known(model, tables)),
+        FlatRule::FewThreads => threads_are_few(alloc, model),
+        FlatRule::KnownMappings => mappings_hold(alloc, model, tables),
+        FlatRule::AllowedMappings => mappings_are_allowed(alloc, model, tables),
+        FlatRule::FewParts => has_few_parts(alloc, model, tables),
     }
-    Ok(None)
 }
 
-/// The lowest rule that a model breaks, by its tables.
-#[tactic(auto, using(crate::proofs::Laws::broken_first, crate::proofs::Laws::broken_later, crate::proofs::KeptRules::keeps_finite))]
-fn lowest_broken_rule(
+/// The first of all rules that a model breaks.
+fn first_broken(
     alloc: Global,
     model: &Model,
     tables: &Tables,
-) -> Result<Option<u8>, AllocError>
-    requires { tables.now ≡ tables_of (model_view model.now) }
-    ensures { IfOk result (λ n. n ≡ first_broken all_rules (model_view model.now)) }
+    rules: &[FlatRule],
+) -> Result<Option<FlatRule>, AllocError>
+    requires tables { tables.now ≡ tables_of (model_view model.now) }
+    requires rules { rules.now ≡ flat_rules }
+    ensures { IfOk result (λ r. option_map (λ x. (rule_of x).number) r
+        ≡ first_broken all_rules (model_view model.now)) }
 {
-    if let Some(rule) = broken_single_rule(alloc, model, tables)? {
-        return Ok(Some(rule));
+    for rule in rules {
+        if !keeps(alloc, model, tables, *rule)? {
+            return Ok(Some(*rule));
+        }
     }
-    broken_count_rule(alloc, model, tables)
+    Ok(None)
 }
 
 /// A model that breaks no rule, with what its actor classes can name.
@@ -316,13 +158,14 @@ fn kept<'a>(alloc: Global, model: &'a Model, tables: &Tables) -> Result<Checked<
 }
 
 /// The answer for a model, by its tables.
+#[tactic(auto, using(crate::proofs::Asking::told_none))]
 fn judged<'a>(alloc: Global, model: &'a Model, tables: &Tables) -> Result<Checked<'a>, CheckFault>
     requires { tables.now ≡ tables_of (model_view model.now) }
     ensures answer { IsChecked (model_view model.entry.now) result }
     ensures lowest { TellsLowest (model_view model.entry.now) result }
     ensures references { IfOk result (λ c. ReferencesFall (model_view model.entry.now)) }
 {
-    match lowest_broken_rule(alloc, model, tables)? {
+    match first_broken(alloc, model, tables, &RULES)? {
         Some(rule) => Err(CheckFault::Rule(rule)),
         None => kept(alloc, model, tables),
     }

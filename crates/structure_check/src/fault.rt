@@ -3,13 +3,14 @@
 ghost use Rattle.std.specs.Prelude.{◌≡◌};
 ghost use Rattle.structure_check.specs.declared.fault.CheckFault.TheVariants.{Memory};
 
+use crate::flat_rule::FlatRule;
 use std::alloc::AllocError;
 
 /// Why a model was refused.
 #[derive(Debug, Drop)]
 pub enum CheckFault {
-    /// The model breaks the rule of this number, and none of a lower number.
-    Rule(u8),
+    /// The model breaks this rule, and none of a lower number.
+    Rule(FlatRule),
     /// There was no memory.
     Memory,
 }

@@ -5,7 +5,9 @@
 mod checked_model;
 mod checking;
 mod fault;
+mod flat_rule;
 
 pub use checked_model::Checked;
 pub use checking::{check, lowest_is_found};
 pub use fault::CheckFault;
+pub use flat_rule::FlatRule;

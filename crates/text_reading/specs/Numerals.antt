@@ -16,6 +16,15 @@ value_from n (b ∷ bs) = value_from (10 * n + (b - 48)) bs
 unfoldable pub value_of : List ℕ → ℕ
 value_of digits = value_from 0 digits
 
+-- the number of digits, where it is at most so large
+abbrev pub digits_in : ℕ → List ℕ → Option ℕ
+digits_in most digits = if are_digits digits && nat_le (value_of digits) most then Some (value_of digits) else None
+
+-- the same of digits without a leading zero, so that it isn't 0
+unfoldable pub plain_in : ℕ → List ℕ → Option ℕ
+plain_in most [] = None
+plain_in most (b ∷ bs) = if b == 48 then None else digits_in most (b ∷ bs)
+
 -- -n
 abbrev pub minus : ℕ → ℤ
 minus n = if n == 0 then pos 0 else negsuc (n - 1)

@@ -5,4 +5,4 @@ mod cuts;
 mod numerals;
 
 pub use cuts::{cut, length_before};
-pub use numerals::{MOST, are_digits, number, value};
+pub use numerals::{MOST, are_digits, number, plain_number, value};

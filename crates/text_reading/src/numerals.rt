@@ -1,8 +1,8 @@
 //! Decimal numerals.
-ghost use Rattle.std.specs.Prelude.{◌≡◌, ◌+◌, ◌-◌, ◌*◌, ◌^◌, ◌≤◌, min};
+ghost use Rattle.std.specs.Prelude.{◌≡◌, ◌+◌, ◌-◌, ◌*◌, ◌^◌, ◌≤◌, ◌<◌, IfSome, min};
 ghost use Rattle.std.specs.List.{list_all};
 ghost use Rattle.std.specs.Char.{is_ascii_digit};
-ghost use Rattle.text_reading.specs.Numerals.{are_digits, value_of, minus, positive_in, negative_in, number_in};
+ghost use Rattle.text_reading.specs.Numerals.{are_digits, value_of, digits_in, plain_in, minus, positive_in, negative_in, number_in};
 
 /// The greatest value that is told apart, the greatest number of 64 bits.
 pub const MOST: u64 = 18_446_744_073_709_551_615;
@@ -48,6 +48,39 @@ pub fn value(digits: &[u8]) -> u64
         value = next_value(value, *digit);
     }
     value
+}
+
+/// The number of digits, where it is at most so large.
+fn digits(most: u64, text: &[u8]) -> Option<u64>
+    requires { most < 18446744073709551615 }
+    ensures exact { result ≡ digits_in most text.now }
+    ensures within { IfSome result (λ n. n ≤ most) }
+{
+    let number = value(text);
+    if are_digits(text) && number <= most {
+        Some(number)
+    } else {
+        None
+    }
+}
+
+/// The number that is written so, digits without a leading zero, if it is at most so large.
+#[tactic(auto, unfolding(crate::specs::Numerals::plain_in))]
+pub fn plain_number(most: u64, word: &[u8]) -> Option<u64>
+    requires { most < 18446744073709551615 }
+    ensures exact { result ≡ plain_in most word.now }
+    ensures within { IfSome result (λ n. n ≤ most) }
+{
+    match word {
+        [] => None,
+        [first, ..] => {
+            if *first == b'0' {
+                None
+            } else {
+                digits(most, word)
+            }
+        }
+    }
 }
 
 fn minus(size: u64) -> i64

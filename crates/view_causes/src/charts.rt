@@ -82,12 +82,26 @@ fn causes_of(
     }
 }
 
+/// The place of a class in the text, and those of its bases behind it.
+fn chain_of(source: Source<'_>, class: &[u8]) -> Result<Vec<Item>, AllocError> {
+    let classes = ClassItems::of(source)?;
+    classes.chain(source, class)
+}
+
+/// What is wrong with the chart of a class in these places, in any order.
+fn causes_in(
+    source: Source<'_>,
+    chain: &[Item],
+    fault: ChartFault<'_>,
+) -> Result<Vec<Cause>, AllocError> {
+    let chart = Chart::of(source, chain)?;
+    causes_of(source, chain, &chart, fault)
+}
+
 /// What is wrong with the chart of a class that has a fault, in the order of the text: the first places that are seen;
 /// none where the text doesn't show it.
 pub fn chart_causes(source: Source<'_>, fault: ChartFault<'_>) -> Result<Vec<Cause>, AllocError> {
-    let classes = ClassItems::of(source)?;
-    let chain = classes.chain(source, fault.class)?;
-    let chart = Chart::of(source, chain.as_slice())?;
-    let causes = causes_of(source, chain.as_slice(), &chart, fault)?;
+    let chain = chain_of(source, fault.class)?;
+    let causes = causes_in(source, chain.as_slice(), fault)?;
     in_order(source, causes)
 }

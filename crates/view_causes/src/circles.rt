@@ -37,6 +37,12 @@ fn hops_of(keys: &Keys<'_>, shapes: &Shapes) -> Result<Vec<Hop>, AllocError> {
     Ok(hops)
 }
 
+fn all_hops(source: Source<'_>, chart: &Chart) -> Result<Vec<Hop>, AllocError> {
+    let keys = Keys { source, chart };
+    let shapes = Shapes::of(&keys)?;
+    hops_of(&keys, &shapes)
+}
+
 /// How many transitions begin and how many end at each key.
 #[derive(Drop)]
 struct Ways {
@@ -50,13 +56,18 @@ impl Ways {
             beginning: Counts::new(source.alloc),
             ending: Counts::new(source.alloc),
         };
+        ways.add_all(source, hops)?;
+        Ok(ways)
+    }
+
+    fn add_all(&mut self, source: Source<'_>, hops: &[Hop]) -> Result<(), AllocError> {
         for hop in hops {
             let from = Vec::from_slice(source.alloc, hop.from.as_slice())?;
-            ways.beginning.add(from)?;
+            self.beginning.add(from)?;
             let to = Vec::from_slice(source.alloc, hop.to.as_slice())?;
-            ways.ending.add(to)?;
+            self.ending.add(to)?;
         }
-        Ok(ways)
+        Ok(())
     }
 
     /// Whether one comes to a transition by another one, and goes on from it.
@@ -77,11 +88,9 @@ fn between(source: Source<'_>, hops: Vec<Hop>) -> Result<Vec<Hop>, AllocError> {
     Ok(left)
 }
 
-/// What is wrong with a chart in which transitions lead in a circle.
-pub(crate) fn circle_causes(source: Source<'_>, chart: &Chart) -> Result<Vec<Cause>, AllocError> {
-    let keys = Keys { source, chart };
-    let shapes = Shapes::of(&keys)?;
-    let mut hops = hops_of(&keys, &shapes)?;
+/// The transitions of a chart that lead in circles, or from one circle to another one.
+fn circling(source: Source<'_>, chart: &Chart) -> Result<Vec<Hop>, AllocError> {
+    let mut hops = all_hops(source, chart)?;
     for _round in 0..MOST_ROUNDS {
         let before = hops.len();
         hops = between(source, hops)?;
@@ -89,6 +98,12 @@ pub(crate) fn circle_causes(source: Source<'_>, chart: &Chart) -> Result<Vec<Cau
             break;
         }
     }
+    Ok(hops)
+}
+
+/// What is wrong with a chart in which transitions lead in a circle.
+pub(crate) fn circle_causes(source: Source<'_>, chart: &Chart) -> Result<Vec<Cause>, AllocError> {
+    let hops = circling(source, chart)?;
     let mut causes = Vec::new(source.alloc);
     for hop in hops.as_slice().iter().take(MOST_CAUSES) {
         causes.push(cause_with(

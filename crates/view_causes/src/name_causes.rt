@@ -8,7 +8,7 @@ use room_ast::{ScopeAttribute, ScopePort, ScopeSignal};
 use room_kinds::{PortKind, ReferenceKind};
 use room_lexer::{Mark, Token, TokenKind};
 use std::alloc::{AllocError, Global};
-use view_charts::{Code, Sent, joined, sent_in};
+use view_charts::{Code, Sent, is_mark, joined, sent_in};
 
 /// A statement that is looked at: its code and the class that it belongs to.
 #[derive(Clone, Copy)]
@@ -19,10 +19,6 @@ struct Look<'a> {
 
 fn is_name(token: &Token) -> bool {
     matches!(token.kind, TokenKind::Ident(_))
-}
-
-fn is_mark(token: &Token, mark: Mark) -> bool {
-    token.kind == TokenKind::Mark(mark)
 }
 
 /// Whether messages can be sent at a port.
@@ -261,6 +257,31 @@ impl<'a> Look<'a> {
         )
     }
 
+    /// That a message is sent with so many numbers, up to a bracket, and has others.
+    fn count_cause(
+        &self,
+        sent: Sent<'_>,
+        signal: &ScopeSignal,
+        count: usize,
+        close: &Token,
+    ) -> Result<Option<Cause>, AllocError> {
+        let sends = counted(self.alloc(), count)?;
+        let has = counted(self.alloc(), signal.numbers.len())?;
+        let declared = signal_text(self.alloc(), signal)?;
+        self.at(
+            sent.port,
+            close,
+            &[
+                b"it sends ",
+                sends.as_slice(),
+                b", and `",
+                declared.as_slice(),
+                b"` has ",
+                has.as_slice(),
+            ],
+        )
+    }
+
     /// What is wrong with what is sent where tokens begin, if something is.
     fn send_cause(&self, sent: Sent<'_>, tokens: &[Token]) -> Result<Option<Cause>, AllocError> {
         let found = self.port_cause(sent.port)?;
@@ -280,21 +301,7 @@ impl<'a> Look<'a> {
         if count == signal.numbers.len() {
             return Ok(None);
         }
-        let sends = counted(self.alloc(), count)?;
-        let has = counted(self.alloc(), signal.numbers.len())?;
-        let declared = signal_text(self.alloc(), signal)?;
-        let found = self.at(
-            sent.port,
-            close,
-            &[
-                b"it sends ",
-                sends.as_slice(),
-                b", and `",
-                declared.as_slice(),
-                b"` has ",
-                has.as_slice(),
-            ],
-        )?;
+        let found = self.count_cause(sent, signal, count, close)?;
         self.about_message(found, sent)
     }
 

@@ -64,6 +64,54 @@ fn add_names<'a>(
     Ok(())
 }
 
+/// What is looked for in a text: declarations of these names outside of these parts.
+#[derive(Clone, Copy)]
+struct Sought<'a, 't> {
+    alloc: Global,
+    text: &'t [u8],
+    tokens: &'a [Token],
+    items: &'a [Item],
+    names: &'a IndexSet<&'t [u8]>,
+}
+
+impl Sought<'_, '_> {
+    fn is_told(&self, item: Item) -> bool {
+        match declared_by(self.text, self.tokens, item) {
+            Some(name) => self.names.contains(name) && !self.items.contains(&item),
+            None => false,
+        }
+    }
+
+    /// Finds what is told among parts side by side, and gives the parts within these.
+    fn pass(&self, level: &[Item], found: &mut Vec<Item>) -> Result<Vec<Item>, AllocError> {
+        let mut below = Vec::new(self.alloc);
+        for item in level {
+            if found.len() < MOST_TOLD && self.is_told(*item) {
+                found.push(*item)?;
+            }
+            below.append(&mut parts_of(self.alloc, self.tokens, *item)?)?;
+        }
+        Ok(below)
+    }
+
+    /// The first declarations, in the order of the text.
+    fn declared(&self) -> Result<Vec<Item>, AllocError> {
+        let whole = Item {
+            first: 0,
+            end: self.tokens.len(),
+        };
+        let mut level = parts_of(self.alloc, self.tokens, whole)?;
+        let mut found = Vec::new(self.alloc);
+        for _deep in 0..MOST_DEEP {
+            level = self.pass(level.as_slice(), &mut found)?;
+            if level.is_empty() {
+                break;
+            }
+        }
+        Ok(found)
+    }
+}
+
 /// Where names that stand in the heads of parts are declared, outside of these parts: the first places, in the order
 /// of the text.
 pub fn named_by(
@@ -76,28 +124,12 @@ pub fn named_by(
     for item in items {
         add_names(&mut names, text, tokens_of(tokens, *item))?;
     }
-    let mut found = Vec::new(alloc);
-    let whole = Item {
-        first: 0,
-        end: tokens.len(),
+    let sought = Sought {
+        alloc,
+        text,
+        tokens,
+        items,
+        names: &names,
     };
-    let mut level = parts_of(alloc, tokens, whole)?;
-    for _deep in 0..MOST_DEEP {
-        let mut below = Vec::new(alloc);
-        for item in level.as_slice() {
-            let is_told = match declared_by(text, tokens, *item) {
-                Some(name) => names.contains(name) && !items.contains(item),
-                None => false,
-            };
-            if is_told && found.len() < MOST_TOLD {
-                found.push(*item)?;
-            }
-            below.append(&mut parts_of(alloc, tokens, *item)?)?;
-        }
-        if below.is_empty() {
-            break;
-        }
-        level = below;
-    }
-    Ok(found)
+    sought.declared()
 }

@@ -127,6 +127,33 @@ impl<'a, J: Judge> Search<'a, J> {
         Ok(())
     }
 
+    /// The causes among suspects that aren't within others: those but of the parts that say which actors the system begins
+    /// with, and where there are none, all.
+    fn first(&mut self, tokens: &[Token], list: Vec<Item>) -> Result<Vec<Item>, AllocError> {
+        let tries = self.tries;
+        let others = without_system(self.alloc, tokens, list.as_slice())?;
+        let found = self.outermost(others)?;
+        if !found.is_empty() {
+            return Ok(found);
+        }
+        self.tries = tries;
+        self.outermost(list)
+    }
+
+    /// The causes within those that were found, as long as others stand there.
+    fn innermost(&mut self, outer: Vec<Item>) -> Result<Vec<Item>, AllocError> {
+        let mut found = outer;
+        for _deep in 0..MOST_DEEP {
+            let inside = self.all_inside(found.as_slice())?;
+            let is_same = inside.as_slice() == found.as_slice();
+            found = inside;
+            if is_same {
+                break;
+            }
+        }
+        Ok(found)
+    }
+
     /// What was found since so many were found; all of some parts where nothing was.
     fn found_since(&self, before: usize, all: &[Item]) -> Result<Vec<Item>, AllocError> {
         match self.found.as_slice().get(before..) {
@@ -379,6 +406,7 @@ pub fn find_causes<J: Judge>(
     judge: &J,
 ) -> Result<Vec<Item>, AllocError> {
     let tries = (MOST_READ / text.len().max(1)).clamp(LEAST_TRIES, MOST_TRIES);
+    let list = suspects(alloc, text, tokens, class)?;
     let mut search = Search {
         alloc,
         judge,
@@ -386,21 +414,7 @@ pub fn find_causes<J: Judge>(
         tries,
         found: Vec::new(alloc),
     };
-    let list = suspects(alloc, text, tokens, class)?;
-    let others = without_system(alloc, tokens, list.as_slice())?;
-    let mut found = search.outermost(others)?;
-    if found.is_empty() {
-        search.tries = tries;
-        found = search.outermost(list)?;
-    }
+    let found = search.first(tokens, list)?;
     search.tries = tries;
-    for _deep in 0..MOST_DEEP {
-        let inside = search.all_inside(found.as_slice())?;
-        let is_same = inside.as_slice() == found.as_slice();
-        found = inside;
-        if is_same {
-            break;
-        }
-    }
-    Ok(found)
+    search.innermost(found)
 }

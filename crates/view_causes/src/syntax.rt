@@ -4,7 +4,7 @@ use room_parser::{ParseFault, parse};
 use std::alloc::{AllocError, Global};
 
 /// Where a text stops being a model.
-#[derive(Debug, Drop)]
+#[derive(Drop)]
 pub struct Unread {
     /// The number of the first token with which no model goes on; that of the tokens where it lies at the end.
     pub token: usize,
@@ -66,30 +66,51 @@ fn can_stand(alloc: Global, before: &[u8], count: usize, token: &[u8]) -> Result
     }
 }
 
+/// What can stand behind the lines of so many tokens.
+fn all_that_can(
+    alloc: Global,
+    before: &[u8],
+    count: usize,
+) -> Result<Vec<&'static [u8]>, AllocError> {
+    let mut could_stand = Vec::new(alloc);
+    for other in OTHERS.split(|b| *b == b' ') {
+        if can_stand(alloc, before, count, other)? {
+            could_stand.push(other)?;
+        }
+    }
+    for len in 0..=LONGEST {
+        for word in words_with(len) {
+            if can_stand(alloc, before, count, spelling(*word))? {
+                could_stand.push(spelling(*word))?;
+            }
+        }
+    }
+    Ok(could_stand)
+}
+
+/// The token at which the tokens of a text stop being a model; none where a model has them.
+fn token_where_stops(
+    alloc: Global,
+    text: &[u8],
+    tokens: &[Token],
+) -> Result<Option<usize>, AllocError> {
+    let lines = lines_of(alloc, text, tokens)?;
+    match stops_at(alloc, lines.as_slice())? {
+        Some(line) => Ok(Some(line.saturating_sub(1).min(tokens.len()))),
+        None => Ok(None),
+    }
+}
+
 /// Where the tokens of a text stop being a model, and what could have stood there; none where a model has them.
 pub fn could_stand(
     alloc: Global,
     text: &[u8],
     tokens: &[Token],
 ) -> Result<Option<Unread>, AllocError> {
-    let lines = lines_of(alloc, text, tokens)?;
-    let Some(line) = stops_at(alloc, lines.as_slice())? else {
+    let Some(token) = token_where_stops(alloc, text, tokens)? else {
         return Ok(None);
     };
-    let token = line.saturating_sub(1).min(tokens.len());
     let before = lines_of(alloc, text, tokens.get(..token).unwrap_or(&[]))?;
-    let mut could_stand = Vec::new(alloc);
-    for other in OTHERS.split(|b| *b == b' ') {
-        if can_stand(alloc, before.as_slice(), token, other)? {
-            could_stand.push(other)?;
-        }
-    }
-    for len in 0..=LONGEST {
-        for word in words_with(len) {
-            if can_stand(alloc, before.as_slice(), token, spelling(*word))? {
-                could_stand.push(spelling(*word))?;
-            }
-        }
-    }
+    let could_stand = all_that_can(alloc, before.as_slice(), token)?;
     Ok(Some(Unread { token, could_stand }))
 }

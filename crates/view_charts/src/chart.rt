@@ -1,6 +1,6 @@
 //! What the chart of a class has, at its places in the text: states, transitions and codes, those of its bases first.
 use crate::by_port::ByPort;
-use crate::items::Item;
+use crate::items::{Item, is_mark};
 use crate::keys::named;
 use crate::source::Source;
 use indexmap::{IndexMap, IndexSet};
@@ -40,10 +40,6 @@ pub struct Chart {
     codes: Vec<Item>,
     /// The messages that transitions name, by ports.
     taken: ByPort,
-}
-
-fn is_mark(token: &Token, mark: Mark) -> bool {
-    token.kind == TokenKind::Mark(mark)
 }
 
 /// The message and the port of an event that begins behind a token: `<` or `|`.

@@ -3,7 +3,7 @@
 //! The codes of an accepted model are programs (docs/ACTIONS.md), so the first tokens of a statement tell which it is.
 use crate::by_port::ByPort;
 use crate::code::Code;
-use crate::items::Item;
+use crate::items::{Item, is_mark};
 use crate::source::Source;
 use indexmap::IndexSet;
 use room_lexer::{Mark, Token, TokenKind};
@@ -57,10 +57,6 @@ pub struct Sent<'a> {
     pub port: &'a Token,
     pub message: &'a Token,
     pub index: Index,
-}
-
-fn is_mark(token: &Token, mark: Mark) -> bool {
-    token.kind == TokenKind::Mark(mark)
 }
 
 fn is_name(token: &Token) -> bool {

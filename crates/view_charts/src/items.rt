@@ -3,10 +3,15 @@ use room_lexer::{Mark, Token, TokenKind, Word};
 use std::alloc::{AllocError, Global};
 
 /// A part of a text as its tokens: the number of the first, and the one behind the last.
-#[derive(Clone, Copy, Debug, PartialEq, Eq)]
+#[derive(Clone, Copy, PartialEq, Eq)]
 pub struct Item {
     pub first: usize,
     pub end: usize,
+}
+
+/// Whether a token is this mark.
+pub fn is_mark(token: &Token, mark: Mark) -> bool {
+    token.kind == TokenKind::Mark(mark)
 }
 
 /// Whether a word begins no part of its own: it stands inside a declaration.

@@ -22,7 +22,7 @@ pub use classes::ClassItems;
 pub use code::Code;
 pub use deeds::{Deeds, Index, Send, Sent, sent_in};
 pub use ends::{Ends, ends_of, is_word};
-pub use items::{Item, head_of, parts_of, tokens_of};
+pub use items::{Item, head_of, is_mark, parts_of, tokens_of};
 pub use keys::{joined, named};
 pub use source::Source;
 pub use ways::Ways;

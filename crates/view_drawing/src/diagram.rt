@@ -3,7 +3,7 @@ use crate::plain::Label;
 use std::alloc::{AllocError, Global};
 
 /// What a block stands for, by which it is drawn.
-#[derive(Clone, Copy, Debug, PartialEq, Eq)]
+#[derive(Clone, Copy, PartialEq, Eq)]
 pub enum Shape {
     /// What holds all others.
     Frame,
@@ -19,7 +19,7 @@ pub enum Shape {
 }
 
 /// What a point stands for, by which it is drawn.
-#[derive(Clone, Copy, Debug, PartialEq, Eq)]
+#[derive(Clone, Copy, PartialEq, Eq)]
 pub enum Mark {
     /// It isn't drawn.
     Hidden,
@@ -35,7 +35,7 @@ pub enum Mark {
 }
 
 /// Where a point leads whose places aren't all joined.
-#[derive(Clone, Copy, Debug, PartialEq, Eq)]
+#[derive(Clone, Copy, PartialEq, Eq)]
 pub enum Leads {
     /// Those that aren't joined lead to nothing, if there are any.
     Within,
@@ -81,7 +81,7 @@ pub struct Point {
 }
 
 /// Where a link ends: at a block, or at a point of it.
-#[derive(Clone, Copy, Debug, PartialEq, Eq)]
+#[derive(Clone, Copy, PartialEq, Eq)]
 pub struct End {
     pub block: usize,
     pub point: Option<usize>,
@@ -105,7 +105,7 @@ pub struct Key {
 }
 
 /// What a line of the legend explains.
-#[derive(Clone, Copy, Debug, PartialEq, Eq)]
+#[derive(Clone, Copy, PartialEq, Eq)]
 pub enum Sign {
     Colour(u8),
     Point(Mark),

@@ -201,38 +201,71 @@ fn put_legend(page: &mut Page, diagram: &Diagram) -> Result<(), AllocError> {
     Ok(())
 }
 
-/// Puts a picture as a text of which `dot` makes one.
-pub fn put_dot(page: &mut Page, diagram: &Diagram) -> Result<(), AllocError> {
-    let (head, arrow): (&[u8], &[u8]) = if diagram.is_directed {
-        (b"digraph picture {", b" -> ")
-    } else {
-        (b"graph picture {", b" -- ")
-    };
-    page.put_line(head)?;
+/// What stands before all blocks.
+fn put_head(page: &mut Page, diagram: &Diagram) -> Result<(), AllocError> {
+    if diagram.is_directed {
+        page.put(b"di")?;
+    }
+    page.put_line(b"graph picture {")?;
     page.put(b"graph [rankdir=LR fontname=monospace labelloc=t label=\"")?;
     put_letters(page, diagram.title.as_slice())?;
     page.put_line(b"\"]")?;
     page.put_line(b"node [fontname=monospace fontsize=10]")?;
-    page.put_line(b"edge [fontname=monospace fontsize=10]")?;
-    let blocks = blocks_of(diagram)?;
-    for step in steps_of(diagram, &blocks)?.as_slice() {
-        match *step {
-            Step::Open(number) => {
-                if let Some(block) = diagram.blocks.as_slice().get(number) {
-                    open(page, diagram, &blocks, number, block)?;
-                }
-            }
-            Step::Leaf(number) => {
-                if let Some(block) = diagram.blocks.as_slice().get(number) {
-                    put_leaf(page, number, block)?;
-                }
-            }
-            Step::Close => page.put_line(b"}")?,
-        }
+    page.put_line(b"edge [fontname=monospace fontsize=10]")
+}
+
+/// A step through the blocks.
+fn put_step(
+    page: &mut Page,
+    diagram: &Diagram,
+    blocks: &Blocks,
+    step: Step,
+) -> Result<(), AllocError> {
+    match step {
+        Step::Open(number) => match diagram.blocks.as_slice().get(number) {
+            Some(block) => open(page, diagram, blocks, number, block),
+            None => Ok(()),
+        },
+        Step::Leaf(number) => match diagram.blocks.as_slice().get(number) {
+            Some(block) => put_leaf(page, number, block),
+            None => Ok(()),
+        },
+        Step::Close => page.put_line(b"}"),
     }
+}
+
+/// The blocks, each within the one that it stands in.
+fn put_blocks(page: &mut Page, diagram: &Diagram, blocks: &Blocks) -> Result<(), AllocError> {
+    let steps = steps_of(diagram, blocks)?;
+    for step in steps.as_slice() {
+        put_step(page, diagram, blocks, *step)?;
+    }
+    Ok(())
+}
+
+fn put_links(page: &mut Page, diagram: &Diagram, blocks: &Blocks) -> Result<(), AllocError> {
+    let arrow: &[u8] = if diagram.is_directed {
+        b" -> "
+    } else {
+        b" -- "
+    };
     for link in diagram.links.as_slice() {
-        put_link(page, &blocks, arrow, link)?;
+        put_link(page, blocks, arrow, link)?;
     }
+    Ok(())
+}
+
+/// The blocks, and the links between them.
+fn put_graph(page: &mut Page, diagram: &Diagram) -> Result<(), AllocError> {
+    let blocks = blocks_of(diagram)?;
+    put_blocks(page, diagram, &blocks)?;
+    put_links(page, diagram, &blocks)
+}
+
+/// Puts a picture as a text of which `dot` makes one.
+pub fn put_dot(page: &mut Page, diagram: &Diagram) -> Result<(), AllocError> {
+    put_head(page, diagram)?;
+    put_graph(page, diagram)?;
     put_legend(page, diagram)?;
     page.put_line(b"}")
 }

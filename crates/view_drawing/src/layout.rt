@@ -317,6 +317,37 @@ impl Layout {
         }
     }
 
+    /// Where all blocks stand, whose links and sides are known.
+    fn place_blocks(&mut self, diagram: &Diagram) {
+        for (number, block) in diagram.blocks.as_slice().iter().enumerate() {
+            self.place_rows(diagram, number, block);
+        }
+        for (number, block) in diagram.blocks.as_slice().iter().enumerate().rev() {
+            self.measure(diagram, number, block);
+        }
+        for place in self.places.as_mut_slice() {
+            place.left.height = 0;
+            place.right.height = 0;
+        }
+        self.put_title(diagram.title.as_slice());
+        for (number, block) in diagram.blocks.as_slice().iter().enumerate() {
+            self.put(number, block);
+        }
+    }
+
+    /// Where nothing stands anywhere yet.
+    fn of(diagram: &Diagram) -> Result<Layout, AllocError> {
+        let alloc = diagram.alloc;
+        let places = vec![in alloc; NOWHERE; diagram.blocks.len()]?;
+        Ok(Layout {
+            places,
+            points: vec![in alloc; NO_ROW; diagram.points.len()]?,
+            links: Vec::new(alloc),
+            width: 0,
+            height: 0,
+        })
+    }
+
     /// Leaves room for the title of the picture.
     fn put_title(&mut self, title: &[u8]) {
         if !title.is_empty() {
@@ -385,29 +416,9 @@ fn names_width(diagram: &Diagram, block: &Block) -> usize {
 
 /// Lays a picture out. It takes time and memory linear in its parts.
 pub fn lay_out(diagram: &Diagram) -> Result<Layout, AllocError> {
-    let alloc = diagram.alloc;
-    let mut layout = Layout {
-        places: vec![in alloc; NOWHERE; diagram.blocks.len()]?,
-        points: vec![in alloc; NO_ROW; diagram.points.len()]?,
-        links: Vec::new(alloc),
-        width: 0,
-        height: 0,
-    };
+    let mut layout = Layout::of(diagram)?;
     layout.choose_sides(diagram)?;
     layout.place_links(diagram)?;
-    for (number, block) in diagram.blocks.as_slice().iter().enumerate() {
-        layout.place_rows(diagram, number, block);
-    }
-    for (number, block) in diagram.blocks.as_slice().iter().enumerate().rev() {
-        layout.measure(diagram, number, block);
-    }
-    for place in layout.places.as_mut_slice() {
-        place.left.height = 0;
-        place.right.height = 0;
-    }
-    layout.put_title(diagram.title.as_slice());
-    for (number, block) in diagram.blocks.as_slice().iter().enumerate() {
-        layout.put(number, block);
-    }
+    layout.place_blocks(diagram);
     Ok(layout)
 }

@@ -1,7 +1,7 @@
 //! A picture as a flowchart for Mermaid.
 use crate::colours::light;
 use crate::diagram::{Block, Diagram, End, Link, Mark, Point, Shape, Sign};
-use crate::dot;
+use crate::dot::{self, put_name};
 use crate::nesting::{Step, blocks_of, steps_of};
 use std::alloc::AllocError;
 use view_journals::view_pages::Page;
@@ -22,11 +22,6 @@ pub fn put_letters(page: &mut Page, text: &[u8]) -> Result<(), AllocError> {
         }
     }
     Ok(())
-}
-
-pub fn put_name(page: &mut Page, kind: &[u8], number: usize) -> Result<(), AllocError> {
-    page.put(kind)?;
-    page.put_number(number as u64)
 }
 
 fn put_titles(page: &mut Page, block: &Block) -> Result<(), AllocError> {
@@ -174,26 +169,40 @@ pub fn put_title(page: &mut Page, title: &[u8]) -> Result<(), AllocError> {
     page.put_line(b"---")
 }
 
+/// A step through the blocks.
+fn put_step(page: &mut Page, diagram: &Diagram, step: Step) -> Result<(), AllocError> {
+    match step {
+        Step::Open(number) => match diagram.blocks.as_slice().get(number) {
+            Some(block) => open(page, diagram, number, block),
+            None => Ok(()),
+        },
+        Step::Leaf(number) => match diagram.blocks.as_slice().get(number) {
+            Some(block) => put_leaf(page, number, block),
+            None => Ok(()),
+        },
+        Step::Close => page.put_line(b"end"),
+    }
+}
+
+fn all_steps(diagram: &Diagram) -> Result<Vec<Step>, AllocError> {
+    let blocks = blocks_of(diagram)?;
+    steps_of(diagram, &blocks)
+}
+
+/// The blocks, each within the one that it stands in.
+fn put_blocks(page: &mut Page, diagram: &Diagram) -> Result<(), AllocError> {
+    let steps = all_steps(diagram)?;
+    for step in steps.as_slice() {
+        put_step(page, diagram, *step)?;
+    }
+    Ok(())
+}
+
 /// Puts a picture as a text of which Mermaid makes one.
 pub fn put_mermaid(page: &mut Page, diagram: &Diagram) -> Result<(), AllocError> {
     put_title(page, diagram.title.as_slice())?;
     page.put_line(b"flowchart LR")?;
-    let blocks = blocks_of(diagram)?;
-    for step in steps_of(diagram, &blocks)?.as_slice() {
-        match *step {
-            Step::Open(number) => {
-                if let Some(block) = diagram.blocks.as_slice().get(number) {
-                    open(page, diagram, number, block)?;
-                }
-            }
-            Step::Leaf(number) => {
-                if let Some(block) = diagram.blocks.as_slice().get(number) {
-                    put_leaf(page, number, block)?;
-                }
-            }
-            Step::Close => page.put_line(b"end")?,
-        }
-    }
+    put_blocks(page, diagram)?;
     for link in diagram.links.as_slice() {
         put_link(page, diagram.is_directed, link)?;
     }

@@ -20,7 +20,7 @@ pub struct Lifeline {
 }
 
 /// What happens in a row.
-#[derive(Clone, Copy, Debug, PartialEq, Eq)]
+#[derive(Clone, Copy, PartialEq, Eq)]
 pub enum Event {
     /// A message begins its way.
     Post,
@@ -43,7 +43,7 @@ pub enum Event {
 }
 
 /// How a message goes from one row to another one.
-#[derive(Clone, Copy, Debug, PartialEq, Eq)]
+#[derive(Clone, Copy, PartialEq, Eq)]
 pub enum Way {
     /// From its post to its turn.
     Sent,
@@ -54,7 +54,7 @@ pub enum Way {
 }
 
 /// The row and the lifeline to which a message goes.
-#[derive(Clone, Copy, Debug, PartialEq, Eq)]
+#[derive(Clone, Copy, PartialEq, Eq)]
 pub struct Lead {
     pub row: usize,
     pub lifeline: usize,

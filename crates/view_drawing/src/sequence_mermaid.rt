@@ -1,6 +1,7 @@
 //! A run as a sequence diagram for Mermaid.
 use crate::colours::light;
-use crate::mermaid::{put_letters, put_name, put_title};
+use crate::dot::put_name;
+use crate::mermaid::{put_letters, put_title};
 use crate::sequence::{Event, Lead, Row, Sequence, Way};
 use std::alloc::AllocError;
 use view_journals::view_pages::Page;

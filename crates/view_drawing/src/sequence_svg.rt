@@ -258,22 +258,39 @@ fn put_ground(page: &mut Page, sequence: &Sequence, grid: &Grid) -> Result<(), A
     Ok(())
 }
 
-/// Puts a run as an SVG that needs nothing else.
-pub fn put_sequence_svg(page: &mut Page, sequence: &Sequence) -> Result<(), AllocError> {
-    let grid = grid_of(sequence)?;
-    put_head(page, grid.width, grid.height)?;
-    put_title(page, sequence.title.as_slice())?;
-    put_tips(page)?;
-    put_ground(page, sequence, &grid)?;
+/// The ways of the messages.
+fn put_ways(page: &mut Page, sequence: &Sequence, grid: &Grid) -> Result<(), AllocError> {
     for (number, row) in sequence.rows.as_slice().iter().enumerate() {
         if let Some(lead) = row.lead {
-            put_way(page, &grid, number, row, lead)?;
+            put_way(page, grid, number, row, lead)?;
         }
     }
-    put_stamps(page, sequence, &grid)?;
+    Ok(())
+}
+
+/// The signs of the rows on their lifelines.
+fn put_signs(page: &mut Page, sequence: &Sequence, grid: &Grid) -> Result<(), AllocError> {
     for (number, row) in sequence.rows.as_slice().iter().enumerate() {
         put_sign(page, grid.place(row.lifeline, number), row)?;
     }
-    put_texts(page, sequence, &grid)?;
+    Ok(())
+}
+
+/// A run whose parts have their places.
+fn put_laid_out(page: &mut Page, sequence: &Sequence, grid: &Grid) -> Result<(), AllocError> {
+    put_head(page, grid.width, grid.height)?;
+    put_title(page, sequence.title.as_slice())?;
+    put_tips(page)?;
+    put_ground(page, sequence, grid)?;
+    put_ways(page, sequence, grid)?;
+    put_stamps(page, sequence, grid)?;
+    put_signs(page, sequence, grid)?;
+    put_texts(page, sequence, grid)?;
     page.put_line(b"</svg>")
+}
+
+/// Puts a run as an SVG that needs nothing else.
+pub fn put_sequence_svg(page: &mut Page, sequence: &Sequence) -> Result<(), AllocError> {
+    let grid = grid_of(sequence)?;
+    put_laid_out(page, sequence, &grid)
 }

@@ -463,26 +463,43 @@ fn put_points(
     Ok(())
 }
 
-/// Puts a picture as an SVG that needs nothing else.
-pub fn put_svg(page: &mut Page, diagram: &Diagram) -> Result<(), AllocError> {
-    let layout = lay_out(diagram)?;
+/// The blocks, the links over them, and the points over these.
+fn put_parts(page: &mut Page, diagram: &Diagram, layout: &Layout) -> Result<(), AllocError> {
+    for (number, block) in diagram.blocks.as_slice().iter().enumerate() {
+        put_block(page, layout.place(number), block)?;
+    }
+    for (link, lane) in diagram.links.as_slice().iter().zip(layout.links.as_slice()) {
+        put_link(page, diagram, layout, link, *lane)?;
+    }
+    for (number, block) in diagram.blocks.as_slice().iter().enumerate() {
+        put_points(page, diagram, layout, number, block)?;
+    }
+    Ok(())
+}
+
+/// The legend from a line on.
+fn put_legend(page: &mut Page, diagram: &Diagram, top: usize) -> Result<(), AllocError> {
+    for (number, key) in diagram.legend.as_slice().iter().enumerate() {
+        let above = number.saturating_mul(ROW);
+        put_key(page, key, top.saturating_add(above))?;
+    }
+    Ok(())
+}
+
+/// A picture whose parts have their places.
+fn put_laid_out(page: &mut Page, diagram: &Diagram, layout: &Layout) -> Result<(), AllocError> {
     let keys = diagram.legend.len().saturating_mul(ROW);
     let legend = layout.height.saturating_add(PAD);
     let width = layout.width.max(legend_width(diagram));
     put_head(page, width, legend.saturating_add(keys).saturating_add(PAD))?;
     put_title(page, diagram.title.as_slice())?;
-    for (number, block) in diagram.blocks.as_slice().iter().enumerate() {
-        put_block(page, layout.place(number), block)?;
-    }
-    for (link, lane) in diagram.links.as_slice().iter().zip(layout.links.as_slice()) {
-        put_link(page, diagram, &layout, link, *lane)?;
-    }
-    for (number, block) in diagram.blocks.as_slice().iter().enumerate() {
-        put_points(page, diagram, &layout, number, block)?;
-    }
-    for (number, key) in diagram.legend.as_slice().iter().enumerate() {
-        let above = number.saturating_mul(ROW);
-        put_key(page, key, legend.saturating_add(above))?;
-    }
+    put_parts(page, diagram, layout)?;
+    put_legend(page, diagram, legend)?;
     page.put_line(b"</svg>")
+}
+
+/// Puts a picture as an SVG that needs nothing else.
+pub fn put_svg(page: &mut Page, diagram: &Diagram) -> Result<(), AllocError> {
+    let layout = lay_out(diagram)?;
+    put_laid_out(page, diagram, &layout)
 }

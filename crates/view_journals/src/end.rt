@@ -92,6 +92,17 @@ impl<'a> Ended<'a> {
         })
     }
 
+    /// How the run ended, what was still open, and who stands where.
+    fn tell(&self, page: &mut Page, journals: &Journals) -> Result<(), AllocError> {
+        page.put_line(end_word(journals.done))?;
+        self.tell_fate(page, b"deferred, and since when:", Fate::Deferred)?;
+        self.tell_fate(page, b"deferred, and lost with their actors:", Fate::Lost)?;
+        self.tell_fate(page, b"never handled:", Fate::NeverHandled)?;
+        tell_left(page, self.wiring, journals)?;
+        tell_unposted(page, journals)?;
+        self.tell_actors(page)
+    }
+
     /// What became in the end of a message that an actor deferred in its last turn.
     fn fate_of_deferred(&self, name: Name, who: Incarnation) -> Fate {
         if self.left.contains(&name) {
@@ -220,11 +231,5 @@ pub fn tell_end(
 ) -> Result<(), AllocError> {
     tell_difference(page, wiring, redone)?;
     let ended = Ended::of(alloc, wiring, journals, redone)?;
-    page.put_line(end_word(journals.done))?;
-    ended.tell_fate(page, b"deferred, and since when:", Fate::Deferred)?;
-    ended.tell_fate(page, b"deferred, and lost with their actors:", Fate::Lost)?;
-    ended.tell_fate(page, b"never handled:", Fate::NeverHandled)?;
-    tell_left(page, wiring, journals)?;
-    tell_unposted(page, journals)?;
-    ended.tell_actors(page)
+    ended.tell(page, journals)
 }

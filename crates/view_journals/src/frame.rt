@@ -34,14 +34,26 @@ enum Numbers {
     NameRefused,
 }
 
+/// The names of the messages with each kind of numbers.
+const OF_ACTORS: [&[u8]; 5] = [b"created", b"destroyed", b"imported", b"ended", b"deported"];
+
+const OF_PORTS: [&[u8]; 2] = [b"registered", b"withdrawn"];
+
+fn has(names: &[&[u8]], signal: &[u8]) -> bool {
+    names.iter().any(|name| *name == signal)
+}
+
 fn numbers_of(signal: &[u8]) -> Option<Numbers> {
-    match signal {
-        b"created" | b"destroyed" | b"imported" | b"ended" | b"deported" => Some(Numbers::Actor),
-        b"refused" => Some(Numbers::Refused),
-        b"registered" | b"withdrawn" => Some(Numbers::Port),
-        b"nameRefused" => Some(Numbers::NameRefused),
-        _ => None,
+    if has(&OF_ACTORS, signal) {
+        return Some(Numbers::Actor);
     }
+    if has(&OF_PORTS, signal) {
+        return Some(Numbers::Port);
+    }
+    if has(&[b"refused"], signal) {
+        return Some(Numbers::Refused);
+    }
+    has(&[b"nameRefused"], signal).then_some(Numbers::NameRefused)
 }
 
 /// The name of a reference of a slot's class, with the index where it is replicated.
@@ -89,6 +101,20 @@ pub fn put_actor_number(page: &mut Page, wiring: &Wiring, number: i64) -> Result
     match actor_of_number(wiring, number) {
         Some(who) => put_actor(page, wiring, who),
         None => page.put_signed(number),
+    }
+}
+
+/// An actor by its number, as an import place has it, behind a word.
+pub fn put_home(
+    page: &mut Page,
+    wiring: &Wiring,
+    word: &[u8],
+    home: u64,
+) -> Result<(), AllocError> {
+    page.put(word)?;
+    match i64::try_from(home) {
+        Ok(number) => put_actor_number(page, wiring, number),
+        Err(_) => page.put_number(home),
     }
 }
 

@@ -32,7 +32,7 @@ pub use differs::{put_difference, tell_difference};
 pub use end::tell_end;
 pub use fetched::{Fetched, Name};
 pub use filter::Wanted;
-pub use frame::{actor_of_number, put_actor_number};
+pub use frame::{actor_of_number, put_actor_number, put_home};
 pub use lines::{end_word, put_left, tell_turn, word_of};
 pub use messages::{actor_at, put_end, put_incoming, put_received};
 pub use moments::{Arming, Moment, arming_before, is_timeout, moments_of, put_arming, put_moment};

@@ -30,12 +30,13 @@ fn tell_start(page: &mut Page, wiring: &Wiring, start: &Start<'_>) -> Result<(),
 
 /// The starts that are wanted.
 fn tell_starts(
+    alloc: Global,
     page: &mut Page,
     told: &Told<'_>,
     actors: &mut Actors,
-    starts: &[Start<'_>],
 ) -> Result<(), AllocError> {
-    for start in starts {
+    let starts = starts_of(alloc, told.journals, told.redone)?;
+    for start in starts.as_slice() {
         actors.stand(start.who, start.state);
         if told.wants_start(start) {
             tell_start(page, told.wiring, start)?;
@@ -58,6 +59,23 @@ fn tell_wanted_turn(
     }
     dividers.tell(page, told.wiring)?;
     tell_turn(page, told.wiring, &told.fetched, actors, turn)
+}
+
+/// The turns that are wanted, over all controllers, and the moments between them.
+fn tell_turns(
+    alloc: Global,
+    page: &mut Page,
+    told: &Told<'_>,
+    actors: &mut Actors,
+) -> Result<(), AllocError> {
+    let turns = turns_of(alloc, told.journals, told.redone)?;
+    let moments = moments_of(alloc, told.wiring, told.journals)?;
+    let mut dividers = Dividers::of(moments.as_slice());
+    for turn in turns.as_slice() {
+        tell_wanted_turn(page, told, actors, &mut dividers, turn)?;
+        actors.turn(turn.did, turn.notes);
+    }
+    Ok(())
 }
 
 /// A message that no turn took, where it is wanted.
@@ -89,6 +107,14 @@ fn tell_rest(page: &mut Page, told: &Told<'_>) -> Result<(), AllocError> {
     page.put_line(end_word(told.journals.done))
 }
 
+/// All that is told of a run, as far as it is wanted.
+fn tell_lines(alloc: Global, page: &mut Page, told: &Told<'_>) -> Result<(), AllocError> {
+    let mut actors = Actors::nobody(alloc, told.wiring)?;
+    tell_starts(alloc, page, told, &mut actors)?;
+    tell_turns(alloc, page, told, &mut actors)?;
+    tell_rest(page, told)
+}
+
 /// Tells the story of a run: first the starts, then a line a turn over all controllers by stamp and controller, then
 /// what no turn took, what was not posted, and how the run ended. A line that begins with `!` tells of something
 /// that its author hardly meant. That the journals are those of another model is told before all. A moment at which timers
@@ -103,15 +129,5 @@ pub fn tell_story(
 ) -> Result<(), AllocError> {
     tell_difference(page, wiring, redone)?;
     let told = Told::of(alloc, wiring, journals, redone, wanted)?;
-    let mut actors = Actors::nobody(alloc, wiring)?;
-    let starts = starts_of(alloc, journals, redone)?;
-    tell_starts(page, &told, &mut actors, starts.as_slice())?;
-    let turns = turns_of(alloc, journals, redone)?;
-    let moments = moments_of(alloc, wiring, journals)?;
-    let mut dividers = Dividers::of(moments.as_slice());
-    for turn in turns.as_slice() {
-        tell_wanted_turn(page, &told, &actors, &mut dividers, turn)?;
-        actors.turn(turn.did, turn.notes);
-    }
-    tell_rest(page, &told)
+    tell_lines(alloc, page, &told)
 }

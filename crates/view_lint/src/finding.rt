@@ -2,7 +2,7 @@
 use view_journals::view_pages::Meaning;
 
 /// What a finding is about, in the order in which findings are told.
-#[derive(Clone, Copy, Debug, Drop, PartialEq, Eq, PartialOrd, Ord)]
+#[derive(Clone, Copy, Drop, PartialEq, Eq, PartialOrd, Ord)]
 pub(crate) enum Kind {
     UnjoinedSend,
     UnjoinedIndex,

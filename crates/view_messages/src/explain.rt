@@ -255,21 +255,21 @@ impl<'a> Explained<'a> {
         self.tell_chart(alloc, page, msg, before, turn.did, replayed)
     }
 
-    /// The turns of a message.
-    fn tell_turns(
+    /// Those of all turns that a message has.
+    fn tell_own_turns(
         &self,
         alloc: Global,
         page: &mut Page,
         msg: &Msg,
-        name: Name,
+        fetched: &Fetched<'_>,
+        turns: &[Turn<'_>],
     ) -> Result<(), AllocError> {
-        let fetched = Fetched::of(alloc, self.journals)?;
-        let turns = turns_of(alloc, self.journals, self.redone)?;
+        let name = Name::new(msg.from, msg.stamp);
         let mut actors = Actors::started(alloc, self.wiring, self.journals)?;
         let mut place = 0usize;
-        for turn in turns.as_slice() {
+        for turn in turns {
             if turn.name() == name {
-                tell_turn(page, self.wiring, &fetched, &actors, turn)?;
+                tell_turn(page, self.wiring, fetched, &actors, turn)?;
                 if let Some(before) = state_before(&actors, turn.did) {
                     self.tell_actor(alloc, page, msg, turn, before, place)?;
                     place = place.saturating_add(1);
@@ -278,6 +278,13 @@ impl<'a> Explained<'a> {
             actors.turn(turn.did, turn.notes);
         }
         Ok(())
+    }
+
+    /// The turns of a message.
+    fn tell_turns(&self, alloc: Global, page: &mut Page, msg: &Msg) -> Result<(), AllocError> {
+        let fetched = Fetched::of(alloc, self.journals)?;
+        let turns = turns_of(alloc, self.journals, self.redone)?;
+        self.tell_own_turns(alloc, page, msg, &fetched, turns.as_slice())
     }
 
     /// Where a message is that no turn took.
@@ -325,7 +332,7 @@ pub fn tell_message(
     told.tell_message(page, msg)?;
     told.tell_posted(alloc, page, msg, place)?;
     told.tell_fetched(page, name)?;
-    told.tell_turns(alloc, page, msg, name)?;
+    told.tell_turns(alloc, page, msg)?;
     told.tell_left(page, name)?;
     Ok(true)
 }

@@ -13,7 +13,7 @@ use view_drawing::{Block, Diagram, End, Label, Link, Mark, Point, Shape, Sign, n
 const MOST_DEEP: u32 = 64;
 
 /// A name in a block.
-#[derive(Clone, Copy, Debug, PartialEq, Eq, Hash)]
+#[derive(Clone, Copy, PartialEq, Eq, Hash)]
 struct Key<'a> {
     block: usize,
     name: &'a [u8],

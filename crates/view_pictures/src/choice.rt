@@ -24,7 +24,7 @@ pub enum Happening {
 }
 
 /// Who is passed over where more take part than can have lifelines of their own.
-#[derive(Clone, Copy, Debug, PartialEq, Eq)]
+#[derive(Clone, Copy, PartialEq, Eq)]
 pub enum Crowd {
     /// Nobody: there is room for all.
     Seated,

@@ -50,14 +50,34 @@ impl Meetings {
     /// Adds the ports that actions of classes register.
     fn add_classes(&mut self, source: Source<'_>, wiring: &Wiring) -> Result<(), AllocError> {
         let items = ClassItems::of(source)?;
+        self.add_classes_of(source, &items, wiring)
+    }
+
+    fn add_classes_of<'a>(
+        &mut self,
+        source: Source<'a>,
+        items: &ClassItems<'a>,
+        wiring: &Wiring,
+    ) -> Result<(), AllocError> {
         for number in 0..u16::MAX {
             let Some(class) = wiring.get_class(number) else {
                 break;
             };
-            let deeds = deeds_of(source, &items, class)?;
-            self.add_registered(number, class, &deeds)?;
+            self.add_class(source, items, number, class)?;
         }
         Ok(())
+    }
+
+    /// Adds the ports that actions of a class register.
+    fn add_class<'a>(
+        &mut self,
+        source: Source<'a>,
+        items: &ClassItems<'a>,
+        number: u16,
+        class: &ClassNames,
+    ) -> Result<(), AllocError> {
+        let deeds = deeds_of(source, items, class)?;
+        self.add_registered(number, class, &deeds)
     }
 
     fn add_registered(

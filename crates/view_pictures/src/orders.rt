@@ -5,7 +5,7 @@ use std::alloc::{AllocError, Global};
 
 /// Transitions of a graph of which the first one that fits is taken: those of a state, those of a choice point, and
 /// those of all transition points together.
-#[derive(Clone, Copy, Debug, PartialEq, Eq, Hash)]
+#[derive(Clone, Copy, PartialEq, Eq, Hash)]
 struct Group<'a> {
     is_choice: bool,
     /// The state or the choice point; empty for the transition points.
@@ -13,7 +13,7 @@ struct Group<'a> {
 }
 
 /// What a transition of a group waits for: a message at a port, or a condition.
-#[derive(Clone, Copy, Debug, PartialEq, Eq, Hash)]
+#[derive(Clone, Copy, PartialEq, Eq, Hash)]
 struct Wait<'a> {
     group: Group<'a>,
     message: &'a [u8],

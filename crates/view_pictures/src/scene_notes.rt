@@ -7,7 +7,7 @@ use room_wiring::Wiring;
 use std::alloc::{AllocError, Global};
 use view_drawing::{Block, Label};
 use view_journals::view_pages::Page;
-use view_journals::{actor_at, put_actor, put_actor_number, put_end, put_port};
+use view_journals::{actor_at, put_actor, put_end, put_home, put_port};
 
 /// Adds a line to a block.
 fn add_note(alloc: Global, block: &mut Block, note: &Page) -> Result<(), AllocError> {
@@ -159,15 +159,6 @@ pub(crate) fn add_lost(
         b" message waits where nobody is",
         b" messages wait where nobody is",
     )
-}
-
-/// An actor by its number, behind a word.
-fn put_home(note: &mut Page, wiring: &Wiring, word: &[u8], home: u64) -> Result<(), AllocError> {
-    note.put(word)?;
-    match i64::try_from(home) {
-        Ok(number) => put_actor_number(note, wiring, number),
-        Err(_) => note.put_number(home),
-    }
 }
 
 /// Adds what the import place of a slot holds, and how many messages wait for it.

@@ -7,7 +7,7 @@ use room_show::{ControllerView, Snapshot};
 use room_wiring::Wiring;
 use std::alloc::{AllocError, Global};
 use view_journals::view_pages::Page;
-use view_journals::{put_actor_number, put_controller};
+use view_journals::{put_controller, put_home};
 
 /// A number before and after.
 fn put_numbers(page: &mut Page, before: u64, after: u64) -> Result<(), AllocError> {
@@ -67,15 +67,6 @@ fn places_of(
         }
     }
     Ok(places)
-}
-
-/// An actor by its number, behind a word.
-fn put_home(page: &mut Page, wiring: &Wiring, word: &[u8], home: u64) -> Result<(), AllocError> {
-    page.put(word)?;
-    match i64::try_from(home) {
-        Ok(number) => put_actor_number(page, wiring, number),
-        Err(_) => page.put_number(home),
-    }
 }
 
 /// What an import place holds, if its container lives.

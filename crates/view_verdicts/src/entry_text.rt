@@ -1,6 +1,6 @@
 //! Entries as the text of journals has them in form 1, which repeats what is fetched (docs/JOURNAL.md).
 use journal::{Did, Entry, Left, naming, speaker_after};
-use room_kinds::{Endpoint, Incarnation, Msg, Note, SlotId};
+use room_kinds::{ControllerId, Endpoint, Incarnation, Msg, Note, SlotId, Stamp};
 use room_wiring::Wiring;
 use std::alloc::AllocError;
 use view_journals::put_name;
@@ -138,6 +138,39 @@ fn put_notes(
     Ok(())
 }
 
+/// A fetch, with the message that it repeats.
+fn put_fetch(page: &mut Page, wiring: &Wiring, stamp: Stamp, msg: &Msg) -> Result<(), AllocError> {
+    page.put_number(stamp.0)?;
+    page.put(b" fetch ")?;
+    put_name(page, wiring, msg.from, msg.stamp)?;
+    page.put(b" ")?;
+    put_message(page, wiring, msg)
+}
+
+fn put_post(page: &mut Page, wiring: &Wiring, stamp: Stamp, msg: &Msg) -> Result<(), AllocError> {
+    page.put_number(stamp.0)?;
+    page.put(b" post ")?;
+    page.put_number(u64::from(msg.to.0))?;
+    page.put(b" ")?;
+    put_message(page, wiring, msg)
+}
+
+/// A turn without its notes.
+fn put_turn(
+    page: &mut Page,
+    wiring: &Wiring,
+    stamp: Stamp,
+    from: ControllerId,
+    sent: Stamp,
+    did: Did,
+) -> Result<(), AllocError> {
+    page.put_number(stamp.0)?;
+    page.put(b" turn ")?;
+    put_name(page, wiring, from, sent)?;
+    page.put(b" ")?;
+    put_did(page, wiring, did)
+}
+
 /// An entry as the text has it, and below it its notes. The line isn't ended.
 pub(crate) fn put_entry(page: &mut Page, wiring: &Wiring, entry: &Entry) -> Result<(), AllocError> {
     match entry {
@@ -146,13 +179,7 @@ pub(crate) fn put_entry(page: &mut Page, wiring: &Wiring, entry: &Entry) -> Resu
             put_standing(page, wiring, *who, *state)?;
             put_notes(page, wiring, false, Some(who.slot), notes.as_slice())
         }
-        Entry::Fetch { stamp, msg } => {
-            page.put_number(stamp.0)?;
-            page.put(b" fetch ")?;
-            put_name(page, wiring, msg.from, msg.stamp)?;
-            page.put(b" ")?;
-            put_message(page, wiring, msg)
-        }
+        Entry::Fetch { stamp, msg } => put_fetch(page, wiring, *stamp, msg),
         Entry::Turn {
             stamp,
             from,
@@ -160,20 +187,10 @@ pub(crate) fn put_entry(page: &mut Page, wiring: &Wiring, entry: &Entry) -> Resu
             did,
             notes,
         } => {
-            page.put_number(stamp.0)?;
-            page.put(b" turn ")?;
-            put_name(page, wiring, *from, *sent)?;
-            page.put(b" ")?;
-            put_did(page, wiring, *did)?;
+            put_turn(page, wiring, *stamp, *from, *sent, *did)?;
             put_notes(page, wiring, did.is_duty(), did.speaker(), notes.as_slice())
         }
-        Entry::Post { stamp, msg } => {
-            page.put_number(stamp.0)?;
-            page.put(b" post ")?;
-            page.put_number(u64::from(msg.to.0))?;
-            page.put(b" ")?;
-            put_message(page, wiring, msg)
-        }
+        Entry::Post { stamp, msg } => put_post(page, wiring, *stamp, msg),
     }
 }
 

@@ -6,9 +6,10 @@ ghost use Rattle.action_lang.specs.action_check.Faults.{expr_fault, steps_fault,
 ghost use Rattle.action_lang.specs.action_check.Numbering.{numbered_expr, numbered_steps, numbered_index};
 ghost use Rattle.action_lang.specs.action_check.Answers.{Answers};
 
-use action_program::{ActionFault, BoundExpr, BoundStep, Expr, Step};
+use action_program::{ActionFault, BoundChain, BoundExpr, BoundStep, BoundUnary, Expr, Step};
 use room_ast::{Name, Scope};
 use std::alloc::Global;
+use std::slice;
 
 fn attribute(path: &[Name], scope: &Scope) -> Result<BoundExpr, ActionFault>
     ensures { Answers numbered.expr_view result (expr_fault scope.now (named.an_attribute path.now))
@@ -34,16 +35,20 @@ pub fn expression(alloc: Global, e: &Expr, scope: &Scope) -> Result<BoundExpr, A
         Expr::Data(Some(k)) => Ok(BoundExpr::Data(*k)),
         Expr::Place => Ok(BoundExpr::Place),
         Expr::Me => Ok(BoundExpr::Me),
-        Expr::Attribute(path) => attribute(path.as_slice(), scope),
+        Expr::Attribute(name) => attribute(slice::from_ref(name), scope),
+        Expr::Within(parts) => attribute(parts.as_slice(), scope),
         Expr::Paren(inner) => expression(alloc, inner, scope),
-        Expr::Unary(op, operand) => {
-            let operand = expression(alloc, operand, scope)?;
-            Ok(BoundExpr::Unary(*op, Box::new(alloc, operand)?))
+        Expr::Unary(unary) => {
+            let operand = expression(alloc, &unary.operand, scope)?;
+            let op = unary.op;
+            let numbered = Box::new(alloc, BoundUnary { op, operand })?;
+            Ok(BoundExpr::Unary(numbered))
         }
-        Expr::Chain(first, rest) => {
-            let first = expression(alloc, first, scope)?;
-            let rest = steps(alloc, rest, scope)?;
-            Ok(BoundExpr::Chain(Box::new(alloc, first)?, rest))
+        Expr::Chain(chain) => {
+            let first = expression(alloc, &chain.first, scope)?;
+            let steps = steps(alloc, &chain.steps, scope)?;
+            let numbered = Box::new(alloc, BoundChain { first, steps })?;
+            Ok(BoundExpr::Chain(numbered))
         }
     }
 }
@@ -54,7 +59,7 @@ fn steps(alloc: Global, steps: &Vec<Step>, scope: &Scope) -> Result<Vec<BoundSte
         (steps_fault scope.now (named.steps_of (map named.step_view steps.now.items)))
         (numbered_steps scope.now (named.steps_of (map named.step_view steps.now.items))) }
 {
-    let mut found = Vec::new(alloc);
+    let mut found = Vec::with_capacity(alloc, steps.len())?;
     for step in steps {
         let operand = expression(alloc, &step.operand, scope)?;
         found.push(BoundStep {

@@ -48,7 +48,7 @@ fn arguments(
         (exprs_fault scope.now (map named.expr_view arguments.now))
         (numbered_arguments scope.now kinds.now (map named.expr_view arguments.now)) }
 {
-    let mut found = Vec::new(alloc);
+    let mut found = Vec::with_capacity(alloc, arguments.len())?;
     for (i, argument) in arguments.iter().enumerate() {
         let value = expression(alloc, argument, scope)?;
         found.push(Argument {

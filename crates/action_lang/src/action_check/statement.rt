@@ -1,5 +1,5 @@
 //! The check of statements.
-ghost use Rattle.std.specs.Prelude.{◌≡◌, OnOk, [], map, option_map};
+ghost use Rattle.std.specs.Prelude.{◌≡◌, IfOk, OnOk, [], map};
 ghost use Rattle.action_program.specs.Named as named;
 ghost use Rattle.action_program.specs.Numbered as numbered;
 ghost use Rattle.action_lang.specs.action_check.Faults.{takes_names, takes_verb, takes_import, naming_fault, reference_fault, stmt_fault, stmts_fault, branches_fault};
@@ -12,11 +12,12 @@ use crate::action_check::expression::{expression, index};
 use crate::action_check::names::ServiceNames;
 use crate::action_check::send::send;
 use action_program::{
-    ActionFault, BoundBranch, BoundIf, BoundStmt, Branch, Expr, FrameVerb, IfStmt, Stmt,
+    ActionFault, AssignStmt, BoundAssign, BoundBranch, BoundFrame, BoundIf, BoundImport,
+    BoundRepeat, BoundStmt, Branch, FrameStmt, FrameVerb, IfStmt, ImportStmt, Stmt,
 };
 use room_ast::{Name, Scope};
 use room_kinds::{PortKind, ReferenceKind};
-use std::alloc::Global;
+use std::alloc::{AllocError, Global};
 
 fn takes_names(kind: PortKind) -> bool
     ensures { result ≡ takes_names kind }
@@ -93,70 +94,49 @@ fn imported(reference: &Name, scope: &Scope) -> Result<u16, ActionFault>
     }
 }
 
-fn assign(
-    alloc: Global,
-    attribute: &[Name],
-    value: &Expr,
-    scope: &Scope,
-) -> Result<BoundStmt, ActionFault>
-    ensures { Answers numbered.stmt_view result
-        (stmt_fault scope.now (named.assign attribute.now (named.expr_view value.now)))
-        (numbered_stmt scope.now [] (named.assign attribute.now (named.expr_view value.now))) }
+fn assign(alloc: Global, s: &AssignStmt, scope: &Scope) -> Result<BoundStmt, ActionFault>
+    ensures { Answers numbered.stmt_view result (stmt_fault scope.now (named.assign_view s.now))
+        (numbered_stmt scope.now [] (named.assign_view s.now)) }
 {
-    let Some((attribute, known)) = scope.attribute(attribute) else {
+    let Some((attribute, known)) = scope.attribute(s.attribute.parts()) else {
         return Err(ActionFault::UnknownName);
     };
-    let value = expression(alloc, value, scope)?;
-    Ok(BoundStmt::Assign {
+    let value = expression(alloc, &s.value, scope)?;
+    let numbered = BoundAssign {
         attribute,
         kind: known.kind,
         value,
-    })
+    };
+    Ok(BoundStmt::Assign(Box::new(alloc, numbered)?))
 }
 
-fn frame(
-    alloc: Global,
-    verb: FrameVerb,
-    reference: &Name,
-    index: &Option<Expr>,
-    scope: &Scope,
-) -> Result<BoundStmt, ActionFault>
-    ensures { Answers numbered.stmt_view result
-        (stmt_fault scope.now (named.frame verb reference.now
-        (option_map named.expr_view index.now)))
-        (numbered_stmt scope.now []
-        (named.frame verb reference.now (option_map named.expr_view index.now))) }
+fn frame(alloc: Global, s: &FrameStmt, scope: &Scope) -> Result<BoundStmt, ActionFault>
+    ensures { Answers numbered.stmt_view result (stmt_fault scope.now (named.frame_view s.now))
+        (numbered_stmt scope.now [] (named.frame_view s.now)) }
 {
-    let reference = framed(verb, reference, scope)?;
-    let index = self::index(alloc, index, scope)?;
-    Ok(BoundStmt::Frame {
-        verb,
+    let reference = framed(s.verb, &s.reference, scope)?;
+    let index = self::index(alloc, &s.index, scope)?;
+    let numbered = BoundFrame {
+        verb: s.verb,
         reference,
         index,
-    })
+    };
+    Ok(BoundStmt::Frame(Box::new(alloc, numbered)?))
 }
 
-fn import(
-    alloc: Global,
-    reference: &Name,
-    index: &Option<Expr>,
-    id: &Expr,
-    scope: &Scope,
-) -> Result<BoundStmt, ActionFault>
-    ensures { Answers numbered.stmt_view result
-        (stmt_fault scope.now (named.import_at reference.now (option_map named.expr_view index.now)
-        (named.expr_view id.now)))
-        (numbered_stmt scope.now [] (named.import_at reference.now
-        (option_map named.expr_view index.now) (named.expr_view id.now))) }
+fn import(alloc: Global, s: &ImportStmt, scope: &Scope) -> Result<BoundStmt, ActionFault>
+    ensures { Answers numbered.stmt_view result (stmt_fault scope.now (named.import_view s.now))
+        (numbered_stmt scope.now [] (named.import_view s.now)) }
 {
-    let reference = imported(reference, scope)?;
-    let index = self::index(alloc, index, scope)?;
-    let id = expression(alloc, id, scope)?;
-    Ok(BoundStmt::Import {
+    let reference = imported(&s.reference, scope)?;
+    let index = self::index(alloc, &s.index, scope)?;
+    let id = expression(alloc, &s.id, scope)?;
+    let numbered = BoundImport {
         reference,
         index,
         id,
-    })
+    };
+    Ok(BoundStmt::Import(Box::new(alloc, numbered)?))
 }
 
 fn register(
@@ -193,32 +173,26 @@ fn statement(
 {
     match s {
         Stmt::Empty => Ok(BoundStmt::Empty),
-        Stmt::Assign { attribute, value } => assign(alloc, attribute.as_slice(), value, scope),
+        Stmt::Assign(s) => assign(alloc, s, scope),
         Stmt::If(choice) => choose(alloc, choice, scope, names),
-        Stmt::Repeat { times, body } => {
-            let body = statements(alloc, body, scope, names)?;
-            Ok(BoundStmt::Repeat {
-                times: *times,
-                body,
-            })
+        Stmt::Repeat(s) => {
+            let body = statements(alloc, &s.body, scope, names)?;
+            let times = s.times;
+            let numbered = Box::new(alloc, BoundRepeat { times, body })?;
+            Ok(BoundStmt::Repeat(numbered))
         }
-        Stmt::Send(s) => Ok(BoundStmt::Send(send(alloc, s, scope)?)),
+        Stmt::Send(s) => {
+            let numbered = send(alloc, s, scope)?;
+            Ok(BoundStmt::Send(Box::new(alloc, numbered)?))
+        }
         Stmt::Defer => Ok(BoundStmt::Defer),
         Stmt::Recall => Ok(BoundStmt::Recall),
         Stmt::RecallAll => Ok(BoundStmt::RecallAll),
-        Stmt::Frame {
-            verb,
-            reference,
-            index,
-        } => frame(alloc, *verb, reference, index, scope),
-        Stmt::Import {
-            reference,
-            index,
-            id,
-        } => import(alloc, reference, index, id, scope),
-        Stmt::Register { port, name } => register(alloc, port, name, scope, names),
-        Stmt::Withdraw { port } => {
-            let port = named_port(port, scope)?;
+        Stmt::Frame(s) => frame(alloc, s, scope),
+        Stmt::Import(s) => import(alloc, s, scope),
+        Stmt::Register(s) => register(alloc, &s.port, &s.name, scope, names),
+        Stmt::Withdraw(s) => {
+            let port = named_port(&s.port, scope)?;
             Ok(BoundStmt::Withdraw { port })
         }
     }
@@ -240,12 +214,29 @@ pub fn statements(
         ≡ stmts_names (named.stmts_of (map named.stmt_view statements.now.items)) names.old) }
     ensures grown { Grows names.old names.new }
 {
-    let mut found = Vec::new(alloc);
+    let mut found = Vec::with_capacity(alloc, statements.len())?;
     for s in statements {
         let one = statement(alloc, s, scope, names)?;
         found.push(one)?;
     }
     Ok(found)
+}
+
+/// The statement of numbered branches and a last block.
+fn chosen(
+    alloc: Global,
+    branches: Vec<BoundBranch>,
+    otherwise: Vec<BoundStmt>,
+) -> Result<BoundStmt, AllocError>
+    ensures { IfOk result (λ s. numbered.stmt_view s
+        ≡ numbered.choose (numbered.branches_of (map numbered.branch_view branches.items))
+        (numbered.stmts_of (map numbered.stmt_view otherwise.items))) }
+{
+    let numbered = BoundIf {
+        branches,
+        otherwise,
+    };
+    Ok(BoundStmt::If(Box::new(alloc, numbered)?))
 }
 
 #[cycle(statement)]
@@ -266,16 +257,10 @@ fn choose(
 {
     let branches = branches(alloc, &choice.branches, scope, names)?;
     match &choice.otherwise {
-        None => Ok(BoundStmt::If(BoundIf {
-            branches,
-            otherwise: Vec::new(alloc),
-        })),
+        None => Ok(chosen(alloc, branches, Vec::new(alloc))?),
         Some(body) => {
             let otherwise = statements(alloc, body, scope, names)?;
-            Ok(BoundStmt::If(BoundIf {
-                branches,
-                otherwise,
-            }))
+            Ok(chosen(alloc, branches, otherwise)?)
         }
     }
 }
@@ -295,7 +280,7 @@ fn branches(
         ≡ branches_names (named.branches_of (map named.branch_view branches.now.items)) names.old) }
     ensures grown { Grows names.old names.new }
 {
-    let mut found = Vec::new(alloc);
+    let mut found = Vec::with_capacity(alloc, branches.len())?;
     for branch in branches {
         let condition = expression(alloc, &branch.condition, scope)?;
         let body = statements(alloc, &branch.body, scope, names)?;

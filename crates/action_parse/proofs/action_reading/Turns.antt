@@ -1,14 +1,16 @@
 -- Turns of the loops of expressions.
-use Rattle.std.proofs.Common.{◌≡◌, ℕ, zero, suc, ◌+◌, ◌-◌, ◌<◌, List, [], ◌∷◌, length, Option, Some, None, refl, sym, ap, ◌∙◌, arith, Bool}
+use Rattle.std.proofs.Common.{◌≡◌, ℕ, zero, suc, ◌+◌, ◌-◌, ◌<◌, List, [], ◌∷◌, length, Option, Some, None, refl, sym, ap, ◌∙◌, arith, Bool, false}
 use Rattle.std.specs.Prelude.{option_map, option_and_then}
 use Rattle.room_tokens.specs.Reader.{Reader, ◌⊕◌, reads_as, many, all_while, Fails}
 use Rattle.room_tokens.specs.declared.fault.ReadFault.{ReadFault}
 use Rattle.room_tokens.specs.declared.fault.ReadFault.TheVariants as faults
 use Rattle.room_tokens.proofs.Loop.{with_front, starts}
+use Rattle.room_lexer.specs.declared.token.Mark.TheVariants as marks
 use Rattle.room_tokens.specs.action_tokens.Values.{Value}
+use Rattle.room_tokens.specs.action_tokens.Single.{comes, name_at}
 use Rattle.action_program.specs.Named.{ExprTree}
 use Rattle.action_program.specs.declared.operator.BinaryOp.{BinaryOp}
-use Rattle.action_parse.specs.action_reading.ExprReading.{level, op_comes, step_at, chain_of}
+use Rattle.action_parse.specs.action_reading.ExprReading.{level, op_comes, step_at, chain_of, path_at}
 
 one_front : {A : Type 0} (x : A) (r : Option (List A × List Value))
     → option_map (λ (z : (A × List A) × List Value). (z.0.0 ∷ z.0.1, z.1)) (option_and_then (λ (y : List A × List Value). Some ((x, y.0), y.1)) r) ≡ with_front (x ∷ []) r
@@ -60,3 +62,8 @@ level_made (suc k) p ts us vs e ss some h i =
     let first : level k p ts ≡ Some (e, us) = rw less at h in
     let others : all_while (op_comes k) (step_at k (level k p)) us ≡ Some (ss, vs) = rw less at i in
     rw (first, others) refl
+
+-- a name behind which no dot comes is a path
+pub one_part : (ts rest : List Value) (name : List ℕ) → name_at ts ≡ Some (name, rest) → comes marks.Dot rest ≡ false → path_at ts ≡ Some (name ∷ [], rest)
+unfolding path_at all_while many
+one_part ts rest name read ends = rw (read, ends) refl

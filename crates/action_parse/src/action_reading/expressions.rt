@@ -3,14 +3,14 @@ ghost use Rattle.std.specs.Prelude.{◌≡◌, ◌≤◌, ◌∷◌, IfOk, map};
 ghost use Rattle.room_lexer.specs.declared.token.Mark.TheVariants as marks;
 ghost use Rattle.room_tokens.specs.Reader.{Gives, ◌⊕◌, reads_as, all_while};
 ghost use Rattle.room_tokens.specs.action_tokens.Single.{left, mark, name_at};
-ghost use Rattle.action_program.specs.Named.{expr_view, step_view, a_paren, a_unary};
+ghost use Rattle.action_program.specs.Named.{expr_view, step_view, path_view, an_attribute, a_paren, a_unary};
 ghost use Rattle.action_parse.specs.action_reading.Written.{below as below_of};
 ghost use Rattle.action_parse.specs.action_reading.ExprReading.{operator_of, operator_comes, op_at, op_comes, step_at, chain_of, level, path_at, small_number_at, datum_at, under, operand};
 
-use action_program::{BinaryOp, Expr, Step, UnaryOp};
+use action_program::{BinaryOp, Chain, Expr, Path, Step, Unary, UnaryOp};
 use room_ast::Name;
 use room_lexer::Mark;
-use room_tokens::action_tokens::{ActionWord, Kind, Rest};
+use room_tokens::action_tokens::{ActionToken, ActionWord, Rest};
 use room_tokens::{ReadFault, comes, name, next, number, place, skip, take_mark};
 use std::alloc::{AllocError, Global};
 
@@ -65,8 +65,8 @@ pub fn operator_comes(rest: Rest) -> bool
     ensures { result ≡ operator_comes (left rest.entry) }
 {
     match next(rest) {
-        Some((token, _)) => match token.kind {
-            Kind::Mark(mark) => operator_of(mark).is_some(),
+        Some((token, _)) => match token {
+            ActionToken::Mark(_, mark) => operator_of(mark).is_some(),
             _ => false,
         },
         None => false,
@@ -81,7 +81,7 @@ fn op_at(rest: Rest, k: usize) -> Option<BinaryOp>
     let Some((token, _)) = next(rest) else {
         return None;
     };
-    let Kind::Mark(mark) = token.kind else {
+    let ActionToken::Mark(_, mark) = token else {
         return None;
     };
     let Some(op) = operator_of(mark) else {
@@ -106,9 +106,9 @@ fn part<'a>(alloc: Global, rest: Rest<'a>) -> Result<(Name, Rest<'a>), ReadFault
     name(alloc, rest)
 }
 
-/// A dotted name.
+/// The parts of a dotted name.
 #[tactic(auto, unfolding(crate::specs::action_reading::ExprReading::path_at))]
-pub fn path<'a>(alloc: Global, rest: Rest<'a>) -> Result<(Vec<Name>, Rest<'a>), ReadFault>
+fn parts<'a>(alloc: Global, rest: Rest<'a>) -> Result<(Vec<Name>, Rest<'a>), ReadFault>
     ensures { Gives (λ x. (x.0.items, left x.1)) result (path_at (left rest.entry)) }
 {
     let (first, mut rest) = name(alloc, rest)?;
@@ -120,6 +120,30 @@ pub fn path<'a>(alloc: Global, rest: Rest<'a>) -> Result<(Vec<Name>, Rest<'a>), 
         rest = after;
     }
     Ok((path, rest))
+}
+
+/// A dotted name. One without a dot needs no list.
+#[tactic(auto, unfolding(crate::specs::action_reading::ExprReading::path_at), using(crate::proofs::action_reading::Turns::one_part))]
+pub fn path<'a>(alloc: Global, rest: Rest<'a>) -> Result<(Path, Rest<'a>), ReadFault>
+    ensures { Gives (λ x. (path_view x.0, left x.1)) result (path_at (left rest.entry)) }
+{
+    let (first, after) = name(alloc, rest)?;
+    if !comes(after, Mark::Dot) {
+        return Ok((Path::Attribute(first), after));
+    }
+    let (mut parts, rest) = parts(alloc, rest)?;
+    parts.shrink_to_fit();
+    Ok((Path::Within(parts), rest))
+}
+
+/// The value of what a path names.
+fn attribute(alloc: Global, path: Path) -> Result<Expr, AllocError>
+    ensures { IfOk result (λ e. expr_view e ≡ an_attribute (path_view path)) }
+{
+    match path {
+        Path::Attribute(name) => Ok(Expr::Attribute(Box::new(alloc, name)?)),
+        Path::Within(parts) => Ok(Expr::Within(Box::new(alloc, parts)?)),
+    }
 }
 
 /// The number of a place of the payload.
@@ -156,7 +180,9 @@ fn chain(alloc: Global, first: Expr, steps: Vec<Step>) -> Result<Expr, AllocErro
     if steps.is_empty() {
         return Ok(first);
     }
-    Ok(Expr::Chain(Box::new(alloc, first)?, steps))
+    let mut steps = steps;
+    steps.shrink_to_fit();
+    Ok(Expr::Chain(Box::new(alloc, Chain { first, steps })?))
 }
 
 /// An operator whose operands stand at a level, and its right side.
@@ -264,7 +290,9 @@ fn unary<'a>(
         (reads_as (a_unary op) (under depth) (left rest.entry)) }
 {
     let (inner, rest) = nested(alloc, depth, rest)?;
-    Ok((Expr::Unary(op, Box::new(alloc, inner)?), rest))
+    let operand = inner;
+    let unary = Box::new(alloc, Unary { op, operand })?;
+    Ok((Expr::Unary(unary), rest))
 }
 
 /// An operand.
@@ -280,23 +308,23 @@ pub fn operand<'a>(
     let Some((token, after)) = next(rest) else {
         return Err(ReadFault::Syntax(place(rest)));
     };
-    match token.kind {
-        Kind::Number(n) => Ok((Expr::Number(n), after)),
-        Kind::Word(ActionWord::True) => Ok((Expr::True, after)),
-        Kind::Word(ActionWord::False) => Ok((Expr::False, after)),
-        Kind::Word(ActionWord::Data) => {
+    match token {
+        ActionToken::Number(_, n) => Ok((Expr::Number(n), after)),
+        ActionToken::Word(_, ActionWord::True) => Ok((Expr::True, after)),
+        ActionToken::Word(_, ActionWord::False) => Ok((Expr::False, after)),
+        ActionToken::Word(_, ActionWord::Data) => {
             let (k, rest) = datum(after)?;
             Ok((Expr::Data(k), rest))
         }
-        Kind::Word(ActionWord::Place) => Ok((Expr::Place, after)),
-        Kind::Word(ActionWord::Me) => Ok((Expr::Me, after)),
-        Kind::Name => {
+        ActionToken::Word(_, ActionWord::Place) => Ok((Expr::Place, after)),
+        ActionToken::Word(_, ActionWord::Me) => Ok((Expr::Me, after)),
+        ActionToken::Name { .. } => {
             let (path, rest) = path(alloc, rest)?;
-            Ok((Expr::Attribute(path), rest))
+            Ok((attribute(alloc, path)?, rest))
         }
-        Kind::Mark(Mark::OpenParen) => paren(alloc, depth, after),
-        Kind::Mark(Mark::Minus) => unary(alloc, UnaryOp::Negate, depth, after),
-        Kind::Mark(Mark::Bang) => unary(alloc, UnaryOp::Not, depth, after),
+        ActionToken::Mark(_, Mark::OpenParen) => paren(alloc, depth, after),
+        ActionToken::Mark(_, Mark::Minus) => unary(alloc, UnaryOp::Negate, depth, after),
+        ActionToken::Mark(_, Mark::Bang) => unary(alloc, UnaryOp::Not, depth, after),
         _ => Err(ReadFault::Syntax(place(rest))),
     }
 }

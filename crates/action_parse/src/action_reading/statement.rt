@@ -8,10 +8,13 @@ ghost use Rattle.action_parse.specs.action_reading.ExprReading.{expression};
 ghost use Rattle.action_parse.specs.action_reading.StmtReading.{index_at, argument_at, some_arguments_at, arguments_at, prio_of, prio_word_at, prio_at, is_send, send_at, assign_at, frame_at, import_behind, register_at, withdraw_at, repeat_at, branch_at, else_if_comes, else_if_at, branches_at, else_at, choose_at, named_at, goes_on, block_at, block_below, statement};
 
 use crate::action_reading::expressions::{WEAKEST, level, path};
-use action_program::{Branch, Expr, FrameVerb, IfStmt, SendStmt, Stmt};
+use action_program::{
+    AssignStmt, Branch, Expr, FrameStmt, FrameVerb, IfStmt, ImportStmt, RegisterStmt, RepeatStmt,
+    SendStmt, Stmt, WithdrawStmt,
+};
 use room_kinds::Priority;
 use room_lexer::Mark;
-use room_tokens::action_tokens::{ActionWord, Kind, Rest};
+use room_tokens::action_tokens::{ActionToken, ActionWord, Rest};
 use room_tokens::{
     ReadFault, comes, comes_word, name, next, number, place, skip, take_mark, take_word,
 };
@@ -114,7 +117,7 @@ fn prio_word<'a>(rest: Rest<'a>) -> Result<(Priority, Rest<'a>), ReadFault>
     let Some((token, after)) = next(rest) else {
         return Err(ReadFault::Syntax(place(rest)));
     };
-    let Kind::Word(word) = token.kind else {
+    let ActionToken::Word(_, word) = token else {
         return Err(ReadFault::Syntax(place(rest)));
     };
     match prio_of(word) {
@@ -161,16 +164,14 @@ fn send<'a>(alloc: Global, depth: usize, rest: Rest<'a>) -> Result<(Stmt, Rest<'
     let rest = take_mark(rest, Mark::CloseParen)?;
     let (prio, rest) = prio(rest)?;
     let rest = take_mark(rest, Mark::Semicolon)?;
-    Ok((
-        Stmt::Send(SendStmt {
-            port,
-            place,
-            signal,
-            arguments,
-            prio,
-        }),
-        rest,
-    ))
+    let send = SendStmt {
+        port,
+        place,
+        signal,
+        arguments,
+        prio,
+    };
+    Ok((Stmt::Send(Box::new(alloc, send)?), rest))
 }
 
 #[tactic(auto, unfolding(crate::specs::action_reading::StmtReading::assign_at))]
@@ -182,7 +183,8 @@ fn assign<'a>(alloc: Global, depth: usize, rest: Rest<'a>) -> Result<(Stmt, Rest
     let rest = take_mark(rest, Mark::Equals)?;
     let (value, rest) = expression(alloc, depth, rest)?;
     let rest = take_mark(rest, Mark::Semicolon)?;
-    Ok((Stmt::Assign { attribute, value }, rest))
+    let assign = AssignStmt { attribute, value };
+    Ok((Stmt::Assign(Box::new(alloc, assign)?), rest))
 }
 
 /// Behind `incarnate`, `destroy` or `deport`.
@@ -199,14 +201,12 @@ fn frame<'a>(
     let (reference, rest) = name(alloc, rest)?;
     let (index, rest) = index(alloc, depth, rest)?;
     let rest = take_mark(rest, Mark::Semicolon)?;
-    Ok((
-        Stmt::Frame {
-            verb,
-            reference,
-            index,
-        },
-        rest,
-    ))
+    let frame = FrameStmt {
+        verb,
+        reference,
+        index,
+    };
+    Ok((Stmt::Frame(Box::new(alloc, frame)?), rest))
 }
 
 /// Behind `import`.
@@ -220,14 +220,12 @@ fn import<'a>(alloc: Global, depth: usize, rest: Rest<'a>) -> Result<(Stmt, Rest
     let rest = take_mark(rest, Mark::Equals)?;
     let (id, rest) = expression(alloc, depth, rest)?;
     let rest = take_mark(rest, Mark::Semicolon)?;
-    Ok((
-        Stmt::Import {
-            reference,
-            index,
-            id,
-        },
-        rest,
-    ))
+    let import = ImportStmt {
+        reference,
+        index,
+        id,
+    };
+    Ok((Stmt::Import(Box::new(alloc, import)?), rest))
 }
 
 /// Behind `register`.
@@ -239,13 +237,11 @@ pub fn register<'a>(alloc: Global, rest: Rest<'a>) -> Result<(Stmt, Rest<'a>), R
     let rest = take_word(rest, ActionWord::As)?;
     let (service, rest) = name(alloc, rest)?;
     let rest = take_mark(rest, Mark::Semicolon)?;
-    Ok((
-        Stmt::Register {
-            port,
-            name: service,
-        },
-        rest,
-    ))
+    let register = RegisterStmt {
+        port,
+        name: service,
+    };
+    Ok((Stmt::Register(Box::new(alloc, register)?), rest))
 }
 
 /// Behind `withdraw`.
@@ -255,7 +251,8 @@ pub fn withdraw<'a>(alloc: Global, rest: Rest<'a>) -> Result<(Stmt, Rest<'a>), R
 {
     let (port, rest) = name(alloc, rest)?;
     let rest = take_mark(rest, Mark::Semicolon)?;
-    Ok((Stmt::Withdraw { port }, rest))
+    let withdraw = Box::new(alloc, WithdrawStmt { port })?;
+    Ok((Stmt::Withdraw(withdraw), rest))
 }
 
 #[tactic(auto, unfolding(crate::specs::action_reading::StmtReading::else_if_comes))]
@@ -349,15 +346,14 @@ fn choose<'a>(alloc: Global, depth: usize, rest: Rest<'a>) -> Result<(Stmt, Rest
     ensures { Gives (λ x. (stmt_view x.0, left x.1)) result
         (choose_at (expression depth) (block_below depth) (left rest.entry)) }
 {
-    let (branches, rest) = branches(alloc, depth, rest)?;
+    let (mut branches, rest) = branches(alloc, depth, rest)?;
+    branches.shrink_to_fit();
     let (otherwise, rest) = otherwise(alloc, depth, rest)?;
-    Ok((
-        Stmt::If(IfStmt {
-            branches,
-            otherwise,
-        }),
-        rest,
-    ))
+    let choice = IfStmt {
+        branches,
+        otherwise,
+    };
+    Ok((Stmt::If(Box::new(alloc, choice)?), rest))
 }
 
 /// Behind `repeat`.
@@ -369,7 +365,8 @@ fn repeat<'a>(alloc: Global, depth: usize, rest: Rest<'a>) -> Result<(Stmt, Rest
 {
     let (times, rest) = number(rest)?;
     let (body, rest) = block(alloc, depth, rest)?;
-    Ok((Stmt::Repeat { times, body }, rest))
+    let repeat = Box::new(alloc, RepeatStmt { times, body })?;
+    Ok((Stmt::Repeat(repeat), rest))
 }
 
 /// A statement that begins with a name.
@@ -403,20 +400,25 @@ fn statement<'a>(alloc: Global, depth: usize, rest: Rest<'a>) -> Result<(Stmt, R
     let Some((token, after)) = next(rest) else {
         return Err(ReadFault::Syntax(place(rest)));
     };
-    match token.kind {
-        Kind::Mark(Mark::Semicolon) => Ok((Stmt::Empty, after)),
-        Kind::Name => named(alloc, depth, rest),
-        Kind::Word(ActionWord::If) => choose(alloc, depth, after),
-        Kind::Word(ActionWord::Repeat) => repeat(alloc, depth, after),
-        Kind::Word(ActionWord::Defer) => alone(Stmt::Defer, after),
-        Kind::Word(ActionWord::Recall) => alone(Stmt::Recall, after),
-        Kind::Word(ActionWord::RecallAll) => alone(Stmt::RecallAll, after),
-        Kind::Word(ActionWord::Incarnate) => frame(alloc, FrameVerb::Incarnate, depth, after),
-        Kind::Word(ActionWord::Destroy) => frame(alloc, FrameVerb::Destroy, depth, after),
-        Kind::Word(ActionWord::Deport) => frame(alloc, FrameVerb::Deport, depth, after),
-        Kind::Word(ActionWord::Import) => import(alloc, depth, after),
-        Kind::Word(ActionWord::Register) => register(alloc, after),
-        Kind::Word(ActionWord::Withdraw) => withdraw(alloc, after),
+    match token {
+        ActionToken::Mark(_, Mark::Semicolon) => Ok((Stmt::Empty, after)),
+        ActionToken::Name { .. } => named(alloc, depth, rest),
+        ActionToken::Word(_, ActionWord::If) => choose(alloc, depth, after),
+        ActionToken::Word(_, ActionWord::Repeat) => repeat(alloc, depth, after),
+        ActionToken::Word(_, ActionWord::Defer) => alone(Stmt::Defer, after),
+        ActionToken::Word(_, ActionWord::Recall) => alone(Stmt::Recall, after),
+        ActionToken::Word(_, ActionWord::RecallAll) => alone(Stmt::RecallAll, after),
+        ActionToken::Word(_, ActionWord::Incarnate) => frame(
+            alloc,
+            FrameVerb::Incarnate,
+            depth,
+            after,
+        ),
+        ActionToken::Word(_, ActionWord::Destroy) => frame(alloc, FrameVerb::Destroy, depth, after),
+        ActionToken::Word(_, ActionWord::Deport) => frame(alloc, FrameVerb::Deport, depth, after),
+        ActionToken::Word(_, ActionWord::Import) => import(alloc, depth, after),
+        ActionToken::Word(_, ActionWord::Register) => register(alloc, after),
+        ActionToken::Word(_, ActionWord::Withdraw) => withdraw(alloc, after),
         _ => Err(ReadFault::Syntax(place(rest))),
     }
 }
@@ -453,7 +455,8 @@ fn braces<'a>(
         (block_at (statement depth) (left rest.entry)) }
 {
     let rest = take_mark(rest, Mark::OpenBrace)?;
-    let (found, rest) = statements(alloc, depth, rest)?;
+    let (mut found, rest) = statements(alloc, depth, rest)?;
+    found.shrink_to_fit();
     let rest = take_mark(rest, Mark::CloseBrace)?;
     Ok((found, rest))
 }

@@ -2,7 +2,7 @@
 ghost use Rattle.std.specs.Prelude.{◌≡◌, map, option_map, IfOk};
 ghost use Rattle.action_program.specs.Numbered.{expr_view, step_view};
 
-use crate::{BoundExpr, BoundStep};
+use crate::{BoundChain, BoundExpr, BoundStep, BoundUnary};
 use std::alloc::{AllocError, Global};
 
 /// A copy of an expression. It goes as deep as the expression nests, and a chain of operators of one
@@ -17,14 +17,17 @@ pub fn copy_expr(alloc: Global, e: &BoundExpr) -> Result<BoundExpr, AllocError>
         BoundExpr::Place => Ok(BoundExpr::Place),
         BoundExpr::Me => Ok(BoundExpr::Me),
         BoundExpr::Attribute(k) => Ok(BoundExpr::Attribute(*k)),
-        BoundExpr::Unary(op, operand) => {
-            let operand = copy_expr(alloc, operand)?;
-            Ok(BoundExpr::Unary(*op, Box::new(alloc, operand)?))
+        BoundExpr::Unary(unary) => {
+            let operand = copy_expr(alloc, &unary.operand)?;
+            let op = unary.op;
+            let copy = Box::new(alloc, BoundUnary { op, operand })?;
+            Ok(BoundExpr::Unary(copy))
         }
-        BoundExpr::Chain(first, steps) => {
-            let first = copy_expr(alloc, first)?;
-            let steps = copy_steps(alloc, steps)?;
-            Ok(BoundExpr::Chain(Box::new(alloc, first)?, steps))
+        BoundExpr::Chain(chain) => {
+            let first = copy_expr(alloc, &chain.first)?;
+            let steps = copy_steps(alloc, &chain.steps)?;
+            let copy = Box::new(alloc, BoundChain { first, steps })?;
+            Ok(BoundExpr::Chain(copy))
         }
     }
 }
@@ -33,7 +36,7 @@ pub fn copy_expr(alloc: Global, e: &BoundExpr) -> Result<BoundExpr, AllocError>
 fn copy_steps(alloc: Global, steps: &Vec<BoundStep>) -> Result<Vec<BoundStep>, AllocError>
     ensures { IfOk result (λ copies. map step_view copies.items ≡ map step_view steps.now.items) }
 {
-    let mut copies = Vec::new(alloc);
+    let mut copies = Vec::with_capacity(alloc, steps.len())?;
     for step in steps {
         let operand = copy_expr(alloc, &step.operand)?;
         copies.push(BoundStep {

@@ -1,15 +1,18 @@
 //! Copies of programs.
 ghost use Rattle.std.specs.Prelude.{◌≡◌, map, IfOk};
-ghost use Rattle.action_program.specs.Numbered.{argument_view, branch_view, if_view, program_view, send_view, stmt_view};
+ghost use Rattle.action_program.specs.Numbered.{argument_view, assign_view, branch_view, frame_view, if_view, import_view, program_view, send_view, stmt_view};
 
 use crate::program_copies::expressions::{copy_expr, copy_guard};
-use crate::{Argument, Bound, BoundBranch, BoundIf, BoundSend, BoundStmt};
+use crate::{
+    Argument, Bound, BoundAssign, BoundBranch, BoundFrame, BoundIf, BoundImport, BoundRepeat,
+    BoundSend, BoundStmt,
+};
 use std::alloc::{AllocError, Global};
 
 fn copy_arguments(alloc: Global, arguments: &[Argument]) -> Result<Vec<Argument>, AllocError>
     ensures { IfOk result (λ copies. map argument_view copies.items ≡ map argument_view arguments.now) }
 {
-    let mut copies = Vec::new(alloc);
+    let mut copies = Vec::with_capacity(alloc, arguments.len())?;
     for argument in arguments {
         let value = copy_expr(alloc, &argument.value)?;
         copies.push(Argument {
@@ -34,61 +37,69 @@ fn copy_send(alloc: Global, s: &BoundSend) -> Result<BoundSend, AllocError>
     })
 }
 
+fn copy_assign(alloc: Global, s: &BoundAssign) -> Result<BoundStmt, AllocError>
+    ensures { IfOk result (λ copy. stmt_view copy ≡ assign_view s.now) }
+{
+    let value = copy_expr(alloc, &s.value)?;
+    let copy = BoundAssign {
+        attribute: s.attribute,
+        kind: s.kind,
+        value,
+    };
+    Ok(BoundStmt::Assign(Box::new(alloc, copy)?))
+}
+
+fn copy_frame(alloc: Global, s: &BoundFrame) -> Result<BoundStmt, AllocError>
+    ensures { IfOk result (λ copy. stmt_view copy ≡ frame_view s.now) }
+{
+    let index = copy_expr(alloc, &s.index)?;
+    let copy = BoundFrame {
+        verb: s.verb,
+        reference: s.reference,
+        index,
+    };
+    Ok(BoundStmt::Frame(Box::new(alloc, copy)?))
+}
+
+fn copy_import(alloc: Global, s: &BoundImport) -> Result<BoundStmt, AllocError>
+    ensures { IfOk result (λ copy. stmt_view copy ≡ import_view s.now) }
+{
+    let index = copy_expr(alloc, &s.index)?;
+    let id = copy_expr(alloc, &s.id)?;
+    let copy = BoundImport {
+        reference: s.reference,
+        index,
+        id,
+    };
+    Ok(BoundStmt::Import(Box::new(alloc, copy)?))
+}
+
 #[cycle(copying)]
 fn copy_statement(alloc: Global, s: &BoundStmt) -> Result<BoundStmt, AllocError>
     ensures { IfOk result (λ copy. stmt_view copy ≡ stmt_view s.now) }
 {
     match s {
         BoundStmt::Empty => Ok(BoundStmt::Empty),
-        BoundStmt::Assign {
-            attribute,
-            kind,
-            value,
-        } => {
-            let value = copy_expr(alloc, value)?;
-            Ok(BoundStmt::Assign {
-                attribute: *attribute,
-                kind: *kind,
-                value,
-            })
+        BoundStmt::Assign(s) => copy_assign(alloc, s),
+        BoundStmt::If(choice) => {
+            let copy = copy_choice(alloc, choice)?;
+            Ok(BoundStmt::If(Box::new(alloc, copy)?))
         }
-        BoundStmt::If(choice) => Ok(BoundStmt::If(copy_choice(alloc, choice)?)),
-        BoundStmt::Repeat { times, body } => {
-            let body = copy_statements(alloc, body)?;
-            Ok(BoundStmt::Repeat {
-                times: *times,
-                body,
-            })
+        BoundStmt::Repeat(s) => {
+            let body = copy_statements(alloc, &s.body)?;
+            let times = s.times;
+            let copy = Box::new(alloc, BoundRepeat { times, body })?;
+            Ok(BoundStmt::Repeat(copy))
         }
-        BoundStmt::Send(s) => Ok(BoundStmt::Send(copy_send(alloc, s)?)),
+        BoundStmt::Send(s) => {
+            let copy = copy_send(alloc, s)?;
+            Ok(BoundStmt::Send(Box::new(alloc, copy)?))
+        }
         BoundStmt::Defer => Ok(BoundStmt::Defer),
         BoundStmt::Recall => Ok(BoundStmt::Recall),
         BoundStmt::RecallAll => Ok(BoundStmt::RecallAll),
-        BoundStmt::Frame {
-            verb,
-            reference,
-            index,
-        } => {
-            let index = copy_expr(alloc, index)?;
-            Ok(BoundStmt::Frame {
-                verb: *verb,
-                reference: *reference,
-                index,
-            })
-        }
-        BoundStmt::Import {
-            reference,
-            index,
-            id,
-        } => {
-            let index = copy_expr(alloc, index)?;
-            let id = copy_expr(alloc, id)?;
-            Ok(BoundStmt::Import {
-                reference: *reference,
-                index,
-                id,
-            })
-        }
+        BoundStmt::Frame(s) => copy_frame(alloc, s),
+        BoundStmt::Import(s) => copy_import(alloc, s),
         BoundStmt::Register { port, name } => Ok(BoundStmt::Register {
             port: *port,
             name: *name,
@@ -113,7 +124,7 @@ fn copy_choice(alloc: Global, choice: &BoundIf) -> Result<BoundIf, AllocError>
 fn copy_branches(alloc: Global, branches: &Vec<BoundBranch>) -> Result<Vec<BoundBranch>, AllocError>
     ensures { IfOk result (λ copies. map branch_view copies.items ≡ map branch_view branches.now.items) }
 {
-    let mut copies = Vec::new(alloc);
+    let mut copies = Vec::with_capacity(alloc, branches.len())?;
     for branch in branches {
         let condition = copy_expr(alloc, &branch.condition)?;
         let body = copy_statements(alloc, &branch.body)?;
@@ -126,7 +137,7 @@ fn copy_branches(alloc: Global, branches: &Vec<BoundBranch>) -> Result<Vec<Bound
 fn copy_statements(alloc: Global, statements: &Vec<BoundStmt>) -> Result<Vec<BoundStmt>, AllocError>
     ensures { IfOk result (λ copies. map stmt_view copies.items ≡ map stmt_view statements.now.items) }
 {
-    let mut copies = Vec::new(alloc);
+    let mut copies = Vec::with_capacity(alloc, statements.len())?;
     for s in statements {
         let copy = copy_statement(alloc, s)?;
         copies.push(copy)?;

@@ -50,8 +50,12 @@ pub(crate) fn post_outbox<M: Mail>(
         × ((M.log end.new).parties ≡ (M.log end.old).parties) }
     ensures tied { StaysTied M.tied (M.log end.old).party office.old office.new end.old end.new }
 {
-    while let Some(m) = controller.post()? {
-        post_one(office, end, m)?;
+    while controller.has_outbox() {
+        match controller.post() {
+            Ok(Some(m)) => post_one(office, end, m)?,
+            Ok(None) => return Ok(()),
+            Err(refused) => return Err(refused),
+        }
     }
     Ok(())
 }

@@ -1,5 +1,5 @@
 //! A slot with what stands in it and what that keeps.
-ghost use Rattle.std.specs.Prelude.{◌≡◌, ◌<◌, [], ◌∷◌, ◌++◌, length, All, IfOk, OnOk, MatchOption};
+ghost use Rattle.std.specs.Prelude.{◌≡◌, ◌<◌, [], ◌∷◌, ◌++◌, false, length, All, IfOk, OnOk, MatchOption};
 ghost use Rattle.std.specs.Option.{option_copied};
 ghost use Rattle.room_kinds.specs.declared.note.Note.TheVariants.{Up};
 ghost use Rattle.controller_mail.specs.MailState.{IsForActors};
@@ -184,6 +184,28 @@ impl ActorSlot {
         Ok(())
     }
 
+    /// What the actor does in a turn, so far: it has told this. What it keeps for later is moved there.
+    fn take_up(&mut self, alloc: Global, notes: Notes) -> Doing
+        ensures doing { result
+            ≡ record {
+              deferred = self.old.deferred;
+              output = record { messages = []; notes = notes };
+              back = [];
+              kept = false;
+            } }
+        ensures occupant { self.new.occupant ≡ self.old.occupant }
+    {
+        Doing {
+            deferred: mem::replace(&mut self.deferred, DeferredMessages::new(alloc)),
+            output: Output {
+                messages: Outbox::new(alloc),
+                notes,
+            },
+            back: Recalled::new(alloc),
+            kept: false,
+        }
+    }
+
     /// The actor handles a message, and its commands are applied; `None` where nobody stands there. After
     /// want of memory the slot is unspecified: the controller has failed.
     pub fn handle<S: Services>(
@@ -213,8 +235,10 @@ impl ActorSlot {
             (S.links_of services.new)
             speaker.now.who m (option_copied tables.entry) self.old self.new done)) }
     {
-        let Some(reaction) = self.occupant.react(alloc, tables, &m)? else {
-            return Ok(None);
+        let reaction = match self.occupant.react(alloc, tables, &m) {
+            Ok(Some(reaction)) => reaction,
+            Ok(None) => return Ok(None),
+            Err(refused) => return Err(refused),
         };
         let Reaction {
             came_to,
@@ -222,25 +246,21 @@ impl ActorSlot {
             notes,
             commands,
         } = reaction;
-        let mut output = Output {
-            messages: Outbox::new(alloc),
-            notes,
-        };
-        let mut back = Recalled::new(alloc);
-        self.work(
-            alloc,
-            speaker,
-            services,
-            Some(m),
-            commands,
-            &mut output,
-            &mut back,
-        )?;
+        let mut doing = self.take_up(alloc, notes);
+        apply_all(alloc, speaker, services, Some(m), commands, &mut doing)?;
+        let Doing {
+            deferred,
+            output,
+            back,
+            kept: _,
+        } = doing;
+        self.deferred = deferred;
+        let Output { messages, notes } = output;
         Ok(Some(TurnResult {
-            sent: output.messages,
+            sent: messages,
             back: back.into_sequence(),
             did: did_of(came_to, speaker.who, state),
-            notes: output.notes,
+            notes,
         }))
     }
 

@@ -67,17 +67,19 @@ fn react_by(
         MachineReacts m.now (option_copied tables.entry) machine.old machine.new r) }
 {
     match tables {
-        Some(tables) => {
-            let outcome = machine.handle(alloc, tables, m)?;
-            let Outcome { result, effects } = outcome;
-            let Effects { notes, commands } = effects;
-            Ok(Reaction {
-                came_to: result,
-                state: machine.state(),
-                notes,
-                commands,
-            })
-        }
+        Some(tables) => match machine.handle(alloc, tables, m) {
+            Ok(outcome) => {
+                let Outcome { result, effects } = outcome;
+                let Effects { notes, commands } = effects;
+                Ok(Reaction {
+                    came_to: result,
+                    state: machine.state(),
+                    notes,
+                    commands,
+                })
+            }
+            Err(refused) => Err(refused),
+        },
         None => Ok(passed_over(alloc, machine.state())),
     }
 }
@@ -124,10 +126,10 @@ impl Occupant {
         match self {
             Occupant::Nobody => Ok(None),
             Occupant::Chartless => Ok(Some(passed_over(alloc, NO_STATE))),
-            Occupant::Charted(machine) => {
-                let reaction = react_by(alloc, machine, tables, m)?;
-                Ok(Some(reaction))
-            }
+            Occupant::Charted(machine) => match react_by(alloc, machine, tables, m) {
+                Ok(reaction) => Ok(Some(reaction)),
+                Err(refused) => Err(refused),
+            },
         }
     }
 

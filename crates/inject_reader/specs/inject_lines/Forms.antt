@@ -1,9 +1,9 @@
 -- The forms of a line.
-use Rattle.std.specs.Prelude.{ℕ, List, [], ◌∷◌, Bool, false, not, ◌&&◌, ◌==◌, nat_le, if◌then◌else◌, Option, Some, None, option_map, option_and_then, codes, ℤ}
+use Rattle.std.specs.Prelude.{ℕ, List, [], ◌∷◌, ◌&&◌, if◌then◌else◌, Option, Some, None, option_map, option_and_then, codes, ℤ}
 use Rattle.name_tables.specs.name_numbers.Names.{same}
 use Rattle.room_wiring.specs.WellNamed.{is_ident}
 use Rattle.text_reading.specs.Cuts.{cut_at}
-use Rattle.text_reading.specs.Numerals.{are_digits, value_of, number_in}
+use Rattle.text_reading.specs.Numerals.{are_digits, number_in, plain_in}
 use Rattle.inject_reader.specs.inject_lines.Texts.{is_path}
 use Rattle.inject_reader.specs.inject_lines.Fields.{fields}
 
@@ -88,14 +88,9 @@ message_in target signal words =
 abbrev pub settle_in : List ℕ → Option LineForm
 settle_in word = if same word (codes "settle") then Some Settle else None
 
--- digits, the first of them not 0
-abbrev pub is_plain : List ℕ → Bool
-is_plain [] = false
-is_plain (b ∷ bs) = not (b == 48) && are_digits (b ∷ bs)
-
 -- a time to move on by, from 1 to 2,147,483,647
-unfoldable pub time_in : List ℕ → Option ℕ
-time_in text = if is_plain text && nat_le (value_of text) 2147483647 then Some (value_of text) else None
+abbrev pub time_in : List ℕ → Option ℕ
+time_in text = plain_in 2147483647 text
 
 -- a time and nothing behind it
 abbrev pub advance_in : List ℕ → List (List ℕ) → Option LineForm

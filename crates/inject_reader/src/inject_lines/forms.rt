@@ -1,7 +1,7 @@
 //! The forms of lines.
 ghost use Rattle.std.specs.Prelude.{◌≡◌, option_map, IfOk};
 ghost use Rattle.std.specs.Option.{option_copied};
-ghost use Rattle.inject_reader.specs.inject_lines.Forms.{place_in, target_at, target_in, priority_in, priority_of, load_in, message_in, form_in, settle_in, is_plain, time_in, advance_in, loaded};
+ghost use Rattle.inject_reader.specs.inject_lines.Forms.{place_in, target_at, target_in, priority_in, priority_of, load_in, message_in, form_in, settle_in, time_in, advance_in, loaded};
 ghost use Rattle.text_reading.specs.Cuts.{cut_at};
 ghost use Rattle.inject_reader.specs.inject_lines.Views.{target_view, load_view, form_view};
 
@@ -9,7 +9,7 @@ use crate::inject_lines::fields::Fields;
 use crate::inject_lines::texts::{is, is_ident, is_path};
 use room_kinds::Priority;
 use std::alloc::{AllocError, Global};
-use text_reading::{are_digits, cut, number, value};
+use text_reading::{are_digits, cut, number, plain_number};
 
 /// Where a message goes, as it is written: the path of a slot, the name of a port and the digits
 /// of a place, of which there are none where no place is written.
@@ -155,27 +155,14 @@ fn settle<'a>(word: &'a [u8]) -> Option<Form<'a>>
     }
 }
 
-/// Whether there are digits alone, the first of them not 0.
-fn is_plain(text: &[u8]) -> bool
-    ensures { result ≡ is_plain text.now }
-{
-    match text {
-        [first, ..] => *first != b'0' && are_digits(text),
-        [] => false,
-    }
-}
-
 /// A time to move on by, from 1 to 2,147,483,647.
-#[tactic(auto, unfolding(crate::specs::inject_lines::Forms::time_in))]
 fn time(text: &[u8]) -> Option<u32>
     ensures { result ≡ time_in text.now }
 {
-    let time = value(text);
-    if is_plain(text) && time <= 2_147_483_647 {
-        Some(time as u32)
-    } else {
-        None
-    }
+    let Some(time) = plain_number(2_147_483_647, text) else {
+        return None;
+    };
+    Some(time as u32)
 }
 
 /// A time and nothing behind it.

@@ -1,5 +1,5 @@
 -- The ports of joined places have one protocol.
-use Rattle.std.proofs.Common.{◌≡◌, ◌∙◌, ℕ, zero, suc, ◌*◌, ◌<◌, true, List, [], ◌∷◌, length, Option, Some, None, option_and_then, slice_get, refl, sym, ap, subst, arith}
+use Rattle.std.proofs.Common.{◌≡◌, ◌∙◌, ℕ, zero, suc, ◌*◌, ◌<◌, List, [], ◌∷◌, length, Option, Some, None, option_and_then, slice_get, refl, sym, ap, subst, arith}
 use Rattle.std.specs.Option.{option_map_or}
 use Rattle.std.proofs.lemmas.Option.{same_Some, slice_get_within}
 use Rattle.room_ast.specs.Trees.{ModelTree}
@@ -14,10 +14,10 @@ use Rattle.room_wiring.specs.declared.tables.Tables.{Tables}
 use Rattle.room_wiring.specs.Places.{port_count}
 use Rattle.room_wiring.specs.Slots.{class_of, port_at}
 use Rattle.check_scopes.specs.class_scopes.Signals.{is_frame}
-use Rattle.check_bindings.specs.binding_rules.Rules.{binding_sides_agree, binding_sides_exist}
-use Rattle.structure_check.specs.List.{name_rules, data_rules, end_rules, place_rules, binding_rules, thread_rules, joint_rules, outer_rules, part_rules, later_rules, single_rules, count_rules, all_rules}
+use Rattle.structure_check.specs.List.{all_rules}
 use Rattle.structure_check.specs.Rules.{first_broken}
-use Rattle.structure_check.proofs.KeptRules.{none_first, none_later, head_kept, tail_kept, all_few}
+use Rattle.structure_check.specs.declared.flat_rule.FlatRule.TheVariants as rules
+use Rattle.structure_check.proofs.KeptRules.{rule_kept, all_few}
 use Rattle.wiring_plan.specs.structure_plan.Plans.{plan_of}
 use Rattle.wiring_slots.specs.model_slots.Answers.{slots_in}
 use Rattle.wiring_places.specs.declared.place_rules.place.LayerJoin.{LayerJoin}
@@ -39,16 +39,6 @@ use Rattle.law_models.proofs.settled_models.Joins.{IsPlace, IsJoinedTo, index_of
 use Rattle.law_models.proofs.settled_models.Ports.{port_is}
 
 -- ---- the rule on the sides of bindings
-
-bindings_kept : (m : ModelTree) → first_broken all_rules m ≡ None → first_broken binding_rules m ≡ None
-unfolding single_rules later_rules part_rules outer_rules joint_rules
-bindings_kept m e =
-    none_first binding_rules thread_rules m (none_later place_rules joint_rules m (none_later end_rules outer_rules m
-    (none_later data_rules part_rules m (none_later name_rules later_rules m (none_first single_rules count_rules m e)))))
-
-sides_kept : (m : ModelTree) → first_broken binding_rules m ≡ None → binding_sides_agree m ≡ true
-unfolding binding_rules
-sides_kept m e = head_kept (binding_sides_agree m) 19 _ (tail_kept (binding_sides_exist m) 18 _ e)
 
 module _ (m : ModelTree) (t : Tables) (keeps : first_broken all_rules m ≡ None) (w : IsWiringOf m t) (flawless : HasNoFault m) where
   abbrev slots : List Slot
@@ -103,7 +93,7 @@ module _ (m : ModelTree) (t : Tables) (keeps : first_broken all_rules m ≡ None
   joined_alike s p k partner to =
       let near = index_of m t keeps w flawless s p k in
       let far = index_of m t keeps w flawless to.y.slot to.y.port to.y.place in
-      let share : ShareProtocol m slots joins (2 * near) (2 * far) = led_share m slots are (all_few m keeps) (sides_kept m (bindings_kept m keeps)) (2 * near) (2 * far) to.joined in
+      let share : ShareProtocol m slots joins (2 * near) (2 * far) = led_share m slots are (all_few m keeps) (rule_kept m keeps rules.SidesAgree) (2 * near) (2 * far) to.joined in
       named_alike m t s p to.y.slot to.y.port share.protocol (named_of s p k to.here share.protocol share.left) (named_of to.y.slot to.y.port to.y.place to.there share.protocol share.right)
 
   ends_alike : (s p k : ℕ) (x : SlotId) (q j : ℕ) → joined_at t s p k ≡ partners.End x q j → HasOneProtocol t s p x.0 q

@@ -25,12 +25,12 @@ use Rattle.room_wiring.specs.declared.names.PortNames.{PortNames}
 use Rattle.room_wiring.specs.declared.slot.Slot.{Slot}
 use Rattle.room_wiring.specs.declared.tables.Tables.{Tables}
 use Rattle.check_classes.specs.class_rules.Ends.{interface_has_protocol, structure_has_protocol, ports_have_protocols, has_known_protocols}
-use Rattle.check_classes.specs.class_rules.Types.{has_fitting_values}
 use Rattle.check_mappings.specs.count_rules.Counts.{is_counted, classes_are_few, parts_are_few, numbers_are_few, has_few_parts}
 use Rattle.check_scopes.specs.class_scopes.Signals.{is_frame}
-use Rattle.structure_check.specs.List.{name_rules, data_rules, end_rules, outer_rules, part_rules, later_rules, single_rules, count_rules, all_rules}
+use Rattle.structure_check.specs.List.{all_rules}
 use Rattle.structure_check.specs.Rules.{first_broken}
-use Rattle.structure_check.proofs.KeptRules.{none_first, none_later, head_kept, tail_kept, all_few}
+use Rattle.structure_check.specs.declared.flat_rule.FlatRule.TheVariants as rules
+use Rattle.structure_check.proofs.KeptRules.{rule_kept, all_few}
 use Rattle.wiring_plan.specs.structure_plan.Parts.{short}
 use Rattle.wiring_plan.specs.wiring_classes.Classes.{classes_of}
 use Rattle.binding_expand.specs.Wirings.{IsWiringOf}
@@ -43,14 +43,6 @@ use Rattle.law_models.proofs.joined_ports.Named.{duty_ports, IsNamed, named_alik
 use Rattle.law_models.proofs.class_laws.Charts.{each_both}
 
 -- ---- the rule on protocols
-
-pub ends_kept : (m : ModelTree) → first_broken all_rules m ≡ None → first_broken end_rules m ≡ None
-unfolding single_rules later_rules part_rules
-ends_kept m e = none_first end_rules outer_rules m (none_later data_rules part_rules m (none_later name_rules later_rules m (none_first single_rules count_rules m e)))
-
-protocols_kept : (m : ModelTree) → first_broken end_rules m ≡ None → has_known_protocols m ≡ true
-unfolding end_rules
-protocols_kept m e = head_kept (has_known_protocols m) 10 _ (tail_kept (has_fitting_values m) 9 _ e)
 
 protocols_counted : (ks : List ClassTree) → length (filter_map as_protocol ks) ≤ count_by is_counted ks
 protocols_counted [] = omega arith
@@ -170,7 +162,7 @@ module _ (m : ModelTree) (t : Tables) (keeps : first_broken all_rules m ≡ None
       let found = names_entry m at.0 p port at.1 in
       let kind = ap (λ (x : PortNames). x.kind) found.3 in
       let plain : is_frame found.1.kind ≡ false = ap is_frame kind ∙ not_frame port.kind point in
-      let known = entry_known m (protocols_kept m (ends_kept m keeps)) at.0 p found.1 found.2 plain in
+      let known = entry_known m (rule_kept m keeps rules.KnownProtocols) at.0 p found.1 found.2 plain in
       let few = few_protocols m (all_few m keeps) in
       let below = known.2 in
       let short_one : short known.0 ≡ Some known.0 = short_is known.0 (omega (arith, few, below)) in

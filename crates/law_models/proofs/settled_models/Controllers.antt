@@ -15,14 +15,14 @@ use Rattle.check_bindings.specs.structure_rules.Threads.{has_few_threads, thread
 use Rattle.check_tables.specs.class_tables.Containers.{subsystem_container}
 use Rattle.structure_check.specs.Rules.{first_broken}
 use Rattle.structure_check.specs.List.{all_rules}
+use Rattle.structure_check.specs.declared.flat_rule.FlatRule.TheVariants as rules
+use Rattle.structure_check.proofs.KeptRules.{rule_kept}
 use Rattle.wiring_plan.specs.structure_plan.Plans.{wired_subsystem}
 use Rattle.wiring_plan.specs.structure_plan.Steps.{first_named}
 use Rattle.wiring_plan.specs.wiring_classes.Labels.{label_of}
 use Rattle.wiring_slots.specs.slot_names.Names.{controllers_of, nothing_wired, wired_of, wired_names}
 use Rattle.wiring_slots.specs.slot_names.Wireds.{WiredTree}
 use Rattle.binding_expand.specs.Wirings.{IsWiringOf}
-use Rattle.law_models.proofs.settled_models.Kept.{threads_kept}
-use Rattle.law_models.proofs.settled_models.Wired.{threads_few}
 
 -- a subsystem class, if there is one, has at most 32 threads
 abbrev HasFew : Option SubsystemTree → Type 0
@@ -76,7 +76,7 @@ of_threads threads few = pick (length threads == 0) refl
 pub controllers_few : (m : ModelTree) (t : Tables) → first_broken all_rules m ≡ None → IsWiringOf m t → (1 ≤ length t.controllers) × (length t.controllers ≤ 32)
 unfolding wired_names threads_are_few
 controllers_few m t keeps wiring =
-    let few : list_all has_few_threads m.classes ≡ true = threads_few m (threads_kept m keeps) in
+    let few : list_all has_few_threads m.classes ≡ true = rule_kept m keeps rules.FewThreads in
     let counts = of_threads (thread_names (wired_of m).items) (of_wired m (wired_subsystem m) (wired_few m.classes few (wired_name (systems m)))) in
     let some : 1 ≤ length (wired_names m).controllers = counts.0 in
     let most : length (wired_names m).controllers ≤ 32 = counts.1 in

@@ -16,8 +16,9 @@ use Rattle.check_tables.specs.declared.class_tables.container.Container.{Contain
 use Rattle.check_mappings.specs.count_rules.Counts.{is_counted, classes_are_few, parts_are_few, numbers_are_few, has_few_parts}
 use Rattle.check_mappings.specs.mapping_rules.Rules.{thread_names, wired as wired_here, subsystem_known, subsystem_allowed, mappings_are_known, mappings_are_allowed, mappings_are_distinct}
 use Rattle.structure_check.specs.Rules.{first_broken}
-use Rattle.structure_check.specs.List.{name_rules, data_rules, end_rules, place_rules, binding_rules, thread_rules, joint_rules, outer_rules, part_rules, later_rules, single_rules, count_rules, all_rules, mappings_hold}
-use Rattle.structure_check.proofs.KeptRules.{none_first, none_later, all_few}
+use Rattle.structure_check.specs.List.{all_rules}
+use Rattle.structure_check.specs.declared.flat_rule.FlatRule.TheVariants as rules
+use Rattle.structure_check.proofs.KeptRules.{rule_kept, all_few}
 use Rattle.wiring_plan.specs.structure_plan.Parts.{short, reference_plan}
 use Rattle.wiring_plan.specs.structure_plan.Plans.{actor_plan, subsystem_plan, no_plan, wired_subsystem, plan_of}
 use Rattle.wiring_plan.specs.structure_plan.Steps.{first_named}
@@ -29,24 +30,6 @@ use Rattle.law_agreement.specs.Bodies.{OthersLiveFromStart}
 use Rattle.law_models.proofs.settled_models.Paths.{EndsWell}
 use Rattle.law_models.proofs.settled_models.Mapped.{both, HasClasses, subsystem_ends}
 use Rattle.law_models.proofs.settled_models.Trails.{others_live}
-
--- ---- the rules that are kept
-
-last_two : (a b c : Bool) (i j k : ℕ) → cond a (cond b (cond c None (Some k)) (Some j)) (Some i) ≡ None → (b ≡ true) × (c ≡ true)
-last_two true true true i j k e = (refl, refl)
-last_two true true false i j k e = absurd cc
-last_two true false c i j k e = absurd cc
-last_two false b c i j k e = absurd cc
-
-pub threads_kept : (m : ModelTree) → first_broken all_rules m ≡ None → first_broken thread_rules m ≡ None
-unfolding single_rules later_rules part_rules outer_rules joint_rules
-threads_kept m e =
-    none_later binding_rules thread_rules m (none_later place_rules joint_rules m (none_later end_rules outer_rules m
-    (none_later data_rules part_rules m (none_later name_rules later_rules m (none_first single_rules count_rules m e)))))
-
-mappings_kept : (m : ModelTree) → first_broken thread_rules m ≡ None → (mappings_hold m ≡ true) × (mappings_are_allowed m ≡ true)
-unfolding thread_rules
-mappings_kept m e = last_two _ _ _ _ _ _ e
 
 -- ---- classes
 
@@ -133,6 +116,5 @@ module _ (m : ModelTree) (few : has_few_parts m ≡ true) where
 pub model_others_live : (m : ModelTree) (t : Tables) → first_broken all_rules m ≡ None → t.slots ≡ slots_in m → OthersLiveFromStart t
 unfolding slots_in
 model_others_live m t keeps slots =
-    let kept = mappings_kept m (threads_kept m keeps) in
-    let known = (both (mappings_are_known m) (mappings_are_distinct m) kept.0).0 in
-    others_live t (plan_of m) (wired_names m).slots (wired_names m).mappings slots (model_ends m (all_few m keeps) known kept.1)
+    let known = (both (mappings_are_known m) (mappings_are_distinct m) (rule_kept m keeps rules.KnownMappings)).0 in
+    others_live t (plan_of m) (wired_names m).slots (wired_names m).mappings slots (model_ends m (all_few m keeps) known (rule_kept m keeps rules.AllowedMappings))

@@ -23,13 +23,11 @@ use Rattle.room_wiring.specs.declared.tables.Tables.{Tables}
 use Rattle.check_tables.specs.class_tables.Containers.{subsystem_container, subsystem_containers, tables_of, tables_with, class_names}
 use Rattle.check_tables.specs.declared.class_tables.container.Container.{Container}
 use Rattle.check_mappings.specs.mapping_rules.Rules.{thread_names}
-use Rattle.check_bindings.specs.structure_rules.Replication.{replicates_in_range}
-use Rattle.check_bindings.specs.structure_rules.AnyPlaces.{any_places_at_end_ports}
-use Rattle.check_bindings.specs.structure_rules.Imported.{imported_classes_have_end_ports}
 use Rattle.check_bindings.specs.structure_rules.Subsystems.{is_fixed, has_plain_references, subsystem_references_are_plain}
 use Rattle.structure_check.specs.Rules.{first_broken}
-use Rattle.structure_check.specs.List.{name_rules, data_rules, end_rules, place_rules, joint_rules, outer_rules, part_rules, later_rules, single_rules, count_rules, all_rules}
-use Rattle.structure_check.proofs.KeptRules.{none_first, none_later, all_few}
+use Rattle.structure_check.specs.List.{all_rules}
+use Rattle.structure_check.specs.declared.flat_rule.FlatRule.TheVariants as rules
+use Rattle.structure_check.proofs.KeptRules.{rule_kept, all_few}
 use Rattle.wiring_plan.specs.structure_plan.Parts.{reference_plan}
 use Rattle.wiring_plan.specs.structure_plan.Plans.{subsystem_plan, no_plan, wired_subsystem, plan_of}
 use Rattle.wiring_plan.specs.declared.structure_plan.plan.ReferencePlan.{ReferencePlan}
@@ -182,23 +180,6 @@ places_local m t slots = tree_local t (plan_of m) (wired_names m).slots (wired_n
 
 -- ---- an imported slot has a container
 
-third_kept : (a b c d : Bool) (i j k l : ℕ) → cond a (cond b (cond c (cond d None (Some l)) (Some k)) (Some j)) (Some i) ≡ None → c ≡ true
-third_kept true true true d i j k l e = refl
-third_kept true true false d i j k l e = absurd cc
-third_kept true false c d i j k l e = absurd cc
-third_kept false b c d i j k l e = absurd cc
-
-places_kept : (m : ModelTree) → first_broken all_rules m ≡ None → first_broken place_rules m ≡ None
-unfolding single_rules later_rules part_rules outer_rules
-places_kept m e =
-    none_first place_rules joint_rules m (none_later end_rules outer_rules m
-    (none_later data_rules part_rules m (none_later name_rules later_rules m (none_first single_rules count_rules m e))))
-
-plain_kept : (m : ModelTree) → first_broken place_rules m ≡ None → subsystem_references_are_plain (tables_of m) ≡ true
-unfolding place_rules
-plain_kept m e =
-    third_kept (replicates_in_range (tables_of m)) (any_places_at_end_ports (tables_of m)) (subsystem_references_are_plain (tables_of m)) (imported_classes_have_end_ports (tables_of m)) 14 15 16 17 e
-
 fixed_only : (rs : List ReferenceEntry) (n : ℕ) (r : ReferencePlan) → list_all (λ (x : ReferenceEntry). is_fixed x.kind) rs ≡ true → slice_get (map reference_plan rs) n ≡ Some r → is_fixed r.kind ≡ true
 fixed_only [] n r all e = absurd cc
 fixed_only (x ∷ xs) zero r all e =
@@ -208,7 +189,7 @@ fixed_only (x ∷ xs) (suc n) r all e = fixed_only xs n r (and_parts (is_fixed x
 module _ (m : ModelTree) (keeps : first_broken all_rules m ≡ None) where
   plain_here : (s : SubsystemTree) → wired_subsystem m ≡ Some s → has_plain_references (subsystem_container (actor_names m) s) ≡ true
   unfolding subsystem_references_are_plain subsystem_containers tables_with class_names
-  plain_here s e = wired_all m (all_few m keeps) has_plain_references (subsystem_container (actor_names m)) s (plain_kept m (places_kept m keeps)) _ e
+  plain_here s e = wired_all m (all_few m keeps) has_plain_references (subsystem_container (actor_names m)) s (rule_kept m keeps rules.PlainSubsystems) _ e
 
   -- where no subsystem is wired there are no references
   none_wired : (n : ℕ) (r : ReferencePlan) → wired_subsystem m ≡ None → slice_get (plan_of m).subsystem.references n ≡ Some r → is_fixed r.kind ≡ true

@@ -1,17 +1,14 @@
 -- The wiring of a model that keeps all rules and has no fault names only what it has.
-use Rattle.std.proofs.Common.{◌≡◌, ◌∙◌, ℕ, ◌<◌, ◌≤◌, Bool, true, false, cond, List, length, Option, Some, None, refl, sym, ap, subst, arith}
+use Rattle.std.proofs.Common.{◌≡◌, ◌∙◌, ℕ, ◌<◌, ◌≤◌, Bool, true, false, List, length, None, refl, sym, ap, subst, arith}
 use Rattle.std.specs.Prelude.{All, nat_le}
 use Rattle.std.proofs.lemmas.Bool.Decides.{nat_tests}
 use Rattle.room_ast.specs.Trees.{ModelTree}
 use Rattle.room_wiring.specs.Consistent.{IsConsistent}
 use Rattle.room_wiring.specs.declared.tables.Tables.{Tables}
-use Rattle.check_classes.specs.class_rules.Ends.{has_known_protocols, has_own_ports, has_known_actors}
-use Rattle.check_classes.specs.class_rules.Types.{has_fitting_values}
-use Rattle.check_tables.specs.containment_rules.Circles.{actors_are_finite}
-use Rattle.check_bindings.specs.structure_rules.Threads.{threads_are_few}
 use Rattle.structure_check.specs.Rules.{first_broken}
-use Rattle.structure_check.specs.List.{end_rules, thread_rules, all_rules}
-use Rattle.structure_check.proofs.KeptRules.{head_kept}
+use Rattle.structure_check.specs.List.{all_rules}
+use Rattle.structure_check.specs.declared.flat_rule.FlatRule.TheVariants as rules
+use Rattle.structure_check.proofs.KeptRules.{rule_kept}
 use Rattle.wiring_plan.specs.structure_plan.Plans.{plan_of}
 use Rattle.wiring_places.specs.place_rules.Layers.{layer_joins}
 use Rattle.wiring_slots.specs.model_slots.Answers.{slots_in, wired}
@@ -22,25 +19,8 @@ use Rattle.binding_expand.specs.declared.fault.WiringFault.TheVariants as faults
 use Rattle.binding_expand.specs.Wirings.{IsWiringOf}
 use Rattle.binding_expand.specs.wiring_tables.Assembled.{assembled, AreComplete}
 use Rattle.binding_expand.proofs.wiring_tables.Consistent.{assembled_consistent}
-use Rattle.law_models.proofs.settled_models.Kept.{threads_kept}
-use Rattle.law_models.proofs.joined_ports.Points.{ends_kept}
 
 -- ---- the rules that are kept
-
-fourth_kept : (a b c d : Bool) (o : Option ℕ) (i j k l : ℕ) → cond a (cond b (cond c (cond d o (Some l)) (Some k)) (Some j)) (Some i) ≡ None → d ≡ true
-fourth_kept true true true true o i j k l e = refl
-fourth_kept true true true false o i j k l e = absurd cc
-fourth_kept true true false d o i j k l e = absurd cc
-fourth_kept true false c d o i j k l e = absurd cc
-fourth_kept false b c d o i j k l e = absurd cc
-
-actors_known : (m : ModelTree) → first_broken end_rules m ≡ None → has_known_actors m ≡ true
-unfolding end_rules
-actors_known m e = fourth_kept (has_fitting_values m) (has_known_protocols m) (has_own_ports m) (has_known_actors m) (cond (actors_are_finite m) None (Some 13)) 9 10 11 12 e
-
-pub threads_few : (m : ModelTree) → first_broken thread_rules m ≡ None → threads_are_few m ≡ true
-unfolding thread_rules
-threads_few m e = head_kept _ _ _ e
 
 -- ---- the tables
 
@@ -75,5 +55,5 @@ module _ (m : ModelTree) (t : Tables) (w : IsWiringOf m t) where
   pub wiring_consistent : first_broken all_rules m ≡ None → HasNoFault m → IsConsistent t
   wiring_consistent keeps flawless =
       subst IsConsistent (sym is_again)
-      (assembled_consistent m (layer_joins (plan_of m) (slots_in m)) t.partners t.told (actors_known m (ends_kept m keeps)) (threads_few m (threads_kept m keeps))
+      (assembled_consistent m (layer_joins (plan_of m) (slots_in m)) t.partners t.told (rule_kept m keeps rules.KnownActors) (rule_kept m keeps rules.FewThreads)
       (not_more (length (slots_in m)) (flawless faults.TooManySlots)) complete)

@@ -1,11 +1,9 @@
 -- A plant may be shared among threads.
 use denote.RattleType.{RattleType}
 use denote.Hole.{as_row}
-use denote.Struct.Field.{u16-field, usize-field, row_field}
+use denote.Struct.Field.{u16-field, u32-field, usize-field, row_field}
 use denote.Builtin.{u16, i64}
-use denote.Struct.Declared.{shape}
-use denote.Enum.Declared.{shape as enum_shape}
-use denote.Param.Send.{IsSync, struct_sync, enum_sync, sendable}
+use denote.Param.Send.{IsSync, sendable}
 use denote.Param.SendFields.{declared_sync, variants_sync, as_row_sync}
 use Rattle.std.proofs.Crossing.{Box-sync, Vec-sync}
 use Rattle.std.specs.contracts.vec.Vec as Vec
@@ -15,7 +13,10 @@ use Rattle.std.specs.contracts.impls.GlobalAllocator.TheImpl.{ghosts}
 use Rattle.action_program.specs.contracts.bound.Bound as Bound
 use Rattle.action_program.specs.contracts.bound.BoundExpr as BoundExpr
 use Rattle.action_program.specs.contracts.bound.BoundStmt as BoundStmt
+use Rattle.action_program.specs.contracts.bound.BoundAssign as BoundAssign
 use Rattle.action_program.specs.contracts.bound.BoundSend as BoundSend
+use Rattle.action_program.specs.contracts.bound.BoundFrame as BoundFrame
+use Rattle.action_program.specs.contracts.bound.BoundImport as BoundImport
 use Rattle.action_program.specs.contracts.bound.Argument as Argument
 use Rattle.action_program.proofs.bound.BoundExpr.TheLaws.TheKnot.{sync-BoundExpr}
 use Rattle.action_program.proofs.bound.BoundStmt.TheLaws.TheKnot.{sync-BoundStmt}
@@ -40,9 +41,19 @@ vec_sync R s = as_row_sync (Vec.the_field R Global.the_row ghosts) (Vec-sync R s
 option_row : (R : RattleType) → IsSync R → IsSync (Option.the_row R)
 option_row R s = variants_sync (Option.enum R) (tt, ((as_row_sync (row_field R) s, tt), tt))
 
+-- numbers, as fields
+u16_sync : IsSync (as_row u16-field)
+u16_sync = as_row_sync u16-field (search sendable)
+
+u32_sync : IsSync (as_row u32-field)
+u32_sync = as_row_sync u32-field (search sendable)
+
+usize_sync : IsSync (as_row usize-field)
+usize_sync = as_row_sync usize-field (search sendable)
+
 -- an expression's own row, and the expression as a field or alone
 expr_row : IsSync (BoundExpr.the_field).row
-expr_row = sync-BoundExpr (search sendable) (search sendable) (search sendable) (search sendable) Box-sync Vec-sync (search sendable depth 40)
+expr_row = sync-BoundExpr (search sendable) (search sendable) (search sendable) Box-sync Vec-sync (search sendable depth 40) (search sendable depth 40)
 
 expr_sync : IsSync BoundExpr.the_row
 expr_sync = as_row_sync BoundExpr.the_field expr_row
@@ -50,23 +61,27 @@ expr_sync = as_row_sync BoundExpr.the_field expr_row
 argument_sync : IsSync Argument.the_row
 argument_sync = declared_sync Argument.the_type (search sendable depth 40, (expr_sync, tt))
 
-send_row : IsSync (BoundSend.the_field).row
-send_row = struct_sync (shape BoundSend.the_type) (
-  search sendable,
-  (enum_sync (enum_shape (Option.the_type BoundExpr.the_row)) (tt, ((expr_sync, tt), tt)), (search sendable, (Vec-sync Argument.the_row argument_sync, (search sendable, tt)))),
+-- what stands in the boxes of statements
+assign_sync : IsSync BoundAssign.the_row
+assign_sync = declared_sync BoundAssign.the_type (u32_sync, (search sendable depth 40, (expr_sync, tt)))
+
+send_sync : IsSync BoundSend.the_row
+send_sync = declared_sync BoundSend.the_type (
+  u16_sync,
+  (option_row BoundExpr.the_row expr_sync, (u16_sync, (vec_sync Argument.the_row argument_sync, (search sendable depth 40, tt)))),
 )
 
+frame_sync : IsSync BoundFrame.the_row
+frame_sync = declared_sync BoundFrame.the_type (search sendable depth 40, (u16_sync, (expr_sync, tt)))
+
+import_sync : IsSync BoundImport.the_row
+import_sync = declared_sync BoundImport.the_type (u16_sync, (expr_sync, (expr_sync, tt)))
+
 stmt_row : IsSync (BoundStmt.the_field).row
-stmt_row = sync-BoundStmt (search sendable) (search sendable depth 40) expr_row (search sendable) Vec-sync send_row (search sendable) (search sendable)
+stmt_row = sync-BoundStmt (Box-sync BoundAssign.the_row assign_sync) Box-sync (Box-sync BoundSend.the_row send_sync) (Box-sync BoundFrame.the_row frame_sync) (Box-sync BoundImport.the_row import_sync) (search sendable) (search sendable) expr_row Vec-sync (search sendable)
 
 stmt_sync : IsSync BoundStmt.the_row
 stmt_sync = as_row_sync BoundStmt.the_field stmt_row
-
-u16_sync : IsSync (as_row u16-field)
-u16_sync = as_row_sync u16-field (search sendable)
-
-usize_sync : IsSync (as_row usize-field)
-usize_sync = as_row_sync usize-field (search sendable)
 
 event_sync : IsSync Event.the_row
 event_sync = declared_sync Event.the_type (u16_sync, (u16_sync, tt))

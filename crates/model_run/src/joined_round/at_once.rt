@@ -10,7 +10,6 @@ use mail_core::Mail;
 use room_outside::Gate;
 use std::alloc::{AllocError, Global};
 use std::mem;
-use std::sync::atomic::AtomicU32;
 use std::thread::Threads;
 
 /// All controllers work at once, each with its end. It answers the ends, the environment's last. After a
@@ -39,7 +38,6 @@ pub(crate) fn work_at_once<M: Mail<Office = ()> + Send + Drop, G: Gate + Sync, R
     let mut seats = seated(alloc, count, idle, ends)?;
     let shared = Shared {
         gate,
-        busy: AtomicU32::new(u32::from(count)),
         is_one: count == 1,
     };
     work_halves(rt, plant, &shared, seats.as_mut_slice())?;

@@ -3,12 +3,11 @@ ghost use Rattle.std.specs.Prelude.{◌≡◌, OnOk};
 
 use crate::joined_round::halves::Works;
 use crate::run_worker::work;
-use crate::worker_pauses::SharedPauses;
+use crate::worker_pauses::WorkerPauses;
 use controller::{Controller, Plant};
 use mail_core::Mail;
 use room_outside::{ControllerNo, Gate};
 use std::alloc::AllocError;
-use std::sync::atomic::AtomicU32;
 
 /// A controller with its end of the mail, while its worker may be on another thread.
 #[derive(Drop)]
@@ -23,9 +22,7 @@ pub(crate) struct Seat<M> {
 #[derive(Drop)]
 pub(crate) struct Shared<'g, G> {
     pub(crate) gate: &'g G,
-    /// How many of them have something to do.
-    pub(crate) busy: AtomicU32,
-    /// Whether there is only one.
+    /// Whether there is only one of them.
     pub(crate) is_one: bool,
 }
 
@@ -37,7 +34,7 @@ impl<'g, M: Mail<Office = ()>, G: Gate> Works<Plant, Shared<'g, G>> for Seat<M> 
     ghost did = { HasWorked M.log M.tied };
 
     fn work(&mut self, plant: &Plant, shared: &Shared<'g, G>) -> Result<(), AllocError> {
-        let mut pauses = SharedPauses::new(&shared.busy, shared.is_one);
+        let mut pauses = WorkerPauses::new(shared.is_one);
         let worked = work(
             self.number,
             &mut self.controller,
@@ -47,7 +44,7 @@ impl<'g, M: Mail<Office = ()>, G: Gate> Works<Plant, Shared<'g, G>> for Seat<M> 
             shared.gate,
             &mut pauses,
         );
-        pauses.end();
+        self.end.leave();
         worked
     }
 }

@@ -8,11 +8,15 @@ use Rattle.room_tokens.specs.action_tokens.Words.{same_word}
 use Rattle.room_tokens.specs.action_tokens.Values.{Value, AWord, AName, ANumber, AMark, token_value}
 use Rattle.room_tokens.specs.declared.action_tokens.word.ActionWord.{ActionWord}
 use Rattle.room_tokens.specs.declared.action_tokens.token.ActionToken.{ActionToken}
+use Rattle.room_tokens.specs.declared.action_tokens.token.ActionToken.TheVariants as own
 use Rattle.room_tokens.specs.declared.rest.Rest.{Rest}
 
--- where the text of a token begins and ends
+-- where a token begins, and where the text of a name ends
 abbrev pub span_of : ActionToken → ℕ × ℕ
-span_of t = (t.start, t.end)
+span_of (own.Word start w) = (start, start)
+span_of (own.Name start end) = (start, end)
+span_of (own.Number start n) = (start, start)
+span_of (own.Mark start m) = (start, start)
 
 -- what is left to read
 abbrev pub left : Rest ActionToken → List Value

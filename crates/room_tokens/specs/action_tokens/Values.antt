@@ -12,8 +12,7 @@ use Rattle.room_tokens.specs.Single.{text_of}
 use Rattle.room_tokens.specs.action_tokens.Words.{word_of}
 use Rattle.room_tokens.specs.declared.action_tokens.word.ActionWord.{ActionWord}
 use Rattle.room_tokens.specs.declared.action_tokens.token.ActionToken.{ActionToken}
-use Rattle.room_tokens.specs.declared.action_tokens.token.Kind.{Kind}
-use Rattle.room_tokens.specs.declared.action_tokens.token.Kind.TheVariants as kinds
+use Rattle.room_tokens.specs.declared.action_tokens.token.ActionToken.TheVariants as own
 
 -- The value of a token of the action language.
 pub data Value : Type 0 where
@@ -62,11 +61,8 @@ action_values bytes = values_if bytes (lexer.tokens bytes)
 
 -- ---- the value of a token of this crate
 
-abbrev pub token_value_of : Kind → List ℕ → Value
-token_value_of (kinds.Word w) text = AWord w
-token_value_of kinds.Name text = AName text
-token_value_of (kinds.Number n) text = ANumber n
-token_value_of (kinds.Mark m) text = AMark m
-
 abbrev pub token_value : List ℕ → ActionToken → Value
-token_value bytes t = token_value_of t.kind (between bytes (t.start, t.end))
+token_value bytes (own.Word start w) = AWord w
+token_value bytes (own.Name start end) = AName (between bytes (start, end))
+token_value bytes (own.Number start n) = ANumber n
+token_value bytes (own.Mark start m) = AMark m

@@ -5,7 +5,7 @@ use crate::mail_tests::messages::stamps;
 use crate::test_messages::message;
 use mail_core::caller::{close_unused, exchange, post_at};
 use mail_core::poll::poll;
-use mail_core::{Mail, MailLocal};
+use mail_core::{Mail, MailLocal, Outlook};
 use mail_lanes::MailLanes;
 use room_kinds::Msg;
 use std::alloc::{AllocError, Global};
@@ -106,6 +106,7 @@ fn poll_first<M: Mail>(
 ) -> Result<(), AllocError>
     requires some { 0 < length ends.old.items }
     requires tied { M.tied office.old ends.old.items }
+    ensures parties { length ends.new.items ≡ length ends.old.items }
 {
     let end = &mut ends[0];
     poll(end, office, out)
@@ -137,5 +138,33 @@ fn a_poll_looks_at_priority_5_first(rt: HostRuntime) -> Result<(), Fail> {
         polled::<MailLanes>(alloc)?.as_slice(),
         [3, 2, 1].as_slice()
     );
+    Ok(())
+}
+
+#[test]
+fn all_is_calm_once_all_rest_and_nothing_is_on_its_way(rt: HostRuntime) -> Result<(), Fail> {
+    let alloc = rt.alloc();
+    let (mut office, mut ends) = MailLanes::set_up(alloc, 3)?;
+    assert_eq!(rt; ends[0].rest(), Outlook::Open);
+    assert_eq!(rt; ends[1].rest(), Outlook::Calm);
+    post(alloc, &mut office, &mut ends, 1, 0, 3, 1)?;
+    assert_eq!(rt; ends[1].rest(), Outlook::Open);
+    assert_eq!(rt; ends[0].rest(), Outlook::Called);
+    poll_first(&mut office, &mut ends, &mut Vec::new(alloc))?;
+    assert_eq!(rt; ends[1].rest(), Outlook::Open);
+    assert_eq!(rt; ends[0].rest(), Outlook::Calm);
+    assert_eq!(rt; ends[1].rest(), Outlook::Calm);
+    Ok(())
+}
+
+#[test]
+fn nobody_waits_for_a_party_that_has_left(rt: HostRuntime) -> Result<(), Fail> {
+    let alloc = rt.alloc();
+    let (mut office, mut ends) = MailLanes::set_up(alloc, 3)?;
+    assert_eq!(rt; ends[1].rest(), Outlook::Open);
+    ends[0].leave();
+    assert_eq!(rt; ends[1].rest(), Outlook::Calm);
+    post(alloc, &mut office, &mut ends, 1, 0, 3, 1)?;
+    assert_eq!(rt; ends[1].rest(), Outlook::Calm);
     Ok(())
 }

@@ -23,7 +23,7 @@ pub struct Named<'a> {
 }
 
 /// What a fault or a finding is, and its cure, in a sentence each.
-#[derive(Clone, Copy, Debug)]
+#[derive(Clone, Copy)]
 pub struct Meaning {
     pub fault: &'static str,
     pub cure: &'static str,

@@ -7,6 +7,7 @@ use indexmap::IndexSet;
 use room_kinds::SlotId;
 use room_wiring::{Partner, PortNames};
 use std::alloc::{AllocError, Global};
+use view_charts::Item;
 use view_journals::{incoming, is_end, place_count};
 
 /// A port of a class.
@@ -175,16 +176,14 @@ fn untaken_at(model: &LintedModel<'_>, at: At<'_, '_>) -> Result<Untaken, AllocE
     Ok(untaken)
 }
 
-/// Adds a finding for a port of a class, if messages come there that no state takes.
-fn add_port(
+/// Adds what comes at a port whose declaration this is, if something does.
+fn add_untaken(
     model: &LintedModel<'_>,
     at: At<'_, '_>,
+    item: Item,
+    untaken: &Untaken,
     findings: &mut Vec<Finding>,
 ) -> Result<(), AllocError> {
-    let Some(item) = at.class.text.declared.get(at.port.name.as_bytes()) else {
-        return Ok(());
-    };
-    let untaken = untaken_at(model, at)?;
     if untaken.messages.is_empty() {
         return Ok(());
     }
@@ -196,6 +195,19 @@ fn add_port(
         end,
         detail,
     })?)
+}
+
+/// Adds a finding for a port of a class, if messages come there that no state takes.
+fn add_port(
+    model: &LintedModel<'_>,
+    at: At<'_, '_>,
+    findings: &mut Vec<Finding>,
+) -> Result<(), AllocError> {
+    let Some(item) = at.class.text.declared.get(at.port.name.as_bytes()) else {
+        return Ok(());
+    };
+    let untaken = untaken_at(model, at)?;
+    add_untaken(model, at, item, &untaken, findings)
 }
 
 /// Adds a finding for each port of a class at which messages come that no state takes.

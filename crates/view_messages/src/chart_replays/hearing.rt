@@ -174,25 +174,25 @@ impl<'a, 'b> Hearing<'a, 'b> {
         Ok(false)
     }
 
-    /// Takes what the journals tell of a send to one who is joined by name, behind the places of the model; says
-    /// whether they do.
-    fn hear_link(&mut self, send: Send<'_>, count: u32) -> bool {
-        if let Some((source, msg)) = self.told.next_post(self.slot)
-            && source.port == send.port
-            && source.place >= count
-            && send.is_content(msg)
-        {
+    /// Takes what the journals tell of a send to one who is joined by name, at one of the places from here on; answers
+    /// from where on the next one is, where they do.
+    fn hear_link(&mut self, send: Send<'_>, least: u32) -> Option<u32> {
+        let (source, msg) = self.told.next_post(self.slot)?;
+        if source.port == send.port && source.place >= least && send.is_content(msg) {
             self.told.pass_post();
-            return true;
+            return Some(source.place.saturating_add(1));
         }
-        false
+        None
     }
 
-    /// Takes what the journals tell of a send to all who are joined by name.
+    /// Takes what the journals tell of a send to all who are joined by name, behind the places of the model. It goes
+    /// to each of them once, in order of the places; what follows at a place before that is said by another send.
     fn hear_links(&mut self, send: Send<'_>, count: u32) {
+        let mut least = count;
         for _post in 0..self.told.posts.len() {
-            if !self.hear_link(send, count) {
-                return;
+            match self.hear_link(send, least) {
+                Some(next) => least = next,
+                None => return,
             }
         }
     }

@@ -44,6 +44,14 @@ struct Moment {
     who: Incarnation,
 }
 
+/// What journals tell of a run, in the order in which it is done again.
+#[derive(Drop)]
+struct Course<'a> {
+    fetched: Fetched<'a>,
+    starts: Vec<Start<'a>>,
+    turns: Vec<Turn<'a>>,
+}
+
 /// A run on its way.
 #[derive(Drop)]
 struct Run<'a> {
@@ -182,7 +190,41 @@ fn nobody(alloc: Global, plant: &Plant) -> Result<Vec<Option<Replay>>, AllocErro
     Ok(actors)
 }
 
+impl<'a> Course<'a> {
+    fn of(
+        alloc: Global,
+        journals: &'a Journals,
+        nothing: &'a Redone,
+    ) -> Result<Course<'a>, AllocError> {
+        let starts = starts_of(alloc, journals, nothing)?;
+        let turns = turns_of(alloc, journals, nothing)?;
+        Ok(Course {
+            fetched: Fetched::of(alloc, journals)?,
+            starts,
+            turns,
+        })
+    }
+}
+
 impl<'a> Run<'a> {
+    /// A run before its starts.
+    fn of(
+        alloc: Global,
+        plant: &'a Plant,
+        outlets: &'a Outlets,
+        wanted: Option<Name>,
+    ) -> Result<Run<'a>, AllocError> {
+        Ok(Run {
+            alloc,
+            plant,
+            outlets,
+            wanted,
+            actors: nobody(alloc, plant)?,
+            differs: None,
+            of_message: Vec::new(alloc),
+        })
+    }
+
     /// The tables of the class of a slot, if it has a chart.
     fn tables_at(&self, slot: SlotId) -> Option<&'a Tables>
         ensures { IfSome result (λ t. IsSound t.now) }
@@ -426,6 +468,46 @@ impl<'a> Run<'a> {
         }
         Ok(attributes)
     }
+
+    /// Does a run again from its starts on.
+    fn redo(&mut self, course: &Course<'_>) -> Result<Redone, AllocError> {
+        let at_starts = self.all_starts(course.starts.as_slice())?;
+        let in_turns = self.all_turns(course.turns.as_slice(), &course.fetched)?;
+        let attributes = self.attributes()?;
+        Ok(Redone {
+            at_starts,
+            in_turns,
+            differs: self.differs.take(),
+            attributes,
+        })
+    }
+}
+
+/// Does the run of a course again.
+fn replays_on(
+    alloc: Global,
+    plant: &Plant,
+    outlets: &Outlets,
+    course: &Course<'_>,
+    wanted: Option<Name>,
+) -> Result<Replays, AllocError> {
+    let mut run = Run::of(alloc, plant, outlets, wanted)?;
+    let redone = run.redo(course)?;
+    let Run { of_message, .. } = run;
+    Ok(Replays { redone, of_message })
+}
+
+/// Does a run again of which nothing was done yet.
+fn replays_from(
+    alloc: Global,
+    plant: &Plant,
+    journals: &Journals,
+    nothing: &Redone,
+    wanted: Option<Name>,
+) -> Result<Replays, AllocError> {
+    let outlets = Outlets::of(alloc, &plant.wiring)?;
+    let course = Course::of(alloc, journals, nothing)?;
+    replays_on(alloc, plant, &outlets, &course, wanted)
 }
 
 /// Does a run again by the charts of its plant: each start and each turn of an actor once, in the order of the stamps,
@@ -438,34 +520,5 @@ pub fn replays_of(
     wanted: Option<Name>,
 ) -> Result<Replays, AllocError> {
     let nothing = Redone::nothing(alloc);
-    let outlets = Outlets::of(alloc, &plant.wiring)?;
-    let fetched = Fetched::of(alloc, journals)?;
-    let starts = starts_of(alloc, journals, &nothing)?;
-    let turns = turns_of(alloc, journals, &nothing)?;
-    let mut run = Run {
-        alloc,
-        plant,
-        outlets: &outlets,
-        wanted,
-        actors: nobody(alloc, plant)?,
-        differs: None,
-        of_message: Vec::new(alloc),
-    };
-    let at_starts = run.all_starts(starts.as_slice())?;
-    let in_turns = run.all_turns(turns.as_slice(), &fetched)?;
-    let attributes = run.attributes()?;
-    let Run {
-        differs,
-        of_message,
-        ..
-    } = run;
-    Ok(Replays {
-        redone: Redone {
-            at_starts,
-            in_turns,
-            differs,
-            attributes,
-        },
-        of_message,
-    })
+    replays_from(alloc, plant, journals, &nothing, wanted)
 }

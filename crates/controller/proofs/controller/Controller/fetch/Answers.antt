@@ -4,29 +4,28 @@ use Rattle.controller_mail.specs.Steps.{Fetches}
 use Rattle.controller_mail.proofs.Mails.{Fetches-kept}
 use Rattle.controller.specs.States.{mail_with}
 use Rattle.controller.specs.View.{Controller}
-use Rattle.controller.proofs.Keeping.{kept, kept_others, kept_same, on_err}
+use Rattle.controller.proofs.Keeping.{kept, kept_others, kept_same}
 use Rattle.controller.proofs.controller.Controller.fetch.Goals as goal
 
-pub returns-in_err-entry-clause-err : goal.returns-in_err-entry-clause-err
-returns-in_err-entry-clause-err c =
+pub returns-in-Err-clause-err : goal.returns-in-Err-clause-err
+returns-in-Err-clause-err c =
     let s = c.self.inside in
-    on_err c.from_residual-in_err-entry.result
-    (kept_same s.state c.fetch.new.self s.journal.items c.reserve.new.self.items s.fuel s.failed c.in_err-entry.ensures.err c.in_ok-reserve.ensures.items ∙ c.self.view_is)
+    kept_same s.state c.fetch.new.self s.journal.items c.reserve.new.self.items s.fuel s.failed c.in-Err.ensures.err c.in_ok-reserve.ensures.items ∙ c.self.view_is
 
-pub returns-clause-ok : goal.returns-clause-ok
-returns-clause-ok c =
+pub returns-in-Ok-clause-ok : goal.returns-in-Ok-clause-ok
+returns-in-Ok-clause-ok c =
     let s = c.self.inside in
     let new = c.fetch.new.self in
-    let entry = c.in_ok-entry.entry in
+    let entry = c.in-Ok.entry in
     let journal = c.push_reserved.new.self.items in
     subst (λ (old : Controller). Fetches old.mail (mail_with new journal) c.args.m) c.self.view_is
-    (Fetches-kept s.state.mail new.mail c.args.m entry s.journal.items journal c.in_ok-entry.ensures.mail
+    (Fetches-kept s.state.mail new.mail c.args.m entry s.journal.items journal c.in-Ok.ensures.mail
     (c.push_reserved.ensures.items ∙ ap (λ (es : List Entry). es ++ entry ∷ []) c.in_ok-reserve.ensures.items))
 
-pub returns-clause-others : goal.returns-clause-others
-returns-clause-others c =
+pub returns-in-Ok-clause-others : goal.returns-in-Ok-clause-others
+returns-in-Ok-clause-others c =
     let s = c.self.inside in
     let new = c.fetch.new.self in
     let journal = c.push_reserved.new.self.items in
     subst (λ (old : Controller). kept new journal s.fuel s.failed ≡ record old { mail = mail_with new journal }) c.self.view_is
-    (kept_others s.state new s.journal.items journal s.fuel s.failed c.in_ok-entry.ensures.others)
+    (kept_others s.state new s.journal.items journal s.fuel s.failed c.in-Ok.ensures.others)

@@ -4,8 +4,8 @@ use Rattle.controller_mail.specs.Within.{WaitsWithin}
 use Rattle.controller_mail.specs.controller_moves.Moves.{PostsFrom}
 use Rattle.controller.proofs.moves.posting.post_outbox.Given as goal
 
-abbrev pub invariant-loop-m : goal.invariant-loop-m
-invariant-loop-m g l =
+abbrev pub invariant-loop-controller : goal.invariant-loop-controller
+invariant-loop-controller g l =
     let log = g.M.Mail.log in
     record {
       waits : WaitsWithin ((log l.fn.end).parties - 1) l.controller.mail;
@@ -18,5 +18,5 @@ invariant-loop-m g l =
       tied : StaysTied g.M.Mail.tied (log l.fn.end).party l.fn.office l.office l.fn.end l.end;
     }
 
-abbrev pub decreases-loop-m : goal.decreases-loop-m
-decreases-loop-m g l = length l.controller.mail.outbox
+abbrev pub decreases-loop-controller : goal.decreases-loop-controller
+decreases-loop-controller g l = length l.controller.mail.outbox

@@ -44,8 +44,8 @@ handle-requires-clause-fits c =
 pub handle-requires-clause-sound : goal.handle-requires-clause-sound
 handle-requires-clause-sound c = read_sound c.args.plant.now c.args.plant.now.fits c.args.who.slot.0 (option_copied c.tables_of-tables.result) c.tables_of-tables.ensures
 
-pub returns-in-Some : goal.returns-in-Some
-returns-in-Some c =
+pub returns-in-Ok-Some : goal.returns-in-Ok-Some
+returns-in-Ok-Some c =
     let p = c.args.plant.now in
     let old = c.args.self.now in
     let m = c.args.m in
@@ -57,7 +57,7 @@ returns-in-Some c =
     let k = links_in c.handle.new.services in
     let before = c.index_mut-actor_slot.result.now in
     let after = c.handle.new.self in
-    let done = c.in-Some.done in
+    let done = c.in-Ok-Some.done in
     let me = c.args.me.0 in
     let own : is_own p.wiring me s ≡ true = subst (λ n. is_own p.wiring me n ≡ true) same c.requires.last.own in
     let row = has_row p.wiring me old.slots.items s c.requires.well.has_slots.count own in
@@ -65,16 +65,16 @@ returns-in-Some c =
     let who : c.args.who ≡ last_of (lives_of old) s = sym (subst (λ n. last_of (lives_of old) n ≡ c.args.who) same c.requires.last.last) in
     let live : (lives_of old).lives s ≡ true = subst (λ n. (lives_of old).lives n ≡ true) same c.requires.last.live in
     let tables : option_copied c.tables_of-tables.result ≡ tables_at p.wiring p.tables.items s = c.tables_of-tables.ensures ∙ ap (tables_at p.wiring p.tables.items) same in
-    let h : SlotTurns p.wiring c.args.me.0 f l g k c.args.who m (option_copied c.tables_of-tables.result) before after done = rw c.in-Some.is at c.in_ok-handled.ensures.turns in
+    let h : SlotTurns p.wiring c.args.me.0 f l g k c.args.who m (option_copied c.tables_of-tables.result) before after done = rw c.in-Ok-Some.field-0-is at c.in-Ok-Some.ensures.turns in
     dispatches_actor p c.args.me.0 m old _ before after done row
     (slot_read p me old s c.row_of.result before c.requires.well.has_slots own at c.index_mut-actor_slot.ensures.value) refl
-    (ap (λ i. set old.slots.items i after) at) c.in_ok-handled.ensures.serves
+    (ap (λ i. set old.slots.items i after) at) c.in-Ok-Some.ensures.serves
     (subst (λ (o : Option Tables). SlotTurns p.wiring c.args.me.0 f l g k (last_of (lives_of old) s) m o before after done) tables
     (subst (λ (x : Incarnation). SlotTurns p.wiring c.args.me.0 f l g k x m (option_copied c.tables_of-tables.result) before after done) who h))
     live c.requires.well
 
-pub returns-in-None : goal.returns-in-None
-returns-in-None c =
+pub returns-in-Ok-None : goal.returns-in-Ok-None
+returns-in-Ok-None c =
     let p = c.args.plant.now in
     let old = c.args.self.now in
     let m = c.args.m in
@@ -87,7 +87,7 @@ returns-in-None c =
     let row = has_row p.wiring me old.slots.items s c.requires.well.has_slots.count own in
     let at : c.row_of.result ≡ own_below p.wiring me s = c.row_of.ensures me c.requires.last.own ∙ ap (own_below p.wiring me) same in
     let live : (lives_of old).lives s ≡ true = subst (λ n. (lives_of old).lives n ≡ true) same c.requires.last.live in
-    let h : (actor_in before.occupant ≡ None) × (after ≡ before) × (c.handle.new.services ≡ old.services) = rw c.in-None.is at c.in_ok-handled.ensures.turns in
+    let h : (actor_in before.occupant ≡ None) × (after ≡ before) × (c.handle.new.services ≡ old.services) = rw c.in-Ok-None.field-0-is at c.in-Ok-None.ensures.turns in
     dispatches_none p c.args.me.0 m old _ before after c.nobody_there.result row
     (slot_read p me old s c.row_of.result before c.requires.well.has_slots own at c.index_mut-actor_slot.ensures.value) h.2 refl
     (ap (λ i. set old.slots.items i after) at) h.0 h.1

@@ -4,7 +4,7 @@ use Rattle.room_tokens.specs.Reader.{◌⊕◌, reads_as, many}
 use Rattle.room_tokens.proofs.Loop.{with_front}
 use Rattle.room_tokens.specs.action_tokens.Single.{left, comes, mark, name_at}
 use Rattle.action_parse.specs.action_reading.ExprReading.{path_at}
-use Rattle.action_parse.proofs.action_reading.expressions.path.Given as goal
+use Rattle.action_parse.proofs.action_reading.expressions.parts.Given as goal
 
 abbrev pub invariant-loop-alloc : goal.invariant-loop-alloc
 invariant-loop-alloc l =

@@ -9,7 +9,7 @@ use Rattle.room_tokens.specs.action_tokens.Single.{left, comes, mark, name_at}
 use Rattle.action_parse.specs.action_reading.ExprReading.{path_at}
 use Rattle.action_parse.proofs.action_reading.Turns.{starts_behind}
 use Rattle.action_parse.proofs.action_reading.ExprSound.{part_shorter}
-use Rattle.action_parse.proofs.action_reading.expressions.path.Goals as goal
+use Rattle.action_parse.proofs.action_reading.expressions.parts.Goals as goal
 
 abbrev part_at : Reader Value (List ℕ)
 part_at = reads_as (λ (x : Unit {0} × List ℕ). x.1) (mark marks.Dot ⊕ name_at)
