@@ -1,13 +1,12 @@
 //! The system at stamps of journals.
+ghost use Rattle.std.specs.Prelude.{IfOk, IfSome};
 ghost use Rattle.inject_reader.specs.Fitting.{LinesFit};
 ghost use Rattle.room_verify.specs.Worlds.{Replays};
 
 use crate::judged::{Judged, Texts};
 use crate::left_faults::lefts_of;
-use crate::reached::{Reached, Stop, begin, lead_on};
+use crate::reached::{Reached, Stop, lead_on, reach};
 use crate::telling::tell_whole;
-use controller_actors::Plant;
-use inject_reader::Line;
 use journal::Left;
 use room_show::Snapshot;
 use room_verify::{Seen, Verdict, show};
@@ -38,17 +37,17 @@ fn verdict_up_to(alloc: Global, judged: Judged<'_>, at: u64) -> Result<Option<Ve
     }
 }
 
-/// Whether the system can be seen at a stamp of journals; that it can't be is told, and why.
-fn is_seen(
+/// Whether the stamps of journals rise and they begin with their starts, which is asked of the whole journals; that
+/// they don't is told, and why.
+fn begins_rightly(
     alloc: Global,
     page: &mut Page,
     judged: Judged<'_>,
     texts: Texts<'_>,
-    at: u64,
 ) -> Result<bool, AllocError>
     requires fit { LinesFit judged.plant.now.wiring judged.lines.now }
 {
-    match verdict_up_to(alloc, judged, at)? {
+    match verdict_up_to(alloc, judged, 0)? {
         None => Ok(true),
         Some(verdict) => {
             tell_whole(alloc, page, judged, texts, verdict)?;
@@ -57,20 +56,61 @@ fn is_seen(
     }
 }
 
+/// Tells why no replay comes to a stamp of journals.
+fn tell_refused(
+    alloc: Global,
+    page: &mut Page,
+    judged: Judged<'_>,
+    texts: Texts<'_>,
+    at: u64,
+) -> Result<(), AllocError>
+    requires fit { LinesFit judged.plant.now.wiring judged.lines.now }
+{
+    let verdict = match verdict_up_to(alloc, judged, at)? {
+        Some(verdict) => verdict,
+        None => Verdict::Left,
+    };
+    tell_whole(alloc, page, judged, texts, verdict)
+}
+
+/// A replay that has come to a stamp of journals; none where it can't: then it is told why, as the verdict is.
+fn replay_to(
+    alloc: Global,
+    page: &mut Page,
+    judged: Judged<'_>,
+    texts: Texts<'_>,
+    at: u64,
+) -> Result<Option<Reached>, AllocError>
+    requires fit { LinesFit judged.plant.now.wiring judged.lines.now }
+    ensures { IfOk result (λ r. IfSome r
+        (λ it. Replays judged.plant.now judged.lines.now it.replay)) }
+{
+    if !begins_rightly(alloc, page, judged, texts)? {
+        return Ok(None);
+    }
+    let stop = Stop::Behind(at);
+    match reach(alloc, judged.plant, judged.lines, judged.journals, stop)? {
+        Some(reached) => Ok(Some(reached)),
+        None => {
+            tell_refused(alloc, page, judged, texts, at)?;
+            Ok(None)
+        }
+    }
+}
+
 /// What is seen where a replay stands.
 fn moment_of(
     alloc: Global,
-    plant: &Plant,
-    lines: &[Line],
+    judged: Judged<'_>,
     reached: &Reached,
     at: u64,
 ) -> Result<Moment, AllocError>
-    requires replays { Replays plant.now lines.now reached.now.replay }
+    requires replays { Replays judged.plant.now judged.lines.now reached.now.replay }
 {
-    let _lines = lines;
+    let controllers = judged.plant.wiring.controller_count();
     Ok(Moment {
-        snapshot: reached.replay.view(alloc, plant, at)?,
-        waiting: lefts_of(alloc, &reached.replay, plant.wiring.controller_count())?,
+        snapshot: reached.replay.view(alloc, judged.plant, at)?,
+        waiting: lefts_of(alloc, &reached.replay, controllers)?,
     })
 }
 
@@ -84,14 +124,37 @@ pub fn moment_at(
 ) -> Result<Option<Moment>, AllocError>
     requires fit { LinesFit judged.plant.now.wiring judged.lines.now }
 {
-    if !is_seen(alloc, page, judged, texts, at)? {
-        return Ok(None);
-    }
-    let (plant, lines) = (judged.plant, judged.lines);
-    let begun = begin(alloc, plant, lines)?;
-    match lead_on(begun, plant, lines, judged.journals, Stop::Behind(at))? {
-        Some(reached) => Ok(Some(moment_of(alloc, plant, lines, &reached, at)?)),
+    match replay_to(alloc, page, judged, texts, at)? {
+        Some(reached) => Ok(Some(moment_of(alloc, judged, &reached, at)?)),
         None => Ok(None),
+    }
+}
+
+/// The system where a replay stands at a stamp, and at one that isn't below it; none where it can't be seen there: then
+/// it is told why, as the verdict is.
+fn moments_from(
+    alloc: Global,
+    page: &mut Page,
+    judged: Judged<'_>,
+    texts: Texts<'_>,
+    reached: Reached,
+    first: u64,
+    second: u64,
+) -> Result<Option<(Moment, Moment)>, AllocError>
+    requires fit { LinesFit judged.plant.now.wiring judged.lines.now }
+    requires replays { Replays judged.plant.now judged.lines.now reached.replay }
+{
+    let before = moment_of(alloc, judged, &reached, first)?;
+    let stop = Stop::Behind(second);
+    match lead_on(reached, judged.plant, judged.lines, judged.journals, stop)? {
+        Some(reached) => {
+            let after = moment_of(alloc, judged, &reached, second)?;
+            Ok(Some((before, after)))
+        }
+        None => {
+            tell_refused(alloc, page, judged, texts, second)?;
+            Ok(None)
+        }
     }
 }
 
@@ -107,20 +170,8 @@ pub fn moments_at(
 ) -> Result<Option<(Moment, Moment)>, AllocError>
     requires fit { LinesFit judged.plant.now.wiring judged.lines.now }
 {
-    if !is_seen(alloc, page, judged, texts, second)? {
-        return Ok(None);
-    }
-    let (plant, lines) = (judged.plant, judged.lines);
-    let begun = begin(alloc, plant, lines)?;
-    let Some(reached) = lead_on(begun, plant, lines, judged.journals, Stop::Behind(first))? else {
-        return Ok(None);
-    };
-    let before = moment_of(alloc, plant, lines, &reached, first)?;
-    match lead_on(reached, plant, lines, judged.journals, Stop::Behind(second))? {
-        Some(reached) => {
-            let after = moment_of(alloc, plant, lines, &reached, second)?;
-            Ok(Some((before, after)))
-        }
+    match replay_to(alloc, page, judged, texts, first)? {
+        Some(reached) => moments_from(alloc, page, judged, texts, reached, first, second),
         None => Ok(None),
     }
 }

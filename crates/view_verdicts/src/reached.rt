@@ -92,19 +92,6 @@ fn is_there(journals: &Journals, stop: Stop, next: Option<Spot>) -> bool {
     }
 }
 
-/// A replay at the start of a plant, to be led along journals over these lines.
-pub(crate) fn begin(alloc: Global, plant: &Plant, lines: &[Line]) -> Result<Reached, AllocError>
-    ensures { IfOk result (λ it. Replays plant.now lines.now it.replay) }
-{
-    let _lines = lines;
-    let begun = Replay::start(alloc, plant)?;
-    let passed = passed_at_start(alloc, begun.entries.as_slice())?;
-    Ok(Reached {
-        replay: begun.replay,
-        passed,
-    })
-}
-
 /// Leads a replay on along the merge of journals; none where an entry on its way is refused, or there is no such
 /// place.
 pub(crate) fn lead_on(
@@ -152,6 +139,11 @@ pub(crate) fn reach(
     requires fit { LinesFit plant.now.wiring lines.now }
     ensures { IfOk result (λ r. IfSome r (λ it. Replays plant.now lines.now it.replay)) }
 {
-    let begun = begin(alloc, plant, lines)?;
-    lead_on(begun, plant, lines, journals, stop)
+    let begun = Replay::start(alloc, plant)?;
+    let passed = passed_at_start(alloc, begun.entries.as_slice())?;
+    let reached = Reached {
+        replay: begun.replay,
+        passed,
+    };
+    lead_on(reached, plant, lines, journals, stop)
 }
