@@ -2,7 +2,7 @@
 use room_lexer::Mark;
 
 /// What is expected of a text, for what was read of it.
-#[derive(Clone, Copy, Drop, Debug, PartialEq, Eq)]
+#[derive(Clone, Copy, Drop, PartialEq, Eq)]
 pub enum Goal {
     Take(Mark),
     /// The priority of a send, if it names one.

@@ -9,14 +9,14 @@ use room_kinds::{NumberType, Priority};
 
 /// A program that was checked against a class: attributes, ports, signals, references and service
 /// names are numbers.
-#[derive(Drop, Debug)]
+#[derive(Drop)]
 pub struct Bound {
     pub statements: Vec<BoundStmt>,
 }
 
 /// An expression over numbered attributes.
 #[cycle(bound_expression)]
-#[derive(Drop, Debug)]
+#[derive(Drop)]
 pub enum BoundExpr {
     Number(i64),
     /// The number of the message's payload at this place.
@@ -34,7 +34,7 @@ const _: () = prove!(size_of::<BoundExpr>() <= 16);
 
 /// An operator before a value.
 #[cycle(bound_expression)]
-#[derive(Drop, Debug)]
+#[derive(Drop)]
 pub struct BoundUnary {
     pub op: UnaryOp,
     pub operand: BoundExpr,
@@ -42,7 +42,7 @@ pub struct BoundUnary {
 
 /// Operators of one level with their right sides, from left to right, behind their first operand.
 #[cycle(bound_expression)]
-#[derive(Drop, Debug)]
+#[derive(Drop)]
 pub struct BoundChain {
     pub first: BoundExpr,
     pub steps: Vec<BoundStep>,
@@ -50,7 +50,7 @@ pub struct BoundChain {
 
 /// An operator and its right side.
 #[cycle(bound_expression)]
-#[derive(Drop, Debug)]
+#[derive(Drop)]
 pub struct BoundStep {
     pub op: BinaryOp,
     pub operand: BoundExpr,
@@ -58,7 +58,7 @@ pub struct BoundStep {
 
 /// A statement over numbered names.
 #[cycle(bound_statement)]
-#[derive(Drop, Debug)]
+#[derive(Drop)]
 pub enum BoundStmt {
     Empty,
     Assign(Box<BoundAssign>),
@@ -77,7 +77,7 @@ pub enum BoundStmt {
 const _: () = prove!(size_of::<BoundStmt>() <= 16);
 
 /// The value that an attribute gets, reduced to its type.
-#[derive(Drop, Debug)]
+#[derive(Drop)]
 pub struct BoundAssign {
     pub attribute: u32,
     pub kind: NumberType,
@@ -86,14 +86,14 @@ pub struct BoundAssign {
 
 /// A block that is run so often.
 #[cycle(bound_statement)]
-#[derive(Drop, Debug)]
+#[derive(Drop)]
 pub struct BoundRepeat {
     pub times: u64,
     pub body: Vec<BoundStmt>,
 }
 
 /// What is asked of the reference with this number.
-#[derive(Drop, Debug)]
+#[derive(Drop)]
 pub struct BoundFrame {
     pub verb: FrameVerb,
     pub reference: u16,
@@ -101,7 +101,7 @@ pub struct BoundFrame {
 }
 
 /// The import of an actor into the reference with this number.
-#[derive(Drop, Debug)]
+#[derive(Drop)]
 pub struct BoundImport {
     pub reference: u16,
     pub index: BoundExpr,
@@ -110,7 +110,7 @@ pub struct BoundImport {
 
 /// The block of the first branch whose condition isn't 0, else the last block.
 #[cycle(bound_statement)]
-#[derive(Drop, Debug)]
+#[derive(Drop)]
 pub struct BoundIf {
     pub branches: Vec<BoundBranch>,
     pub otherwise: Vec<BoundStmt>,
@@ -118,14 +118,14 @@ pub struct BoundIf {
 
 /// A condition and its block.
 #[cycle(bound_statement)]
-#[derive(Drop, Debug)]
+#[derive(Drop)]
 pub struct BoundBranch {
     pub condition: BoundExpr,
     pub body: Vec<BoundStmt>,
 }
 
 /// A send at a place of a port; without a place, at all.
-#[derive(Drop, Debug)]
+#[derive(Drop)]
 pub struct BoundSend {
     pub port: u16,
     pub place: Option<BoundExpr>,
@@ -135,7 +135,7 @@ pub struct BoundSend {
 }
 
 /// A number of a message, and the type to which it is reduced.
-#[derive(Drop, Debug)]
+#[derive(Drop)]
 pub struct Argument {
     pub kind: NumberType,
     pub value: BoundExpr,

@@ -5,7 +5,7 @@ ghost use Rattle.action_program.specs.declared.fault.ActionFault.TheVariants.{Me
 use std::alloc::{AllocError, AllocFailed};
 
 /// Why a program was refused.
-#[derive(Clone, Copy, Drop, Debug, PartialEq, Eq)]
+#[derive(Clone, Copy, Drop, PartialEq, Eq)]
 pub enum ActionFault {
     /// The bytes are no program, or no condition.
     Syntax,

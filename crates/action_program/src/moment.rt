@@ -7,7 +7,7 @@ use std::alloc::{AllocError, Global};
 use std::marker::Model;
 
 /// The attributes of an actor: their numbers in order of declaration.
-#[derive(Drop, Debug)]
+#[derive(Drop)]
 pub struct Vars {
     numbers: Vec<i64>,
 }
@@ -58,7 +58,7 @@ impl Vars {
 
 /// When an action runs: the payload of the message that is handled and the place at which it came,
 /// the actor, and whether there is a message at all.
-#[derive(Drop, Debug)]
+#[derive(Drop)]
 pub struct Moment {
     pub payload: Payload,
     pub place: u32,
@@ -67,7 +67,7 @@ pub struct Moment {
 }
 
 /// What actions told and asked for, in their order.
-#[derive(Drop, Debug)]
+#[derive(Drop)]
 pub struct Effects {
     pub notes: Notes,
     pub commands: Commands,

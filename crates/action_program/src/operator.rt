@@ -1,7 +1,7 @@
 //! Operators and verbs.
 
 /// An operator before a value.
-#[derive(Clone, Copy, Drop, Debug, PartialEq, Eq)]
+#[derive(Clone, Copy, Drop, PartialEq, Eq)]
 pub enum UnaryOp {
     /// `-`
     Negate,
@@ -10,7 +10,7 @@ pub enum UnaryOp {
 }
 
 /// An operator between two values.
-#[derive(Clone, Copy, Drop, Debug, PartialEq, Eq)]
+#[derive(Clone, Copy, Drop, PartialEq, Eq)]
 pub enum BinaryOp {
     /// `||`
     Or,
@@ -41,7 +41,7 @@ pub enum BinaryOp {
 }
 
 /// What a statement asks of an actor reference, but for an import.
-#[derive(Clone, Copy, Drop, Debug, PartialEq, Eq)]
+#[derive(Clone, Copy, Drop, PartialEq, Eq)]
 pub enum FrameVerb {
     /// Make an actor at an optional reference.
     Incarnate,

@@ -14,13 +14,13 @@ use room_kinds::Priority;
 use std::slice;
 
 /// A program: statements in order.
-#[derive(Drop, Debug)]
+#[derive(Drop)]
 pub struct Program {
     pub statements: Vec<Stmt>,
 }
 
 /// A path to a number of an actor.
-#[derive(Drop, Debug)]
+#[derive(Drop)]
 pub enum Path {
     /// An attribute.
     Attribute(Name),
@@ -42,7 +42,7 @@ impl Path {
 
 /// An expression.
 #[cycle(expression)]
-#[derive(Drop, Debug)]
+#[derive(Drop)]
 pub enum Expr {
     Number(u64),
     /// `true`
@@ -69,7 +69,7 @@ const _: () = prove!(size_of::<Expr>() <= 16);
 
 /// An operator before a value.
 #[cycle(expression)]
-#[derive(Drop, Debug)]
+#[derive(Drop)]
 pub struct Unary {
     pub op: UnaryOp,
     pub operand: Expr,
@@ -77,7 +77,7 @@ pub struct Unary {
 
 /// Operators of one level with their right sides, from left to right, behind their first operand.
 #[cycle(expression)]
-#[derive(Drop, Debug)]
+#[derive(Drop)]
 pub struct Chain {
     pub first: Expr,
     pub steps: Vec<Step>,
@@ -85,7 +85,7 @@ pub struct Chain {
 
 /// An operator and its right side.
 #[cycle(expression)]
-#[derive(Drop, Debug)]
+#[derive(Drop)]
 pub struct Step {
     pub op: BinaryOp,
     pub operand: Expr,
@@ -93,7 +93,7 @@ pub struct Step {
 
 /// A statement.
 #[cycle(statement)]
-#[derive(Drop, Debug)]
+#[derive(Drop)]
 pub enum Stmt {
     /// `;`
     Empty,
@@ -113,7 +113,7 @@ pub enum Stmt {
 const _: () = prove!(size_of::<Stmt>() <= 16);
 
 /// A path, `=`, and an expression.
-#[derive(Drop, Debug)]
+#[derive(Drop)]
 pub struct AssignStmt {
     pub attribute: Path,
     pub value: Expr,
@@ -121,7 +121,7 @@ pub struct AssignStmt {
 
 /// `if`, its chain of `else if`, and its `else`, if there is one. There is a branch at least.
 #[cycle(statement)]
-#[derive(Drop, Debug)]
+#[derive(Drop)]
 pub struct IfStmt {
     pub branches: Vec<Branch>,
     pub otherwise: Option<Vec<Stmt>>,
@@ -129,7 +129,7 @@ pub struct IfStmt {
 
 /// A condition and its block.
 #[cycle(statement)]
-#[derive(Drop, Debug)]
+#[derive(Drop)]
 pub struct Branch {
     pub condition: Expr,
     pub body: Vec<Stmt>,
@@ -137,14 +137,14 @@ pub struct Branch {
 
 /// `repeat`, a number, and a block.
 #[cycle(statement)]
-#[derive(Drop, Debug)]
+#[derive(Drop)]
 pub struct RepeatStmt {
     pub times: u64,
     pub body: Vec<Stmt>,
 }
 
 /// A send at a place of a port; without a place, at all.
-#[derive(Drop, Debug)]
+#[derive(Drop)]
 pub struct SendStmt {
     pub port: Name,
     pub place: Option<Expr>,
@@ -155,7 +155,7 @@ pub struct SendStmt {
 }
 
 /// A verb, a reference, and an index in brackets, if there is one.
-#[derive(Drop, Debug)]
+#[derive(Drop)]
 pub struct FrameStmt {
     pub verb: FrameVerb,
     pub reference: Name,
@@ -163,7 +163,7 @@ pub struct FrameStmt {
 }
 
 /// `import`, a reference, an index in brackets, if there is one, `=`, and an expression.
-#[derive(Drop, Debug)]
+#[derive(Drop)]
 pub struct ImportStmt {
     pub reference: Name,
     pub index: Option<Expr>,
@@ -171,14 +171,14 @@ pub struct ImportStmt {
 }
 
 /// `register`, a port, `as`, and a name of a service.
-#[derive(Drop, Debug)]
+#[derive(Drop)]
 pub struct RegisterStmt {
     pub port: Name,
     pub name: Name,
 }
 
 /// `withdraw`, and a port.
-#[derive(Drop, Debug)]
+#[derive(Drop)]
 pub struct WithdrawStmt {
     pub port: Name,
 }

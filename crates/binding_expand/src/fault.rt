@@ -7,7 +7,7 @@ ghost use Rattle.binding_expand.specs.declared.fault.WiringFault.TheVariants.{Me
 use std::alloc::AllocError;
 
 /// A fault of the wiring of a model, in the order in which they are told, or that memory ran out.
-#[derive(Clone, Copy, Drop, Debug, PartialEq, Eq)]
+#[derive(Clone, Copy, Drop, PartialEq, Eq)]
 pub enum WiringFault {
     /// There are more than 4,096 slots.
     TooManySlots,

@@ -35,13 +35,21 @@ fn slots_within(alloc: Global, model: &Model, tables: &Tables) -> Result<WiredSl
     }
 }
 
-/// The wiring of a model that keeps all rules, where these are its tables.
-fn expand_by(alloc: Global, model: &Model, tables: &Tables) -> Result<Wiring, WiringFault>
-    requires tables { tables.now ≡ tables_of (model_view model.now) }
-    requires rules { first_broken all_rules (model_view model.now) ≡ None }
+/// The slots of a model that keeps all rules. The model's tables go with this call, before the places
+/// of the slots take room.
+fn kept_slots(alloc: Global, model: &Model) -> Result<WiredSlots, WiringFault>
+    requires { first_broken all_rules (model_view model.now) ≡ None }
+    ensures { FindsSlots (model_view model.now) result }
+{
+    let tables = tables_of(alloc, model)?;
+    slots_within(alloc, model, &tables)
+}
+
+fn expand_kept(alloc: Global, model: &Model) -> Result<Wiring, WiringFault>
+    requires { first_broken all_rules (model_view model.now) ≡ None }
     ensures { Expands (model_view model.now) result }
 {
-    let slots = slots_within(alloc, model, tables)?;
+    let slots = kept_slots(alloc, model)?;
     let places = joined_places(alloc, &slots.plan, slots.slots.as_slice())?;
     let wiring = wiring_with(alloc, slots, places)?;
     Ok(wiring)
@@ -57,6 +65,5 @@ pub fn expand(alloc: Global, checked: &Checked) -> Result<Wiring, WiringFault>
     ensures expands { Expands (model_view checked.now.model.now) result }
     ensures fits { IfOk result (λ t. Fits t) }
 {
-    let tables = tables_of(alloc, checked.model)?;
-    expand_by(alloc, checked.model, &tables)
+    expand_kept(alloc, checked.model)
 }

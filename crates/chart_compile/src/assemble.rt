@@ -19,7 +19,7 @@ use crate::nodes::{fill_up, nodes_of};
 use crate::start::initial_arrow;
 use chart_reader::Step;
 use chart_run::{Arrow, Node, Row, Tables};
-use chart_trees::Graph;
+use chart_trees::{Chart, Graph};
 use name_tables::NameIndex;
 use room_kinds::Sequence;
 use std::alloc::{AllocError, Global};
@@ -100,7 +100,7 @@ fn numbered<'a, 'b>(alloc: Global, steps: &'a [Step<'b>]) -> Result<NodeOrder<'a
     Ok(nodes)
 }
 
-/// The tables of steps and states, with as many nodes as graphs have.
+/// The tables of steps and states, with as many nodes as the graphs of a chart have, and its values.
 pub fn assemble<'b, 'p, 's, 'g>(
     alloc: Global,
     states: &NameIndex<'s>,
@@ -108,8 +108,7 @@ pub fn assemble<'b, 'p, 's, 'g>(
     keys: &[Sequence<u8>],
     steps: &[Step<'b>],
     places: &[Place<'p>],
-    all: &[Graph],
-    values: &[i64],
+    chart: &Chart,
 ) -> Result<Tables, AllocError>
     requires states_are { states.now ≡ map key_of (map place_view places.now) }
     requires graphs_are { graphs.now ≡ keys.now }
@@ -119,20 +118,20 @@ pub fn assemble<'b, 'p, 's, 'g>(
     requires no_circle { NoneContainsItself (parts_of (map step_view steps.now)) }
     requires enough { (keys : List (List ℕ)) (targets : List ℕ)
         → AreNumbered (map step_view steps.now) keys targets
-        → length keys ≤ sum (map nodes_in (map graph_view all.now)) }
+        → length keys ≤ sum (map nodes_in (map graph_view chart.now.graphs.items)) }
     requires starts { 0 < length (from_key (0 ∷ codes []) (map step_view steps.now)) }
     ensures tables { IfOk result (λ v.
         AreOf states.now graphs.now (map step_view steps.now) (map place_view places.now)
-        (sum (map nodes_in (map graph_view all.now))) v) }
-    ensures values { IfOk result (λ v. v.values.items ≡ values.now) }
+        (sum (map nodes_in (map graph_view chart.now.graphs.items))) v) }
+    ensures values { IfOk result (λ v. v.values.items ≡ chart.now.values.items) }
 {
     let nodes = numbered(alloc, steps)?;
     let rows = state_rows(alloc, states, graphs, &nodes.keys, steps, places)?;
     let shared = shared_rows(alloc, graphs, &nodes.keys, steps, keys)?;
     let targets = nodes.targets.as_slice();
-    let made = node_rows(alloc, states, &nodes.keys, steps, targets, all)?;
+    let made = node_rows(alloc, states, &nodes.keys, steps, targets, &chart.graphs)?;
     let initial = initial_arrow(alloc, &nodes.keys, steps)?;
-    let copies = Vec::from_slice(alloc, values)?;
+    let copies = Vec::from_slice(alloc, chart.values.as_slice())?;
     Ok(Tables {
         states: rows,
         graphs: shared,

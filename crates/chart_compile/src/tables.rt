@@ -34,8 +34,7 @@ pub fn compile(alloc: Global, chart: &Chart) -> Result<Tables, AllocError>
         graph_keys.as_slice(),
         steps.as_slice(),
         places.as_slice(),
-        &chart.graphs,
-        chart.values.as_slice(),
+        chart,
     )?;
     Ok(tables)
 }

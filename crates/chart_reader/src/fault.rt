@@ -7,7 +7,7 @@ ghost use Rattle.chart_reader.specs.declared.fault.ChartFault.TheVariants.{Memor
 use std::alloc::AllocError;
 
 /// A fault of a chart, in the order in which they are told, or that memory ran out.
-#[derive(Clone, Copy, Drop, Debug, PartialEq, Eq)]
+#[derive(Clone, Copy, Drop, PartialEq, Eq)]
 pub enum ChartFault {
     /// States nest deeper than 16.
     DepthAbove16,

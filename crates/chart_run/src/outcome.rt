@@ -8,7 +8,7 @@ use action_program::{Effects, Moment};
 use room_kinds::Command;
 
 /// What became of a message.
-#[derive(Clone, Copy, Drop, Debug, PartialEq, Eq)]
+#[derive(Clone, Copy, Drop, PartialEq, Eq)]
 pub enum Handling {
     /// A transition was taken.
     Handled,
@@ -19,7 +19,7 @@ pub enum Handling {
 }
 
 /// What became of a message, and what the actions that ran told and asked for.
-#[derive(Drop, Debug)]
+#[derive(Drop)]
 pub struct Outcome {
     pub result: Handling,
     pub effects: Effects,

@@ -9,7 +9,7 @@ use room_ast::{Name, PointKind};
 use room_kinds::Sequence;
 
 /// Where a transition of a graph begins.
-#[derive(Drop, Debug)]
+#[derive(Drop)]
 pub enum Source {
     Initial,
     State(Name),
@@ -23,7 +23,7 @@ pub enum Source {
 }
 
 /// Where a transition of a graph leads.
-#[derive(Drop, Debug)]
+#[derive(Drop)]
 pub enum Target {
     State(Name),
     Choice(Name),
@@ -37,7 +37,7 @@ pub enum Target {
 
 /// A transition. Without a program it has the empty one; only branches of choice points have
 /// conditions.
-#[derive(Drop, Debug)]
+#[derive(Drop)]
 pub struct Transition {
     pub source: Source,
     pub target: Target,
@@ -47,7 +47,7 @@ pub struct Transition {
 }
 
 /// A state with its actions on entry and on exit.
-#[derive(Drop, Debug)]
+#[derive(Drop)]
 pub struct State {
     pub name: Name,
     pub entry: Bound,
@@ -55,7 +55,7 @@ pub struct State {
 }
 
 /// A point of a graph.
-#[derive(Drop, Debug)]
+#[derive(Drop)]
 pub struct Point {
     pub kind: PointKind,
     pub name: Name,
@@ -63,7 +63,7 @@ pub struct Point {
 
 /// The graph of the state at `owner`: the names from that state's own to the outermost state's. The
 /// top graph's owner is empty.
-#[derive(Drop, Debug)]
+#[derive(Drop)]
 pub struct Graph {
     pub owner: Sequence<Name>,
     pub states: Vec<State>,
@@ -74,7 +74,7 @@ pub struct Graph {
 
 /// The graphs of a chart, each before those of its states, and the initial values of the class's
 /// attributes.
-#[derive(Drop, Debug)]
+#[derive(Drop)]
 pub struct Chart {
     pub graphs: Vec<Graph>,
     pub values: Vec<i64>,

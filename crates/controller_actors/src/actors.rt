@@ -1,5 +1,5 @@
 //! The actors of a controller.
-ghost use Rattle.std.specs.Prelude.{◌≡◌, ◌<◌, ◌&&◌, ◌||◌, ◌==◌, [], false, true, length, All, IfOk, OnOk, MatchOption};
+ghost use Rattle.std.specs.Prelude.{◌≡◌, ◌<◌, ◌&&◌, [], false, true, length, All, IfOk, OnOk, MatchOption};
 ghost use Rattle.actor_duties.specs.Words.{is_own, whose};
 ghost use Rattle.actor_world.specs.Start.{first_state, start_entries};
 ghost use Rattle.actor_world.specs.Turns.{dispatch, treat};
@@ -13,7 +13,7 @@ use crate::actor_slots::{ActorSlot, Entrance};
 use crate::plant::Plant;
 use crate::services::ActorServices;
 use crate::start::start;
-use controller_mail::TurnResult;
+use controller_mail::{TurnResult, is_meant};
 use journal::{Did, Journal};
 use layer_service::NameService;
 use room_kinds::{ControllerId, Incarnation, Msg, Notes, Outbox, Sequence, SlotId};
@@ -55,15 +55,6 @@ fn nobody_there(alloc: Global, target: Incarnation) -> TurnResult
     ensures { result ≡ record { sent = []; back = []; did = Did.Empty target; notes = [] } }
 {
     discarded(alloc, Did::Empty { target })
-}
-
-/// Whether a message is for whoever stands in its slot, or for this actor, which does.
-fn is_meant(m: &Msg, who: Incarnation) -> bool
-    ensures { result
-        ≡ (m.now.target.generation.0 == 0) || (m.now.target.generation.0 == who.generation.0) }
-{
-    let generation = m.target.generation;
-    generation.0 == 0 || generation == who.generation
 }
 
 impl Actors {

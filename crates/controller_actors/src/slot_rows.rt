@@ -11,7 +11,7 @@ use std::marker::Model;
 /// For each slot of a wiring its row in the table of the controller that owns it: how many of the slots
 /// before it have the same owner. All controllers share it, so that each keeps rows for its own slots alone.
 /// Contracts see the list of these numbers.
-#[derive(Drop, Debug)]
+#[derive(Drop)]
 pub struct SlotRows {
     rows: Vec<u16>,
 }

@@ -12,7 +12,9 @@ mod laws;
 mod mail_queues;
 mod pending;
 mod queue;
+mod target;
 
 pub use environment::EnvironmentMail;
 pub use laws::{environment_leaves, mail_leaves};
 pub use mail_queues::{MailQueues, Posted, TurnResult};
+pub use target::is_meant;

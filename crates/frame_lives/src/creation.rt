@@ -9,7 +9,7 @@ ghost use Rattle.actor_duties.specs.Lives.{create, part_make, announces, last_of
 ghost use Rattle.service_messages.specs.Shown.{code_of};
 ghost use Rattle.frame_lives.specs.Shown.{shown, with_lives};
 ghost use Rattle.frame_lives.specs.Steps.{raised};
-ghost use Rattle.service_messages.specs.slot_runs.Runs.{IsDepthFirst, AreRunEnds};
+ghost use Rattle.service_messages.specs.Sites.{IsSite};
 ghost use Rattle.frame_lives.specs.Done.{done_of, only_answers};
 
 use crate::done::DutyDone;
@@ -18,9 +18,8 @@ use room_kinds::{
     ControllerId, Endpoint, Generation, Incarnation, Msg, Outbox, Payload, Sequence, SlotId,
     SysKind,
 };
-use room_wiring::Wiring;
 use service_messages::{
-    Code, SlotRuns, announce, frame_at, frame_of, is_own, reply, tell_parts, whose,
+    Code, Site, announce, frame_at, frame_of, is_own, reply, tell_parts, whose,
 };
 use std::alloc::{AllocError, Global};
 
@@ -29,35 +28,33 @@ impl SlotLives {
     /// generation, and announces it; does nothing at another slot.
     fn make_in(
         &mut self,
-        alloc: Global,
-        wiring: &Wiring,
-        me: ControllerId,
+        site: &Site<'_>,
         slot: SlotId,
         made: &mut Sequence<Incarnation>,
         out: &mut Outbox,
     ) -> Result<(), AllocError>
-        requires slot { slot.0 < length wiring.now.slots }
+        requires slot { slot.0 < length site.now.wiring.now.slots }
         requires there { slot.0 < (shown self.old).slots }
         ensures known { OnOk result (shown self.new ≡ with_lives (shown self.old) (if is_vacant
-            wiring.now me.0 (shown self.old).lives slot.0
+            site.now.wiring.now site.now.me.0 (shown self.old).lives slot.0
             then raised slot.0 (shown self.old).lives
             else (shown self.old).lives)) }
         ensures made { OnOk result (made.new
-            ≡ (if is_vacant wiring.now me.0 (shown self.old).lives slot.0
+            ≡ (if is_vacant site.now.wiring.now site.now.me.0 (shown self.old).lives slot.0
             then made.old ++ incarnation slot.0 ((shown self.old).lives.generation slot.0 + 1) ∷ []
             else made.old)) }
         ensures sent { OnOk result (out.new
-            ≡ (if is_vacant wiring.now me.0 (shown self.old).lives slot.0
+            ≡ (if is_vacant site.now.wiring.now site.now.me.0 (shown self.old).lives slot.0
             then out.old
-            ++ announces wiring.now me.0
+            ++ announces site.now.wiring.now site.now.me.0
             (incarnation slot.0 ((shown self.old).lives.generation slot.0 + 1)) (pos 1)
             else out.old)) }
     {
-        if !(is_own(wiring, me, slot) && !self.lives(slot)) {
+        if !(is_own(site.wiring, site.me, slot) && !self.lives(slot)) {
             return Ok(());
         }
         let actor = self.raise(slot)?;
-        announce(alloc, wiring, me, actor, 1, out)?;
+        announce(site, actor, 1, out)?;
         made.push(actor)?;
         Ok(())
     }
@@ -68,32 +65,30 @@ impl SlotLives {
     #[tactic(auto, using(crate::proofs::Making::making_slots))]
     fn make(
         &mut self,
-        alloc: Global,
-        wiring: &Wiring,
-        runs: &SlotRuns,
-        me: ControllerId,
+        site: &Site<'_>,
         slot: SlotId,
         out: &mut Outbox,
     ) -> Result<Sequence<Incarnation>, AllocError>
-        requires order { IsDepthFirst wiring.now }
-        requires runs { AreRunEnds wiring.now runs.now }
-        requires there { slot.0 < length wiring.now.slots }
-        requires whole { (shown self.old).slots ≡ length wiring.now.slots }
+        requires site { IsSite site.now }
+        requires there { slot.0 < length site.now.wiring.now.slots }
+        requires whole { (shown self.old).slots ≡ length site.now.wiring.now.slots }
         ensures known { OnOk result (shown self.new ≡ with_lives (shown self.old) (lives_made
-            wiring.now me.0 slot.0 (shown self.old).lives)) }
+            site.now.wiring.now site.now.me.0 slot.0 (shown self.old).lives)) }
         ensures made { IfOk result (λ made.
-            made ≡ map (last_of (lives_made wiring.now me.0 slot.0 (shown self.old).lives))
-            (made_slots wiring.now me.0 (shown self.old).lives slot.0)) }
+            made ≡ map
+            (last_of (lives_made site.now.wiring.now site.now.me.0 slot.0 (shown self.old).lives))
+            (made_slots site.now.wiring.now site.now.me.0 (shown self.old).lives slot.0)) }
         ensures sent { IfOk result (λ made.
-            out.new ≡ out.old ++ flat_map (λ i. announces wiring.now me.0 i (pos 1)) made) }
+            out.new ≡ out.old
+            ++ flat_map (λ i. announces site.now.wiring.now site.now.me.0 i (pos 1)) made) }
     {
-        let end = runs.end(wiring, slot);
-        let mut made = Sequence::new(alloc);
+        let end = site.runs.end(site.wiring, slot);
+        let mut made = Sequence::new(site.alloc);
         let mut next = u32::from(slot.0);
         while next < end {
             let here = SlotId(next as u16);
-            self.make_in(alloc, wiring, me, here, &mut made, out)?;
-            next = runs.next_made(wiring, slot, here);
+            self.make_in(site, here, &mut made, out)?;
+            next = site.runs.next_made(site.wiring, slot, here);
         }
         Ok(made)
     }
@@ -102,28 +97,26 @@ impl SlotLives {
     #[tactic(auto, unfolding(actor_duties::specs::Lives::part_make))]
     pub fn part_make(
         &mut self,
-        alloc: Global,
-        wiring: &Wiring,
-        runs: &SlotRuns,
-        me: ControllerId,
+        site: &Site<'_>,
         slot: SlotId,
         out: &mut Outbox,
     ) -> Result<DutyDone, AllocError>
-        requires order { IsDepthFirst wiring.now }
-        requires runs { AreRunEnds wiring.now runs.now }
-        requires there { slot.0 < length wiring.now.slots }
-        requires whole { (shown self.old).slots ≡ length wiring.now.slots }
+        requires site { IsSite site.now }
+        requires there { slot.0 < length site.now.wiring.now.slots }
+        requires whole { (shown self.old).slots ≡ length site.now.wiring.now.slots }
         ensures known { OnOk result (shown self.new ≡ with_lives (shown self.old) ((part_make
-            wiring.now me.0 (shown self.old).lives slot.0).lives)) }
+            site.now.wiring.now site.now.me.0 (shown self.old).lives slot.0).lives)) }
         ensures sent { OnOk result (out.new
-            ≡ out.old ++ (part_make wiring.now me.0 (shown self.old).lives slot.0).sent) }
+            ≡ out.old
+            ++ (part_make site.now.wiring.now site.now.me.0 (shown self.old).lives slot.0).sent) }
         ensures done { IfOk result (λ d.
-            d ≡ done_of (part_make wiring.now me.0 (shown self.old).lives slot.0)) }
+            d ≡ done_of
+            (part_make site.now.wiring.now site.now.me.0 (shown self.old).lives slot.0)) }
     {
-        let made = self.make(alloc, wiring, runs, me, slot, out)?;
+        let made = self.make(site, slot, out)?;
         Ok(DutyDone {
             made,
-            ended: Sequence::new(alloc),
+            ended: Sequence::new(site.alloc),
             last: None,
         })
     }
@@ -135,42 +128,40 @@ impl SlotLives {
     #[tactic(auto, unfolding(actor_duties::specs::Lives::create, actor_duties::specs::Lives::made))]
     pub fn create(
         &mut self,
-        alloc: Global,
-        wiring: &Wiring,
-        runs: &SlotRuns,
-        me: ControllerId,
+        site: &Site<'_>,
         m: &Msg,
         slot: SlotId,
         from: Endpoint,
         out: &mut Outbox,
     ) -> Result<DutyDone, AllocError>
-        requires order { IsDepthFirst wiring.now }
-        requires runs { AreRunEnds wiring.now runs.now }
-        requires there { slot.0 < length wiring.now.slots }
-        requires whole { (shown self.old).slots ≡ length wiring.now.slots }
+        requires site { IsSite site.now }
+        requires there { slot.0 < length site.now.wiring.now.slots }
+        requires whole { (shown self.old).slots ≡ length site.now.wiring.now.slots }
         ensures known { OnOk result (shown self.new ≡ with_lives (shown self.old) ((create
-            wiring.now me.0 (shown self.old).lives m.now slot.0 from).lives)) }
+            site.now.wiring.now site.now.me.0 (shown self.old).lives m.now slot.0 from).lives)) }
         ensures sent { OnOk result (out.new
-            ≡ out.old ++ (create wiring.now me.0 (shown self.old).lives m.now slot.0 from).sent) }
+            ≡ out.old ++ (create site.now.wiring.now site.now.me.0 (shown self.old).lives m.now
+            slot.0 from).sent) }
         ensures done { IfOk result (λ d.
-            d ≡ done_of (create wiring.now me.0 (shown self.old).lives m.now slot.0 from)) }
+            d ≡ done_of (create site.now.wiring.now site.now.me.0 (shown self.old).lives m.now
+            slot.0 from)) }
     {
-        if !self.counts_as_live(wiring, me, whose(from)) {
-            return refused(alloc, me, m, slot, from, Code::NotHere);
+        if !self.counts_as_live(site.wiring, site.me, whose(from)) {
+            return refused(site.alloc, site.me, m, slot, from, Code::NotHere);
         }
         if self.lives(slot) {
-            return refused(alloc, me, m, slot, from, Code::Occupied);
+            return refused(site.alloc, site.me, m, slot, from, Code::Occupied);
         }
-        let here = self.part_make(alloc, wiring, runs, me, slot, out)?;
+        let here = self.part_make(site, slot, out)?;
         let actor = self.last_of(slot);
-        tell_parts(alloc, wiring, runs, me, SysKind::PartMake, actor, out)?;
+        tell_parts(site, SysKind::PartMake, actor, out)?;
         let last = reply(
-            me,
+            site.me,
             m,
             SysKind::CreateDone,
             frame_of(actor),
             from,
-            Payload::empty(alloc),
+            Payload::empty(site.alloc),
         );
         Ok(DutyDone {
             last: Some(last),

@@ -4,13 +4,13 @@ ghost use Rattle.actor_duties.specs.Words.{is_own};
 ghost use Rattle.actor_duties.specs.Lives.{ended_slots, last_of};
 ghost use Rattle.frame_lives.specs.Shown.{shown, with_lives};
 ghost use Rattle.frame_lives.specs.Steps.{ends_with, lives_without};
-ghost use Rattle.service_messages.specs.slot_runs.Runs.{IsDepthFirst, AreRunEnds};
+ghost use Rattle.service_messages.specs.Sites.{IsSite};
 
 use crate::slot_lives::SlotLives;
 use room_kinds::{ControllerId, Incarnation, Sequence, SlotId};
 use room_wiring::Wiring;
-use service_messages::{SlotRuns, container_of, is_fixed, is_optional, is_own};
-use std::alloc::{AllocError, Global};
+use service_messages::{Site, container_of, is_fixed, is_optional, is_own};
+use std::alloc::AllocError;
 
 impl SlotLives {
     /// Whether a slot ends with its container: it is fixed, or optional and lives, in a container of the
@@ -59,31 +59,23 @@ impl SlotLives {
     /// The actors that go down when a slot ends at this controller, in descending slot order: those of
     /// its part here, and with each the same of each live optional slot in it. What isn't reached is
     /// passed over in one step.
-    pub fn ending(
-        &self,
-        alloc: Global,
-        wiring: &Wiring,
-        runs: &SlotRuns,
-        me: ControllerId,
-        slot: SlotId,
-    ) -> Result<Sequence<Incarnation>, AllocError>
-        requires order { IsDepthFirst wiring.now }
-        requires runs { AreRunEnds wiring.now runs.now }
-        requires there { slot.0 < length wiring.now.slots }
+    pub fn ending(&self, site: &Site<'_>, slot: SlotId) -> Result<Sequence<Incarnation>, AllocError>
+        requires site { IsSite site.now }
+        requires there { slot.0 < length site.now.wiring.now.slots }
         ensures { IfOk result (λ xs.
-            xs ≡ map (last_of (shown self.now).lives) (ended_slots wiring.now me.0
+            xs ≡ map (last_of (shown self.now).lives) (ended_slots site.now.wiring.now site.now.me.0
             (shown self.now).lives slot.0)) }
     {
-        let end = runs.end(wiring, slot);
-        let mut ending = Sequence::new(alloc);
+        let end = site.runs.end(site.wiring, slot);
+        let mut ending = Sequence::new(site.alloc);
         let mut next = u32::from(slot.0);
         while next < end {
             let here = SlotId(next as u16);
-            if self.is_reached(wiring, me, slot, here) {
-                self.add_ending(wiring, me, here, &mut ending)?;
+            if self.is_reached(site.wiring, site.me, slot, here) {
+                self.add_ending(site.wiring, site.me, here, &mut ending)?;
                 next += 1;
             } else {
-                next = runs.end(wiring, here);
+                next = site.runs.end(site.wiring, here);
             }
         }
         let mut ending = ending.into_vec();

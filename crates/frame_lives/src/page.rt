@@ -10,7 +10,7 @@ use std::alloc::{AllocError, Global};
 use std::marker::Model;
 
 /// Items from the first of a page to the last that was reached. Behind their end stand blanks.
-#[derive(Drop, Debug)]
+#[derive(Drop)]
 pub struct Page<T> {
     items: Vec<T>,
 }

@@ -17,7 +17,7 @@ const PAGE: usize = 32;
 /// only where a later one of their page was reached, and an empty list for each page before the last. An
 /// item is found by its number, without a search. Contracts see the pages, and speak of items by their
 /// numbers (`item_in`).
-#[derive(Drop, Debug)]
+#[derive(Drop)]
 pub struct Pages<T> {
     alloc: Global,
     pages: Vec<Page<T>>,

@@ -6,7 +6,7 @@ use std::alloc::Global;
 
 /// The last generation of an own slot, 0 before the first, and whether it lives; and the generation that
 /// the owner of another slot told last, 0 for none.
-#[derive(Clone, Copy, Debug)]
+#[derive(Clone, Copy)]
 pub struct Row {
     pub generation: u32,
     pub lives: bool,

@@ -18,7 +18,7 @@ use std::marker::Model;
 /// What a controller knows of the actors in slots: a row for each slot. What the rows say (`shown`) is
 /// the lives of the controller's own slots and the directory of the others. Rows of which there is nothing
 /// to say take little memory (`Pages`). No look-up takes memory.
-#[derive(Drop, Debug)]
+#[derive(Drop)]
 pub struct SlotLives {
     count: u32,
     rows: Pages<Row>,

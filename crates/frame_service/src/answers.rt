@@ -11,6 +11,7 @@ use crate::state::FrameState;
 use frame_lives::{DutyDone, create_done, create_refused, destroy_done};
 use room_kinds::{Endpoint, Msg, Outbox};
 use room_wiring::Wiring;
+use service_messages::Site;
 use std::alloc::AllocError;
 
 impl FrameState {
@@ -29,7 +30,13 @@ impl FrameState {
         ensures { IfOk result (λ d.
             IsHeard wiring.now self.old self.new m.now SysKind.CreateDone new container out.old out.new d) }
     {
-        create_done(self.alloc, wiring, self.me, new, container, out)?;
+        let site = Site {
+            alloc: self.alloc,
+            wiring,
+            runs: &self.runs,
+            me: self.me,
+        };
+        create_done(&site, new, container, out)?;
         Ok(nothing(self.alloc))
     }
 
@@ -49,7 +56,13 @@ impl FrameState {
             IsHeard wiring.now self.old self.new m.now SysKind.CreateRefused slot container out.old out.new d) }
     {
         let code = first_number(m);
-        create_refused(self.alloc, wiring, self.me, slot, container, code, out)?;
+        let site = Site {
+            alloc: self.alloc,
+            wiring,
+            runs: &self.runs,
+            me: self.me,
+        };
+        create_refused(&site, slot, container, code, out)?;
         Ok(nothing(self.alloc))
     }
 
@@ -72,7 +85,13 @@ impl FrameState {
         let Some(code) = one_of(first_number(m), 0, 3) else {
             return Ok(nothing(self.alloc));
         };
-        destroy_done(self.alloc, wiring, self.me, gone, container, code, out)?;
+        let site = Site {
+            alloc: self.alloc,
+            wiring,
+            runs: &self.runs,
+            me: self.me,
+        };
+        destroy_done(&site, gone, container, code, out)?;
         Ok(nothing(self.alloc))
     }
 }

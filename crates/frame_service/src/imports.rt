@@ -13,6 +13,7 @@ use crate::state::FrameState;
 use frame_lives::DutyDone;
 use room_kinds::{Endpoint, Msg, Outbox};
 use room_wiring::Wiring;
+use service_messages::Site;
 use std::alloc::AllocError;
 
 impl FrameState {
@@ -32,17 +33,13 @@ impl FrameState {
         ensures { IfOk result (λ d.
             IsHeard wiring.now self.old self.new m.now SysKind.Import place home out.old out.new d) }
     {
-        import(
-            &mut self.imports,
-            self.alloc,
+        let site = Site {
+            alloc: self.alloc,
             wiring,
-            self.me,
-            &self.lives,
-            m,
-            place,
-            home,
-            out,
-        )?;
+            runs: &self.runs,
+            me: self.me,
+        };
+        import(&mut self.imports, &site, &self.lives, m, place, home, out)?;
         Ok(nothing(self.alloc))
     }
 
@@ -63,15 +60,13 @@ impl FrameState {
     {
         let what = What::Lent;
         let answer = Answer { home, place, what };
-        hear(
-            &mut self.imports,
-            self.alloc,
+        let site = Site {
+            alloc: self.alloc,
             wiring,
-            self.me,
-            &self.lives,
-            answer,
-            out,
-        )?;
+            runs: &self.runs,
+            me: self.me,
+        };
+        hear(&mut self.imports, &site, &self.lives, answer, out)?;
         Ok(nothing(self.alloc))
     }
 
@@ -93,15 +88,13 @@ impl FrameState {
         let code = first_number(m);
         let what = What::Refused(code);
         let answer = Answer { home, place, what };
-        hear(
-            &mut self.imports,
-            self.alloc,
+        let site = Site {
+            alloc: self.alloc,
             wiring,
-            self.me,
-            &self.lives,
-            answer,
-            out,
-        )?;
+            runs: &self.runs,
+            me: self.me,
+        };
+        hear(&mut self.imports, &site, &self.lives, answer, out)?;
         Ok(nothing(self.alloc))
     }
 
@@ -122,15 +115,13 @@ impl FrameState {
     {
         let what = What::Ended;
         let answer = Answer { home, place, what };
-        hear(
-            &mut self.imports,
-            self.alloc,
+        let site = Site {
+            alloc: self.alloc,
             wiring,
-            self.me,
-            &self.lives,
-            answer,
-            out,
-        )?;
+            runs: &self.runs,
+            me: self.me,
+        };
+        hear(&mut self.imports, &site, &self.lives, answer, out)?;
         Ok(nothing(self.alloc))
     }
 
@@ -149,16 +140,13 @@ impl FrameState {
         ensures { IfOk result (λ d.
             IsHeard wiring.now self.old self.new m.now SysKind.Deport place home out.old out.new d) }
     {
-        deport(
-            &mut self.imports,
-            self.alloc,
-            self.me,
-            &self.lives,
-            m,
-            place,
-            home,
-            out,
-        )?;
+        let site = Site {
+            alloc: self.alloc,
+            wiring,
+            runs: &self.runs,
+            me: self.me,
+        };
+        deport(&mut self.imports, &site, &self.lives, m, place, home, out)?;
         Ok(nothing(self.alloc))
     }
 
@@ -179,15 +167,13 @@ impl FrameState {
     {
         let what = What::Back;
         let answer = Answer { home, place, what };
-        hear(
-            &mut self.imports,
-            self.alloc,
+        let site = Site {
+            alloc: self.alloc,
             wiring,
-            self.me,
-            &self.lives,
-            answer,
-            out,
-        )?;
+            runs: &self.runs,
+            me: self.me,
+        };
+        hear(&mut self.imports, &site, &self.lives, answer, out)?;
         Ok(nothing(self.alloc))
     }
 }

@@ -11,7 +11,7 @@ use crate::state::FrameState;
 use frame_lives::DutyDone;
 use room_kinds::{Endpoint, Msg, Outbox};
 use room_wiring::Wiring;
-use service_messages::whose;
+use service_messages::{Site, whose};
 use std::alloc::AllocError;
 
 impl FrameState {
@@ -30,9 +30,13 @@ impl FrameState {
         ensures { IfOk result (λ d.
             IsHeard wiring.now self.old self.new m.now SysKind.Create from slot out.old out.new d) }
     {
-        let done = self.lives.create(
-            self.alloc, wiring, &self.runs, self.me, m, slot.slot, from, out,
-        )?;
+        let site = Site {
+            alloc: self.alloc,
+            wiring,
+            runs: &self.runs,
+            me: self.me,
+        };
+        let done = self.lives.create(&site, m, slot.slot, from, out)?;
         Ok(done)
     }
 
@@ -51,9 +55,13 @@ impl FrameState {
         ensures { IfOk result (λ d.
             IsHeard wiring.now self.old self.new m.now SysKind.PartMake actor again out.old out.new d) }
     {
-        let done = self
-            .lives
-            .part_make(self.alloc, wiring, &self.runs, self.me, actor.slot, out)?;
+        let site = Site {
+            alloc: self.alloc,
+            wiring,
+            runs: &self.runs,
+            me: self.me,
+        };
+        let done = self.lives.part_make(&site, actor.slot, out)?;
         Ok(done)
     }
 

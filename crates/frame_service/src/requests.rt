@@ -10,6 +10,7 @@ use crate::state::FrameState;
 use frame_lives::{destroy, incarnate};
 use room_kinds::{FrameCommand, Incarnation, Outbox};
 use room_wiring::Wiring;
+use service_messages::Site;
 use std::alloc::AllocError;
 
 impl FrameState {
@@ -27,9 +28,13 @@ impl FrameState {
             out.old out.new) }
     {
         let (actor, reference, index) = (asked.actor, asked.reference, asked.index);
-        incarnate(
-            self.alloc, wiring, &self.runs, self.me, actor, reference, index, out,
-        )?;
+        let site = Site {
+            alloc: self.alloc,
+            wiring,
+            runs: &self.runs,
+            me: self.me,
+        };
+        incarnate(&site, actor, reference, index, out)?;
         Ok(())
     }
 
@@ -42,9 +47,13 @@ impl FrameState {
             out.old out.new) }
     {
         let (actor, reference, index) = (asked.actor, asked.reference, asked.index);
-        destroy(
-            self.alloc, wiring, &self.runs, self.me, actor, reference, index, out,
-        )?;
+        let site = Site {
+            alloc: self.alloc,
+            wiring,
+            runs: &self.runs,
+            me: self.me,
+        };
+        destroy(&site, actor, reference, index, out)?;
         Ok(())
     }
 
@@ -62,16 +71,13 @@ impl FrameState {
             (commands.Import asked.reference asked.index id))
             out.old out.new) }
     {
-        request_import(
-            &mut self.imports,
-            self.alloc,
+        let site = Site {
+            alloc: self.alloc,
             wiring,
-            &self.runs,
-            self.me,
-            asked,
-            id,
-            out,
-        )?;
+            runs: &self.runs,
+            me: self.me,
+        };
+        request_import(&mut self.imports, &site, asked, id, out)?;
         Ok(())
     }
 
@@ -83,15 +89,13 @@ impl FrameState {
             (commands.Deport asked.reference asked.index))
             out.old out.new) }
     {
-        request_deport(
-            &mut self.imports,
-            self.alloc,
+        let site = Site {
+            alloc: self.alloc,
             wiring,
-            &self.runs,
-            self.me,
-            asked,
-            out,
-        )?;
+            runs: &self.runs,
+            me: self.me,
+        };
+        request_deport(&mut self.imports, &site, asked, out)?;
         Ok(())
     }
 

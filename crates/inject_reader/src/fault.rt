@@ -6,7 +6,7 @@ use crate::line_fault::LineFault;
 use std::alloc::{AllocError, AllocFailed};
 
 /// Why a text of injections is refused.
-#[derive(Clone, Copy, Drop, Debug, PartialEq, Eq)]
+#[derive(Clone, Copy, Drop, PartialEq, Eq)]
 pub enum InjectFault {
     /// The number of the first faulty line and the fault of it with the lowest code.
     Code { line: u32, fault: LineFault },

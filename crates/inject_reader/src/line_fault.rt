@@ -4,7 +4,7 @@ ghost use Rattle.std.specs.Prelude.{◌≡◌};
 ghost use Rattle.inject_reader.specs.LineFaults.{code_of};
 
 /// What is wrong with a line of injections, in the order in which it is told of one line.
-#[derive(Clone, Copy, Drop, Debug, PartialEq, Eq)]
+#[derive(Clone, Copy, Drop, PartialEq, Eq)]
 pub enum LineFault {
     /// It has no form of a line.
     NoForm,

@@ -2,7 +2,7 @@
 use room_kinds::{ControllerId, Incarnation, Msg, Notes, Sequence, Stamp};
 
 /// One step of a party, in the order in which the steps happened.
-#[derive(Drop, Debug)]
+#[derive(Drop)]
 pub enum Entry {
     /// An actor that lives from the start has taken its initial transition.
     Start {
@@ -31,7 +31,7 @@ pub enum Entry {
 }
 
 /// What a turn did. A state is that after the turn; 65,535 stands for a class without a chart.
-#[derive(Clone, Copy, Debug, PartialEq, Eq)]
+#[derive(Clone, Copy, PartialEq, Eq)]
 pub enum Did {
     /// A system message was done as a duty.
     Duty,
@@ -50,7 +50,7 @@ pub enum Did {
 pub type Journal = Sequence<Entry>;
 
 /// A message that no turn took by the end of a run: pending, or still in a mailbox.
-#[derive(Drop, Debug)]
+#[derive(Drop)]
 pub struct Left {
     pub to: ControllerId,
     pub pending: bool,
@@ -59,7 +59,7 @@ pub struct Left {
 
 /// The record of a run: a journal for each controller in order of number, the environment's posts,
 /// what was left, and the numbers of the injection lines that were not posted.
-#[derive(Drop, Debug)]
+#[derive(Drop)]
 pub struct Journals {
     pub controllers: Sequence<Journal>,
     pub environment: Journal,

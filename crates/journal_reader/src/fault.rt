@@ -2,7 +2,7 @@
 use std::alloc::AllocError;
 
 /// Why no journals were read.
-#[derive(Clone, Copy, Debug, PartialEq, Eq)]
+#[derive(Clone, Copy, PartialEq, Eq)]
 pub enum ReadFaultOf {
     /// No journals that fit the wiring have this text. The offset is that of the first byte at
     /// which it differs from the text of the journals as which it can be read, the text's end among

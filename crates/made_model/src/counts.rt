@@ -6,7 +6,7 @@ ghost use Rattle.made_model.specs.Counts.{is_counted, in_all, number_of, counts_
 use journal::{Did, Entry, Journal, Journals};
 
 /// How often each happened in a run, by all its parties. No bound of theirs is kept in a journal's type.
-#[derive(Clone, Copy, Debug, PartialEq, Eq)]
+#[derive(Clone, Copy, PartialEq, Eq)]
 pub struct Counts {
     /// Messages that went into a mailbox, the environment's with them.
     pub posts: u128,

@@ -8,7 +8,7 @@ use itoa::Buffer;
 use room_outside::{Part, Sink, WriteFault, write_only_line};
 
 /// What is told of a run of the made model.
-#[derive(Clone, Copy, Debug, PartialEq, Eq)]
+#[derive(Clone, Copy, PartialEq, Eq)]
 pub struct Summary {
     /// How many actors stand in the ring.
     pub actors: u64,

@@ -1,7 +1,7 @@
 //! What a worker does between steps in which it found nothing to do.
 //!
 //! Workers on threads of their own wait for each other's messages. One that has found nothing pauses before it
-//! looks again, first for a moment, then for longer: so it is still there when a message comes round, and leaves
+//! looks again, first briefly, then for longer: so it is still there when a message comes round, and leaves
 //! the processor to those that work. A pause ends at once when something is posted to the worker, and when all
 //! workers rest and nothing is on its way: then there is nothing to wait for, and it pauses no more. Its steps are
 //! the same with pauses and without: no clause speaks of them.
@@ -73,7 +73,7 @@ impl Pauses for WorkerPauses {
 
 /// A pause behind so many idle steps in a row, of a worker that rests. It answers whether all is calm.
 fn pause<M: Mail>(idle: u32, end: &M) -> bool {
-    for _ in 0..moments(idle) {
+    for _ in 0..waits(idle) {
         match end.rest() {
             Outlook::Called => return false,
             Outlook::Calm => return true,
@@ -83,8 +83,8 @@ fn pause<M: Mail>(idle: u32, end: &M) -> bool {
     false
 }
 
-/// How many moments a pause has: 1 to 128 spins at first, then 1 to 8 yields, then 8 to 312.
-fn moments(idle: u32) -> u32 {
+/// How many waits a pause has: 1 to 128 spins at first, then 1 to 8 yields, then 8 to 312.
+fn waits(idle: u32) -> u32 {
     if idle <= SPINNING_STEPS {
         (1 << idle) / 2
     } else if idle <= SHORT_STEPS {

@@ -2,30 +2,34 @@
 
 ghost use Rattle.std.specs.Prelude.{◌≡◌, IfOk, OnOk, length, position, is_some};
 ghost use Rattle.name_tables.specs.name_numbers.Names.{same, is_among, names_of};
-ghost use Rattle.name_tables.specs.name_index.Places.{FindsFirst, NotesFirst};
+ghost use Rattle.name_tables.specs.name_index.Places.{FindsFirst, FindsIfMany, NotesFirst, place_called};
 
 use indexmap::IndexMap;
 use std::alloc::{AllocError, Global};
 use std::marker::Model;
+
+/// Up to this many names are compared one by one, which takes no longer than a table and no memory.
+const FEW: usize = 8;
 
 /// A list of names, in which each is found without a search. Contracts see it as the list. A name
 /// may stand in it several times; its first place counts.
 #[derive(Drop)]
 pub struct NameIndex<'a> {
     names: Vec<&'a [u8]>,
+    /// The first place of each name; nothing where the names are few.
     first: IndexMap<&'a [u8], usize>,
 }
 
 impl<'a> Model for NameIndex<'a> {
     ghost use Rattle.std.specs.Prelude.{List, ℕ};
     ghost use Rattle.name_tables.specs.name_numbers.Names.{names_of};
-    ghost use Rattle.name_tables.specs.name_index.Places.{FindsFirst};
+    ghost use Rattle.name_tables.specs.name_index.Places.{FindsIfMany};
 
     ghost Value = { List (List ℕ) };
 
     ghost view = { λ n. names_of n.names.items };
 
-    ghost invariant = { λ n. FindsFirst n.first (names_of n.names.items) };
+    ghost invariant = { λ n. FindsIfMany n.first (names_of n.names.items) };
 }
 
 /// Notes the place of a name that has none yet.
@@ -55,12 +59,29 @@ fn first_places<'a>(
     Ok(first)
 }
 
+/// The first place of each name, where they are more than a few.
+fn table_of<'a>(alloc: Global, names: &[&'a [u8]]) -> Result<IndexMap<&'a [u8], usize>, AllocError>
+    ensures { IfOk result (λ m. FindsIfMany m (names_of names.now)) }
+{
+    if names.len() <= FEW {
+        return Ok(IndexMap::new(alloc));
+    }
+    first_places(alloc, names)
+}
+
+/// The first place at which a name stands in a list, by comparing one after the other.
+fn place_among(names: &[&[u8]], name: &[u8]) -> Option<usize>
+    ensures { result ≡ place_called name.now names.now }
+{
+    names.iter().position(|other| name == *other)
+}
+
 impl<'a> NameIndex<'a> {
     /// The index of a list of names. It takes time in proportion to the list.
     pub fn of(alloc: Global, names: Vec<&'a [u8]>) -> Result<NameIndex<'a>, AllocError>
         ensures { IfOk result (λ n. n ≡ names_of names.entry.items) }
     {
-        let first = first_places(alloc, names.as_slice())?;
+        let first = table_of(alloc, names.as_slice())?;
         Ok(NameIndex { names, first })
     }
 
@@ -68,6 +89,10 @@ impl<'a> NameIndex<'a> {
     pub fn place_of(&self, name: &[u8]) -> Option<usize>
         ensures { result ≡ position (same name.now) self.now }
     {
+        let names = self.names.as_slice();
+        if names.len() <= FEW {
+            return place_among(names, name);
+        }
         self.first.get(name).copied()
     }
 

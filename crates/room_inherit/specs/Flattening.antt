@@ -5,6 +5,7 @@ use Rattle.number_graphs.specs.class_containment.Containment.{IsContainmentOrder
 use Rattle.room_ast.specs.Trees.{ModelTree, model_view}
 use Rattle.room_ast.specs.declared.actor.ActorClass.{ActorClass}
 use Rattle.room_ast.specs.declared.model.Model.{Model}
+use Rattle.room_inherit.specs.BaseRules.{number_of}
 use Rattle.room_inherit.specs.Filling.{replaced}
 use Rattle.room_inherit.specs.Flat.{flat, flat_class}
 use Rattle.room_inherit.specs.Rules.{extended, none_extends_itself, refinements_are_known, refinements_differ, flat_is_small, lowest_broken}
@@ -17,7 +18,7 @@ use Rattle.room_inherit.specs.declared.fault.InheritFault.TheVariants as faults
 -- Ok exactly where none of the rules is broken, and then the model is the flat one; else the lowest rule that is broken.
 abbrev pub IsFlattened : ModelTree → Result Model InheritFault → Type 0
 IsFlattened m (Ok r) = (lowest_broken m ≡ None) × (model_view r ≡ flat m)
-IsFlattened m (Err (faults.Rule n)) = lowest_broken m ≡ Some n
+IsFlattened m (Err (faults.Rule r)) = lowest_broken m ≡ Some (number_of r)
 IsFlattened m (Err faults.Memory) = Unit {0}
 
 -- The lowest broken rule where the rules below 31 are kept.
@@ -27,13 +28,13 @@ size_rule m = if flat_is_small m then None else Some 31
 -- The same before the rule on the size is asked.
 abbrev pub IsFlat : ModelTree → Result Model InheritFault → Type 0
 IsFlat m (Ok r) = (lowest_broken m ≡ size_rule m) × (model_view r ≡ flat m)
-IsFlat m (Err (faults.Rule n)) = lowest_broken m ≡ Some n
+IsFlat m (Err (faults.Rule r)) = lowest_broken m ≡ Some (number_of r)
 IsFlat m (Err faults.Memory) = Unit {0}
 
 -- The same of the flat classes alone.
 abbrev pub AreFlat : ModelTree → Result (Vec (Option ActorClass)) InheritFault → Type 0
 AreFlat m (Ok flats) = (lowest_broken m ≡ size_rule m) × (replaced m.classes (flat_views flats.items) ≡ map (flat_class m.classes) m.classes)
-AreFlat m (Err (faults.Rule n)) = lowest_broken m ≡ Some n
+AreFlat m (Err (faults.Rule r)) = lowest_broken m ≡ Some (number_of r)
 AreFlat m (Err faults.Memory) = Unit {0}
 
 -- An order in which bases come first, or that some class extends itself.

@@ -1,6 +1,7 @@
 pub mod Views
 pub mod Flat
 pub mod Rules
+pub mod BaseRules
 pub mod Filling
 pub mod Ordering
 pub mod Judging

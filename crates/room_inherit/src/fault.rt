@@ -2,13 +2,14 @@
 ghost use Rattle.std.specs.Prelude.{◌≡◌};
 ghost use Rattle.room_inherit.specs.declared.fault.InheritFault.TheVariants.{Memory};
 
+use crate::base_rule::BaseRule;
 use std::alloc::AllocError;
 
 /// Why a model was not flattened.
-#[derive(Debug, Drop)]
+#[derive(Drop)]
 pub enum InheritFault {
-    /// The model breaks the rule of this number, from 26 to 31, and none of a lower number among these.
-    Rule(u8),
+    /// The model breaks this rule, and none of a lower number among those on bases.
+    Rule(BaseRule),
     /// There was no memory.
     Memory,
 }

@@ -4,10 +4,12 @@ ghost use Rattle.number_graphs.specs.class_containment.Containment.{IsContainmen
 ghost use Rattle.room_ast.specs.Trees.{class_view, model_view};
 ghost use Rattle.room_ast.specs.model_parts.Classes.{class_name};
 ghost use Rattle.room_inherit.specs.Filling.{replaced};
+ghost use Rattle.room_inherit.specs.BaseRules.{number_of};
 ghost use Rattle.room_inherit.specs.Flattening.{IsFlattened, IsFlat, AreFlat, OrdersBases, FillsModel, rule_of_large};
 ghost use Rattle.room_inherit.specs.Rules.{extended, extends_nothing, bases_are_known, refinements_are_known};
 ghost use Rattle.room_inherit.specs.Views.{flat_views};
 
+use crate::base_rule::BaseRule;
 use crate::class_order::depth_order;
 use crate::counting::is_small;
 use crate::fault::InheritFault;
@@ -87,19 +89,19 @@ fn rule_of_large(
     model: &Model,
     names: &NameIndex,
     order: &[usize],
-) -> Result<u8, AllocError>
+) -> Result<BaseRule, AllocError>
     requires names { names.now ≡ map class_name (model_view model.now).classes }
     requires order { IsContainmentOrder
         (map (extended (model_view model.now).classes) (model_view model.now).classes) order.now }
-    ensures { IfOk result (λ rule. rule ≡ rule_of_large (model_view model.now)) }
+    ensures { IfOk result (λ rule. number_of rule ≡ rule_of_large (model_view model.now)) }
 {
     if !refinements_are_known(alloc, model, names, order)? {
-        return Ok(29);
+        return Ok(BaseRule::KnownRefinements);
     }
     if !refinements_differ(alloc, model)? {
-        return Ok(30);
+        return Ok(BaseRule::RefinedOnce);
     }
-    Ok(31)
+    Ok(BaseRule::SmallModel)
 }
 
 /// The flat classes of a model, by number, or the lowest rule that it breaks. Where all rules below 31
@@ -109,23 +111,23 @@ fn flat_classes(alloc: Global, model: &Model) -> Result<Vec<Option<ActorClass>>,
 {
     let names = names_of_classes(alloc, model.classes.as_slice())?;
     if !has_known_bases(model, &names) {
-        return Err(InheritFault::Rule(26));
+        return Err(InheritFault::Rule(BaseRule::KnownBases));
     }
     let Some(order) = order_of_bases(alloc, model, &names)? else {
-        return Err(InheritFault::Rule(27));
+        return Err(InheritFault::Rule(BaseRule::NoCircle));
     };
     if !refinements_stand_right(model) {
-        return Err(InheritFault::Rule(28));
+        return Err(InheritFault::Rule(BaseRule::RightPlaces));
     }
     match fill(alloc, model, &names, order.as_slice())? {
         Filling::Flats(flats) => {
             if refinements_differ(alloc, model)? {
                 Ok(flats)
             } else {
-                Err(InheritFault::Rule(30))
+                Err(InheritFault::Rule(BaseRule::RefinedOnce))
             }
         }
-        Filling::Unknown => Err(InheritFault::Rule(29)),
+        Filling::Unknown => Err(InheritFault::Rule(BaseRule::KnownRefinements)),
         Filling::TooMany => {
             let rule = rule_of_large(alloc, model, &names, order.as_slice())?;
             Err(InheritFault::Rule(rule))
@@ -165,6 +167,6 @@ pub fn flatten(alloc: Global, model: Model) -> Result<Model, InheritFault>
     if is_small(&flat) {
         Ok(flat)
     } else {
-        Err(InheritFault::Rule(31))
+        Err(InheritFault::Rule(BaseRule::SmallModel))
     }
 }

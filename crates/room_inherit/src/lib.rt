@@ -8,6 +8,7 @@
 
 ghost use Rattle.room_inherit.specs.Names.{FlatKeepsNames};
 
+mod base_rule;
 mod class_order;
 mod counting;
 mod fault;
@@ -16,6 +17,7 @@ mod flattening;
 mod judging;
 mod rules;
 
+pub use base_rule::BaseRule;
 pub use fault::InheritFault;
 pub use flattening::flatten;
 

@@ -46,6 +46,7 @@ fn fault(cause: Cause, at: usize) -> LexFault
 }
 
 /// What stands at the front, which is not empty and no longer than the bytes.
+#[inline(always)]
 pub fn next_piece(bytes: &[u8]) -> Result<(Kind, usize), Cause>
     ensures value { result ≡ front bytes.now }
     ensures within { IfOk result (λ x. (0 < x.1) × (x.1 ≤ length bytes.now)) }

@@ -1,7 +1,7 @@
 //! Why a text is no model.
 
 /// Why a text is no model.
-#[derive(Clone, Copy, Debug, PartialEq, Eq)]
+#[derive(Clone, Copy, PartialEq, Eq)]
 pub enum ParseFault {
     /// No model has these tokens. The line, from 1, is that of the first token with which no model
     /// goes on, or of the end of the text.

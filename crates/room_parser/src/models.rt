@@ -7,6 +7,7 @@ ghost use Rattle.room_parser.specs.Classes.{event_driven_at, class_at, model_at,
 
 use crate::actors::actor_class;
 use room_ast::{Class, Model};
+use room_kinds::Sequence;
 use room_lexer::{Mark, Token, Word};
 use room_tokens::{
     ReadFault, Rest, TreePart, before_close, each, each_tree, place, skip, take_mark, take_word,
@@ -86,6 +87,15 @@ impl TreePart for Classes {
     }
 }
 
+/// The same classes in a list that takes no more room than they do: it stays as long as the model.
+fn fitted(classes: Sequence<Class>) -> Sequence<Class>
+    ensures { result ≡ classes }
+{
+    let mut classes = classes.into_vec();
+    classes.shrink_to_fit();
+    Sequence::from(classes)
+}
+
 /// `RoomModel` name `{` imports, classes `}`
 #[tactic(auto, unfolding(crate::specs::Classes::model_at))]
 fn model<'a>(alloc: Global, rest: Rest<'a>) -> Result<(Model, Rest<'a>), ReadFault>
@@ -101,7 +111,7 @@ fn model<'a>(alloc: Global, rest: Rest<'a>) -> Result<(Model, Rest<'a>), ReadFau
         Model {
             name,
             imports,
-            classes,
+            classes: fitted(classes),
         },
         rest,
     ))

@@ -11,6 +11,8 @@ use Rattle.room_ast.specs.Tokens.{model_tokens}
 use Rattle.room_inherit.specs.Flat.{flat}
 use Rattle.room_inherit.specs.Flattening.{IsFlattened}
 use Rattle.room_inherit.specs.Rules.{lowest_broken}
+use Rattle.room_inherit.specs.BaseRules.{number_of as number_of_base}
+use Rattle.room_inherit.specs.declared.base_rule.BaseRule.{BaseRule}
 use Rattle.room_inherit.specs.declared.fault.InheritFault.{InheritFault}
 use Rattle.room_inherit.specs.declared.fault.InheritFault.TheVariants as bases
 use Rattle.room_inherit.proofs.NamesLaw.{names_stay}
@@ -101,10 +103,10 @@ tree_flat text written tree h allowed is = record {
 }
 
 -- the lowest rule on bases that is broken was told
-pub base_rule_told : (text : List ℕ) (written : ModelTree) (rule : ℕ) (e : InheritFault) → length text ≤ most_bytes → IsWrittenOnce text written → IsFlattened written (Err e) → e ≡ bases.Rule rule → SoundCauses text (faults.Rule rule)
-base_rule_told text written rule (bases.Rule n) short h told is =
-    let same : n ≡ rule = cc in
-    breaks_base_rule rule (record { short = short; written = written; is = h.is; lowest = subst (λ k. lowest_broken written ≡ Some k) same told })
+pub base_rule_told : (text : List ℕ) (written : ModelTree) (rule : BaseRule) (e : InheritFault) → length text ≤ most_bytes → IsWrittenOnce text written → IsFlattened written (Err e) → e ≡ bases.Rule rule → SoundCauses text (faults.Rule (number_of_base rule))
+base_rule_told text written rule (bases.Rule r) short h told is =
+    let same : r ≡ rule = cc in
+    breaks_base_rule (number_of_base rule) (record { short = short; written = written; is = h.is; lowest = subst (λ (z : BaseRule). lowest_broken written ≡ Some (number_of_base z)) same told })
 base_rule_told text written rule bases.Memory short h told is = absurd cc
 
 parsed_none : (ts : List TokenValue) (line : ℕ) (e : ParseFault) → IsParsed ts (Err e) → e ≡ parsing.Syntax line → HasNoModel ts

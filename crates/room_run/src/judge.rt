@@ -69,7 +69,7 @@ fn read_tree(alloc: Global, text: &[u8]) -> Result<Model, ModelFault>
     };
     match flatten(alloc, written) {
         Ok(tree) => Ok(tree),
-        Err(InheritFault::Rule(rule)) => Err(ModelFault::Rule(rule)),
+        Err(InheritFault::Rule(rule)) => Err(ModelFault::Rule(rule.number())),
         Err(InheritFault::Memory) => Err(ModelFault::Memory),
     }
 }

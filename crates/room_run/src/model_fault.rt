@@ -6,7 +6,7 @@ use crate::status::Status;
 use room_ast::Name;
 
 /// Why a text is refused: it isn't that of a model which runs.
-#[derive(Debug, Drop)]
+#[derive(Drop)]
 pub enum ModelFault {
     /// It can't be cut into tokens at this byte, counted from 0.
     Byte(usize),

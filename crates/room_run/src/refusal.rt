@@ -8,7 +8,7 @@ use room_kinds::{ControllerId, Stamp};
 use room_verify::Verdict;
 
 /// Why a call was refused, before anything was written.
-#[derive(Debug, Drop)]
+#[derive(Drop)]
 pub enum Refusal {
     Words,
     ModelTooLong,

@@ -5,7 +5,7 @@ use room_kinds::{Endpoint, Incarnation, Msg, PlaceState, Sequence, SlotId, Stamp
 pub const NO_STATE: u16 = 65_535;
 
 /// A system at a moment of a run: its controllers in order of number, after all that happened up to a stamp.
-#[derive(Drop, Debug)]
+#[derive(Drop)]
 pub struct Snapshot {
     pub at: u64,
     pub controllers: Sequence<ControllerView>,
@@ -13,7 +13,7 @@ pub struct Snapshot {
 
 /// A controller: its clock, how many turns it took, the actors that live there and the import places of its live
 /// containers, both in order of their slots.
-#[derive(Drop, Debug)]
+#[derive(Drop)]
 pub struct ControllerView {
     pub clock: Stamp,
     pub turns: u64,
@@ -24,7 +24,7 @@ pub struct ControllerView {
 /// A live actor: the number of its state, the numbers of its attributes in order of declaration, the messages that
 /// it keeps for later, oldest first, and its peers in order of port and place. An actor whose class has no chart
 /// has the state 65,535 and no attributes.
-#[derive(Drop, Debug)]
+#[derive(Drop)]
 pub struct ActorView {
     pub who: Incarnation,
     pub state: u16,
@@ -34,7 +34,7 @@ pub struct ActorView {
 }
 
 /// A place of a port of an actor, and the endpoint to which it leads.
-#[derive(Clone, Copy, Debug, PartialEq, Eq)]
+#[derive(Clone, Copy, PartialEq, Eq)]
 pub struct PeerView {
     pub port: u16,
     pub place: u32,
@@ -42,7 +42,7 @@ pub struct PeerView {
 }
 
 /// An imported slot, and what its place holds.
-#[derive(Clone, Copy, Drop, Debug, PartialEq, Eq)]
+#[derive(Clone, Copy, Drop, PartialEq, Eq)]
 pub struct PlaceView {
     pub slot: SlotId,
     pub state: PlaceState,

@@ -5,7 +5,7 @@ ghost use Rattle.room_tokens.specs.declared.fault.ReadFault.TheVariants.{Memory}
 use std::alloc::{AllocError, AllocFailed};
 
 /// Why nothing could be read.
-#[derive(Clone, Copy, Debug, PartialEq, Eq)]
+#[derive(Clone, Copy, PartialEq, Eq)]
 pub enum ReadFault {
     /// What comes does not fit. It begins at this byte, counted from 0.
     Syntax(usize),

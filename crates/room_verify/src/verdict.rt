@@ -3,7 +3,7 @@ use room_kinds::{ControllerId, Stamp};
 
 /// What is said of journals: that they are lawful, or the first of their faults. A party is a controller or the
 /// environment, which has the number after the last controller.
-#[derive(Clone, Copy, Debug, PartialEq, Eq)]
+#[derive(Clone, Copy, PartialEq, Eq)]
 pub enum Verdict {
     /// The stamps of a party don't rise; the lowest party.
     Order(ControllerId),

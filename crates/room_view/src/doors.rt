@@ -3,8 +3,8 @@ use crate::timing::has_timers;
 use room_kinds::{ReferenceKind, SlotId};
 use room_wiring::{PortNames, SignalNames, Slot, Wiring};
 use std::alloc::{AllocError, Global};
-use view_journals::view_pages::Page;
-use view_journals::{incoming, is_end, place_count, type_name};
+use view_journals::{incoming, is_end, place_count, put_path};
+use view_pages::{Page, type_name};
 
 /// The places of a port that has several: from which to which.
 fn tell_places(page: &mut Page, count: u32) -> Result<(), AllocError> {
@@ -24,7 +24,7 @@ fn tell_door(
     count: u32,
     signal: &SignalNames,
 ) -> Result<(), AllocError> {
-    page.put_path(&slot.path)?;
+    put_path(page, &slot.path)?;
     page.put(b".")?;
     page.put(port.name.as_bytes())?;
     tell_places(page, count)?;

@@ -95,7 +95,7 @@ fn keeps_bases(alloc: Global, text: &[u8], rule: u8) -> Result<bool, AllocError>
     match flatten(alloc, written) {
         Ok(_) => Ok(true),
         Err(InheritFault::Memory) => Err(AllocError),
-        Err(InheritFault::Rule(other)) => Ok(other > rule),
+        Err(InheritFault::Rule(other)) => Ok(other.number() > rule),
     }
 }
 

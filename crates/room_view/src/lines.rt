@@ -1,14 +1,14 @@
 //! Why a line of injections is refused, and what would be right there.
 use crate::line_forms::wrong_part;
+use crate::line_meanings::line_meaning;
 use crate::texts::{Kind, read};
-use inject_reader::{InjectFault, read_injections};
+use inject_reader::{InjectFault, LineFault, read_injections};
 use room_kinds::{ReferenceKind, SlotId};
 use room_run::Status;
 use room_wiring::{ClassNames, SignalNames, Wiring};
 use std::alloc::{AllocError, Global};
-use view_causes::line_meaning;
-use view_journals::view_pages::{Meaning, Named, Page};
-use view_journals::{incoming, is_end, place_count, type_name};
+use view_journals::{incoming, is_end, place_count};
+use view_pages::{Meaning, Named, Page, type_name};
 
 /// The most names that are listed.
 const MOST_LISTED: usize = 30;
@@ -152,40 +152,42 @@ fn tell_signals(page: &mut Page, class: &ClassNames, name: &[u8]) -> Result<(), 
     Ok(())
 }
 
-/// What would be right in place of the part that a code is about.
+/// The slot of a path, and its class.
+fn slot_and_class<'w>(wiring: &'w Wiring, path: &[u8]) -> Option<(SlotId, &'w ClassNames)> {
+    let slot = slot_of(wiring, path)?;
+    let class = wiring.class_of(slot)?;
+    Some((slot, class))
+}
+
+/// What would be right in place of the part that a fault is about.
 fn tell_right(
     alloc: Global,
     page: &mut Page,
     wiring: &Wiring,
     line: &[u8],
-    code: u8,
+    fault: LineFault,
 ) -> Result<(), AllocError> {
     let parts = parts_of(line);
-    if code == 2 {
-        page.end_line()?;
-        return tell_paths(alloc, page, wiring, parts.path);
-    }
-    let Some(slot) = slot_of(wiring, parts.path) else {
-        return Ok(());
-    };
-    let Some(class) = wiring.class_of(slot) else {
-        return Ok(());
-    };
-    match code {
-        3 => {
+    match (fault, slot_and_class(wiring, parts.path)) {
+        (LineFault::NoSlot, _) => {
+            page.end_line()?;
+            tell_paths(alloc, page, wiring, parts.path)
+        }
+        (LineFault::NoEnd, Some((slot, class))) => {
             page.end_line()?;
             tell_ports(page, wiring, slot, class)
         }
-        4 | 5 => {
+        (LineFault::NoSignal | LineFault::OtherNumbers, Some((_, class))) => {
             page.end_line()?;
             tell_signals(page, class, parts.port)
         }
-        _ => Ok(()),
+        (LineFault::NoEnd | LineFault::NoSignal | LineFault::OtherNumbers, None)
+        | (LineFault::NoForm | LineFault::TooManyLines | LineFault::NoTime, _) => Ok(()),
     }
 }
 
-/// The bytes of the part of a line that a code is about, counted in the line.
-fn marked(line: &[u8], code: u8) -> (usize, usize) {
+/// The bytes of the part of a line that a fault is about, counted in the line.
+fn marked(line: &[u8], fault: LineFault) -> (usize, usize) {
     let lead = line.iter().position(|byte| !is_blank(*byte)).unwrap_or(0);
     let parts = parts_of(line);
     let path = lead.saturating_add(parts.path.len());
@@ -193,23 +195,12 @@ fn marked(line: &[u8], code: u8) -> (usize, usize) {
     let behind = line.get(place..).unwrap_or(&[]);
     let gap = behind.iter().position(|byte| !is_blank(*byte)).unwrap_or(0);
     let signal = place.saturating_add(gap);
-    match code {
-        2 => (lead, path),
-        3 => (path.saturating_add(1), place),
-        4 => (signal, signal.saturating_add(parts.signal.len())),
-        5 => (signal, line.len()),
-        _ => (0, line.len()),
-    }
-}
-
-/// What a code means. Code 7 is one of verdicts alone.
-fn meaning_of(code: u8) -> Meaning {
-    if code != 7 {
-        return line_meaning(code);
-    }
-    Meaning {
-        fault: "the line moves the time on, and no journals are judged over such lines",
-        cure: "none: `verify` knows no virtual time (docs/VERIFY.md)",
+    match fault {
+        LineFault::NoSlot => (lead, path),
+        LineFault::NoEnd => (path.saturating_add(1), place),
+        LineFault::NoSignal => (signal, signal.saturating_add(parts.signal.len())),
+        LineFault::OtherNumbers => (signal, line.len()),
+        LineFault::NoForm | LineFault::TooManyLines | LineFault::NoTime => (0, line.len()),
     }
 }
 
@@ -224,23 +215,22 @@ pub(crate) fn tell_lines(
     let InjectFault::Code { line, fault } = fault else {
         return Err(AllocError);
     };
-    let code = fault.code();
     page.put(named.name.as_bytes())?;
     page.put(b" is refused: line ")?;
     page.put_number(u64::from(line))?;
     page.put(b", code ")?;
-    page.put_number(u64::from(code))?;
+    page.put_number(u64::from(fault.code()))?;
     page.end_line()?;
-    page.put_meaning(meaning_of(code))?;
+    page.put_meaning(line_meaning(fault))?;
     page.end_line()?;
     let (start, end) = span_of(named.text, line);
     let bytes = named.text.get(start..end).unwrap_or(&[]);
-    if code == 1 {
+    if fault == LineFault::NoForm {
         return tell_form(alloc, page, named, start, bytes);
     }
-    let (from, to) = marked(bytes, code);
+    let (from, to) = marked(bytes, fault);
     page.put_part(named, start.saturating_add(from), start.saturating_add(to))?;
-    tell_right(alloc, page, wiring, bytes, code)
+    tell_right(alloc, page, wiring, bytes, fault)
 }
 
 /// Which part of a line is not of the form of lines. It begins at a byte of the text.

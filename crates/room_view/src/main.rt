@@ -15,13 +15,13 @@ mod accepted;
 mod doors;
 mod judge;
 mod line_forms;
+mod line_meanings;
 mod lines;
 mod messages;
 mod pictures;
 mod runs;
 mod texts;
 mod timing;
-mod titles;
 mod verdicts;
 mod why;
 mod words;
@@ -44,8 +44,8 @@ use std::process::ExitCode;
 use std::rt::Env;
 use std::thread::Builder;
 use std::{env, io};
-use view_journals::view_pages::{Named, Page};
 use view_lint::tell_findings;
+use view_pages::{Named, Page};
 
 /// The words behind the program's name; none at all where one of them is no text.
 fn words_of<R: Env + AllocGlobal>(rt: &R) -> io::Result<Vec<String>> {

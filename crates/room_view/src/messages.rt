@@ -9,10 +9,10 @@ use room_kinds::{ControllerId, Stamp};
 use room_run::Status;
 use room_wiring::Wiring;
 use std::alloc::{AllocError, Global};
-use view_journals::view_pages::{Named, Page};
 use view_journals::{Name, Redone};
 use view_messages::chart_replays::replays_of;
 use view_messages::{Explained, tell_message};
+use view_pages::{Named, Page};
 
 /// Who sent a message of this name; none where no controller has the number.
 fn sender_of(wiring: &Wiring, name: MessageName<'_>) -> Option<ControllerId> {

@@ -1,7 +1,6 @@
 //! Pictures of a model and its runs: actors with their bindings, charts of classes, and who sent what to whom.
 use crate::accepted::Accepted;
-use crate::runs::{knows, run_of, wanted_of};
-use crate::titles::title_of;
+use crate::runs::{RunOf, knows, run_of, wanted_of};
 use crate::verdicts::Asking;
 use crate::words::Options;
 use room_ast::Model;
@@ -9,24 +8,13 @@ use room_lexer::{LexFault, Token, lex};
 use room_run::Status;
 use std::alloc::{AllocError, Global};
 use view_charts::Source;
-use view_drawing::{
-    Diagram, Sequence, put_dot, put_mermaid, put_sequence_dot, put_sequence_mermaid,
-    put_sequence_svg, put_svg,
-};
 use view_journals::Wanted;
-use view_journals::view_pages::Page;
+use view_pages::Page;
 use view_pictures::{
-    Scene, chart_picture, machine_of, run_picture, scene_picture, tell_machines, wiring_picture,
+    Form, Scene, Titled, form_of, machine_of, put_chart, put_run, put_scene, put_wiring,
+    tell_machines, title_of,
 };
 use view_verdicts::Moment;
-
-/// The form of a picture.
-#[derive(Clone, Copy, PartialEq, Eq)]
-pub(crate) enum Form {
-    Svg,
-    Dot,
-    Mermaid,
-}
 
 /// What a picture shows.
 #[derive(Clone, Copy)]
@@ -43,16 +31,6 @@ pub(crate) struct Picture<'a> {
     form: Form,
 }
 
-/// The form that a word names.
-pub(crate) fn form_of(word: &str) -> Option<Form> {
-    match word {
-        "--svg" => Some(Form::Svg),
-        "--dot" => Some(Form::Dot),
-        "--mermaid" => Some(Form::Mermaid),
-        _ => None,
-    }
-}
-
 /// The picture that a command asks for with the words behind the model: `wiring MODEL [FORM]` or `chart MODEL CLASS
 /// [FORM]`.
 pub(crate) fn picture_of<'a>(command: &str, rest: &'a [String]) -> Option<Picture<'a>> {
@@ -64,14 +42,6 @@ pub(crate) fn picture_of<'a>(command: &str, rest: &'a [String]) -> Option<Pictur
         _ => return None,
     };
     Some(Picture { shown, form })
-}
-
-fn put_picture(page: &mut Page, diagram: &Diagram, form: Form) -> Result<(), AllocError> {
-    match form {
-        Form::Svg => put_svg(page, diagram),
-        Form::Dot => put_dot(page, diagram),
-        Form::Mermaid => put_mermaid(page, diagram),
-    }
 }
 
 /// Tells that a model has no chart of a class of this name.
@@ -91,15 +61,36 @@ fn tokens_of(alloc: Global, text: &[u8]) -> Result<Vec<Token>, AllocError> {
     }
 }
 
-/// The picture of the actors of a model with this text.
-fn wiring_of(alloc: Global, text: &[u8], model: &Accepted) -> Result<Diagram, AllocError> {
+/// Puts the picture of the actors of a model with this text.
+fn put_wiring_of(
+    alloc: Global,
+    page: &mut Page,
+    text: &[u8],
+    model: &Accepted,
+    titled: Titled,
+) -> Result<(), AllocError> {
     let tokens = tokens_of(alloc, text)?;
     let source = Source {
         alloc,
         text,
         tokens: tokens.as_slice(),
     };
-    wiring_picture(source, &model.tree, model.wiring())
+    put_wiring(page, source, &model.tree, model.wiring(), titled)
+}
+
+/// Puts the picture of the chart of a class.
+fn put_chart_of(
+    alloc: Global,
+    page: &mut Page,
+    model: &Model,
+    class: &str,
+    titled: Titled,
+) -> Result<Status, AllocError> {
+    match machine_of(model, class.as_bytes()) {
+        Some(machine) => put_chart(alloc, page, class.as_bytes(), machine, titled)?,
+        None => return tell_no_chart(page, model, class),
+    }
+    Ok(Status::Done)
 }
 
 /// Puts a picture of a model with this text, for which these words ask.
@@ -112,15 +103,14 @@ pub(crate) fn tell_picture(
     picture: Picture<'_>,
 ) -> Result<Status, AllocError> {
     let tree = &model.tree;
-    let mut diagram = match picture.shown {
-        Shown::Wiring => wiring_of(alloc, text, model)?,
-        Shown::Chart(class) => match machine_of(tree, class.as_bytes()) {
-            Some(machine) => chart_picture(alloc, class.as_bytes(), machine)?,
-            None => return tell_no_chart(page, tree, class),
-        },
+    let titled = Titled {
+        title: title_of(alloc, tree, words)?,
+        form: picture.form,
     };
-    diagram.title = title_of(alloc, tree, words)?;
-    put_picture(page, &diagram, picture.form)?;
+    match picture.shown {
+        Shown::Wiring => put_wiring_of(alloc, page, text, model, titled)?,
+        Shown::Chart(class) => return put_chart_of(alloc, page, tree, class, titled),
+    }
     Ok(Status::Done)
 }
 
@@ -142,34 +132,34 @@ pub(crate) fn tell_scene(
         snapshot: &moment.snapshot,
         waiting: moment.waiting.as_slice(),
     };
-    let mut diagram = scene_picture(source, &asking.model.tree, scene)?;
-    diagram.title = title_of(asking.alloc, &asking.model.tree, asking.words)?;
-    put_picture(page, &diagram, form)
+    let tree = &asking.model.tree;
+    let titled = Titled {
+        title: title_of(asking.alloc, tree, asking.words)?,
+        form,
+    };
+    put_scene(page, source, tree, scene, titled)
 }
 
-fn put_run(page: &mut Page, sequence: &Sequence, form: Form) -> Result<(), AllocError> {
-    match form {
-        Form::Svg => put_sequence_svg(page, sequence),
-        Form::Dot => put_sequence_dot(page, sequence),
-        Form::Mermaid => put_sequence_mermaid(page, sequence),
-    }
-}
-
-/// The picture of what is wanted of the run of the journals of a file, or what is told of it and the status.
-fn sequence_of(
-    rt: HostRuntime,
+/// Puts a picture of what is wanted of a run.
+fn put_run_of(
+    alloc: Global,
     page: &mut Page,
     model: &Accepted,
-    name: &str,
+    run: &RunOf,
     wanted: Wanted<'_>,
-) -> Result<Result<Sequence, Status>, AllocError> {
-    let run = match run_of(rt, page, model, name)? {
-        Ok(run) => run,
-        Err(status) => return Ok(Err(status)),
-    };
+    titled: Titled,
+) -> Result<Status, AllocError> {
     let wiring = model.wiring();
-    let sequence = run_picture(rt.alloc(), wiring, &run.journals, &run.redone, wanted)?;
-    Ok(Ok(sequence))
+    put_run(
+        alloc,
+        page,
+        wiring,
+        &run.journals,
+        &run.redone,
+        wanted,
+        titled,
+    )?;
+    Ok(Status::Done)
 }
 
 /// Puts a picture of what options ask for of the run of the journals of a file, for which these words ask.
@@ -186,11 +176,13 @@ pub(crate) fn tell_run_picture(
     if !knows(page, wiring, options)? {
         return Ok(Status::WordsRefused);
     }
-    let mut sequence = match sequence_of(rt, page, model, name, wanted_of(wiring, options))? {
-        Ok(sequence) => sequence,
-        Err(status) => return Ok(status),
+    let titled = Titled {
+        title: title_of(rt.alloc(), &model.tree, words)?,
+        form,
     };
-    sequence.title = title_of(rt.alloc(), &model.tree, words)?;
-    put_run(page, &sequence, form)?;
-    Ok(Status::Done)
+    let wanted = wanted_of(wiring, options);
+    match run_of(rt, page, model, name)? {
+        Ok(run) => put_run_of(rt.alloc(), page, model, &run, wanted, titled),
+        Err(status) => Ok(status),
+    }
 }

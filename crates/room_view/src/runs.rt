@@ -9,9 +9,9 @@ use room_kinds::SlotId;
 use room_run::Status;
 use room_wiring::Wiring;
 use std::alloc::{AllocError, Global};
-use view_journals::view_pages::{Named, Page};
 use view_journals::{Redone, Wanted, find_signal, tell_end, tell_outputs, tell_story};
 use view_messages::chart_replays::{Replays, replays_of};
+use view_pages::{Named, Page};
 use view_verdicts::tell_no_run;
 
 /// Whether a text has the last line of journals.

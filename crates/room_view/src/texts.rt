@@ -5,7 +5,7 @@ use crate::why::tell_refused;
 use room_outside::{FileShelf, MAX_TEXT, ReadBefore, ReadRefused, Shelf, TextFile, read_limit};
 use room_run::Status;
 use std::alloc::{AllocError, Global};
-use view_journals::view_pages::{Named, Page};
+use view_pages::{Named, Page};
 
 /// The most bytes of the text of journals.
 const MAX_JOURNALS: u64 = 268_435_456;

@@ -3,7 +3,7 @@ ghost use Rattle.inject_reader.specs.Fitting.{LinesFit};
 
 use crate::accepted::Accepted;
 use crate::lines::tell_lines;
-use crate::pictures::{Form, tell_scene};
+use crate::pictures::tell_scene;
 use crate::runs::journals_in;
 use crate::texts::{Kind, read};
 use crate::words::{Judgement, Look};
@@ -12,9 +12,10 @@ use inject_reader::{InjectFault, read_lines_fit, read_untimed};
 use journal::Journals;
 use room_run::Status;
 use std::alloc::{AllocError, Global};
-use view_journals::view_pages::{Named, Page};
+use view_pages::{Named, Page};
+use view_pictures::Form;
 use view_verdicts::{
-    Judged, Texts, fuel_told, moment_at, moments_at, tell_changes, tell_unlawful, tell_verdict,
+    Judged, Texts, fuel_told, moment_at, tell_changes_between, tell_unlawful, tell_verdict,
 };
 
 /// The model of which journals are told, its text, and the words of the call.
@@ -33,24 +34,6 @@ fn status_of(is_told: bool) -> Status {
     } else {
         Status::Unlawful
     }
-}
-
-/// What changed from one stamp of journals to another.
-fn tell_changes_of(
-    alloc: Global,
-    page: &mut Page,
-    judged: Judged<'_>,
-    texts: Texts<'_>,
-    first: u64,
-    second: u64,
-) -> Result<bool, AllocError>
-    requires fit { LinesFit judged.plant.now.wiring judged.lines.now }
-{
-    let Some((before, after)) = moments_at(alloc, page, judged, texts, first, second)? else {
-        return Ok(false);
-    };
-    tell_changes(alloc, page, &judged.plant.wiring, &before, &after)?;
-    Ok(true)
 }
 
 /// A picture of those who live at a stamp of journals.
@@ -84,7 +67,7 @@ fn tell_look(
     match look {
         Look::Verdict { .. } => tell_verdict(asking.alloc, page, judged, texts),
         Look::Changes { first, second } => {
-            tell_changes_of(asking.alloc, page, judged, texts, first, second)
+            tell_changes_between(asking.alloc, page, judged, texts, first, second)
         }
         Look::Wiring { at, form } => tell_scene_of(page, asking, judged, texts, at, form),
     }

@@ -16,7 +16,7 @@ use view_causes::{
     rule_cause, rule_meaning, system_causes, wiring_meaning, word_meaning,
 };
 use view_charts::{Item, Source, head_of};
-use view_journals::view_pages::{Meaning, Named, Page};
+use view_pages::{Meaning, Named, Page};
 
 pub(crate) fn tell_refused(page: &mut Page, named: Named<'_>, by: &[u8]) -> Result<(), AllocError> {
     page.put(named.name.as_bytes())?;
@@ -413,7 +413,7 @@ fn tell_tree(
         Ok(tree) => Ok(Some(tree)),
         Err(InheritFault::Memory) => Err(AllocError),
         Err(InheritFault::Rule(rule)) => {
-            let fault = ModelFault::Rule(rule);
+            let fault = ModelFault::Rule(rule.number());
             tell_fault(alloc, page, named, tokens, &fault, None)?;
             Ok(None)
         }

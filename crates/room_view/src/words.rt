@@ -1,7 +1,8 @@
 //! What the words of a call ask for.
-use crate::pictures::{Form, Picture, form_of, picture_of};
+use crate::pictures::{Picture, picture_of};
 use room_run::stamp_of;
 use text_reading::{are_digits, value};
+use view_pictures::{Form, form_of};
 
 /// What is told where words have another form.
 pub(crate) const FORMS: &[u8] =

@@ -8,6 +8,7 @@
 pub mod frame_messages;
 mod look_up;
 mod messages;
+mod site;
 pub mod slot_runs;
 
 pub use frame_messages::{
@@ -16,4 +17,5 @@ pub use frame_messages::{
 };
 pub use look_up::{is_own, is_same_endpoint, is_sap, is_spp, joined_at, owner_of};
 pub use messages::{Code, FrameSignal, frame_message, system};
+pub use site::Site;
 pub use slot_runs::{SlotRuns, container_of, is_fixed, is_imported, is_optional, is_part_of};

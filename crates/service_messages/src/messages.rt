@@ -6,7 +6,7 @@ ghost use Rattle.service_messages.specs.Shown.{signal_of, code_of};
 use room_kinds::{ControllerId, Endpoint, Msg, Payload, Priority, Stamp, SysKind};
 
 /// The signals of the port `frame`, by which an actor is told what came of its requests.
-#[derive(Clone, Copy, Drop, Debug, PartialEq, Eq)]
+#[derive(Clone, Copy, Drop, PartialEq, Eq)]
 pub enum FrameSignal {
     Created,
     Destroyed,
@@ -29,7 +29,7 @@ impl FrameSignal {
 }
 
 /// Why a request was refused.
-#[derive(Clone, Copy, Drop, Debug, PartialEq, Eq)]
+#[derive(Clone, Copy, Drop, PartialEq, Eq)]
 pub enum Code {
     Occupied = 1,
     NoSlot = 2,

@@ -28,8 +28,36 @@ kept_in m (x ∷ rs) e zero r at =
     let P : FlatRule → Type 0 = λ y. (rule_of y).keeps m ≡ true in subst P (same_Some x r at) (head_kept ((rule_of x).keeps m) (rule_of x).number _ e)
 kept_in m (x ∷ rs) e (suc i) r at = kept_in m rs (tail_kept ((rule_of x).keeps m) (rule_of x).number _ e) i r at
 
--- where each rule stands
-stands : (r : FlatRule) → slice_get flat_rules ((rule_of r).number - 1) ≡ Some r
+-- where each rule stands in the list
+place_of : FlatRule → ℕ
+place_of rules.OneSystem = 0
+place_of rules.ClassNames = 1
+place_of rules.PartNames = 2
+place_of rules.MessageNames = 3
+place_of rules.FieldNames = 4
+place_of rules.KnownTypes = 5
+place_of rules.FiniteData = 6
+place_of rules.SmallClasses = 7
+place_of rules.FittingValues = 8
+place_of rules.KnownProtocols = 9
+place_of rules.OwnPorts = 10
+place_of rules.KnownActors = 11
+place_of rules.FiniteActors = 12
+place_of rules.Replication = 13
+place_of rules.AnyPlacesAtEnds = 14
+place_of rules.PlainSubsystems = 15
+place_of rules.ImportedEnds = 16
+place_of rules.BindingSides = 17
+place_of rules.SidesAgree = 18
+place_of rules.AnyPlacesOnce = 19
+place_of rules.KnownLayers = 20
+place_of rules.FewThreads = 21
+place_of rules.KnownMappings = 22
+place_of rules.AllowedMappings = 23
+place_of rules.FewParts = 24
+
+stands : (r : FlatRule) → slice_get flat_rules (place_of r) ≡ Some r
+unfolding place_of
 stands rules.OneSystem = refl
 stands rules.ClassNames = refl
 stands rules.PartNames = refl
@@ -59,7 +87,7 @@ stands rules.FewParts = refl
 -- a model that breaks no rule keeps each of them
 pub rule_kept : (m : ModelTree) → first_broken all_rules m ≡ None → (r : FlatRule) → (rule_of r).keeps m ≡ true
 unfolding all_rules
-rule_kept m e r = kept_in m flat_rules e ((rule_of r).number - 1) r (stands r)
+rule_kept m e r = kept_in m flat_rules e (place_of r) r (stands r)
 
 pub all_finite : (m : ModelTree) → first_broken all_rules m ≡ None → data_is_finite m ≡ true
 all_finite m e = rule_kept m e rules.FiniteData

@@ -7,7 +7,7 @@ use crate::flat_rule::FlatRule;
 use std::alloc::AllocError;
 
 /// Why a model was refused.
-#[derive(Debug, Drop)]
+#[derive(Drop)]
 pub enum CheckFault {
     /// The model breaks this rule, and none of a lower number.
     Rule(FlatRule),

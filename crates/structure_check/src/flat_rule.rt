@@ -5,7 +5,7 @@ ghost use Rattle.structure_check.specs.List.{rule_of};
 
 /// A rule of flat models, in which each class has all that it has from its bases. They are told in this
 /// order.
-#[derive(Clone, Copy, Drop, Debug, PartialEq, Eq)]
+#[derive(Clone, Copy, Drop, PartialEq, Eq)]
 pub enum FlatRule {
     /// There is one system, with one subsystem of a known class.
     OneSystem,

@@ -1,92 +1,25 @@
 //! A call of the program in memory.
-use room_outside::{Gate, MemShelf, MemSink, OpenGate};
+use room_outside::{MeetGate, MemShelf, MemSink};
 use room_run::{Status, room_top};
 use std::alloc::{AllocError, Global};
 use std::process::Abort;
 use std::test::Fail;
 use std::thread::Threads;
 
-/// Two controllers, of which one asks and the other answers.
-pub(crate) const MODEL: &str = "RoomModel M {
-LogicalSystem L { SubSystemRef s: S }
-SubSystemClass S { ActorRef top: T LogicalThread t0 LogicalThread t1 ActorInstanceMapping top/b -> t1 }
-ProtocolClass G { incoming { Message kick() } outgoing { } }
-ProtocolClass PP { incoming { Message ping(int32) } outgoing { Message pong(int32) } }
-ActorClass A { Interface { conjugated Port p: PP } Structure { external Port p Port go: G }
-Behavior { StateMachine { Transition i: initial -> Wait State Wait
-Transition k: Wait -> Wait { triggers { <kick: go> } action { \"p.ping(1);\" } }
-Transition q: Wait -> Wait { triggers { <pong: p> } } } } }
-ActorClass B { Interface { Port p: PP } Structure { external Port p }
-Behavior { StateMachine { Transition i: initial -> Up State Up
-Transition r: Up -> Up { triggers { <ping: p> } action { \"p.pong(data + 1);\" } } } } }
-ActorClass T { Structure { ActorRef a: A ActorRef b: B Binding a.p and b.p } }
-}";
-
-const INJECTIONS: &str = "top/a.go kick\n";
-
-/// What a run of the model over these injections prints, in 17 lines.
-pub(crate) const JOURNAL: &str = "room-journal 2
-controller 0 t0
-start top#1 -
-start top/a#1 Wait
-2 fetch env@1
-3 turn env@1 handled top/a#1 Wait
-4 post 1 3 top/a#1.p[0] top/b#1.p[0] ping 1
-8 fetch 1@7
-9 turn 1@7 handled top/a#1 Wait
-controller 1 t1
-start top/b#1 Up
-5 fetch 0@4
-6 turn 0@4 handled top/b#1 Up
-7 post 0 3 top/b#1.p[0] top/a#1.p[0] pong 2
-environment
-1 post 0 3 - top/a#0.go[0] kick
-done
-";
-
-/// So many lines at the front of a text.
-pub(crate) fn first_lines(text: &str, lines: usize) -> &str {
-    let mut left = lines;
-    for (at, byte) in text.as_bytes().iter().enumerate() {
-        if left == 0 {
-            return text.get(..at).unwrap_or(text);
-        }
-        if *byte == b'\n' {
-            left -= 1;
-        }
-    }
-    text
-}
-
 /// What the program is given: words, the texts of a model, of injections and of journals under the names
-/// `model.room`, `inject.txt` and `journals.txt`, the numbers of the calls that fail, from 1, and how many
-/// bytes the output takes.
+/// `model.room`, `inject.txt` and `journals.txt`, which call of each kind fails, counted from 1, and how
+/// many bytes the output takes.
 #[derive(Clone, Copy)]
 pub(crate) struct Case<'a> {
     pub(crate) words: &'a [&'a str],
     pub(crate) model: &'a str,
     pub(crate) injections: &'a str,
     pub(crate) journals: &'a str,
-    pub(crate) failing_reads: &'a [u64],
-    pub(crate) failing_writes: &'a [u64],
-    pub(crate) failing_notes: &'a [u64],
+    pub(crate) failing_read: Option<u64>,
+    pub(crate) failing_write: Option<u64>,
+    pub(crate) failing_note: Option<u64>,
     pub(crate) room: usize,
 }
-
-/// A run of the model, of which nothing fails.
-pub(crate) const RUN: Case<'static> = Case {
-    words: &["run", "model.room", "inject.txt"],
-    model: MODEL,
-    injections: INJECTIONS,
-    journals: JOURNAL,
-    failing_reads: &[],
-    failing_writes: &[],
-    failing_notes: &[],
-    room: 10_000,
-};
-
-/// The words that ask for journals in form 2.
-pub(crate) const CONVERT: [&str; 3] = ["convert", "model.room", "journals.txt"];
 
 /// What the program answered and wrote.
 #[derive(Drop)]
@@ -94,6 +27,14 @@ pub(crate) struct Told {
     pub(crate) status: Status,
     pub(crate) out: MemSink,
     pub(crate) notes: MemSink,
+}
+
+/// The files and sinks of a call.
+#[derive(Drop)]
+struct Outside {
+    shelf: MemShelf,
+    out: MemSink,
+    notes: MemSink,
 }
 
 fn words_of(alloc: Global, words: &[&str]) -> Result<Vec<String>, AllocError> {
@@ -109,37 +50,69 @@ fn file(alloc: Global, name: &str, text: &str) -> Result<(String, Vec<u8>), Allo
     Ok((name, Vec::from_slice(alloc, text.as_bytes())?))
 }
 
+/// The calls that fail.
+fn calls(alloc: Global, failing: Option<u64>) -> Result<Vec<u64>, AllocError> {
+    let mut calls = Vec::new(alloc);
+    if let Some(call) = failing {
+        calls.push(call)?;
+    }
+    Ok(calls)
+}
+
+fn shelf_of(alloc: Global, case: &Case) -> Result<MemShelf, AllocError> {
+    let mut files = Vec::new(alloc);
+    files.push(file(alloc, "model.room", case.model)?)?;
+    files.push(file(alloc, "inject.txt", case.injections)?)?;
+    files.push(file(alloc, "journals.txt", case.journals)?)?;
+    MemShelf::new(alloc, files, calls(alloc, case.failing_read)?)
+}
+
+fn sink_of(alloc: Global, room: usize, failing: Option<u64>) -> Result<MemSink, AllocError> {
+    MemSink::new(alloc, room, calls(alloc, failing)?)
+}
+
+fn outside_of(alloc: Global, case: &Case) -> Result<Outside, AllocError> {
+    Ok(Outside {
+        shelf: shelf_of(alloc, case)?,
+        out: sink_of(alloc, case.room, case.failing_write)?,
+        notes: sink_of(alloc, 10_000, case.failing_note)?,
+    })
+}
+
+/// What the program answers to words.
+fn ask<R: Threads + Sync>(
+    rt: &R,
+    alloc: Global,
+    words: &[String],
+    outside: Outside,
+    gate: &MeetGate,
+) -> Told {
+    let Outside {
+        mut shelf,
+        mut out,
+        mut notes,
+    } = outside;
+    let status = room_top(rt, alloc, words, &mut shelf, &mut out, &mut notes, gate);
+    Told { status, out, notes }
+}
+
 impl Case<'_> {
     /// Runs the program at a gate.
-    pub(crate) fn run_at<G: Gate + Sync, R: Threads + Sync>(
+    pub(crate) fn run_at<R: Threads + Sync>(
         &self,
         rt: &R,
         alloc: Global,
-        gate: &G,
+        gate: &MeetGate,
     ) -> Result<Told, AllocError> {
         let words = words_of(alloc, self.words)?;
-        let mut files = Vec::new(alloc);
-        files.push(file(alloc, "model.room", self.model)?)?;
-        files.push(file(alloc, "inject.txt", self.injections)?)?;
-        files.push(file(alloc, "journals.txt", self.journals)?)?;
-        let mut shelf = MemShelf::new(alloc, files, self.failing_reads.to_vec(alloc)?)?;
-        let mut out = MemSink::new(alloc, self.room, self.failing_writes.to_vec(alloc)?)?;
-        let mut notes = MemSink::new(alloc, 10_000, self.failing_notes.to_vec(alloc)?)?;
-        let status = room_top(
-            rt,
-            alloc,
-            words.as_slice(),
-            &mut shelf,
-            &mut out,
-            &mut notes,
-            gate,
-        );
-        Ok(Told { status, out, notes })
+        let outside = outside_of(alloc, self)?;
+        Ok(ask(rt, alloc, words.as_slice(), outside, gate))
     }
 
-    /// Runs the program at a gate that holds nobody.
+    /// Runs the program at a gate that holds nobody, of the kind that holds two: the program is compiled once for
+    /// all tests.
     pub(crate) fn run<R: Threads + Sync>(&self, rt: &R, alloc: Global) -> Result<Told, AllocError> {
-        self.run_at(rt, alloc, &OpenGate)
+        self.run_at(rt, alloc, &MeetGate::new(0))
     }
 }
 

@@ -1,5 +1,5 @@
 //! Each front of a model, of its injections, and of its journals in both forms, with its answer.
-use crate::case::{CONVERT, Case, tells};
+use crate::case::{Case, tells};
 use crate::rows::EXCHANGE;
 use room_run::Status;
 use std::alloc::{AllocError, Global};
@@ -144,7 +144,7 @@ fn least_place(front: &str) -> usize {
 /// A front of journals is refused, and the place that is told of it stands in what is no whole line.
 fn is_malformed<R: Abort + AllocGlobal + Threads + Sync>(rt: &R, front: &str) -> Result<(), Fail> {
     let case = Case {
-        words: &CONVERT,
+        words: &["convert", "model.room", "journals.txt"],
         journals: front,
         ..EXCHANGE
     };
@@ -166,7 +166,7 @@ fn are_cut<R: Abort + AllocGlobal + Threads + Sync>(rt: &R, text: &str) -> Resul
         is_malformed(rt, front_of(text, len))?;
     }
     let whole = Case {
-        words: &CONVERT,
+        words: &["convert", "model.room", "journals.txt"],
         journals: text,
         ..EXCHANGE
     };

@@ -16,7 +16,8 @@ Transition r: Up -> Up { triggers { <ping: p> } action { \"p.pong(data + 1);\" }
 ActorClass T { Structure { ActorRef a: A ActorRef b: B Binding a.p and b.p } }
 }";
 
-const EXCHANGE_JOURNAL: &str = "room-journal 2
+/// What the exchange prints, in 16 lines.
+pub(crate) const EXCHANGE_JOURNAL: &str = "room-journal 2
 controller 0 default
 start top#1 -
 start top/a#1 Wait
@@ -40,9 +41,9 @@ pub(crate) const EXCHANGE: Case<'static> = Case {
     model: EXCHANGE_MODEL,
     injections: "top/a.go kick\n",
     journals: EXCHANGE_JOURNAL,
-    failing_reads: &[],
-    failing_writes: &[],
-    failing_notes: &[],
+    failing_read: None,
+    failing_write: None,
+    failing_note: None,
     room: 10_000,
 };
 
@@ -93,9 +94,9 @@ pub(crate) const IMPORT: Case<'static> = Case {
     model: IMPORT_MODEL,
     injections: "top.go make 1048577\n",
     journals: IMPORT_JOURNAL,
-    failing_reads: &[],
-    failing_writes: &[],
-    failing_notes: &[],
+    failing_read: None,
+    failing_write: None,
+    failing_note: None,
     room: 10_000,
 };
 
@@ -153,8 +154,8 @@ pub(crate) const NAMES: Case<'static> = Case {
     model: NAMES_MODEL,
     injections: "",
     journals: NAMES_JOURNAL,
-    failing_reads: &[],
-    failing_writes: &[],
-    failing_notes: &[],
+    failing_read: None,
+    failing_write: None,
+    failing_note: None,
     room: 10_000,
 };

@@ -1,5 +1,6 @@
-//! What only code can try of the mailboxes, alone and among threads.
+//! What only code can try of the mailboxes.
 #![tactic(auto)]
 
-pub mod mail_tests;
+#[cfg(test)]
+mod mail_tests;
 pub mod test_messages;

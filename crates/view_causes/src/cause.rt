@@ -2,7 +2,7 @@
 use room_ast::ScopeSignal;
 use std::alloc::{AllocError, Global};
 use view_charts::{Item, joined};
-use view_journals::type_name;
+use view_pages::type_name;
 
 /// What is wrong at a place of a text.
 #[derive(Drop)]

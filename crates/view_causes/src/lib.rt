@@ -33,7 +33,7 @@ mod triggers;
 
 pub use cause::Cause;
 pub use charts::{ChartFault, chart_causes};
-pub use meanings::{chart_meaning, line_meaning, rule_meaning, wiring_meaning};
+pub use meanings::{chart_meaning, rule_meaning, wiring_meaning};
 pub use misread::word_meaning;
 pub use names::named_by;
 pub use rule_causes::{rule_cause, system_causes};

@@ -1,5 +1,5 @@
 //! What the numbers of faults mean, and how such a fault is mended.
-use view_journals::view_pages::Meaning;
+use view_pages::Meaning;
 
 const fn of(fault: &'static str, cure: &'static str) -> Meaning {
     Meaning { fault, cure }
@@ -241,41 +241,6 @@ pub fn chart_meaning(number: u8) -> Meaning {
         _ => of(
             "the chart has a fault",
             "docs/CHARTS.md tells what each fault is",
-        ),
-    }
-}
-
-/// A fault of a line of injections.
-pub fn line_meaning(code: u8) -> Meaning {
-    match code {
-        1 => of(
-            "the line has another form",
-            "write `PATH.PORT[PLACE] SIGNAL NUMBERS at PRIORITY`, of which the place, the numbers and the \
-             priority may be missing, or `settle`, or `advance N`",
-        ),
-        2 => of(
-            "no slot for actors has this path, or it is an imported one",
-            "write the path as `room tree` prints it",
-        ),
-        3 => of(
-            "the class has no such end port, or the port no such place",
-            "name an end port and one of its places, from 0",
-        ),
-        4 => of(
-            "no such message comes in at the port",
-            "name a message that comes in",
-        ),
-        5 => of(
-            "the message carries another number of numbers",
-            "as many numbers as the message has",
-        ),
-        6 => of(
-            "there are more than 10,000 lines",
-            "fewer lines; comments and empty ones count",
-        ),
-        _ => of(
-            "the line has a fault",
-            "docs/INJECTIONS.md tells what each code is",
         ),
     }
 }

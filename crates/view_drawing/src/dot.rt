@@ -3,7 +3,7 @@ use crate::colours::light;
 use crate::diagram::{Block, Diagram, End, Leads, Link, Mark, Point, Shape, Sign};
 use crate::nesting::{Blocks, Step, blocks_of, is_set, steps_of};
 use std::alloc::AllocError;
-use view_journals::view_pages::Page;
+use view_pages::Page;
 
 /// Puts a text between quotation marks.
 pub fn put_letters(page: &mut Page, text: &[u8]) -> Result<(), AllocError> {

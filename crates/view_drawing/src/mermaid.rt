@@ -4,7 +4,7 @@ use crate::diagram::{Block, Diagram, End, Link, Mark, Point, Shape, Sign};
 use crate::dot::{self, put_name};
 use crate::nesting::{Step, blocks_of, steps_of};
 use std::alloc::AllocError;
-use view_journals::view_pages::Page;
+use view_pages::Page;
 
 /// Puts a text between quotation marks: letters, digits and a few marks as they are, all others by their numbers.
 pub fn put_letters(page: &mut Page, text: &[u8]) -> Result<(), AllocError> {

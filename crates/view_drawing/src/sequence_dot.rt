@@ -3,7 +3,7 @@ use crate::colours::light;
 use crate::dot::{put_letters, put_name};
 use crate::sequence::{Event, Lead, Row, Sequence, Way};
 use std::alloc::AllocError;
-use view_journals::view_pages::Page;
+use view_pages::Page;
 
 /// The lifelines' heads in boxes for their groups.
 fn put_heads(page: &mut Page, sequence: &Sequence) -> Result<(), AllocError> {

@@ -4,7 +4,7 @@ use crate::dot::put_name;
 use crate::mermaid::{put_letters, put_title};
 use crate::sequence::{Event, Lead, Row, Sequence, Way};
 use std::alloc::AllocError;
-use view_journals::view_pages::Page;
+use view_pages::Page;
 
 /// The value of a hexadecimal digit; 0 where it is none.
 fn digit(byte: u8) -> u64 {

@@ -8,7 +8,7 @@ use crate::shapes::{
     put_corners, put_head, put_line_to, put_path, put_title, put_tooltip, put_words,
 };
 use std::alloc::AllocError;
-use view_journals::view_pages::Page;
+use view_pages::Page;
 
 /// Where the title of a group stands.
 const TITLE: usize = TOP + 15;

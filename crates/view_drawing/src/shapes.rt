@@ -1,7 +1,7 @@
 //! The shapes of which an SVG is made.
 use crate::place::{LETTER, LINE, PAD};
 use std::alloc::AllocError;
-use view_journals::view_pages::Page;
+use view_pages::Page;
 
 pub const BLACK: &[u8] = b"#222222";
 

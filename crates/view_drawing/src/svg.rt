@@ -9,7 +9,7 @@ use crate::shapes::{
     put_tooltip, put_words,
 };
 use std::alloc::AllocError;
-use view_journals::view_pages::Page;
+use view_pages::Page;
 
 /// Half the width of a mark.
 const HALF: usize = 5;

@@ -1,7 +1,7 @@
 //! The attributes of actors by their names.
-use crate::view_pages::Page;
 use room_wiring::ClassNames;
 use std::alloc::AllocError;
+use view_pages::Page;
 
 /// Numbers with blanks between them.
 fn put_numbers(page: &mut Page, numbers: &[i64]) -> Result<(), AllocError> {

@@ -3,11 +3,11 @@ use crate::lines::word_of;
 use crate::names::{put_actor, put_controller, put_port, put_state};
 use crate::redone::{Deed, Difference, Redone};
 use crate::unheard::put_said;
-use crate::view_pages::Page;
 use journal::Did;
 use room_kinds::SlotId;
 use room_wiring::Wiring;
 use std::alloc::AllocError;
+use view_pages::Page;
 
 /// What a turn of an actor of a slot came to, and in which state.
 fn put_did(page: &mut Page, wiring: &Wiring, slot: SlotId, did: Did) -> Result<(), AllocError> {

@@ -7,12 +7,12 @@ use crate::names::{put_actor, put_state};
 use crate::redone::Redone;
 use crate::standing::Actors;
 use crate::turns::{Turn, turns_of};
-use crate::view_pages::Page;
 use indexmap::{IndexMap, IndexSet};
 use journal::{Did, Journals};
 use room_kinds::{Generation, Incarnation, SlotId};
 use room_wiring::Wiring;
 use std::alloc::{AllocError, Global};
+use view_pages::Page;
 
 /// What became of the message of a turn in the end.
 #[derive(Clone, Copy, PartialEq, Eq)]

@@ -1,9 +1,9 @@
 //! The numbers of the messages that come in at `frame`, by the names of what they number.
 use crate::names::put_actor;
-use crate::view_pages::Page;
 use room_kinds::{Generation, Incarnation, SlotId};
 use room_wiring::Wiring;
 use std::alloc::AllocError;
+use view_pages::Page;
 
 /// An actor's number is its slot's times this, and its generation.
 const NUMBERS_OF_A_SLOT: i64 = 1 << 20;

@@ -25,7 +25,6 @@ mod story;
 mod told;
 mod turns;
 mod unheard;
-pub mod view_pages;
 
 pub use attributes::{put_attributes, put_changed_attributes};
 pub use differs::{put_difference, tell_difference};
@@ -37,13 +36,12 @@ pub use lines::{end_word, put_left, tell_turn, word_of};
 pub use messages::{actor_at, put_end, put_incoming, put_received};
 pub use moments::{Arming, Moment, arming_before, is_timeout, moments_of, put_arming, put_moment};
 pub use names::{
-    find_signal, place_count, put_actor, put_controller, put_name, put_port, put_state, put_states,
+    find_signal, place_count, put_actor, put_controller, put_name, put_path, put_port, put_state,
+    put_states,
 };
 pub use notes::{is_trouble_note, put_note};
 pub use outputs::tell_outputs;
-pub use ports::{
-    Outlets, has_joined, incoming, is_end, is_joined, is_outlet, partner_of, type_name,
-};
+pub use ports::{Outlets, has_joined, incoming, is_end, is_joined, is_outlet, partner_of};
 pub use redone::{Deed, Difference, Redone, Said, Sayings};
 pub use standing::{Actors, Standing};
 pub use story::tell_story;

@@ -5,11 +5,11 @@ use crate::names::{put_actor, put_controller, put_name, put_states};
 use crate::notes::{have_trouble, put_notes};
 use crate::standing::Actors;
 use crate::turns::Turn;
-use crate::view_pages::Page;
 use journal::{Did, Entry, Left};
 use room_kinds::{Msg, SlotId};
 use room_wiring::Wiring;
 use std::alloc::AllocError;
+use view_pages::Page;
 
 /// The word for what a turn did, and a blank.
 pub fn word_of(did: Did) -> &'static [u8] {

@@ -2,11 +2,11 @@
 //! out.
 use crate::frame::put_frame_numbers;
 use crate::names::{put_actor, put_name, put_port, put_priority};
-use crate::view_pages::Page;
 use journal::naming;
 use room_kinds::{Endpoint, Incarnation, Msg, SlotId};
 use room_wiring::Wiring;
 use std::alloc::AllocError;
+use view_pages::Page;
 
 /// The actor of an end.
 pub fn actor_at(end: Endpoint) -> Incarnation {

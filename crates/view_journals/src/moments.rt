@@ -5,13 +5,13 @@
 //! known, as at the start and at a moment before the environment posted another message, the time itself is told.
 use crate::fetched::Name;
 use crate::names::put_name;
-use crate::view_pages::Page;
 use indexmap::IndexMap;
 use journal::{Entry, Journals};
 use room_kinds::{ControllerId, Endpoint, Msg, PortKind, Stamp};
 use room_timer::{Timer, TimerTable};
 use room_wiring::Wiring;
 use std::alloc::{AllocError, Global};
+use view_pages::Page;
 
 /// What armed a timer: a post, and how long after it the timer was due.
 #[derive(Clone, Copy, Drop)]

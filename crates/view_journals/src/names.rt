@@ -1,9 +1,9 @@
 //! How a page names actors, ports, states, controllers and priorities.
-use crate::view_pages::Page;
 use journal::naming;
 use room_kinds::{ControllerId, Incarnation, Priority, SlotId, Stamp};
-use room_wiring::{SignalNames, Wiring};
+use room_wiring::{Path, SignalNames, Wiring};
 use std::alloc::AllocError;
+use view_pages::Page;
 
 /// How many places a port of a slot has; none where there is no such port.
 pub fn place_count(wiring: &Wiring, slot: SlotId, port: usize) -> u32 {
@@ -37,10 +37,15 @@ pub fn put_priority(page: &mut Page, prio: Priority) -> Result<(), AllocError> {
     }
 }
 
+/// The path of a slot.
+pub fn put_path(page: &mut Page, path: &Path) -> Result<(), AllocError> {
+    path.push_to(page.bytes_mut())
+}
+
 /// The path of an actor; from the second one of its slot on with its generation.
 pub fn put_actor(page: &mut Page, wiring: &Wiring, who: Incarnation) -> Result<(), AllocError> {
     if let Some(slot) = wiring.get_slot(who.slot) {
-        page.put_path(&slot.path)?;
+        put_path(page, &slot.path)?;
     }
     if who.generation.0 > 1 {
         page.put(b"#")?;

@@ -2,11 +2,11 @@
 use crate::names::{put_actor, put_port, put_state};
 use crate::redone::{Said, Sayings};
 use crate::unheard::{put_said, why_unheard};
-use crate::view_pages::Page;
 use journal::speaker_after;
 use room_kinds::{Note, SlotId};
 use room_wiring::Wiring;
 use std::alloc::AllocError;
+use view_pages::Page;
 
 /// Whether a note, with what was said where nobody hears it, tells of something that its author hardly meant.
 pub fn is_trouble_note(note: &Note, said: Option<&Said>) -> bool {

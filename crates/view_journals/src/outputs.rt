@@ -5,11 +5,11 @@ use crate::redone::{Redone, Said, Sayings};
 use crate::told::{Start, starts_of};
 use crate::turns::{Turn, turns_of};
 use crate::unheard::{put_said, why_unheard};
-use crate::view_pages::Page;
 use journal::{Did, Journals};
 use room_kinds::{Incarnation, Note, SlotId};
 use room_wiring::Wiring;
 use std::alloc::{AllocError, Global};
+use view_pages::Page;
 
 /// When something is said: the stamp of the turn, none at a start, and the controller.
 #[derive(Clone, Copy)]

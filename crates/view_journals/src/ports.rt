@@ -1,22 +1,8 @@
 //! What the wiring says of the ports of a slot.
 use crate::names::place_count;
-use room_kinds::{NumberType, PortKind, SlotId};
+use room_kinds::{PortKind, SlotId};
 use room_wiring::{Partner, PortNames, SignalNames, Wiring};
 use std::alloc::{AllocError, Global};
-
-/// How a type of numbers is written.
-pub fn type_name(number: NumberType) -> &'static [u8] {
-    match number {
-        NumberType::Int8 => b"int8",
-        NumberType::Int16 => b"int16",
-        NumberType::Int32 => b"int32",
-        NumberType::Uint8 => b"uint8",
-        NumberType::Uint16 => b"uint16",
-        NumberType::Uint32 => b"uint32",
-        NumberType::Boolean => b"boolean",
-        NumberType::Plain => b"number",
-    }
-}
 
 /// The signals that come in at a port.
 pub fn incoming(port: &PortNames) -> &[SignalNames] {

@@ -9,10 +9,10 @@ use crate::redone::Redone;
 use crate::standing::Actors;
 use crate::told::{Start, Told, starts_of};
 use crate::turns::{Turn, turns_of};
-use crate::view_pages::Page;
 use journal::{Journals, Left};
 use room_wiring::Wiring;
 use std::alloc::{AllocError, Global};
+use view_pages::Page;
 
 fn tell_start(page: &mut Page, wiring: &Wiring, start: &Start<'_>) -> Result<(), AllocError> {
     put_mark(page, have_trouble(start.notes, start.said))?;

@@ -49,6 +49,14 @@ fn is_turn(entry: &Entry) -> bool {
     matches!(entry, Entry::Turn { .. })
 }
 
+/// The stamp of a turn.
+fn turn_stamp(entry: &Entry) -> Option<u64> {
+    match entry {
+        Entry::Turn { stamp, .. } => Some(stamp.0),
+        _ => None,
+    }
+}
+
 /// The entries of a journal up to its next turn.
 pub fn before_turn(entries: &[Entry]) -> &[Entry] {
     let end = entries
@@ -65,9 +73,9 @@ fn add_places(
     entries: &[Entry],
 ) -> Result<(), AllocError> {
     for (entry, step) in entries.iter().enumerate() {
-        if let Entry::Turn { stamp, .. } = step {
+        if let Some(stamp) = turn_stamp(step) {
             places.push(Place {
-                stamp: stamp.0,
+                stamp,
                 controller,
                 entry,
             })?;

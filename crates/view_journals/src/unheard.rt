@@ -3,10 +3,10 @@ use crate::messages::put_plain_numbers;
 use crate::names::{place_count, put_port, put_priority};
 use crate::ports::is_joined;
 use crate::redone::Said;
-use crate::view_pages::Page;
 use room_kinds::{Priority, SlotId};
 use room_wiring::{PortNames, Wiring};
 use std::alloc::AllocError;
+use view_pages::Page;
 
 /// The priority that a message has where nothing else is said.
 const GENERAL: Priority = Priority(3);

@@ -1,5 +1,5 @@
 //! What is told of a model.
-use view_journals::view_pages::Meaning;
+use view_pages::Meaning;
 
 /// What a finding is about, in the order in which findings are told.
 #[derive(Clone, Copy, Drop, PartialEq, Eq, PartialOrd, Ord)]

@@ -6,7 +6,7 @@ use room_kinds::NumberType;
 use room_wiring::wiring_names::Names;
 use room_wiring::{SignalNames, Wiring};
 use std::alloc::{AllocError, Global};
-use view_journals::type_name;
+use view_pages::type_name;
 
 fn is_blank(byte: u8) -> bool {
     byte == b' ' || byte == b'\t'

@@ -10,7 +10,7 @@ use room_lexer::{LexFault, Token, lex};
 use room_wiring::Wiring;
 use std::alloc::{AllocError, Global};
 use view_charts::{Source, Ways};
-use view_journals::view_pages::{Named, Page};
+use view_pages::{Named, Page};
 
 /// Where a finding stands in the order in which findings are told, and its number.
 #[derive(Clone, Copy, Drop, PartialEq, Eq, PartialOrd, Ord)]

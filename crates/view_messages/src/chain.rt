@@ -8,7 +8,7 @@ use room_ast::{Code, GraphItem, PointKind, Source, State, StateMachine, Target, 
 use room_kinds::SlotId;
 use room_wiring::Wiring;
 use std::alloc::AllocError;
-use view_journals::view_pages::Page;
+use view_pages::Page;
 
 /// A graph, and the name of the state that has it; nothing for the top graph.
 #[derive(Clone, Copy, Drop)]

@@ -12,12 +12,12 @@ use room_ast::{Class, Model, StateMachine};
 use room_kinds::{ControllerId, Incarnation, Msg, SlotId, Stamp};
 use room_wiring::Wiring;
 use std::alloc::{AllocError, Global};
-use view_journals::view_pages::{Named, Page};
 use view_journals::{
     Actors, Fetched, Name, Redone, Turn, actor_at, arming_before, is_timeout, put_actor,
     put_arming, put_controller, put_end, put_left, put_name, put_received, tell_difference,
     tell_turn, turns_of,
 };
+use view_pages::{Named, Page};
 
 /// What a message is explained by.
 #[derive(Clone, Copy)]

@@ -3,7 +3,7 @@ use crate::chart_replays::Passed;
 use room_wiring::ClassNames;
 use std::alloc::AllocError;
 use view_journals::put_attributes;
-use view_journals::view_pages::Page;
+use view_pages::Page;
 
 /// A turn of an actor, as its chart does it again: the numbers of its attributes before and after, in order of
 /// declaration, whether each of the transitions that are tried would be taken, in the order in which they are, and the

@@ -3,7 +3,7 @@ use crate::transitions::{Fit, Incoming, fit_of, is_from_point, put_transition};
 use crate::tried::graph_of;
 use room_ast::{GraphItem, Source, State, StateMachine, Target, Transition};
 use std::alloc::{AllocError, Global};
-use view_journals::view_pages::Page;
+use view_pages::Page;
 
 /// How deep states nest at most.
 const MOST_DEEP: usize = 17;

@@ -3,7 +3,7 @@ use room_ast::{
     Code, CodeText, Event, EventMessage, Name, Source, Target, Transition, Trigger, Triggers,
 };
 use std::alloc::AllocError;
-use view_journals::view_pages::Page;
+use view_pages::Page;
 
 /// A message that comes in at a port, both by name.
 #[derive(Clone, Copy)]

@@ -5,7 +5,7 @@ use crate::transitions::{
 };
 use room_ast::{GraphItem, StateMachine, Transition};
 use std::alloc::{AllocError, Global};
-use view_journals::view_pages::Page;
+use view_pages::Page;
 
 /// A state of the active path, and the graph that holds it.
 #[derive(Clone, Copy, Drop)]

@@ -360,7 +360,7 @@ fn add_keys(diagram: &mut Diagram) -> Result<(), AllocError> {
 }
 
 /// The picture of the chart of a class.
-pub fn chart_picture(
+pub(crate) fn chart_picture(
     alloc: Global,
     class: &[u8],
     machine: &StateMachine,

@@ -6,11 +6,11 @@ use room_kinds::{Msg, Note, SlotId};
 use room_wiring::Wiring;
 use std::alloc::{AllocError, Global};
 use view_drawing::Label;
-use view_journals::view_pages::Page;
 use view_journals::{
     Difference, Moment, Said, Turn, end_word, put_difference, put_incoming, put_moment, put_name,
     put_note, word_of,
 };
+use view_pages::Page;
 
 /// A label with the bytes of a page.
 fn label_of(alloc: Global, page: &Page) -> Result<Label, AllocError> {

@@ -325,7 +325,7 @@ fn picture_of_told(alloc: Global, told: &Told<'_>) -> Result<Sequence, AllocErro
 /// The picture of what is wanted of a run. No more than some 4,000 rows are drawn, and no more than 40 slots have
 /// lifelines of their own; where more take part, only the one has that is wanted alone. The picture says so, and where
 /// something is cut, or the journals are those of another model.
-pub fn run_picture(
+pub(crate) fn run_picture(
     alloc: Global,
     wiring: &Wiring,
     journals: &Journals,

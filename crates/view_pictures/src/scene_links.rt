@@ -6,8 +6,8 @@ use room_show::{ActorView, PeerView};
 use room_wiring::Wiring;
 use std::alloc::{AllocError, Global};
 use view_drawing::{Diagram, End, Label, Link, Sign, name_of};
-use view_journals::view_pages::Page;
 use view_journals::{actor_at, place_count, put_end};
+use view_pages::Page;
 
 /// A place of a port of an actor, in the order of these.
 #[derive(Clone, Copy, Drop, PartialEq, Eq, Hash)]

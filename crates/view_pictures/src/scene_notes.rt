@@ -6,8 +6,8 @@ use room_show::{ActorView, PeerView};
 use room_wiring::Wiring;
 use std::alloc::{AllocError, Global};
 use view_drawing::{Block, Label};
-use view_journals::view_pages::Page;
-use view_journals::{actor_at, put_actor, put_end, put_home, put_port};
+use view_journals::{actor_at, put_actor, put_end, put_home, put_path, put_port};
+use view_pages::Page;
 
 /// Adds a line to a block.
 fn add_note(alloc: Global, block: &mut Block, note: &Page) -> Result<(), AllocError> {
@@ -86,7 +86,7 @@ fn add_lent(
     let mut note = Page::new(alloc);
     note.put(b"lent to ")?;
     if let Some(slot) = wiring.get_slot(slot) {
-        note.put_path(&slot.path)?;
+        put_path(&mut note, &slot.path)?;
     }
     add_note(alloc, block, &note)
 }

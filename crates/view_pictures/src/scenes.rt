@@ -63,7 +63,7 @@ fn add_picture(
 
 /// The picture of the actors of a model with this text that live in a scene: in which states they are, what is lent,
 /// how many messages wait, and whom their ports lead to.
-pub fn scene_picture(
+pub(crate) fn scene_picture(
     source: Source<'_>,
     model: &Model,
     scene: Scene<'_>,

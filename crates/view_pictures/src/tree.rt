@@ -1,7 +1,7 @@
 //! The charts in the tree of a model.
 use room_ast::{ActorClass, Class, Model, StateMachine};
 use std::alloc::AllocError;
-use view_journals::view_pages::Page;
+use view_pages::Page;
 
 fn machine_in(actor: &ActorClass) -> Option<&StateMachine> {
     match &actor.behavior {

@@ -71,7 +71,7 @@ fn add_picture<'a>(
 }
 
 /// The picture of the actors of a model with this text, and of what joins their ports.
-pub fn wiring_picture<'a>(
+pub(crate) fn wiring_picture<'a>(
     source: Source<'_>,
     model: &'a Model,
     wiring: &'a Wiring,

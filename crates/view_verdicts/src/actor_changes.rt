@@ -4,8 +4,8 @@ use crate::waiting_changes::{are_same, tell_deferred_but};
 use room_show::{ActorView, Snapshot};
 use room_wiring::Wiring;
 use std::alloc::{AllocError, Global};
-use view_journals::view_pages::Page;
 use view_journals::{put_actor, put_attributes, put_changed_attributes, put_state, put_states};
+use view_pages::Page;
 
 /// The actors that live in the slots, by the slots' numbers.
 fn actors_of<'a>(

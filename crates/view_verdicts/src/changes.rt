@@ -1,13 +1,16 @@
 //! What changed from one stamp of journals to another.
+ghost use Rattle.inject_reader.specs.Fitting.{LinesFit};
+
 use crate::actor_changes::tell_actors;
-use crate::moments::Moment;
+use crate::judged::{Judged, Texts};
+use crate::moments::{Moment, moments_at};
 use crate::waiting_changes::tell_waiting_but;
 use room_kinds::{PlaceState, SlotId};
 use room_show::{ControllerView, Snapshot};
 use room_wiring::Wiring;
 use std::alloc::{AllocError, Global};
-use view_journals::view_pages::Page;
-use view_journals::{put_controller, put_home};
+use view_journals::{put_controller, put_home, put_path};
+use view_pages::Page;
 
 /// A number before and after.
 fn put_numbers(page: &mut Page, before: u64, after: u64) -> Result<(), AllocError> {
@@ -94,7 +97,7 @@ fn tell_place(
 ) -> Result<(), AllocError> {
     page.put(b"    ")?;
     if let Some(slot) = wiring.get_slot(slot) {
-        page.put_path(&slot.path)?;
+        put_path(page, &slot.path)?;
     }
     page.put(b": ")?;
     put_place(page, wiring, before)?;
@@ -165,7 +168,7 @@ fn tell_waiting(
 /// Tells what changed between two moments of a run, of which the first one was before the second one: what the
 /// controllers did, who came, who went, how those changed who stayed, what imported slots hold, and which messages
 /// wait.
-pub fn tell_changes(
+fn tell_changes(
     alloc: Global,
     page: &mut Page,
     wiring: &Wiring,
@@ -188,4 +191,23 @@ pub fn tell_changes(
         page.put_line(b"nothing changed")?;
     }
     Ok(())
+}
+
+/// What changed from one stamp of journals to another, which isn't below it; whether that can be seen: where it can't,
+/// it is told why.
+pub fn tell_changes_between(
+    alloc: Global,
+    page: &mut Page,
+    judged: Judged<'_>,
+    texts: Texts<'_>,
+    first: u64,
+    second: u64,
+) -> Result<bool, AllocError>
+    requires fit { LinesFit judged.plant.now.wiring judged.lines.now }
+{
+    let Some((before, after)) = moments_at(alloc, page, judged, texts, first, second)? else {
+        return Ok(false);
+    };
+    tell_changes(alloc, page, &judged.plant.wiring, &before, &after)?;
+    Ok(true)
 }

@@ -16,7 +16,7 @@ use journal::Journals;
 use room_kinds::ControllerId;
 use room_verify::Replay;
 use std::alloc::{AllocError, Global};
-use view_journals::view_pages::Page;
+use view_pages::Page;
 
 /// Why a run hasn't ended as the text says.
 #[derive(Clone, Copy)]

@@ -9,7 +9,7 @@ use crate::words::{priority_word, put_name_of};
 use journal::{Did, Entry};
 use room_kinds::{ControllerId, Incarnation, Msg, Stamp};
 use std::alloc::AllocError;
-use view_journals::view_pages::Page;
+use view_pages::Page;
 
 /// What a turn is about: its message, and its actor where it has one.
 fn actor_of(did: Did) -> Option<Incarnation> {

@@ -3,13 +3,13 @@ use journal::{Did, Entry, Left, naming, speaker_after};
 use room_kinds::{ControllerId, Endpoint, Incarnation, Msg, Note, SlotId, Stamp};
 use room_wiring::Wiring;
 use std::alloc::AllocError;
-use view_journals::put_name;
-use view_journals::view_pages::Page;
+use view_journals::{put_name, put_path};
+use view_pages::Page;
 
 /// An actor, with its generation.
 fn put_who(page: &mut Page, wiring: &Wiring, who: Incarnation) -> Result<(), AllocError> {
     if let Some(slot) = wiring.get_slot(who.slot) {
-        page.put_path(&slot.path)?;
+        put_path(page, &slot.path)?;
     }
     page.put(b"#")?;
     page.put_number(u64::from(who.generation.0))

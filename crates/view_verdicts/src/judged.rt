@@ -3,7 +3,7 @@ use controller_actors::Plant;
 use inject_reader::Line;
 use journal::{Entry, Journals};
 use room_kinds::ControllerId;
-use view_journals::view_pages::Named;
+use view_pages::Named;
 
 /// Journals, the model and the lines of which they may be those of a run, and the most turns that each
 /// controller may have taken in it.

@@ -12,7 +12,7 @@ use journal::{Journals, Left};
 use room_kinds::{ControllerId, Msg, Priority};
 use room_verify::Replay;
 use std::alloc::{AllocError, Global};
-use view_journals::view_pages::Page;
+use view_pages::Page;
 
 /// How many priorities there are.
 const PRIORITIES: u8 = 6;

@@ -3,7 +3,7 @@
 //! (`tell_verdict`). In one line it is told by the views of single messages (`tell_unlawful`).
 //!
 //! And how the system stood at stamps of journals (docs/SHOW.md): what is seen there, and which messages wait
-//! (`moment_at`, `moments_at`), and what changed from one stamp to another (`tell_changes`).
+//! (`moment_at`), and what changed from one stamp to another (`tell_changes_between`).
 //!
 //! The verdict and the snapshots are those of `room_verify`, which is proved. What is told of them is safe and ends;
 //! that it is right is shown by cases.
@@ -30,8 +30,8 @@ mod telling;
 mod waiting_changes;
 mod words;
 
-pub use changes::tell_changes;
+pub use changes::tell_changes_between;
 pub use judged::{Judged, Texts, fuel_told};
-pub use moments::{Moment, moment_at, moments_at};
+pub use moments::{Moment, moment_at};
 pub use supposed::tell_no_run;
 pub use telling::{tell_unlawful, tell_verdict};

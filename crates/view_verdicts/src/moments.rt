@@ -12,7 +12,7 @@ use journal::Left;
 use room_show::Snapshot;
 use room_verify::{Seen, Verdict, show};
 use std::alloc::{AllocError, Global};
-use view_journals::view_pages::Page;
+use view_pages::Page;
 
 /// The system after all that happened up to a stamp.
 #[derive(Drop)]
@@ -97,7 +97,7 @@ pub fn moment_at(
 
 /// The system at two stamps of journals, of which the second one isn't below the first one; none where it can't be
 /// seen at the second one: then it is told why, as the verdict is.
-pub fn moments_at(
+pub(crate) fn moments_at(
     alloc: Global,
     page: &mut Page,
     judged: Judged<'_>,

@@ -3,8 +3,8 @@ use room_kinds::SlotId;
 use room_show::PeerView;
 use room_wiring::Wiring;
 use std::alloc::AllocError;
-use view_journals::view_pages::Page;
 use view_journals::{put_end, put_port};
+use view_pages::Page;
 
 /// A place of one of the ports of an actor, on a line of its own.
 fn begin_line(

@@ -7,7 +7,7 @@ use crate::sheet::{Sheet, Sources};
 use journal::{Entry, Journal};
 use room_kinds::{ControllerId, Msg, Priority};
 use std::alloc::AllocError;
-use view_journals::view_pages::Page;
+use view_pages::Page;
 
 /// After so many fetches at a priority a turn may be taken, whatever else is on its way.
 const QUOTA: usize = 64;

@@ -7,7 +7,7 @@ use crate::words::put_name_of;
 use journal::{Entry, Journals};
 use room_wiring::Wiring;
 use std::alloc::{AllocError, Global};
-use view_journals::view_pages::Page;
+use view_pages::Page;
 
 /// What is told of, and the texts in which its places are shown.
 #[derive(Clone, Copy)]

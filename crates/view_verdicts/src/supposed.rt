@@ -9,8 +9,8 @@ use journal::{Entry, Journals, naming};
 use room_kinds::Msg;
 use room_wiring::Wiring;
 use std::alloc::{AllocError, Global};
-use view_journals::is_timeout;
-use view_journals::view_pages::Page;
+use view_journals::{is_timeout, put_path};
+use view_pages::Page;
 
 /// The most lines of injections.
 const MOST_LINES: u32 = 10_000;
@@ -36,7 +36,7 @@ impl Supposed {
     fn message(&mut self, wiring: &Wiring, msg: &Msg) -> Result<(), AllocError> {
         let page = &mut self.page;
         if let Some(slot) = wiring.get_slot(msg.target.slot) {
-            page.put_path(&slot.path)?;
+            put_path(page, &slot.path)?;
         }
         page.put(b".")?;
         page.put(wiring.port_name(msg.target.slot, msg.target.port))?;

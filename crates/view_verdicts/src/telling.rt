@@ -15,7 +15,7 @@ use journal::{Entry, Journals};
 use room_kinds::{ControllerId, Stamp};
 use room_verify::{Replay, Verdict, verify};
 use std::alloc::{AllocError, Global};
-use view_journals::view_pages::Page;
+use view_pages::Page;
 
 /// The verdict on journals. Those that fit a wiring have one for each controller.
 fn verdict_of(

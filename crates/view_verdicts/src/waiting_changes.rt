@@ -4,8 +4,8 @@ use journal::Left;
 use room_kinds::Msg;
 use room_wiring::Wiring;
 use std::alloc::{AllocError, Global};
-use view_journals::view_pages::Page;
 use view_journals::{Name, actor_at, put_actor, put_received};
+use view_pages::Page;
 
 fn name_of(msg: &Msg) -> Name {
     Name::new(msg.from, msg.stamp)

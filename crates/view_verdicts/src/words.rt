@@ -4,7 +4,7 @@ use room_verify::Verdict;
 use room_wiring::Wiring;
 use std::alloc::AllocError;
 use view_journals::put_controller;
-use view_journals::view_pages::{Meaning, Page};
+use view_pages::{Meaning, Page};
 
 /// The cure of journals that no run printed.
 const UNCHANGED: &str =

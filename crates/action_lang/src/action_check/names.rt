@@ -34,7 +34,7 @@ fn add(alloc: Global, known: &mut IndexSet<Vec<u8>>, name: &[u8]) -> Result<(), 
 }
 
 /// Service names, numbered from 0 in the order in which they first came.
-#[derive(Drop, Debug)]
+#[derive(Drop)]
 pub struct ServiceNames {
     known: IndexSet<Vec<u8>>,
 }

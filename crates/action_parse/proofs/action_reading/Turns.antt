@@ -10,7 +10,7 @@ use Rattle.room_tokens.specs.action_tokens.Values.{Value}
 use Rattle.room_tokens.specs.action_tokens.Single.{comes, name_at}
 use Rattle.action_program.specs.Named.{ExprTree}
 use Rattle.action_program.specs.declared.operator.BinaryOp.{BinaryOp}
-use Rattle.action_parse.specs.action_reading.ExprReading.{level, op_comes, step_at, chain_of, path_at}
+use Rattle.action_parse.specs.action_reading.ExprReading.{level, op_comes, step_at, chain_of, part_at, path_at, path_from}
 
 one_front : {A : Type 0} (x : A) (r : Option (List A × List Value))
     → option_map (λ (z : (A × List A) × List Value). (z.0.0 ∷ z.0.1, z.1)) (option_and_then (λ (y : List A × List Value). Some ((x, y.0), y.1)) r) ≡ with_front (x ∷ []) r
@@ -67,3 +67,12 @@ level_made (suc k) p ts us vs e ss some h i =
 pub one_part : (ts rest : List Value) (name : List ℕ) → name_at ts ≡ Some (name, rest) → comes marks.Dot rest ≡ false → path_at ts ≡ Some (name ∷ [], rest)
 unfolding path_at all_while many
 one_part ts rest name read ends = rw (read, ends) refl
+
+-- a path is its first part, and those that come behind it
+pub more_parts : (ts rest : List Value) (name : List ℕ) → name_at ts ≡ Some (name, rest) → path_at ts ≡ path_from name rest
+unfolding path_at
+more_parts ts rest name read = rw read (one_front name (all_while (comes marks.Dot) part_at rest))
+
+-- before the first turn, behind the first part
+pub starts_path : (name : List ℕ) (ts : List Value) → with_front (name ∷ []) (many (comes marks.Dot) part_at (length ts + 1) ts) ≡ path_from name ts
+starts_path name ts = ap (with_front (name ∷ [])) (sym (with_none (many (comes marks.Dot) part_at (length ts + 1) ts)) ∙ starts (comes marks.Dot) part_at ts)

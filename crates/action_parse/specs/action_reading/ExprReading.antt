@@ -66,9 +66,17 @@ level (suc k) operand ts = reads_as chain_of (level k operand ⊕ all_while (op_
 
 -- ---- operands
 
+-- a dot and a name
+abbrev pub part_at : Reader Value (List ℕ)
+part_at = reads_as (λ x. x.1) (mark marks.Dot ⊕ name_at)
+
 -- a dotted name
 unfoldable pub path_at : Reader Value (List (List ℕ))
-path_at = reads_as (λ x. x.0 ∷ x.1) (name_at ⊕ all_while (comes marks.Dot) (reads_as (λ x. x.1) (mark marks.Dot ⊕ name_at)))
+path_at = reads_as (λ x. x.0 ∷ x.1) (name_at ⊕ all_while (comes marks.Dot) part_at)
+
+-- a dotted name, behind its first part
+abbrev pub path_from : List ℕ → Reader Value (List (List ℕ))
+path_from first = reads_as (λ names. first ∷ names) (all_while (comes marks.Dot) part_at)
 
 abbrev pub if_small : ℕ × List Value → Option (ℕ × List Value)
 if_small x = if nat_le x.0 63 then Some x else None

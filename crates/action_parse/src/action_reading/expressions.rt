@@ -2,10 +2,10 @@
 ghost use Rattle.std.specs.Prelude.{◌≡◌, ◌≤◌, ◌∷◌, IfOk, map};
 ghost use Rattle.room_lexer.specs.declared.token.Mark.TheVariants as marks;
 ghost use Rattle.room_tokens.specs.Reader.{Gives, ◌⊕◌, reads_as, all_while};
-ghost use Rattle.room_tokens.specs.action_tokens.Single.{left, mark, name_at};
+ghost use Rattle.room_tokens.specs.action_tokens.Single.{left, mark};
 ghost use Rattle.action_program.specs.Named.{expr_view, step_view, path_view, an_attribute, a_paren, a_unary};
 ghost use Rattle.action_parse.specs.action_reading.Written.{below as below_of};
-ghost use Rattle.action_parse.specs.action_reading.ExprReading.{operator_of, operator_comes, op_at, op_comes, step_at, chain_of, level, path_at, small_number_at, datum_at, under, operand};
+ghost use Rattle.action_parse.specs.action_reading.ExprReading.{operator_of, operator_comes, op_at, op_comes, step_at, chain_of, level, part_at, path_at, path_from, small_number_at, datum_at, under, operand};
 
 use action_program::{BinaryOp, Chain, Expr, Path, Step, Unary, UnaryOp};
 use room_ast::Name;
@@ -99,21 +99,19 @@ fn op_comes(rest: Rest, k: usize) -> bool
 
 /// A dot and a name.
 fn part<'a>(alloc: Global, rest: Rest<'a>) -> Result<(Name, Rest<'a>), ReadFault>
-    ensures { Gives (λ x. (x.0, left x.1)) result
-        (reads_as (λ x. x.1) (mark marks.Dot ⊕ name_at) (left rest.entry)) }
+    ensures { Gives (λ x. (x.0, left x.1)) result (part_at (left rest.entry)) }
 {
     let rest = take_mark(rest, Mark::Dot)?;
     name(alloc, rest)
 }
 
-/// The parts of a dotted name.
-#[tactic(auto, unfolding(crate::specs::action_reading::ExprReading::path_at))]
-fn parts<'a>(alloc: Global, rest: Rest<'a>) -> Result<(Vec<Name>, Rest<'a>), ReadFault>
-    ensures { Gives (λ x. (x.0.items, left x.1)) result (path_at (left rest.entry)) }
+/// The parts of a dotted name, of which the first was read.
+fn parts<'a>(alloc: Global, first: Name, rest: Rest<'a>) -> Result<(Vec<Name>, Rest<'a>), ReadFault>
+    ensures { Gives (λ x. (x.0.items, left x.1)) result (path_from first (left rest.entry)) }
 {
-    let (first, mut rest) = name(alloc, rest)?;
     let mut path = Vec::new(alloc);
     path.push(first)?;
+    let mut rest = rest;
     while comes(rest, Mark::Dot) {
         let (next_part, after) = part(alloc, rest)?;
         path.push(next_part)?;
@@ -123,15 +121,15 @@ fn parts<'a>(alloc: Global, rest: Rest<'a>) -> Result<(Vec<Name>, Rest<'a>), Rea
 }
 
 /// A dotted name. One without a dot needs no list.
-#[tactic(auto, unfolding(crate::specs::action_reading::ExprReading::path_at), using(crate::proofs::action_reading::Turns::one_part))]
+#[tactic(auto, unfolding(crate::specs::action_reading::ExprReading::path_at), using(crate::proofs::action_reading::Turns::one_part, crate::proofs::action_reading::Turns::more_parts))]
 pub fn path<'a>(alloc: Global, rest: Rest<'a>) -> Result<(Path, Rest<'a>), ReadFault>
     ensures { Gives (λ x. (path_view x.0, left x.1)) result (path_at (left rest.entry)) }
 {
-    let (first, after) = name(alloc, rest)?;
-    if !comes(after, Mark::Dot) {
-        return Ok((Path::Attribute(first), after));
+    let (first, rest) = name(alloc, rest)?;
+    if !comes(rest, Mark::Dot) {
+        return Ok((Path::Attribute(first), rest));
     }
-    let (mut parts, rest) = parts(alloc, rest)?;
+    let (mut parts, rest) = parts(alloc, first, rest)?;
     parts.shrink_to_fit();
     Ok((Path::Within(parts), rest))
 }

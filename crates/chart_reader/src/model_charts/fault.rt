@@ -7,7 +7,7 @@ use room_ast::Name;
 use std::alloc::AllocError;
 
 /// Why the charts of a model were refused.
-#[derive(Debug, Drop)]
+#[derive(Drop)]
 pub enum ChartsFault {
     /// The chart of the actor class of this name has the fault of this number, 1 to 8, and none of a
     /// lower number; those of the classes before it have none.

@@ -8,14 +8,14 @@ ghost use Rattle.chart_run.specs.chart_tables.Tables.{plan, arrow_views, event_v
 use action_program::{Bound, BoundExpr};
 
 /// A message of a port, both by number.
-#[derive(Clone, Copy, Drop, Debug, PartialEq, Eq)]
+#[derive(Clone, Copy, Drop, PartialEq, Eq)]
 pub struct Event {
     pub port: u16,
     pub signal: u16,
 }
 
 /// The events of a trigger, and its guard, if it has one.
-#[derive(Drop, Debug)]
+#[derive(Drop)]
 pub struct Trigger {
     pub events: Vec<Event>,
     pub guard: Option<BoundExpr>,
@@ -23,7 +23,7 @@ pub struct Trigger {
 
 /// A transition: what triggers it, or the condition of a branch, its action, and the node that it
 /// leads to.
-#[derive(Drop, Debug)]
+#[derive(Drop)]
 pub struct Arrow {
     pub triggers: Vec<Trigger>,
     pub condition: Option<BoundExpr>,
@@ -33,7 +33,7 @@ pub struct Arrow {
 
 /// A state: itself and the composite states that have it, from inner to outer; its actions on entry
 /// and on exit; the transitions from it; and the graph that holds it.
-#[derive(Drop, Debug)]
+#[derive(Drop)]
 pub struct Row {
     pub up: Vec<u16>,
     pub entry: Bound,
@@ -43,7 +43,7 @@ pub struct Row {
 }
 
 /// Where a transition leads.
-#[derive(Drop, Debug)]
+#[derive(Drop)]
 pub enum Node {
     /// A state without a graph: the chain ends there.
     Simple(u16),
@@ -60,7 +60,7 @@ pub enum Node {
 /// The tables of a chart: its states, for each graph the transitions from its transition points, the
 /// nodes, each of which leads to lower ones, the initial transition of the top graph, and the initial
 /// values of the class's attributes.
-#[derive(Drop, Debug)]
+#[derive(Drop)]
 pub struct Tables {
     pub states: Vec<Row>,
     pub graphs: Vec<Vec<Arrow>>,

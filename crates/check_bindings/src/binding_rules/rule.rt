@@ -1,7 +1,7 @@
 //! The rules on connections.
 
 /// A rule on bindings or layer connections.
-#[derive(Clone, Copy, Drop, Debug, PartialEq, Eq)]
+#[derive(Clone, Copy, Drop, PartialEq, Eq)]
 pub(crate) enum ConnectionRule {
     /// The sides of a binding name ports that can be bound there.
     SidesExist,

@@ -33,7 +33,8 @@ fn port_with(
     })
 }
 
-/// Ports of these names, by number. The ports of a protocol share its messages.
+/// Ports of these names, by number. The ports of a protocol share its messages. Each class has a list of
+/// them, which takes no more room than they do.
 #[tactic(auto, using(crate::proofs::class_scopes::PortLaws::no_entries))]
 pub(crate) fn ports_in(
     alloc: Global,
@@ -46,7 +47,7 @@ pub(crate) fn ports_in(
         map port_view v.items
         ≡ ports_in (map_table signal_view table.now) (names_of names.now) entries.now) }
 {
-    let mut ports = Vec::new(alloc);
+    let mut ports = Vec::with_capacity(alloc, entries.len())?;
     let (mut names, mut entries) = (names, entries);
     while let [name, names_rest @ ..] = names {
         let [entry, entries_rest @ ..] = entries else {

@@ -163,7 +163,7 @@ fn scopes_by<'a>(
         map scope_view v.items
         ≡ scopes_by names.now (tables_view tables.now) (actor_views classes.now) containers.now) }
 {
-    let mut scopes = Vec::new(alloc);
+    let mut scopes = Vec::with_capacity(alloc, classes.len())?;
     let (mut classes, mut containers) = (classes, containers);
     while let [class, classes_rest @ ..] = classes {
         let [container, containers_rest @ ..] = containers else {

@@ -37,7 +37,8 @@ fn port_index<'a>(
 ) -> Result<NameIndex<'a>, AllocError>
     ensures { IfOk result (λ n. n ≡ names_in interface.now structure.now) }
 {
-    let names = port_names(alloc, interface, structure)?;
+    let mut names = port_names(alloc, interface, structure)?;
+    names.shrink_to_fit();
     NameIndex::of(alloc, names)
 }
 
@@ -61,7 +62,8 @@ fn reference_index<'a>(
 ) -> Result<NameIndex<'a>, AllocError>
     ensures { IfOk result (λ n. n ≡ names_of_references (references_in structure.now)) }
 {
-    let names = reference_names(alloc, structure)?;
+    let mut names = reference_names(alloc, structure)?;
+    names.shrink_to_fit();
     NameIndex::of(alloc, names)
 }
 

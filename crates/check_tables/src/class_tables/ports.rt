@@ -71,7 +71,7 @@ fn interface_names<'a>(
 ) -> Result<Vec<&'a [u8]>, AllocError>
     ensures { IfOk result (λ v. names_of v.items ≡ frame_name ∷ map interface_name items.now) }
 {
-    let mut names = Vec::new(alloc);
+    let mut names = Vec::with_capacity(alloc, items.len() + 1)?;
     names.push(b"frame".as_slice())?;
     for item in items {
         names.push(interface_name(item))?;
@@ -186,7 +186,7 @@ fn interface_entries(
 ) -> Result<Vec<PortEntry>, AllocError>
     ensures { IfOk result (λ v. v.items ≡ frame_entry ∷ map (interface_entry protocols.now externals.now) items.now) }
 {
-    let mut ports = Vec::new(alloc);
+    let mut ports = Vec::with_capacity(alloc, items.len() + 1)?;
     ports.push(FRAME)?;
     for item in items {
         ports.push(interface_entry(item, protocols, externals))?;

@@ -110,14 +110,13 @@ impl ActorSlot {
         Ok(())
     }
 
-    /// The commands of the actor are applied in order, on top of what was put out and what came back
-    /// before. Most actors have none when they come up, and then nothing is moved.
+    /// The commands of an actor that begins, which handles no message, are applied in order, on top of
+    /// what was put out and what came back before. Most actors have none then, and nothing is moved.
     fn work<S: Services>(
         &mut self,
         alloc: Global,
         speaker: &Speaker<'_>,
         services: &mut S,
-        message: Option<Msg>,
         commands: Commands,
         output: &mut Output,
         back: &mut Recalled,
@@ -131,13 +130,13 @@ impl ActorSlot {
             (S.links_of services.old)
             (S.frame_of services.new)
             (S.links_of services.new)
-            speaker.now.who message commands self.old self.new output.old back.old output.new
+            speaker.now.who None commands self.old self.new output.old back.old output.new
             back.new) }
     {
         if commands.is_empty() {
             return Ok(());
         }
-        self.work_through(alloc, speaker, services, message, commands, output, back)?;
+        self.work_through(alloc, speaker, services, commands, output, back)?;
         Ok(())
     }
 
@@ -148,7 +147,6 @@ impl ActorSlot {
         alloc: Global,
         speaker: &Speaker<'_>,
         services: &mut S,
-        message: Option<Msg>,
         commands: Commands,
         output: &mut Output,
         back: &mut Recalled,
@@ -162,7 +160,7 @@ impl ActorSlot {
             (S.links_of services.old)
             (S.frame_of services.new)
             (S.links_of services.new)
-            speaker.now.who message commands self.old self.new output.old back.old output.new
+            speaker.now.who None commands self.old self.new output.old back.old output.new
             back.new) }
     {
         let mut doing = Doing {
@@ -171,7 +169,7 @@ impl ActorSlot {
             back: mem::replace(back, Recalled::new(alloc)),
             kept: false,
         };
-        apply_all(alloc, speaker, services, message, commands, &mut doing)?;
+        apply_all(alloc, speaker, services, None, commands, &mut doing)?;
         let Doing {
             deferred,
             output: told,
@@ -301,15 +299,7 @@ impl ActorSlot {
             notes,
         };
         let mut back = back;
-        self.work(
-            alloc,
-            speaker,
-            services,
-            None,
-            commands,
-            &mut output,
-            &mut back,
-        )?;
+        self.work(alloc, speaker, services, commands, &mut output, &mut back)?;
         Ok(Entrance {
             output,
             back,
@@ -350,7 +340,7 @@ impl ActorSlot {
         self.occupant = occupant;
         self.deferred = DeferredMessages::new(alloc);
         tell_up(&mut output.notes, speaker.who, state, notes.as_slice())?;
-        self.work(alloc, speaker, services, None, commands, output, back)?;
+        self.work(alloc, speaker, services, commands, output, back)?;
         Ok(())
     }
 

@@ -2,26 +2,24 @@
 ghost use Rattle.std.specs.Prelude.{◌≡◌, ◌++◌, OnOk};
 ghost use Rattle.actor_duties.specs.Lives.{create_done, create_refused, destroy_done};
 
-use room_kinds::{ControllerId, Endpoint, Outbox};
-use room_wiring::Wiring;
-use service_messages::{Code, FrameSignal, id_of, told_of, whose};
-use std::alloc::{AllocError, Global};
+use room_kinds::{Endpoint, Outbox};
+use service_messages::{Code, FrameSignal, Site, id_of, told_of, whose};
+use std::alloc::AllocError;
 
 /// CreateDone from the new actor: its container is told `created`, with the actor's number.
 #[tactic(auto, unfolding(actor_duties::specs::Lives::create_done))]
 pub fn create_done(
-    alloc: Global,
-    wiring: &Wiring,
-    me: ControllerId,
+    site: &Site<'_>,
     new: Endpoint,
     container: Endpoint,
     out: &mut Outbox,
 ) -> Result<(), AllocError>
-    ensures { OnOk result (out.new ≡ out.old ++ create_done wiring.now me.0 new container) }
+    ensures { OnOk result (out.new
+        ≡ out.old ++ create_done site.now.wiring.now site.now.me.0 new container) }
 {
     let id = id_of(whose(new));
     let created = FrameSignal::Created;
-    out.push(told_of(alloc, wiring, me, created, new, container, new.slot, id)?)?;
+    out.push(told_of(site, created, new, container, new.slot, id)?)?;
     Ok(())
 }
 
@@ -29,22 +27,20 @@ pub fn create_done(
 /// nothing.
 #[tactic(auto, unfolding(actor_duties::specs::Lives::create_refused))]
 pub fn create_refused(
-    alloc: Global,
-    wiring: &Wiring,
-    me: ControllerId,
+    site: &Site<'_>,
     slot: Endpoint,
     container: Endpoint,
     code: i64,
     out: &mut Outbox,
 ) -> Result<(), AllocError>
     ensures { OnOk result (out.new
-        ≡ out.old ++ create_refused wiring.now me.0 slot container code) }
+        ≡ out.old ++ create_refused site.now.wiring.now site.now.me.0 slot container code) }
 {
     if !(Code::Occupied.is(code) || Code::NotHere.is(code)) {
         return Ok(());
     }
     let refused = FrameSignal::Refused;
-    out.push(told_of(alloc, wiring, me, refused, slot, container, slot.slot, code)?)?;
+    out.push(told_of(site, refused, slot, container, slot.slot, code)?)?;
     Ok(())
 }
 
@@ -53,15 +49,14 @@ pub fn create_refused(
 /// generation, says nothing.
 #[tactic(auto, unfolding(actor_duties::specs::Lives::destroy_done))]
 pub fn destroy_done(
-    alloc: Global,
-    wiring: &Wiring,
-    me: ControllerId,
+    site: &Site<'_>,
     gone: Endpoint,
     container: Endpoint,
     code: u32,
     out: &mut Outbox,
 ) -> Result<(), AllocError>
-    ensures { OnOk result (out.new ≡ out.old ++ destroy_done wiring.now me.0 gone container code) }
+    ensures { OnOk result (out.new
+        ≡ out.old ++ destroy_done site.now.wiring.now site.now.me.0 gone container code) }
 {
     let none_stood = gone.generation.0 == 0;
     let (signal, last) = if code == 0 && !none_stood {
@@ -71,6 +66,6 @@ pub fn destroy_done(
     } else {
         return Ok(());
     };
-    out.push(told_of(alloc, wiring, me, signal, gone, container, gone.slot, last)?)?;
+    out.push(told_of(site, signal, gone, container, gone.slot, last)?)?;
     Ok(())
 }

@@ -17,7 +17,7 @@ use room_kinds::{
     SysKind,
 };
 use room_wiring::Wiring;
-use service_messages::{Code, frame_at, frame_of, reply, whose};
+use service_messages::{Code, Site, frame_at, frame_of, reply, whose};
 use std::alloc::{AllocError, Global};
 
 /// Whether the container lives, and something in the slot.
@@ -75,20 +75,16 @@ impl FrameState {
         ensures { IfOk result (λ xs.
             IsSetEnded wiring.now self.old self.new slot.0 out.old out.new xs) }
     {
-        let ended = self
-            .lives
-            .ending(self.alloc, wiring, &self.runs, self.me, slot)?;
-        let actors = ended.as_slice();
-        end_actors(
-            self.alloc,
+        let site = Site {
+            alloc: self.alloc,
             wiring,
-            &self.runs,
-            self.me,
-            &self.imports,
-            actors,
-            out,
-        )?;
-        end_parts(self.alloc, wiring, &self.runs, self.me, actors, out)?;
+            runs: &self.runs,
+            me: self.me,
+        };
+        let ended = self.lives.ending(&site, slot)?;
+        let actors = ended.as_slice();
+        end_actors(&site, &self.imports, actors, out)?;
+        end_parts(&site, actors, out)?;
         self.lives.end_all(actors);
         self.imports.end_all(wiring, &self.runs, actors);
         Ok(ended)

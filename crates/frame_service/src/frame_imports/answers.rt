@@ -9,13 +9,13 @@ ghost use Rattle.frame_service.specs.frame_imports.Answered.{is_awaited, place_a
 
 use crate::frame_imports::import_places::{ImportPlace, Imports};
 use frame_lives::SlotLives;
-use room_kinds::{ControllerId, Endpoint, Outbox, SlotId};
+use room_kinds::{Endpoint, Outbox, SlotId};
 use room_wiring::Wiring;
-use service_messages::{Code, FrameSignal, container_of, frame_at, id_of, told_of, whose};
-use std::alloc::{AllocError, Global};
+use service_messages::{Code, FrameSignal, Site, container_of, frame_at, id_of, told_of, whose};
+use std::alloc::AllocError;
 
 /// What the owner of a home says to an import place.
-#[derive(Clone, Copy, Debug)]
+#[derive(Clone, Copy)]
 pub enum What {
     /// ImportDone: the home is lent.
     Lent,
@@ -28,7 +28,7 @@ pub enum What {
 }
 
 /// An answer from the owner of a home to an import place.
-#[derive(Clone, Copy, Debug)]
+#[derive(Clone, Copy)]
 pub struct Answer {
     pub home: Endpoint,
     pub place: Endpoint,
@@ -107,34 +107,26 @@ fn is_container_live(wiring: &Wiring, lives: &SlotLives, place: Endpoint) -> boo
 /// who gave it back holds nothing, and is told `deported`.
 pub fn hear(
     imports: &mut Imports,
-    alloc: Global,
-    wiring: &Wiring,
-    me: ControllerId,
+    site: &Site<'_>,
     lives: &SlotLives,
     answer: Answer,
     out: &mut Outbox,
 ) -> Result<(), AllocError>
     ensures now { OnOk result (lending imports.new ≡ with_places (lending imports.old) ((answered
-        wiring.now me.0 (shown lives.now).lives (lending imports.old).places answer).now)) }
+        site.now.wiring.now site.now.me.0 (shown lives.now).lives (lending imports.old).places
+        answer).now)) }
     ensures sent { OnOk result (out.new ≡ out.old
-        ++ (answered wiring.now me.0 (shown lives.now).lives (lending imports.old).places
-        answer).sent) }
+        ++ (answered site.now.wiring.now site.now.me.0 (shown lives.now).lives
+        (lending imports.old).places answer).sent) }
 {
     let Answer { home, place, .. } = answer;
-    if is_container_live(wiring, lives, place) && answer.is_awaited(imports.place(place.slot)) {
-        let container = container_frame(wiring, place);
+    if is_container_live(site.wiring, lives, place)
+        && answer.is_awaited(imports.place(place.slot))
+    {
+        let container = container_frame(site.wiring, place);
         let last = answer.told_last();
         imports.set_place(place.slot, answer.place_after())?;
-        out.push(told_of(
-            alloc,
-            wiring,
-            me,
-            answer.signal(),
-            home,
-            container,
-            place.slot,
-            last,
-        )?)?;
+        out.push(told_of(site, answer.signal(), home, container, place.slot, last)?)?;
     }
     Ok(())
 }

@@ -4,7 +4,7 @@ ghost use Rattle.actor_duties.specs.State.{Held};
 ghost use Rattle.actor_duties.specs.Words.{class_number, of_id};
 ghost use Rattle.actor_duties.specs.Messages.{refused_at_once, code_number};
 ghost use Rattle.actor_duties.specs.Frame.{busy_code, is_same_class, import_code, asks_for, import_with, import_into, import_command, deport_from, deport_command};
-ghost use Rattle.service_messages.specs.slot_runs.Runs.{IsDepthFirst, AreRunEnds};
+ghost use Rattle.service_messages.specs.Sites.{IsSite};
 ghost use Rattle.service_messages.specs.Shown.{code_of};
 ghost use Rattle.frame_service.specs.frame_imports.import_places.Places.{place_of};
 ghost use Rattle.frame_service.specs.frame_imports.import_places.Lending.{lending, with_places};
@@ -14,11 +14,11 @@ use crate::frame_imports::frame_forms::is_home;
 use crate::frame_imports::import_places::{ImportPlace, Imports};
 use room_kinds::{ControllerId, Generation, Incarnation, Outbox, Payload, SlotId, SysKind};
 use room_wiring::Wiring;
-use service_messages::{Code, SlotRuns, frame_at, frame_of, refused_at_once, to_owner};
+use service_messages::{Code, Site, frame_at, frame_of, refused_at_once, to_owner};
 use std::alloc::{AllocError, Global};
 
 /// What an actor's command names: one of its references, and an index as the action gave it.
-#[derive(Clone, Copy, Debug)]
+#[derive(Clone, Copy)]
 pub struct Asked {
     pub actor: Incarnation,
     pub reference: u16,
@@ -117,32 +117,36 @@ fn import_code(
 /// An import place asks for a home: Import goes to the home's owner.
 fn ask(
     imports: &mut Imports,
-    alloc: Global,
-    wiring: &Wiring,
-    me: ControllerId,
+    site: &Site<'_>,
     actor: Incarnation,
     slot: SlotId,
     home: Incarnation,
     out: &mut Outbox,
 ) -> Result<(), AllocError>
     ensures now { OnOk result (lending imports.new ≡ with_places (lending imports.old) ((asks_for
-        wiring.now me.0 (lending imports.old).places actor slot.0 home).now)) }
+        site.now.wiring.now site.now.me.0 (lending imports.old).places actor slot.0 home).now)) }
     ensures sent { OnOk result (out.new ≡ out.old
-        ++ (asks_for wiring.now me.0 (lending imports.old).places actor slot.0 home).sent) }
+        ++ (asks_for site.now.wiring.now site.now.me.0 (lending imports.old).places actor slot.0
+        home).sent) }
 {
     imports.set_place(slot, ImportPlace::Asking(home))?;
     let place = frame_at(slot, actor.generation);
-    let payload = Payload::empty(alloc);
-    out.push(to_owner(wiring, me, SysKind::Import, place, frame_of(home), payload))?;
+    let payload = Payload::empty(site.alloc);
+    out.push(to_owner(
+        site.wiring,
+        site.me,
+        SysKind::Import,
+        place,
+        frame_of(home),
+        payload,
+    ))?;
     Ok(())
 }
 
 /// An import that no code refuses asks for its home.
 fn import_with(
     imports: &mut Imports,
-    alloc: Global,
-    wiring: &Wiring,
-    me: ControllerId,
+    site: &Site<'_>,
     asked: Asked,
     slot: SlotId,
     home: Option<Incarnation>,
@@ -150,23 +154,23 @@ fn import_with(
     out: &mut Outbox,
 ) -> Result<(), AllocError>
     ensures now { OnOk result (lending imports.new ≡ with_places (lending imports.old) ((import_with
-        wiring.now me.0 (lending imports.old).places asked.actor asked.reference asked.index slot.0
-        home (option_map code_of code)).now)) }
+        site.now.wiring.now site.now.me.0 (lending imports.old).places asked.actor asked.reference
+        asked.index slot.0 home (option_map code_of code)).now)) }
     ensures sent { OnOk result (out.new ≡ out.old
-        ++ (import_with wiring.now me.0 (lending imports.old).places asked.actor asked.reference
-        asked.index slot.0 home (option_map code_of code)).sent) }
+        ++ (import_with site.now.wiring.now site.now.me.0 (lending imports.old).places asked.actor
+        asked.reference asked.index slot.0 home (option_map code_of code)).sent) }
 {
     if let Some(code) = code {
-        refuse(alloc, me, asked, code, out)?;
+        refuse(site.alloc, site.me, asked, code, out)?;
         return Ok(());
     }
     match home {
         Some(home) => {
-            ask(imports, alloc, wiring, me, asked.actor, slot, home, out)?;
+            ask(imports, site, asked.actor, slot, home, out)?;
             Ok(())
         }
         None => {
-            refuse(alloc, me, asked, Code::StaleId, out)?;
+            refuse(site.alloc, site.me, asked, Code::StaleId, out)?;
             Ok(())
         }
     }
@@ -175,24 +179,22 @@ fn import_with(
 /// An import into an imported slot.
 fn import_into(
     imports: &mut Imports,
-    alloc: Global,
-    wiring: &Wiring,
-    me: ControllerId,
+    site: &Site<'_>,
     asked: Asked,
     id: i64,
     slot: SlotId,
     out: &mut Outbox,
 ) -> Result<(), AllocError>
     ensures now { OnOk result (lending imports.new ≡ with_places (lending imports.old) ((import_into
-        wiring.now me.0 (lending imports.old).places asked.actor asked.reference asked.index id
-        (Some slot.0)).now)) }
+        site.now.wiring.now site.now.me.0 (lending imports.old).places asked.actor asked.reference
+        asked.index id (Some slot.0)).now)) }
     ensures sent { OnOk result (out.new ≡ out.old
-        ++ (import_into wiring.now me.0 (lending imports.old).places asked.actor asked.reference
-        asked.index id (Some slot.0)).sent) }
+        ++ (import_into site.now.wiring.now site.now.me.0 (lending imports.old).places asked.actor
+        asked.reference asked.index id (Some slot.0)).sent) }
 {
-    let home = home_of(wiring, id);
-    let code = import_code(wiring, imports, slot, home);
-    import_with(imports, alloc, wiring, me, asked, slot, home, code, out)?;
+    let home = home_of(site.wiring, id);
+    let code = import_code(site.wiring, imports, slot, home);
+    import_with(imports, site, asked, slot, home, code, out)?;
     Ok(())
 }
 
@@ -203,31 +205,27 @@ fn import_into(
 #[tactic(auto, unfolding(actor_duties::specs::Frame::import_command))]
 pub fn request_import(
     imports: &mut Imports,
-    alloc: Global,
-    wiring: &Wiring,
-    runs: &SlotRuns,
-    me: ControllerId,
+    site: &Site<'_>,
     asked: Asked,
     id: i64,
     out: &mut Outbox,
 ) -> Result<(), AllocError>
-    requires order { IsDepthFirst wiring.now }
-    requires runs { AreRunEnds wiring.now runs.now }
-    requires there { asked.actor.slot.0 < length wiring.now.slots }
+    requires site { IsSite site.now }
+    requires there { asked.actor.slot.0 < length site.now.wiring.now.slots }
     ensures now { OnOk result (lending imports.new
-        ≡ with_places (lending imports.old) ((import_command wiring.now me.0
+        ≡ with_places (lending imports.old) ((import_command site.now.wiring.now site.now.me.0
         (lending imports.old).places asked.actor asked.reference asked.index id).now)) }
     ensures sent { OnOk result (out.new ≡ out.old
-        ++ (import_command wiring.now me.0 (lending imports.old).places asked.actor asked.reference
-        asked.index id).sent) }
+        ++ (import_command site.now.wiring.now site.now.me.0 (lending imports.old).places
+        asked.actor asked.reference asked.index id).sent) }
 {
-    match runs.part_at(wiring, asked.actor.slot, asked.reference, asked.index) {
+    match site.runs.part_at(site.wiring, asked.actor.slot, asked.reference, asked.index) {
         Some(slot) => {
-            import_into(imports, alloc, wiring, me, asked, id, slot, out)?;
+            import_into(imports, site, asked, id, slot, out)?;
             Ok(())
         }
         None => {
-            refuse(alloc, me, asked, Code::NoSlot, out)?;
+            refuse(site.alloc, site.me, asked, Code::NoSlot, out)?;
             Ok(())
         }
     }
@@ -236,56 +234,59 @@ pub fn request_import(
 /// An import place gives its home back: Deport goes to the home's owner.
 fn give_back(
     imports: &mut Imports,
-    alloc: Global,
-    wiring: &Wiring,
-    me: ControllerId,
+    site: &Site<'_>,
     asked: Asked,
     slot: SlotId,
     home: Incarnation,
     out: &mut Outbox,
 ) -> Result<(), AllocError>
     ensures now { OnOk result (lending imports.new ≡ with_places (lending imports.old) ((deport_from
-        wiring.now me.0 (lending imports.old).places asked.actor asked.reference asked.index slot.0
-        (Held home)).now)) }
+        site.now.wiring.now site.now.me.0 (lending imports.old).places asked.actor asked.reference
+        asked.index slot.0 (Held home)).now)) }
     ensures sent { OnOk result (out.new ≡ out.old
-        ++ (deport_from wiring.now me.0 (lending imports.old).places asked.actor asked.reference
-        asked.index slot.0 (Held home)).sent) }
+        ++ (deport_from site.now.wiring.now site.now.me.0 (lending imports.old).places asked.actor
+        asked.reference asked.index slot.0 (Held home)).sent) }
 {
     imports.set_place(slot, ImportPlace::Leaving(home))?;
     let place = frame_at(slot, asked.actor.generation);
-    let payload = Payload::empty(alloc);
-    out.push(to_owner(wiring, me, SysKind::Deport, place, frame_of(home), payload))?;
+    let payload = Payload::empty(site.alloc);
+    out.push(to_owner(
+        site.wiring,
+        site.me,
+        SysKind::Deport,
+        place,
+        frame_of(home),
+        payload,
+    ))?;
     Ok(())
 }
 
 /// A deport from an imported slot.
 fn deport_from(
     imports: &mut Imports,
-    alloc: Global,
-    wiring: &Wiring,
-    me: ControllerId,
+    site: &Site<'_>,
     asked: Asked,
     slot: SlotId,
     out: &mut Outbox,
 ) -> Result<(), AllocError>
     ensures now { OnOk result (lending imports.new ≡ with_places (lending imports.old) ((deport_from
-        wiring.now me.0 (lending imports.old).places asked.actor asked.reference asked.index slot.0
-        ((lending imports.old).places slot.0)).now)) }
+        site.now.wiring.now site.now.me.0 (lending imports.old).places asked.actor asked.reference
+        asked.index slot.0 ((lending imports.old).places slot.0)).now)) }
     ensures sent { OnOk result (out.new ≡ out.old
-        ++ (deport_from wiring.now me.0 (lending imports.old).places asked.actor asked.reference
-        asked.index slot.0 ((lending imports.old).places slot.0)).sent) }
+        ++ (deport_from site.now.wiring.now site.now.me.0 (lending imports.old).places asked.actor
+        asked.reference asked.index slot.0 ((lending imports.old).places slot.0)).sent) }
 {
     match imports.place(slot) {
         ImportPlace::Empty => {
-            refuse(alloc, me, asked, Code::NotHere, out)?;
+            refuse(site.alloc, site.me, asked, Code::NotHere, out)?;
             Ok(())
         }
         ImportPlace::Asking(_) | ImportPlace::Leaving(_) => {
-            refuse(alloc, me, asked, Code::Busy, out)?;
+            refuse(site.alloc, site.me, asked, Code::Busy, out)?;
             Ok(())
         }
         ImportPlace::Held(home) => {
-            give_back(imports, alloc, wiring, me, asked, slot, home, out)?;
+            give_back(imports, site, asked, slot, home, out)?;
             Ok(())
         }
     }
@@ -297,30 +298,26 @@ fn deport_from(
 #[tactic(auto, unfolding(actor_duties::specs::Frame::deport_command))]
 pub fn request_deport(
     imports: &mut Imports,
-    alloc: Global,
-    wiring: &Wiring,
-    runs: &SlotRuns,
-    me: ControllerId,
+    site: &Site<'_>,
     asked: Asked,
     out: &mut Outbox,
 ) -> Result<(), AllocError>
-    requires order { IsDepthFirst wiring.now }
-    requires runs { AreRunEnds wiring.now runs.now }
-    requires there { asked.actor.slot.0 < length wiring.now.slots }
+    requires site { IsSite site.now }
+    requires there { asked.actor.slot.0 < length site.now.wiring.now.slots }
     ensures now { OnOk result (lending imports.new
-        ≡ with_places (lending imports.old) ((deport_command wiring.now me.0
+        ≡ with_places (lending imports.old) ((deport_command site.now.wiring.now site.now.me.0
         (lending imports.old).places asked.actor asked.reference asked.index).now)) }
     ensures sent { OnOk result (out.new ≡ out.old
-        ++ (deport_command wiring.now me.0 (lending imports.old).places asked.actor asked.reference
-        asked.index).sent) }
+        ++ (deport_command site.now.wiring.now site.now.me.0 (lending imports.old).places
+        asked.actor asked.reference asked.index).sent) }
 {
-    match runs.part_at(wiring, asked.actor.slot, asked.reference, asked.index) {
+    match site.runs.part_at(site.wiring, asked.actor.slot, asked.reference, asked.index) {
         Some(slot) => {
-            deport_from(imports, alloc, wiring, me, asked, slot, out)?;
+            deport_from(imports, site, asked, slot, out)?;
             Ok(())
         }
         None => {
-            refuse(alloc, me, asked, Code::NoSlot, out)?;
+            refuse(site.alloc, site.me, asked, Code::NoSlot, out)?;
             Ok(())
         }
     }

@@ -13,8 +13,7 @@ use crate::frame_imports::import_places::Imports;
 use crate::frame_imports::ports::is_port_taken;
 use frame_lives::SlotLives;
 use room_kinds::{ControllerId, Endpoint, Msg, Outbox, Payload, SysKind};
-use room_wiring::Wiring;
-use service_messages::{Code, reply, whose};
+use service_messages::{Code, Site, reply, whose};
 use std::alloc::{AllocError, Global};
 
 /// A home answers its import place.
@@ -56,36 +55,34 @@ fn refuse(
 #[tactic(auto, unfolding(actor_duties::specs::Imports::import))]
 pub fn import(
     imports: &mut Imports,
-    alloc: Global,
-    wiring: &Wiring,
-    me: ControllerId,
+    site: &Site<'_>,
     lives: &SlotLives,
     m: &Msg,
     place: Endpoint,
     home: Endpoint,
     out: &mut Outbox,
 ) -> Result<(), AllocError>
-    requires ports { ArePortsNumbered wiring.now }
-    requires there { place.slot.0 < length wiring.now.slots }
+    requires ports { ArePortsNumbered site.now.wiring.now }
+    requires there { place.slot.0 < length site.now.wiring.now.slots }
     ensures now { OnOk result (lending imports.new
-        ≡ with_plugs (lending imports.old) ((import wiring.now me.0 (shown lives.now).lives
-        (lending imports.old).plugs m.now place home).now)) }
+        ≡ with_plugs (lending imports.old) ((import site.now.wiring.now site.now.me.0
+        (shown lives.now).lives (lending imports.old).plugs m.now place home).now)) }
     ensures sent { OnOk result (out.new ≡ out.old
-        ++ (import wiring.now me.0 (shown lives.now).lives (lending imports.old).plugs m.now place
-        home).sent) }
+        ++ (import site.now.wiring.now site.now.me.0 (shown lives.now).lives
+        (lending imports.old).plugs m.now place home).sent) }
 {
     if !lives.is_live(whose(home)) {
-        refuse(alloc, me, m, home, place, Code::StaleId, out)?;
+        refuse(site.alloc, site.me, m, home, place, Code::StaleId, out)?;
         return Ok(());
     }
     let plugs = imports.plugs_of(home.slot);
-    if is_port_taken(wiring, plugs, whose(place), whose(home)) {
-        refuse(alloc, me, m, home, place, Code::PortTaken, out)?;
+    if is_port_taken(site.wiring, plugs, whose(place), whose(home)) {
+        refuse(site.alloc, site.me, m, home, place, Code::PortTaken, out)?;
         return Ok(());
     }
     imports.add_plug(home.slot, whose(place))?;
-    let payload = Payload::empty(alloc);
-    answer(me, m, SysKind::ImportDone, home, place, payload, out)?;
+    let payload = Payload::empty(site.alloc);
+    answer(site.me, m, SysKind::ImportDone, home, place, payload, out)?;
     Ok(())
 }
 
@@ -93,26 +90,26 @@ pub fn import(
 #[tactic(auto, unfolding(actor_duties::specs::Imports::deport))]
 pub fn deport(
     imports: &mut Imports,
-    alloc: Global,
-    me: ControllerId,
+    site: &Site<'_>,
     lives: &SlotLives,
     m: &Msg,
     place: Endpoint,
     home: Endpoint,
     out: &mut Outbox,
 ) -> Result<(), AllocError>
-    ensures now { OnOk result (lending imports.new ≡ with_plugs (lending imports.old) ((deport me.0
-        (shown lives.now).lives (lending imports.old).plugs m.now place home).now)) }
+    ensures now { OnOk result (lending imports.new
+        ≡ with_plugs (lending imports.old) ((deport site.now.me.0 (shown lives.now).lives
+        (lending imports.old).plugs m.now place home).now)) }
     ensures sent { OnOk result (out.new ≡ out.old
-        ++ (deport me.0 (shown lives.now).lives (lending imports.old).plugs m.now place
+        ++ (deport site.now.me.0 (shown lives.now).lives (lending imports.old).plugs m.now place
         home).sent) }
 {
-    let payload = Payload::empty(alloc);
+    let payload = Payload::empty(site.alloc);
     if !lives.is_live(whose(home)) {
-        answer(me, m, SysKind::DeportDone, home, place, payload, out)?;
+        answer(site.me, m, SysKind::DeportDone, home, place, payload, out)?;
         return Ok(());
     }
     imports.remove_plug(home.slot, whose(place));
-    answer(me, m, SysKind::DeportDone, home, place, payload, out)?;
+    answer(site.me, m, SysKind::DeportDone, home, place, payload, out)?;
     Ok(())
 }

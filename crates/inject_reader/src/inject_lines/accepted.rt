@@ -2,7 +2,7 @@
 use room_kinds::{Endpoint, Payload, Priority};
 
 /// What a line asks for.
-#[derive(Drop, Debug)]
+#[derive(Drop)]
 pub enum What {
     /// The messages above have their turns before the ones below are posted.
     Settle,
@@ -19,14 +19,14 @@ pub enum What {
 }
 
 /// Whether lines that move virtual time on are accepted.
-#[derive(Clone, Copy, Debug, PartialEq, Eq)]
+#[derive(Clone, Copy, PartialEq, Eq)]
 pub enum Advances {
     Taken,
     Refused,
 }
 
 /// A line with its number in the text, from 1.
-#[derive(Drop, Debug)]
+#[derive(Drop)]
 pub struct Line {
     pub number: u32,
     pub what: What,

@@ -5,7 +5,7 @@ use room_kinds::Endpoint;
 use std::marker::Model;
 
 /// A place of a service point, and the endpoint that it is linked to by a name.
-#[derive(Clone, Copy, Debug)]
+#[derive(Clone, Copy)]
 pub struct Link {
     place: u32,
     peer: Endpoint,

@@ -8,7 +8,7 @@ use service_messages::is_same_endpoint;
 use std::marker::Model;
 
 /// A registered service access point, and the place of the provider that it is linked to.
-#[derive(Clone, Copy, Debug)]
+#[derive(Clone, Copy)]
 pub struct User {
     at: Endpoint,
     linked: Option<u32>,
@@ -66,7 +66,7 @@ pub fn remove_user(users: &mut Vec<User>, endpoint: Endpoint)
 }
 
 /// A registered service provision point, and the place that its next link takes.
-#[derive(Clone, Copy, Debug)]
+#[derive(Clone, Copy)]
 pub struct Provider {
     at: Endpoint,
     next: u32,

@@ -1,5 +1,5 @@
 -- First places in lists of names.
-use Rattle.std.proofs.Common.{◌≡◌, ℕ, suc, ◌+◌, ◌<◌, ◌≤◌, Bool, true, false, cond, not, List, [], ◌∷◌, ◌++◌, length, take, get_or, Option, Some, None, Bor, refl, sym, ap, ◌∙◌, subst, arith, nat_lt}
+use Rattle.std.proofs.Common.{◌≡◌, ℕ, suc, ◌+◌, ◌<◌, ◌≤◌, Bool, true, false, cond, not, List, [], ◌∷◌, ◌++◌, length, take, get_or, map, Option, Some, None, Bor, refl, sym, ap, ◌∙◌, subst, arith, nat_lt}
 use Rattle.std.specs.Prelude.{position, is_some, ◌||◌}
 use Rattle.std.specs.List.{position_or_len, list_any}
 use Rattle.std.proofs.lemmas.List.{length-append, length-map, length-take}
@@ -10,7 +10,7 @@ use lib.Dec.{eqb}
 use lib.Pointwise.{bytes_decides}
 use Rattle.name_tables.specs.name_numbers.Names.{same, names_of}
 use Rattle.name_tables.proofs.name_numbers.Lists.{names_next}
-use Rattle.name_tables.specs.name_index.Places.{earlier_or}
+use Rattle.name_tables.specs.name_index.Places.{earlier_or, place_called}
 
 -- ---- one more name at the end
 
@@ -96,3 +96,19 @@ some_place p xs = some_of (nat_lt (position_or_len p xs) (length xs)) (position_
     some_of : (b : Bool) (n : ℕ) → is_some (cond b (Some n) None) ≡ b
     some_of true n = refl
     some_of false n = refl
+
+-- ---- names compared one by one
+
+position_or_len_map : {X Y : Type 0} (f : X → Y) (p : Y → Bool) (xs : List X) → position_or_len p (map f xs) ≡ position_or_len (λ x. p (f x)) xs
+position_or_len_map f p [] = refl
+position_or_len_map f p (x ∷ xs) = ap (λ n. cond (not (p (f x))) (1 + n) 0) (position_or_len_map f p xs)
+
+position_map : {X Y : Type 0} (f : X → Y) (p : Y → Bool) (xs : List X) → position p (map f xs) ≡ position (λ x. p (f x)) xs
+position_map f p xs = rw (position_or_len_map f p xs, length-map xs f) refl
+
+-- the references that were looked at are those of the list
+pub called_place : (name : List ℕ) (refs : List (Bor (List ℕ))) → place_called name refs ≡ position (same name) (names_of refs)
+called_place name refs = sym (position_map (λ (r : Bor (List ℕ)). r.now) (same name) refs)
+
+pub names_length : (refs : List (Bor (List ℕ))) → length (names_of refs) ≡ length refs
+names_length refs = length-map refs (λ (r : Bor (List ℕ)). r.now)

@@ -1,5 +1,5 @@
 -- Maps from names to places in a list of names.
-use Rattle.std.specs.Prelude.{◌≡◌, ℕ, List, Option, Some, None, position, if◌then◌else◌}
+use Rattle.std.specs.Prelude.{◌≡◌, ◌<◌, ℕ, List, Option, Some, None, length, position, if◌then◌else◌}
 use Rattle.std.specs.Borrow.{Bor}
 use Rattle.indexmap.specs.IndexMap.{IndexMap, get_by}
 use Rattle.name_tables.specs.name_numbers.Names.{same}
@@ -20,3 +20,15 @@ earlier_or None place = place
 -- the name has the place, unless it had one, and every other name has what it had
 abbrev pub NotesFirst : {S : Type 0} → IndexMap (Bor (List ℕ)) ℕ S → IndexMap (Bor (List ℕ)) ℕ S → List ℕ → ℕ → Type 0
 NotesFirst old new name place = (q : List ℕ) → place_in new q ≡ earlier_or (place_in old q) (if same q name then Some place else None)
+
+-- up to this many names are compared one by one
+abbrev pub few : ℕ
+few = 8
+
+-- where the names are more than a few, each has its first place
+abbrev pub FindsIfMany : {S : Type 0} → IndexMap (Bor (List ℕ)) ℕ S → List (List ℕ) → Type 0
+FindsIfMany m names = (few < length names) → FindsFirst m names
+
+-- the first place at which a reference to the name stands
+abbrev pub place_called : List ℕ → List (Bor (List ℕ)) → Option ℕ
+place_called name refs = position (λ (r : Bor (List ℕ)). same name r.now) refs

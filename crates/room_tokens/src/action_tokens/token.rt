@@ -14,13 +14,13 @@ use room_lexer::{Kind, Mark, Token, TokenKind, next_piece};
 use std::alloc::{AllocError, Global};
 
 /// The last byte at which a token can begin or end.
-const LAST_PLACE: usize = 0xffff_ffff;
+const LAST_BYTE: usize = 0xffff_ffff;
 
 /// For how many tokens more than a half of them there is room when a list grows.
 const FEW_TOKENS: usize = 16;
 
 /// A token, with the byte at which it begins.
-#[derive(Clone, Copy, Debug, PartialEq, Eq)]
+#[derive(Clone, Copy, PartialEq, Eq)]
 pub enum ActionToken {
     Word(u32, ActionWord),
     /// An identifier that is no word of the action language and isn't reserved: the bytes up to
@@ -104,10 +104,10 @@ impl Lexeme for ActionToken {
 }
 
 /// A byte's number in 32 bits. One that has more is refused as want of memory.
-fn place_of(at: usize) -> Result<u32, ReadFault>
+fn byte_of(at: usize) -> Result<u32, ReadFault>
     ensures { Gives (λ n. n) result (Some at) }
 {
-    if at > LAST_PLACE {
+    if at > LAST_BYTE {
         return Err(ReadFault::Memory);
     }
     Ok(at as u32)
@@ -117,12 +117,12 @@ fn place_of(at: usize) -> Result<u32, ReadFault>
 fn token(bytes: &[u8], token: Token) -> Result<ActionToken, ReadFault>
     ensures { Gives (token_value bytes.now) result (value_of bytes.now token) }
 {
-    let start = place_of(token.start)?;
+    let start = byte_of(token.start)?;
     match token.kind {
         TokenKind::Ident(reserved) => match (word_of(text(bytes, token)), reserved) {
             (Some(word), _) => Ok(ActionToken::Word(start, word)),
             (None, None) => {
-                let end = place_of(token.end)?;
+                let end = byte_of(token.end)?;
                 Ok(ActionToken::Name { start, end })
             }
             (None, Some(_)) => Err(ReadFault::Syntax(token.start)),

@@ -3,7 +3,7 @@ ghost use Rattle.std.specs.Prelude.{◌≡◌};
 ghost use Rattle.room_tokens.specs.action_tokens.Words.{spelling_of, first_of, all_words, word_of, word_number, same_word};
 
 /// A word of the action language.
-#[derive(Clone, Copy, Drop, Debug, PartialEq, Eq)]
+#[derive(Clone, Copy, Drop, PartialEq, Eq)]
 pub enum ActionWord {
     If,
     Else,

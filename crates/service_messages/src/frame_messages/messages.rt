@@ -4,9 +4,11 @@ ghost use Rattle.actor_duties.specs.Words.{reference_of, index_of};
 ghost use Rattle.actor_duties.specs.Messages.{reply, to_owner, told_of, refused_at_once, code_number};
 ghost use Rattle.actor_duties.specs.Lives.{announce_to, announces, part_told_to, parts_told};
 ghost use Rattle.service_messages.specs.Shown.{signal_of, code_of, is_other_part};
+ghost use Rattle.service_messages.specs.Sites.{IsSite};
 ghost use Rattle.service_messages.specs.slot_runs.Runs.{IsDepthFirst, AreRunEnds};
 
 use crate::frame_messages::endpoints::frame_of;
+use crate::site::Site;
 use crate::slot_runs::SlotRuns;
 use crate::{Code, FrameSignal, frame_message, owner_of, system};
 use room_kinds::{ControllerId, Endpoint, Incarnation, Msg, Outbox, Payload, SlotId, SysKind};
@@ -70,9 +72,7 @@ fn index_of(wiring: &Wiring, slot: SlotId) -> u32
 
 /// What the container of a slot is told: the slot's reference and index, and an actor's number or a code.
 pub fn told_of(
-    alloc: Global,
-    wiring: &Wiring,
-    me: ControllerId,
+    site: &Site<'_>,
     signal: FrameSignal,
     source: Endpoint,
     target: Endpoint,
@@ -80,12 +80,13 @@ pub fn told_of(
     last: i64,
 ) -> Result<Msg, AllocError>
     ensures { IfOk result (λ m.
-        m ≡ told_of wiring.now me.0 (signal_of signal) source target slot.0 last) }
+        m ≡ told_of site.now.wiring.now site.now.me.0 (signal_of signal) source target slot.0
+        last) }
 {
-    let reference = i64::from(reference_of(wiring, slot));
-    let index = i64::from(index_of(wiring, slot));
-    let payload = Payload::from_slice(alloc, &[reference, index, last])?;
-    Ok(frame_message(me, signal, source, target, payload))
+    let reference = i64::from(reference_of(site.wiring, slot));
+    let index = i64::from(index_of(site.wiring, slot));
+    let payload = Payload::from_slice(site.alloc, &[reference, index, last])?;
+    Ok(frame_message(site.me, signal, source, target, payload))
 }
 
 /// A request that is refused when its command is applied: the actor is told its reference, the index as
@@ -130,20 +131,19 @@ fn announce_to(
 /// and 0 where it went down.
 #[tactic(auto, using(crate::proofs::frame_messages::Announced::all_announced))]
 pub fn announce(
-    alloc: Global,
-    wiring: &Wiring,
-    me: ControllerId,
+    site: &Site<'_>,
     actor: Incarnation,
     up: u8,
     out: &mut Outbox,
 ) -> Result<(), AllocError>
-    requires { actor.slot.0 < length wiring.now.slots }
-    ensures { OnOk result (out.new ≡ out.old ++ announces wiring.now me.0 actor (pos up)) }
+    requires { actor.slot.0 < length site.now.wiring.now.slots }
+    ensures { OnOk result (out.new
+        ≡ out.old ++ announces site.now.wiring.now site.now.me.0 actor (pos up)) }
 {
-    for number in 0..wiring.controller_count() {
+    for number in 0..site.wiring.controller_count() {
         let controller = ControllerId(number);
-        if wiring.tells(actor.slot, controller) {
-            announce_to(alloc, me, actor, up, controller, out)?;
+        if site.wiring.tells(actor.slot, controller) {
+            announce_to(site.alloc, site.me, actor, up, controller, out)?;
         }
     }
     Ok(())
@@ -186,23 +186,20 @@ fn tell_part(
 /// the actor came up, and PartEnd where it went down.
 #[tactic(auto, using(crate::proofs::frame_messages::Parts::all_told))]
 pub fn tell_parts(
-    alloc: Global,
-    wiring: &Wiring,
-    runs: &SlotRuns,
-    me: ControllerId,
+    site: &Site<'_>,
     kind: SysKind,
     actor: Incarnation,
     out: &mut Outbox,
 ) -> Result<(), AllocError>
-    requires order { IsDepthFirst wiring.now }
-    requires runs { AreRunEnds wiring.now runs.now }
-    requires there { actor.slot.0 < length wiring.now.slots }
-    ensures { OnOk result (out.new ≡ out.old ++ parts_told wiring.now me.0 kind actor) }
+    requires site { IsSite site.now }
+    requires there { actor.slot.0 < length site.now.wiring.now.slots }
+    ensures { OnOk result (out.new
+        ≡ out.old ++ parts_told site.now.wiring.now site.now.me.0 kind actor) }
 {
-    for number in 0..wiring.controller_count() {
+    for number in 0..site.wiring.controller_count() {
         let controller = ControllerId(number);
-        if is_other_part(wiring, runs, me, actor.slot, controller) {
-            tell_part(alloc, me, kind, actor, controller, out)?;
+        if is_other_part(site.wiring, site.runs, site.me, actor.slot, controller) {
+            tell_part(site.alloc, site.me, kind, actor, controller, out)?;
         }
     }
     Ok(())

@@ -13,7 +13,7 @@ use std::marker::Model;
 /// For each slot of a wiring the number behind the last slot that lies below it, or behind the slot
 /// itself where nothing does. The numbers are kept once, however many controllers share them. Contracts
 /// see the list of these numbers.
-#[derive(Drop, Debug)]
+#[derive(Drop)]
 pub struct SlotRuns {
     ends: SharedSequence<u32>,
 }

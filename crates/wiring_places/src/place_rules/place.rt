@@ -3,7 +3,7 @@ ghost use Rattle.std.specs.Prelude.{◌≡◌};
 ghost use Rattle.wiring_places.specs.place_rules.Partners.{is_relay_role, is_end_role, is_socket_role};
 
 /// What a place does with a message.
-#[derive(Clone, Copy, Drop, Debug, PartialEq, Eq)]
+#[derive(Clone, Copy, Drop, PartialEq, Eq)]
 pub enum Role {
     /// It passes the message from one of its faces to the other.
     Relay,
@@ -46,7 +46,7 @@ impl Role {
 }
 
 /// A place of a port of a slot.
-#[derive(Clone, Copy, Drop, Debug, PartialEq, Eq)]
+#[derive(Clone, Copy, Drop, PartialEq, Eq)]
 pub struct Place {
     pub slot: u16,
     pub port: u16,
@@ -55,7 +55,7 @@ pub struct Place {
 }
 
 /// A service access point and the service provision point that it is joined to.
-#[derive(Clone, Copy, Drop, Debug, PartialEq, Eq)]
+#[derive(Clone, Copy, Drop, PartialEq, Eq)]
 pub struct LayerJoin {
     pub sap_slot: u16,
     pub sap: u16,

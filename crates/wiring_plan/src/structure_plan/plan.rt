@@ -3,7 +3,7 @@
 use room_kinds::{PortKind, ReferenceKind, Sequence};
 
 /// A port that a side of a binding names.
-#[derive(Clone, Copy, Drop, Debug, PartialEq, Eq)]
+#[derive(Clone, Copy, Drop, PartialEq, Eq)]
 pub enum SidePlan {
     /// A port of the class that has the binding.
     Own { port: u16 },
@@ -12,7 +12,7 @@ pub enum SidePlan {
 }
 
 /// A binding of a class.
-#[derive(Clone, Copy, Drop, Debug, PartialEq, Eq)]
+#[derive(Clone, Copy, Drop, PartialEq, Eq)]
 pub struct BindingPlan {
     pub left: SidePlan,
     pub right: SidePlan,
@@ -20,7 +20,7 @@ pub struct BindingPlan {
 
 /// A layer connection of a class: the service access points below `reference` get the service
 /// `service`, a port of the class of the reference `provider`.
-#[derive(Clone, Copy, Drop, Debug, PartialEq, Eq)]
+#[derive(Clone, Copy, Drop, PartialEq, Eq)]
 pub struct LayerPlan {
     pub reference: u16,
     pub provider: u16,
@@ -28,7 +28,7 @@ pub struct LayerPlan {
 }
 
 /// How many places a port has at the beginning.
-#[derive(Clone, Copy, Drop, Debug, PartialEq, Eq)]
+#[derive(Clone, Copy, Drop, PartialEq, Eq)]
 pub enum PlacesPlan {
     One,
     Number(u32),
@@ -37,7 +37,7 @@ pub enum PlacesPlan {
 }
 
 /// A port, service access point or service provision point.
-#[derive(Clone, Copy, Drop, Debug, PartialEq, Eq)]
+#[derive(Clone, Copy, Drop, PartialEq, Eq)]
 pub struct PortPlan {
     pub kind: PortKind,
     pub places: PlacesPlan,
@@ -46,7 +46,7 @@ pub struct PortPlan {
 }
 
 /// A reference to an actor class.
-#[derive(Clone, Copy, Drop, Debug, PartialEq, Eq)]
+#[derive(Clone, Copy, Drop, PartialEq, Eq)]
 pub struct ReferencePlan {
     pub class: u16,
     pub kind: ReferenceKind,
@@ -56,7 +56,7 @@ pub struct ReferencePlan {
 
 /// A class that has references. Ports and references stand in order of their numbers, `frame` first;
 /// bindings and layer connections in order of declaration.
-#[derive(Drop, Debug)]
+#[derive(Drop)]
 pub struct ClassPlan {
     pub ports: Sequence<PortPlan>,
     pub references: Sequence<ReferencePlan>,
@@ -66,7 +66,7 @@ pub struct ClassPlan {
 
 /// The structure of a model: its actor classes by number, and the subsystem class that is wired, which
 /// has no ports.
-#[derive(Drop, Debug)]
+#[derive(Drop)]
 pub struct StructurePlan {
     pub classes: Sequence<ClassPlan>,
     pub subsystem: ClassPlan,

@@ -6,7 +6,7 @@ ghost use Rattle.wiring_slots.specs.declared.model_slots.fault.SlotFault.TheVari
 use std::alloc::AllocError;
 
 /// Why the slots of a model were refused.
-#[derive(Debug, Drop)]
+#[derive(Drop)]
 pub enum SlotFault {
     /// There are more than 4,096.
     TooManySlots,

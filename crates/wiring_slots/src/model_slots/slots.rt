@@ -19,7 +19,7 @@ use wiring_plan::{StructurePlan, classes_of, plan_of};
 
 /// The structure of a model by number, the names of its controllers and of its actor classes, and its
 /// slots.
-#[derive(Drop, Debug)]
+#[derive(Drop)]
 pub struct WiredSlots {
     pub plan: StructurePlan,
     pub controllers: Sequence<Label>,

@@ -25,7 +25,7 @@ use wiring_plan::label_of;
 
 /// What a model's slots are called, its mappings in order of declaration, and the names of its
 /// controllers by number.
-#[derive(Drop, Debug)]
+#[derive(Drop)]
 pub struct WiredNames {
     pub slots: SlotNames,
     pub mappings: MappingOrder,

@@ -17,7 +17,7 @@ use std::alloc::{AllocError, Global};
 use std::marker::Model;
 
 /// A mapping whose path begins as the path of the mapping before it.
-#[derive(Drop, Debug)]
+#[derive(Drop)]
 pub(crate) struct Continued {
     /// How many steps are those of the path before it.
     pub(crate) kept: usize,
@@ -26,7 +26,7 @@ pub(crate) struct Continued {
 }
 
 /// Mappings in order of declaration. Contracts see them as their list, each with its whole path.
-#[derive(Drop, Debug)]
+#[derive(Drop)]
 pub struct MappingOrder {
     plans: Vec<Continued>,
     /// For each mapping where those in its braces end; 0 where it has none.

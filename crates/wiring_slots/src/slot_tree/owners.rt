@@ -9,7 +9,7 @@ use crate::slot_tree::runs::{Run, Trails};
 use room_kinds::ControllerId;
 
 /// A mapping that leads through a slot or to it, and how many of its steps have led there.
-#[derive(Clone, Copy, Drop, Debug)]
+#[derive(Clone, Copy, Drop)]
 pub(crate) struct Trail {
     pub(crate) mapping: usize,
     pub(crate) steps: usize,

@@ -10,7 +10,7 @@ use std::alloc::{AllocError, Global};
 use std::marker::Model;
 
 /// The mappings from `first` up to `end`, each with so many steps.
-#[derive(Clone, Copy, Drop, Debug)]
+#[derive(Clone, Copy, Drop)]
 pub(crate) struct Run {
     pub(crate) first: usize,
     pub(crate) end: usize,

@@ -1,4 +1,4 @@
-use Rattle.std.proofs.Common.{List, ◌≡◌, ◌≤◌, ◌∙◌, ap, arith, length, map, sum, sym}
+use Rattle.std.proofs.Common.{List, ◌≡◌, ◌≤◌, ◌∙◌, ap, arith, length, map, refl, sum, sym}
 use Rattle.chart_model.specs.Named.{nodes_in}
 use Rattle.chart_trees.specs.chart_graphs.Views.{chart_view, graph_view}
 use Rattle.chart_trees.specs.declared.chart_graphs.Graph.{Graph as CodeGraph}
@@ -49,8 +49,8 @@ assemble-requires-clause-no_circle c = no_circle (chart_view c.args.chart.now) (
 
 pub assemble-requires-clause-enough : goal.assemble-requires-clause-enough
 assemble-requires-clause-enough c =
-    enough (chart_view c.args.chart.now) (map step_view c.as_slice-5.result.now) (sum (map nodes_in (map graph_view c.deref-2.result.now))) c.requires.valid (ap (map step_view) c.as_slice-5.ensures.value ∙ c.in_ok-steps.ensures)
-    (ap (λ (l : List CodeGraph). sum (map nodes_in (map graph_view l))) c.deref-2.ensures.value)
+    enough (chart_view c.args.chart.now) (map step_view c.as_slice-5.result.now) (sum (map nodes_in (map graph_view c.args.chart.now.graphs.items))) c.requires.valid (ap (map step_view) c.as_slice-5.ensures.value ∙ c.in_ok-steps.ensures)
+    refl
 
 pub assemble-requires-clause-starts : goal.assemble-requires-clause-starts
 assemble-requires-clause-starts c = starts (chart_view c.args.chart.now) (map step_view c.as_slice-5.result.now) c.requires.valid (ap (map step_view) c.as_slice-5.ensures.value ∙ c.in_ok-steps.ensures)
@@ -64,6 +64,6 @@ returns c =
     c.in_ok-states.ensures ∙ c.as_slice-3.ensures.value ∙ c.in_ok-state_keys.ensures ∙ ap (λ (l : List Place). map key_of (map place_view l)) (c.as_slice-2.ensures.value ∙ sym c.as_slice-6.ensures.value)
     in
     let few : length places ≤ 65535 = omega (arith, few_places chart c.requires, ap length are_places) in
-    tables_of chart c.in_ok-tables.tables (map step_view c.as_slice-5.result.now) places c.in_ok-states.states c.in_ok-graphs.graphs (sum (map nodes_in (map graph_view c.deref-2.result.now))) c.requires.valid (ap (map step_view) c.as_slice-5.ensures.value ∙ c.in_ok-steps.ensures) are_places are_states
-    (c.in_ok-graphs.ensures ∙ c.as_slice.ensures.value ∙ c.in_ok-graph_keys.ensures ∙ ap (λ (l : List CodeGraph). keys_of (map graph_view l)) c.deref.ensures.value) (ap (λ (l : List CodeGraph). sum (map nodes_in (map graph_view l))) c.deref-2.ensures.value)
-    c.in_ok-tables.ensures.tables (states_distinct_as chart places c.in_ok-states.states c.requires.valid are_places are_states) few (c.in_ok-tables.ensures.values ∙ c.as_slice-7.ensures.value)
+    tables_of chart c.in_ok-tables.tables (map step_view c.as_slice-5.result.now) places c.in_ok-states.states c.in_ok-graphs.graphs (sum (map nodes_in (map graph_view c.args.chart.now.graphs.items))) c.requires.valid (ap (map step_view) c.as_slice-5.ensures.value ∙ c.in_ok-steps.ensures) are_places are_states
+    (c.in_ok-graphs.ensures ∙ c.as_slice.ensures.value ∙ c.in_ok-graph_keys.ensures ∙ ap (λ (l : List CodeGraph). keys_of (map graph_view l)) c.deref.ensures.value) refl
+    c.in_ok-tables.ensures.tables (states_distinct_as chart places c.in_ok-states.states c.requires.valid are_places are_states) few c.in_ok-tables.ensures.values

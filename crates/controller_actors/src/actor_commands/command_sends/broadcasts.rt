@@ -1,5 +1,5 @@
 //! Broadcasts.
-ghost use Rattle.std.specs.Prelude.{◌≡◌, ◌<◌, ◌∷◌, [], pos, length, map, nat_le, OnOk};
+ghost use Rattle.std.specs.Prelude.{◌≡◌, ◌<◌, pos, length, map, nat_le, OnOk};
 ghost use Rattle.std.specs.List.{filter};
 ghost use Rattle.room_wiring.specs.Places.{port_count};
 ghost use Rattle.actor_duties.specs.State.{Link};
@@ -59,31 +59,7 @@ fn send_to_places<S: Services>(
     Ok(())
 }
 
-/// Sends at a linked place, where it stands behind those of the model.
-fn send_to_link<S: Services>(
-    alloc: Global,
-    speaker: &Speaker<'_>,
-    services: &S,
-    port: u16,
-    first: u32,
-    place: u32,
-    content: &Content,
-    output: &mut Output,
-) -> Result<(), AllocError>
-    requires serves { S.serves speaker.now.wiring.now speaker.now.me.0 services.now }
-    ensures { OnOk result (Adds
-        (send_each speaker.now.wiring.now speaker.now.me.0 (S.frame_of services.now)
-        (S.links_of services.now)
-        speaker.now.who port (content_of content.now) (filter (nat_le first) (place ∷ [])))
-        output.old output.new) }
-{
-    if place < first {
-        return Ok(());
-    }
-    send_copy(alloc, speaker, services, port, place, content, output)
-}
-
-/// Sends at each place that is linked by name, from the place `first` on.
+/// Sends at each place that is linked by name and stands behind those of the model, from `first` on.
 fn send_to_links<S: Services>(
     alloc: Global,
     speaker: &Speaker<'_>,
@@ -104,9 +80,9 @@ fn send_to_links<S: Services>(
 {
     for index in 0..services.link_count(speaker.who.slot, port) {
         let place = services.linked_place(speaker.who.slot, port, index);
-        send_to_link(
-            alloc, speaker, services, port, first, place, content, output,
-        )?;
+        if place >= first {
+            send_copy(alloc, speaker, services, port, place, content, output)?;
+        }
     }
     Ok(())
 }

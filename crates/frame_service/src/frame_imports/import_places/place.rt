@@ -13,7 +13,7 @@ use std::alloc::Global;
 
 /// What an imported slot of a live container holds: nothing; or an actor of another slot, its home, that
 /// it asks for, holds or gives back.
-#[derive(Clone, Copy, Debug)]
+#[derive(Clone, Copy)]
 pub enum ImportPlace {
     Empty,
     Asking(Incarnation),

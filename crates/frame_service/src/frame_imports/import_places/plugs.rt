@@ -10,7 +10,7 @@ use std::marker::Model;
 
 /// The import places that hold what stands in a slot, each as an imported slot in the generation of its
 /// container, oldest first.
-#[derive(Drop, Debug)]
+#[derive(Drop)]
 pub struct Plugs {
     items: Vec<Incarnation>,
 }

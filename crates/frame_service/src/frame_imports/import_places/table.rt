@@ -22,7 +22,7 @@ use std::marker::Model;
 ///
 /// They stand in pages, which take memory for a slot only where it, or a later one of its page, has asked
 /// for a home or was lent (`Pages`). So they take none where nothing is lent.
-#[derive(Drop, Debug)]
+#[derive(Drop)]
 pub struct Imports {
     places: Pages<ImportPlace>,
     plugs: Pages<Plugs>,

@@ -1,23 +1,15 @@
 use Rattle.std.proofs.Common.{arith, ◌-◌, ◌<◌, length, sym, ◌∙◌}
 use Rattle.std.proofs.lemmas.Result.{err_from_is_err_and}
-use Rattle.std.specs.Prelude.{List, ℕ}
 use Rattle.room_lexer.specs.declared.token.Mark.TheVariants as marks
-use Rattle.room_tokens.specs.Reader.{◌⊕◌, reads_as, Reader}
 use Rattle.room_tokens.proofs.Loop.{goes, ends, is_done}
-use Rattle.room_tokens.specs.action_tokens.Values.{Value}
-use Rattle.room_tokens.specs.action_tokens.Single.{left, comes, mark, name_at}
-use Rattle.action_parse.specs.action_reading.ExprReading.{path_at}
-use Rattle.action_parse.proofs.action_reading.Turns.{starts_behind}
+use Rattle.room_tokens.specs.action_tokens.Single.{left, comes}
+use Rattle.action_parse.specs.action_reading.ExprReading.{part_at}
+use Rattle.action_parse.proofs.action_reading.Turns.{starts_path}
 use Rattle.action_parse.proofs.action_reading.ExprSound.{part_shorter}
 use Rattle.action_parse.proofs.action_reading.expressions.parts.Goals as goal
 
-abbrev part_at : Reader Value (List ℕ)
-part_at = reads_as (λ (x : Unit {0} × List ℕ). x.1) (mark marks.Dot ⊕ name_at)
-
 pub loop-alloc-init : goal.loop-alloc-init
-unfolding path_at
-loop-alloc-init c =
-    (length (left c.in_ok-first.rest), omega arith, rw (c.in_ok-push.ensures.items, c.new-path.ensures.items) (starts_behind name_at (comes marks.Dot) part_at (left c.args.rest) c.in_ok-first.first (left c.in_ok-first.rest) c.in_ok-first.ensures))
+loop-alloc-init c = (length (left c.args.rest), omega arith, rw (c.in_ok-push.ensures.items, c.new-path.ensures.items) (starts_path c.args.first (left c.args.rest)))
 
 pub returns-in_err-next_part : goal.returns-in_err-next_part
 returns-in_err-next_part c =

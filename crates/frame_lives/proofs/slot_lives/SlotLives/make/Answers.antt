@@ -7,20 +7,20 @@ use Rattle.frame_lives.proofs.slot_lives.SlotLives.make.Goals as goal
 
 pub loop-next-init : goal.loop-next-init
 loop-next-init c =
-    let t = c.args.wiring.now in
-    let me = c.args.me.0 in
+    let t = c.args.site.now.wiring.now in
+    let me = c.args.site.now.me.0 in
     let o = c.args.slot.0 in
     let e = c.end-end.result in
     let k = shown c.args.self.now in
     let out = c.args.out.now in
     subst (λ (n : ℕ). Making t me o e k k out out c.new-made.result n) (sym c.from-next.ensures)
     (subst (λ (made : List Incarnation). Making t me o e k k out out made o) (sym c.new-made.ensures)
-    (making_begun t c.requires.order me o e k out c.end-end.ensures.run))
+    (making_begun t c.requires.site.order me o e k out c.end-end.ensures.run))
 
 pub loop-next-preserved : goal.loop-next-preserved
 loop-next-preserved c =
-    let t = c.args.wiring.now in
-    let me = c.args.me.0 in
+    let t = c.args.site.now.wiring.now in
+    let me = c.args.site.now.me.0 in
     let o = c.args.slot.0 in
     let e = c.end-end.result in
     let old = shown c.args.self.now in
@@ -32,10 +32,10 @@ loop-next-preserved c =
 
 pub returns-clause-known : goal.returns-clause-known
 returns-clause-known c =
-    (making_done c.args.wiring.now c.requires.order c.args.me.0 c.args.slot.0 c.end-end.result (shown c.args.self.now) (shown c.loop-next.self)
+    (making_done c.args.site.now.wiring.now c.requires.site.order c.args.site.now.me.0 c.args.slot.0 c.end-end.result (shown c.args.self.now) (shown c.loop-next.self)
     c.args.out.now c.loop-next.out c.loop-next.made c.loop-next.next c.end-end.ensures.run c.loop-next-test.false c.loop-next.invariant).known
 
 pub returns-clause-made : goal.returns-clause-made
 returns-clause-made c =
-    (making_done c.args.wiring.now c.requires.order c.args.me.0 c.args.slot.0 c.end-end.result (shown c.args.self.now) (shown c.loop-next.self)
+    (making_done c.args.site.now.wiring.now c.requires.site.order c.args.site.now.me.0 c.args.slot.0 c.end-end.result (shown c.args.self.now) (shown c.loop-next.self)
     c.args.out.now c.loop-next.out c.loop-next.made c.loop-next.next c.end-end.ensures.run c.loop-next-test.false c.loop-next.invariant).made_is

@@ -5,5 +5,5 @@ use Rattle.frame_service.proofs.frame_endings.messages.end_actors.Given as goal
 
 abbrev pub invariant-loop-actor : goal.invariant-loop-actor
 invariant-loop-actor g l =
-    l.initial.out ++ flat_map (end_sends l.wiring l.me.0 (g.I.Lent.places l.lent) (g.I.Lent.plugs l.lent)) l.actors
-    ≡ l.out ++ flat_map (end_sends l.wiring l.me.0 (g.I.Lent.places l.lent) (g.I.Lent.plugs l.lent)) (drop l.actor-index l.actors)
+    l.initial.out ++ flat_map (end_sends l.site.wiring.now l.site.me.0 (g.I.Lent.places l.lent) (g.I.Lent.plugs l.lent)) l.actors
+    ≡ l.out ++ flat_map (end_sends l.site.wiring.now l.site.me.0 (g.I.Lent.places l.lent) (g.I.Lent.plugs l.lent)) (drop l.actor-index l.actors)

@@ -14,8 +14,8 @@ use Rattle.frame_service.proofs.frame_imports.commands.import_into.Goals as goal
 
 pub returns-clause-now : goal.returns-clause-now
 returns-clause-now c =
-    let t = c.args.wiring.now in
-    let me = c.args.me.0 in
+    let t = c.args.site.now.wiring.now in
+    let me = c.args.site.now.me.0 in
     let places = (lending c.args.imports.now).places in
     let x = c.args.asked.actor in
     let r = c.args.asked.reference in
@@ -30,8 +30,8 @@ returns-clause-now c =
 
 pub returns-clause-sent : goal.returns-clause-sent
 returns-clause-sent c =
-    let t = c.args.wiring.now in
-    let me = c.args.me.0 in
+    let t = c.args.site.now.wiring.now in
+    let me = c.args.site.now.me.0 in
     let places = (lending c.args.imports.now).places in
     let x = c.args.asked.actor in
     let r = c.args.asked.reference in

@@ -5,7 +5,7 @@ use Rattle.frame_service.proofs.DutyLemmas.{places_requested}
 use Rattle.frame_service.proofs.state.FrameState.deport.Goals as goal
 
 pub request_deport-requires : goal.request_deport-requires
-request_deport-requires c = record { order = c.requires.fits.order; runs = c.requires.fits.runs; there = c.requires.there }
+request_deport-requires c = record { site = record { order = c.requires.fits.order; runs = c.requires.fits.runs }; there = c.requires.there }
 
 pub returns : goal.returns
 unfolding frame_in

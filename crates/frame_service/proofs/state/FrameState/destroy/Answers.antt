@@ -5,7 +5,7 @@ use Rattle.frame_service.proofs.DutyLemmas.{only_requested}
 use Rattle.frame_service.proofs.state.FrameState.destroy.Goals as goal
 
 pub destroy-requires : goal.destroy-requires
-destroy-requires c = record { order = c.requires.fits.order; runs = c.requires.fits.runs; there = c.requires.there }
+destroy-requires c = record { site = record { order = c.requires.fits.order; runs = c.requires.fits.runs }; there = c.requires.there }
 
 pub returns : goal.returns
 returns c =

@@ -10,7 +10,7 @@ use Rattle.frame_service.proofs.frame_endings.EndSet.{ended_there, set_ended}
 use Rattle.frame_service.proofs.state.FrameState.end_set.Goals as goal
 
 pub ending-requires : goal.ending-requires
-ending-requires c = record { order = c.requires.fits.order; runs = c.requires.fits.runs; there = c.requires.there }
+ending-requires c = record { site = record { order = c.requires.fits.order; runs = c.requires.fits.runs }; there = c.requires.there }
 
 pub returns : goal.returns
 returns c =
@@ -46,3 +46,9 @@ pub end_all-requires-2-clause-there : goal.end_all-requires-2-clause-there
 end_all-requires-2-clause-there c =
     ended_there c.args.wiring.now c.args.self.now.me.0 (shown c.args.self.now.lives).lives c.args.slot.0 c.as_slice-actors.result.now
     (c.as_slice-actors.ensures ∙ c.in_ok-ended.ensures)
+
+pub end_actors-requires-clause-site : goal.end_actors-requires-clause-site
+end_actors-requires-clause-site c = record { order = c.requires.fits.order; runs = c.requires.fits.runs }
+
+pub end_parts-requires-clause-site : goal.end_parts-requires-clause-site
+end_parts-requires-clause-site c = record { order = c.requires.fits.order; runs = c.requires.fits.runs }

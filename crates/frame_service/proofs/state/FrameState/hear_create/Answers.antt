@@ -11,8 +11,7 @@ use Rattle.frame_service.proofs.state.FrameState.hear_create.Goals as goal
 pub create-requires : goal.create-requires
 unfolding frame_in
 create-requires c = record {
-  order = c.requires.fits.order;
-  runs = c.requires.fits.runs;
+  site = record { order = c.requires.fits.order; runs = c.requires.fits.runs };
   there = asked_there c.args.wiring.now c.args.self.now.me.0 c.args.m.now.payload kinds.Create c.args.from c.args.slot c.requires.form;
   whole = c.requires.fits.lives;
 }

@@ -11,8 +11,7 @@ use Rattle.frame_service.proofs.state.FrameState.hear_part_make.Goals as goal
 pub part_make-requires : goal.part_make-requires
 unfolding frame_in
 part_make-requires c = record {
-  order = c.requires.fits.order;
-  runs = c.requires.fits.runs;
+  site = record { order = c.requires.fits.order; runs = c.requires.fits.runs };
   there = part_there c.args.wiring.now c.args.self.now.me.0 c.args.m.now.payload c.args.actor c.args.again c.requires.form;
   whole = c.requires.fits.lives;
 }

@@ -7,7 +7,7 @@ use Rattle.frame_service.proofs.DutyLemmas.{places_requested}
 use Rattle.frame_service.proofs.state.FrameState.import.Goals as goal
 
 pub request_import-requires : goal.request_import-requires
-request_import-requires c = record { order = c.requires.fits.order; runs = c.requires.fits.runs; there = c.requires.there }
+request_import-requires c = record { site = record { order = c.requires.fits.order; runs = c.requires.fits.runs }; there = c.requires.there }
 
 pub returns : goal.returns
 unfolding frame_in

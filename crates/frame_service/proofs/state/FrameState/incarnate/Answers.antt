@@ -5,7 +5,7 @@ use Rattle.frame_service.proofs.DutyLemmas.{only_requested}
 use Rattle.frame_service.proofs.state.FrameState.incarnate.Goals as goal
 
 pub incarnate-requires : goal.incarnate-requires
-incarnate-requires c = record { order = c.requires.fits.order; runs = c.requires.fits.runs; there = c.requires.there }
+incarnate-requires c = record { site = record { order = c.requires.fits.order; runs = c.requires.fits.runs }; there = c.requires.there }
 
 pub returns : goal.returns
 returns c =

@@ -3,4 +3,4 @@ use Rattle.service_messages.proofs.frame_messages.Announced.{announced_to}
 use Rattle.service_messages.proofs.frame_messages.messages.announce.Given as goal
 
 abbrev pub invariant-loop-number : goal.invariant-loop-number
-invariant-loop-number l = l.out ≡ l.initial.out ++ announced_to l.wiring l.me.0 l.actor (pos l.up) l.number
+invariant-loop-number l = l.out ≡ l.initial.out ++ announced_to l.site.wiring.now l.site.me.0 l.actor (pos l.up) l.number

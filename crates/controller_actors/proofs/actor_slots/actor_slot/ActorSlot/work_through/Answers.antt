@@ -1,4 +1,4 @@
-use Rattle.std.proofs.Common.{◌≡◌, Bool, false, List, refl, subst}
+use Rattle.std.proofs.Common.{◌≡◌, Bool, false, List, None, refl, subst}
 use Rattle.room_kinds.specs.declared.message.Msg.{Msg}
 use Rattle.controller_actors.specs.declared.actor_commands.command_sends.output.Output.{Output}
 use Rattle.controller_actors.specs.declared.actor_commands.doing.Doing.{Doing}
@@ -16,7 +16,7 @@ returns-clause-works g c =
     record {
       kept = c.apply_all.new.doing.kept;
       occupant = refl;
-      applied = subst (λ (d : Doing). AppliesAll s.wiring.now s.me.0 (g.S.Services.frame_of c.args.services.now) (g.S.Services.links_of c.args.services.now) (g.S.Services.frame_of c.apply_all.new.services) (g.S.Services.links_of c.apply_all.new.services) s.who c.args.message c.args.commands
+      applied = subst (λ (d : Doing). AppliesAll s.wiring.now s.me.0 (g.S.Services.frame_of c.args.services.now) (g.S.Services.links_of c.args.services.now) (g.S.Services.frame_of c.apply_all.new.services) (g.S.Services.links_of c.apply_all.new.services) s.who None c.args.commands
           d c.apply_all.new.doing)
-          (same_doing c.replace.ensures.value c.replace-2.ensures.value c.replace-3.ensures.value false) (c.in_ok-apply_all.ensures.applied c.args.message (λ _. refl));
+          (same_doing c.replace.ensures.value c.replace-2.ensures.value c.replace-3.ensures.value false) (c.in_ok-apply_all.ensures.applied None (λ _. refl));
     }

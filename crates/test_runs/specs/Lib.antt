@@ -1,1 +1,0 @@
-pub mod mail_tests
