@@ -103,8 +103,7 @@ const MOST_NUMBERS: u64 = 4_096;
 /// sets 24 aside where one is asked for.
 const OF_A_BYTE: u64 = 64;
 
-/// The most bytes that each of them takes, and a class, however little stands in it.
-const OF_A_CLASS: u64 = 2_100;
+/// The most bytes that each of them takes.
 const OF_A_PLACE: u64 = 80;
 const OF_A_SLOT: u64 = 300;
 const OF_A_NUMBER: u64 = 240;
@@ -131,9 +130,9 @@ fn of_what_it_stands_for(model: &[u8]) -> u64 {
     let slots = if is_large { MOST_SLOTS } else { MOST_SLOTS.min(references.pow(3)) };
     let ports = count_of(b"Port", model) + count_of(b"SAP", model) + count_of(b"SPP", model);
     let places = if is_large { MOST_PLACES } else { MOST_PLACES.min(slots * ports) };
-    let classes = count_of(b"ActorClass", model);
-    let numbers = if count_of(b"DataClass", model) > 0 { MOST_NUMBERS * classes } else { 0 };
-    classes * OF_A_CLASS + places * OF_A_PLACE + slots * OF_A_SLOT + numbers * OF_A_NUMBER
+    let with_data = count_of(b"DataClass", model) > 0;
+    let numbers = if with_data { MOST_NUMBERS * count_of(b"ActorClass", model) } else { 0 };
+    places * OF_A_PLACE + slots * OF_A_SLOT + numbers * OF_A_NUMBER
 }
 
 fn count_of(word: &[u8], text: &[u8]) -> u64 {

@@ -1,6 +1,5 @@
 -- The wiring of a model, or its lowest fault.
-use Rattle.std.proofs.Common.{◌≡◌, ◌∙◌, ℕ, ◌<◌, ◌≤◌, true, false, List, length, Result, Ok, Err, None, refl, sym, subst, arith}
-use Rattle.std.specs.Prelude.{IfOk}
+use Rattle.std.proofs.Common.{◌≡◌, ◌∙◌, ℕ, ◌<◌, ◌≤◌, true, false, List, length, Ok, Err, None, refl, sym, subst, arith}
 use Rattle.room_ast.specs.Trees.{ModelTree}
 use Rattle.room_wiring.specs.declared.slot.Slot.{Slot}
 use Rattle.room_wiring.specs.declared.tables.Tables.{Tables}
@@ -27,7 +26,9 @@ use Rattle.binding_expand.specs.Faults.{number, HasFault, HasNoFault}
 use Rattle.binding_expand.specs.Answers.{Expands, Fits}
 use Rattle.binding_expand.specs.Steps.{AreWired, FindsSlots, FindsPlaces, Completes, pairs_sockets, joins_away}
 use Rattle.binding_expand.specs.declared.fault.WiringFault.{WiringFault}
-use Rattle.binding_expand.specs.declared.fault.WiringFault.TheVariants as faults
+use Rattle.binding_expand.specs.declared.fault.WiringFault.TheVariants as wiring_faults
+use Rattle.binding_expand.specs.declared.fault.ExpandFault.{ExpandFault}
+use Rattle.binding_expand.specs.declared.fault.ExpandFault.TheVariants as faults
 use Rattle.binding_expand.proofs.Kept.{known, finite, layers, few_threads}
 
 module _ (m : ModelTree) (keeps : first_broken all_rules m ≡ None) where
@@ -55,31 +56,30 @@ module _ (m : ModelTree) (keeps : first_broken all_rules m ≡ None) where
   -- none of the faults below a number, where each such test fails
   lower_free : (k : ℕ) → (1 < k → length (slots_in m) ≤ 4096) → (2 < k → has_too_many_places (plan_of m) (slots_in m) ≡ false) → (3 < k → lacks_place (plan_of m) (slots_in m) ≡ false)
       → (4 < k → pairs_sockets (plan_of m) (slots_in m) ≡ false) → (5 < k → joins_away (plan_of m) (slots_in m) ≡ false) → (lower : WiringFault) → number lower < k → HasFault m lower → ⊥
-  lower_free k few places lacks sockets away faults.TooManySlots lt has = let h = few lt in omega arith
-  lower_free k few places lacks sockets away faults.TooManyPlaces lt has = let no : true ≡ false = sym has ∙ places lt in cc
-  lower_free k few places lacks sockets away faults.NoFreePlace lt has = let no : true ≡ false = sym has ∙ lacks lt in cc
-  lower_free k few places lacks sockets away faults.SocketPair lt has = no_sockets (places_of m) (pairs_of m) (partners_in (plan_of m) (slots_in m)) shows (sockets lt) has
-  lower_free k few places lacks sockets away faults.SocketAway lt has = none_away (places_of m) (pairs_of m) (partners_in (plan_of m) (slots_in m)) shows (slots_in m) (away lt) has
-  lower_free k few places lacks sockets away faults.Memory lt has = has
+  lower_free k few places lacks sockets away wiring_faults.TooManySlots lt has = let h = few lt in omega arith
+  lower_free k few places lacks sockets away wiring_faults.TooManyPlaces lt has = let no : true ≡ false = sym has ∙ places lt in cc
+  lower_free k few places lacks sockets away wiring_faults.NoFreePlace lt has = let no : true ≡ false = sym has ∙ lacks lt in cc
+  lower_free k few places lacks sockets away wiring_faults.SocketPair lt has = no_sockets (places_of m) (pairs_of m) (partners_in (plan_of m) (slots_in m)) shows (sockets lt) has
+  lower_free k few places lacks sockets away wiring_faults.SocketAway lt has = none_away (places_of m) (pairs_of m) (partners_in (plan_of m) (slots_in m)) shows (slots_in m) (away lt) has
 
-  pub slots_refused : (e : WiringFault) → FindsSlots m (Err e) → Expands m (Err e)
-  slots_refused faults.TooManySlots h = record { has = h; lowest = lower_free 1 (λ lt. absurd (omega arith)) (λ lt. absurd (omega arith)) (λ lt. absurd (omega arith)) (λ lt. absurd (omega arith)) (λ lt. absurd (omega arith)) }
-  slots_refused faults.TooManyPlaces h = record { has = h.1; lowest = lower_free 2 (λ lt. h.0) (λ lt. absurd (omega arith)) (λ lt. absurd (omega arith)) (λ lt. absurd (omega arith)) (λ lt. absurd (omega arith)) }
-  slots_refused faults.NoFreePlace h = absurd h
-  slots_refused faults.SocketPair h = absurd h
-  slots_refused faults.SocketAway h = absurd h
+  pub slots_refused : (e : ExpandFault) → FindsSlots m (Err e) → Expands m (Err e)
+  slots_refused (faults.Wiring wiring_faults.TooManySlots) h = record { has = h; lowest = lower_free 1 (λ lt. absurd (omega arith)) (λ lt. absurd (omega arith)) (λ lt. absurd (omega arith)) (λ lt. absurd (omega arith)) (λ lt. absurd (omega arith)) }
+  slots_refused (faults.Wiring wiring_faults.TooManyPlaces) h = record { has = h.1; lowest = lower_free 2 (λ lt. h.0) (λ lt. absurd (omega arith)) (λ lt. absurd (omega arith)) (λ lt. absurd (omega arith)) (λ lt. absurd (omega arith)) }
+  slots_refused (faults.Wiring wiring_faults.NoFreePlace) h = absurd h
+  slots_refused (faults.Wiring wiring_faults.SocketPair) h = absurd h
+  slots_refused (faults.Wiring wiring_faults.SocketAway) h = absurd h
   slots_refused faults.Memory h = tt
 
   module _ (few : length (slots_in m) ≤ 4096) (places : has_too_many_places (plan_of m) (slots_in m) ≡ false) where
-    places_refused : (e : WiringFault) → FindsPlaces (plan_of m) (slots_in m) (Err e) → Expands m (Err e)
-    places_refused faults.TooManySlots h = absurd h
-    places_refused faults.TooManyPlaces h = absurd h
-    places_refused faults.NoFreePlace h = record { has = h; lowest = lower_free 3 (λ lt. few) (λ lt. places) (λ lt. absurd (omega arith)) (λ lt. absurd (omega arith)) (λ lt. absurd (omega arith)) }
-    places_refused faults.SocketPair h = record {
+    places_refused : (e : ExpandFault) → FindsPlaces (plan_of m) (slots_in m) (Err e) → Expands m (Err e)
+    places_refused (faults.Wiring wiring_faults.TooManySlots) h = absurd h
+    places_refused (faults.Wiring wiring_faults.TooManyPlaces) h = absurd h
+    places_refused (faults.Wiring wiring_faults.NoFreePlace) h = record { has = h; lowest = lower_free 3 (λ lt. few) (λ lt. places) (λ lt. absurd (omega arith)) (λ lt. absurd (omega arith)) (λ lt. absurd (omega arith)) }
+    places_refused (faults.Wiring wiring_faults.SocketPair) h = record {
       has = sockets_found (places_of m) (pairs_of m) (partners_in (plan_of m) (slots_in m)) shows h.1;
       lowest = lower_free 4 (λ lt. few) (λ lt. places) (λ lt. h.0) (λ lt. absurd (omega arith)) (λ lt. absurd (omega arith));
     }
-    places_refused faults.SocketAway h = record {
+    places_refused (faults.Wiring wiring_faults.SocketAway) h = record {
       has = away_found (places_of m) (pairs_of m) (partners_in (plan_of m) (slots_in m)) shows (slots_in m) h.2;
       lowest = lower_free 5 (λ lt. few) (λ lt. places) (λ lt. h.0) (λ lt. h.1) (λ lt. absurd (omega arith));
     }
@@ -89,12 +89,11 @@ module _ (m : ModelTree) (keeps : first_broken all_rules m ≡ None) where
     faultless p h = λ fault has. lower_free 6 (λ lt. few) (λ lt. places) (λ lt. h.0.pairing) (λ lt. h.1) (λ lt. h.2) fault (below_six fault) has
       where
         below_six : (fault : WiringFault) → number fault < 6
-        below_six faults.TooManySlots = omega arith
-        below_six faults.TooManyPlaces = omega arith
-        below_six faults.NoFreePlace = omega arith
-        below_six faults.SocketPair = omega arith
-        below_six faults.SocketAway = omega arith
-        below_six faults.Memory = omega arith
+        below_six wiring_faults.TooManySlots = omega arith
+        below_six wiring_faults.TooManyPlaces = omega arith
+        below_six wiring_faults.NoFreePlace = omega arith
+        below_six wiring_faults.SocketPair = omega arith
+        below_six wiring_faults.SocketAway = omega arith
 
   -- ---- the whole
 
@@ -108,7 +107,7 @@ module _ (m : ModelTree) (keeps : first_broken all_rules m ≡ None) where
       let few : HasFewPlaces (plan_of m) (slots_in m) = has_few_places (plan_of m) (slots_in m) (model_slots m (known m keeps) (finite m keeps) (layers m keeps) (all_few m keeps)) (has_few_ports m (all_few m keeps)) h.2 h.1 sound.below in
       subst (λ (xs : List Slot). HasFewPlaces w.plan xs) (sym same) (subst (λ (x : WiredSlots). HasFewPlaces x.plan x.slots) (sym h.0) few)
 
-  pub places_told : (w : WiredSlots) (slots : List Slot) (e : WiringFault) → FindsSlots m (Ok w) → slots ≡ w.slots → FindsPlaces w.plan slots (Err e) → Expands m (Err e)
+  pub places_told : (w : WiredSlots) (slots : List Slot) (e : ExpandFault) → FindsSlots m (Ok w) → slots ≡ w.slots → FindsPlaces w.plan slots (Err e) → Expands m (Err e)
   places_told w slots e h same f = places_refused h.1 h.2 e (subst (λ (x : WiredSlots). FindsPlaces x.plan x.slots (Err e)) h.0 (subst (λ (xs : List Slot). FindsPlaces w.plan xs (Err e)) same f))
 
   pub wiring_told : (w : WiredSlots) (slots : List Slot) (p : WiredPlaces) (t : Tables) → FindsSlots m (Ok w) → slots ≡ w.slots → FindsPlaces w.plan slots (Ok p) → Completes w t → Expands m (Ok t)
@@ -117,6 +116,5 @@ module _ (m : ModelTree) (keeps : first_broken all_rules m ≡ None) where
       (of_model t (subst (λ (x : WiredSlots). Completes x t) h.0 c), faultless h.1 h.2 p (subst (λ (x : WiredSlots). FindsPlaces x.plan x.slots (Ok p)) h.0 found))
 
   -- a wiring that is answered fits
-  pub fits_told : (r : Result Tables WiringFault) → Expands m r → IfOk r (λ t. Fits t)
-  fits_told (Ok t) h = record { model = m; keeps = keeps; faultless = h.1; wiring = h.0 }
-  fits_told (Err e) h = tt
+  pub fits_told : (t : Tables) → Expands m (Ok t) → Fits t
+  fits_told t h = record { model = m; keeps = keeps; faultless = h.1; wiring = h.0 }

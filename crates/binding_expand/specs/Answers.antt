@@ -6,18 +6,14 @@ use Rattle.structure_check.specs.List.{all_rules}
 use Rattle.structure_check.specs.Rules.{first_broken}
 use Rattle.binding_expand.specs.Wirings.{IsWiringOf}
 use Rattle.binding_expand.specs.Faults.{IsLowestFault, HasNoFault}
-use Rattle.binding_expand.specs.declared.fault.WiringFault.{WiringFault}
-use Rattle.binding_expand.specs.declared.fault.WiringFault.TheVariants as faults
+use Rattle.binding_expand.specs.declared.fault.ExpandFault.{ExpandFault}
+use Rattle.binding_expand.specs.declared.fault.ExpandFault.TheVariants as faults
 
 -- The wiring of a model without a fault, or the lowest fault that the model has, unless memory ran out.
-abbrev pub Expands : ModelTree → Result Tables WiringFault → Type 0
+abbrev pub Expands : ModelTree → Result Tables ExpandFault → Type 0
 Expands m (Ok t) = IsWiringOf m t × HasNoFault m
+Expands m (Err (faults.Wiring fault)) = IsLowestFault m fault
 Expands m (Err faults.Memory) = Unit {0}
-Expands m (Err faults.TooManySlots) = IsLowestFault m faults.TooManySlots
-Expands m (Err faults.TooManyPlaces) = IsLowestFault m faults.TooManyPlaces
-Expands m (Err faults.NoFreePlace) = IsLowestFault m faults.NoFreePlace
-Expands m (Err faults.SocketPair) = IsLowestFault m faults.SocketPair
-Expands m (Err faults.SocketAway) = IsLowestFault m faults.SocketAway
 
 -- A wiring fits where it is that of some model that keeps all rules and has no fault.
 pub record Fits (t : Tables) : Type 0 where

@@ -17,8 +17,9 @@ use Rattle.wiring_joins.specs.joined_places.Wired.{places_in, partners_in, ArePl
 use Rattle.wiring_joins.specs.declared.joined_places.places.WiredPlaces.{WiredPlaces}
 use Rattle.wiring_joins.specs.tellings.Told.{SaysWhoIsTold}
 use Rattle.binding_expand.specs.wiring_tables.Assembled.{assembled}
-use Rattle.binding_expand.specs.declared.fault.WiringFault.{WiringFault}
-use Rattle.binding_expand.specs.declared.fault.WiringFault.TheVariants as faults
+use Rattle.binding_expand.specs.declared.fault.WiringFault.TheVariants as wiring_faults
+use Rattle.binding_expand.specs.declared.fault.ExpandFault.{ExpandFault}
+use Rattle.binding_expand.specs.declared.fault.ExpandFault.TheVariants as faults
 
 -- Slots of a model whose references name actor classes, with few threads, and no more than 4,096.
 pub record AreWired (w : WiredSlots) : Type 0 where
@@ -29,13 +30,13 @@ pub record AreWired (w : WiredSlots) : Type 0 where
   pub few : length (slots_in model) ≤ 4096
 
 -- The slots of a model, within the limits; or the limit that they pass.
-abbrev pub FindsSlots : ModelTree → Result WiredSlots WiringFault → Type 0
+abbrev pub FindsSlots : ModelTree → Result WiredSlots ExpandFault → Type 0
 FindsSlots m (Ok w) = (w ≡ wired m) × (length (slots_in m) ≤ 4096) × (has_too_many_places (plan_of m) (slots_in m) ≡ false)
-FindsSlots m (Err faults.TooManySlots) = 4096 < length (slots_in m)
-FindsSlots m (Err faults.TooManyPlaces) = (length (slots_in m) ≤ 4096) × (has_too_many_places (plan_of m) (slots_in m) ≡ true)
-FindsSlots m (Err faults.NoFreePlace) = ⊥
-FindsSlots m (Err faults.SocketPair) = ⊥
-FindsSlots m (Err faults.SocketAway) = ⊥
+FindsSlots m (Err (faults.Wiring wiring_faults.TooManySlots)) = 4096 < length (slots_in m)
+FindsSlots m (Err (faults.Wiring wiring_faults.TooManyPlaces)) = (length (slots_in m) ≤ 4096) × (has_too_many_places (plan_of m) (slots_in m) ≡ true)
+FindsSlots m (Err (faults.Wiring wiring_faults.NoFreePlace)) = ⊥
+FindsSlots m (Err (faults.Wiring wiring_faults.SocketPair)) = ⊥
+FindsSlots m (Err (faults.Wiring wiring_faults.SocketAway)) = ⊥
 FindsSlots m (Err faults.Memory) = Unit {0}
 
 -- By their partners, two sockets are joined.
@@ -47,13 +48,13 @@ abbrev pub joins_away : StructurePlan → List Slot → Bool
 joins_away plan slots = has_socket_away slots (places_in plan slots) (partners_in plan slots)
 
 -- The places of slots, without a fault; or the first fault that their bindings and partners show.
-abbrev pub FindsPlaces : StructurePlan → List Slot → Result WiredPlaces WiringFault → Type 0
+abbrev pub FindsPlaces : StructurePlan → List Slot → Result WiredPlaces ExpandFault → Type 0
 FindsPlaces plan slots (Ok p) = ArePlacesOf plan slots p × (pairs_sockets plan slots ≡ false) × (joins_away plan slots ≡ false)
-FindsPlaces plan slots (Err faults.TooManySlots) = ⊥
-FindsPlaces plan slots (Err faults.TooManyPlaces) = ⊥
-FindsPlaces plan slots (Err faults.NoFreePlace) = lacks_place plan slots ≡ true
-FindsPlaces plan slots (Err faults.SocketPair) = (lacks_place plan slots ≡ false) × (pairs_sockets plan slots ≡ true)
-FindsPlaces plan slots (Err faults.SocketAway) = (lacks_place plan slots ≡ false) × (pairs_sockets plan slots ≡ false) × (joins_away plan slots ≡ true)
+FindsPlaces plan slots (Err (faults.Wiring wiring_faults.TooManySlots)) = ⊥
+FindsPlaces plan slots (Err (faults.Wiring wiring_faults.TooManyPlaces)) = ⊥
+FindsPlaces plan slots (Err (faults.Wiring wiring_faults.NoFreePlace)) = lacks_place plan slots ≡ true
+FindsPlaces plan slots (Err (faults.Wiring wiring_faults.SocketPair)) = (lacks_place plan slots ≡ false) × (pairs_sockets plan slots ≡ true)
+FindsPlaces plan slots (Err (faults.Wiring wiring_faults.SocketAway)) = (lacks_place plan slots ≡ false) × (pairs_sockets plan slots ≡ false) × (joins_away plan slots ≡ true)
 FindsPlaces plan slots (Err faults.Memory) = Unit {0}
 
 -- The tables of these slots, with the partners of their places and with answers on who is told.

@@ -2,11 +2,11 @@
 
 ghost use Rattle.std.specs.Prelude.{◌≡◌};
 ghost use Rattle.binding_expand.specs.Faults.{number};
-ghost use Rattle.binding_expand.specs.declared.fault.WiringFault.TheVariants.{Memory};
+ghost use Rattle.binding_expand.specs.declared.fault.ExpandFault.TheVariants.{Memory};
 
 use std::alloc::AllocError;
 
-/// A fault of the wiring of a model, in the order in which they are told, or that memory ran out.
+/// A fault of the wiring of a model, in the order in which they are told.
 #[derive(Clone, Copy, Drop, PartialEq, Eq)]
 pub enum WiringFault {
     /// There are more than 4,096 slots.
@@ -20,20 +20,10 @@ pub enum WiringFault {
     SocketPair,
     /// An end place is joined to a socket whose slot has another owner.
     SocketAway,
-    /// There was no memory.
-    Memory,
-}
-
-impl From<AllocError> for WiringFault {
-    ghost from_gives = { λ _ e. e ≡ Memory };
-
-    fn from(_e: AllocError) -> WiringFault {
-        WiringFault::Memory
-    }
 }
 
 impl WiringFault {
-    /// The number by which a fault is told: 1 to 5; 0 where memory ran out.
+    /// The number by which a fault is told: 1 to 5.
     pub fn number(self) -> u8
         ensures { result ≡ number self }
     {
@@ -43,7 +33,23 @@ impl WiringFault {
             WiringFault::NoFreePlace => 3,
             WiringFault::SocketPair => 4,
             WiringFault::SocketAway => 5,
-            WiringFault::Memory => 0,
         }
+    }
+}
+
+/// Why a model has no wiring.
+#[derive(Clone, Copy, Drop, PartialEq, Eq)]
+pub enum ExpandFault {
+    /// The lowest fault that its wiring has.
+    Wiring(WiringFault),
+    /// There was no memory.
+    Memory,
+}
+
+impl From<AllocError> for ExpandFault {
+    ghost from_gives = { λ _ e. e ≡ Memory };
+
+    fn from(_e: AllocError) -> ExpandFault {
+        ExpandFault::Memory
     }
 }

@@ -5,7 +5,7 @@ ghost use Rattle.wiring_places.specs.place_rules.Partners.{has_socket_pair, has_
 ghost use Rattle.wiring_joins.specs.joined_places.Wired.{HasFewPlaces};
 ghost use Rattle.binding_expand.specs.Steps.{FindsPlaces};
 
-use crate::fault::WiringFault;
+use crate::fault::{ExpandFault, WiringFault};
 use room_wiring::Slot;
 use std::alloc::Global;
 use wiring_joins::{WiredPlaces, has_socket_away, has_socket_pair, wired_places};
@@ -33,20 +33,20 @@ pub(crate) fn joined_places(
     alloc: Global,
     plan: &StructurePlan,
     slots: &[Slot],
-) -> Result<WiredPlaces, WiringFault>
+) -> Result<WiredPlaces, ExpandFault>
     requires few { length slots.now ≤ 2 ^ 16 }
     requires ports { HasFewPorts plan.now }
     requires places { HasFewPlaces plan.now slots.now }
     ensures { FindsPlaces plan.now slots.now result }
 {
     let Some(places) = wired_places(alloc, plan, slots)? else {
-        return Err(WiringFault::NoFreePlace);
+        return Err(ExpandFault::Wiring(WiringFault::NoFreePlace));
     };
     if pairs_sockets(&places) {
-        return Err(WiringFault::SocketPair);
+        return Err(ExpandFault::Wiring(WiringFault::SocketPair));
     }
     if joins_away(slots, &places) {
-        return Err(WiringFault::SocketAway);
+        return Err(ExpandFault::Wiring(WiringFault::SocketAway));
     }
     Ok(places)
 }

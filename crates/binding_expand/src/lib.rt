@@ -13,7 +13,7 @@ mod tables;
 pub mod tree_text;
 pub mod wiring_tables;
 
-pub use fault::WiringFault;
+pub use fault::{ExpandFault, WiringFault};
 pub use model::expand;
 pub use one_wiring::wirings_are_one;
 pub use tree_text::expand_text;

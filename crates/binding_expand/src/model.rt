@@ -10,7 +10,7 @@ ghost use Rattle.wiring_plan.specs.structure_plan.Plans.{plan_of};
 ghost use Rattle.binding_expand.specs.Answers.{Expands, Fits};
 ghost use Rattle.binding_expand.specs.Steps.{FindsSlots};
 
-use crate::fault::WiringFault;
+use crate::fault::{ExpandFault, WiringFault};
 use crate::joined::joined_places;
 use crate::tables::wiring_with;
 use check_tables::{Tables, tables_of};
@@ -21,7 +21,7 @@ use structure_check::Checked;
 use wiring_slots::{SlotFault, WiredSlots, wired_slots};
 
 /// The slots of a model, within the limits.
-fn slots_within(alloc: Global, model: &Model, tables: &Tables) -> Result<WiredSlots, WiringFault>
+fn slots_within(alloc: Global, model: &Model, tables: &Tables) -> Result<WiredSlots, ExpandFault>
     requires tables { tables.now ≡ tables_of (model_view model.now) }
     requires finite { data_is_finite (model_view model.now) ≡ true }
     requires numbered { IsNumbered (plan_of (model_view model.now)) }
@@ -29,15 +29,15 @@ fn slots_within(alloc: Global, model: &Model, tables: &Tables) -> Result<WiredSl
 {
     match wired_slots(alloc, model, tables) {
         Ok(slots) => Ok(slots),
-        Err(SlotFault::TooManySlots) => Err(WiringFault::TooManySlots),
-        Err(SlotFault::TooManyPlaces) => Err(WiringFault::TooManyPlaces),
-        Err(SlotFault::Memory) => Err(WiringFault::Memory),
+        Err(SlotFault::TooManySlots) => Err(ExpandFault::Wiring(WiringFault::TooManySlots)),
+        Err(SlotFault::TooManyPlaces) => Err(ExpandFault::Wiring(WiringFault::TooManyPlaces)),
+        Err(SlotFault::Memory) => Err(ExpandFault::Memory),
     }
 }
 
 /// The slots of a model that keeps all rules. The model's tables go with this call, before the places
 /// of the slots take room.
-fn kept_slots(alloc: Global, model: &Model) -> Result<WiredSlots, WiringFault>
+fn kept_slots(alloc: Global, model: &Model) -> Result<WiredSlots, ExpandFault>
     requires { first_broken all_rules (model_view model.now) ≡ None }
     ensures { FindsSlots (model_view model.now) result }
 {
@@ -45,25 +45,18 @@ fn kept_slots(alloc: Global, model: &Model) -> Result<WiredSlots, WiringFault>
     slots_within(alloc, model, &tables)
 }
 
-fn expand_kept(alloc: Global, model: &Model) -> Result<Wiring, WiringFault>
-    requires { first_broken all_rules (model_view model.now) ≡ None }
-    ensures { Expands (model_view model.now) result }
-{
-    let slots = kept_slots(alloc, model)?;
-    let places = joined_places(alloc, &slots.plan, slots.slots.as_slice())?;
-    let wiring = wiring_with(alloc, slots, places)?;
-    Ok(wiring)
-}
-
 /// The wiring of a model that keeps all rules: its slots, controllers and classes by number, the places
 /// of all ports, what each is joined to, and who is told of whom. Else the lowest fault that it has. A
 /// model of too many slots or places is refused before anything large is made. It takes time in
 /// proportion to the model, and to its slots, their ports and places; for each service access point to
 /// the depth of its slot at most, and for who is told to the slots times the controllers.
-pub fn expand(alloc: Global, checked: &Checked) -> Result<Wiring, WiringFault>
+pub fn expand(alloc: Global, checked: &Checked) -> Result<Wiring, ExpandFault>
     requires { first_broken all_rules (model_view checked.now.model.now) ≡ None }
     ensures expands { Expands (model_view checked.now.model.now) result }
     ensures fits { IfOk result (λ t. Fits t) }
 {
-    expand_kept(alloc, checked.model)
+    let slots = kept_slots(alloc, checked.model)?;
+    let places = joined_places(alloc, &slots.plan, slots.slots.as_slice())?;
+    let wiring = wiring_with(alloc, slots, places)?;
+    Ok(wiring)
 }

@@ -15,6 +15,8 @@ use Rattle.chart_trees.specs.chart_graphs.Views.{chart_view}
 use Rattle.chart_trees.specs.Reading.{chart_of, reading}
 use Rattle.chart_reader.specs.declared.fault.ChartFault.{ChartFault}
 use Rattle.chart_reader.specs.declared.fault.ChartFault.TheVariants as faults
+use Rattle.chart_reader.specs.declared.fault.ReadFault.{ReadFault}
+use Rattle.chart_reader.specs.declared.fault.ReadFault.TheVariants as read_faults
 use Rattle.chart_reader.specs.Faults.{names_fault}
 use Rattle.chart_reader.specs.Reads.{IsLowestFault, HasFault, Reads}
 
@@ -34,7 +36,6 @@ IsNamesFault (Some faults.NoDefault) = Unit {0}
 IsNamesFault (Some faults.ChoiceCycle) = ⊥
 IsNamesFault (Some faults.BadTrigger) = ⊥
 IsNamesFault (Some faults.BadAction) = ⊥
-IsNamesFault (Some faults.Memory) = ⊥
 
 of_chain : (a b c d e : Bool) → IsNamesFault (chain a b c d e)
 of_chain false b c d e = tt
@@ -78,7 +79,6 @@ names_told chart events codes faults.NoDefault h = sym h
 names_told chart events codes faults.ChoiceCycle h = absurd (subst IsNamesFault (sym h) (is_names_fault chart))
 names_told chart events codes faults.BadTrigger h = absurd (subst IsNamesFault (sym h) (is_names_fault chart))
 names_told chart events codes faults.BadAction h = absurd (subst IsNamesFault (sym h) (is_names_fault chart))
-names_told chart events codes faults.Memory h = absurd (subst IsNamesFault (sym h) (is_names_fault chart))
 
 pub circle_told : (chart : Chart) (events codes b : Bool) → names_fault chart ≡ None → HasCircle chart b → b ≡ true → IsLowestFault chart events codes (Some faults.ChoiceCycle)
 circle_told chart events codes true h circle e = (h, circle)
@@ -113,22 +113,11 @@ fault_is scope names new is chart m o c p h =
     let by_events : IsLowestFault (chart_of scope names is) (reading scope names is).events_fit m.codes_fit o = subst (λ (b : Bool). IsLowestFault (chart_of scope names is) b m.codes_fit o) events by_chart in
     subst (λ (b : Bool). IsLowestFault (chart_of scope names is) (reading scope names is).events_fit b o) codes by_events
 
-told : (scope : Scope) (names : List (List ℕ)) (is : GraphItems) (f : ChartFault) → HasFault scope names is (Some f) → Reads scope names is (Err f)
-told scope names is faults.DepthAbove16 h = h
-told scope names is faults.BadPoint h = h
-told scope names is faults.TwoInitials h = h
-told scope names is faults.NoInitial h = h
-told scope names is faults.NoDefault h = h
-told scope names is faults.ChoiceCycle h = h
-told scope names is faults.BadTrigger h = h
-told scope names is faults.BadAction h = h
-told scope names is faults.Memory h = tt
+pub fault_told : (scope : Scope) (names new : List (List ℕ)) (is : GraphItems) (chart : Chart) (m : Marks) (f : ChartFault) → chart ≡ chart_of scope names is → progress m new ≡ reading scope names is → IsLowestFault chart m.events_fit m.codes_fit (Some f) → Reads scope names is (Err (read_faults.Chart f))
+fault_told scope names new is chart m f c p h = fault_is scope names new is chart m (Some f) c p h
 
-pub fault_told : (scope : Scope) (names new : List (List ℕ)) (is : GraphItems) (chart : Chart) (m : Marks) (f : ChartFault) → chart ≡ chart_of scope names is → progress m new ≡ reading scope names is → IsLowestFault chart m.events_fit m.codes_fit (Some f) → Reads scope names is (Err f)
-fault_told scope names new is chart m f c p h = told scope names is f (fault_is scope names new is chart m (Some f) c p h)
-
-pub memory_told : (scope : Scope) (names : List (List ℕ)) (is : GraphItems) (f : ChartFault) → f ≡ faults.Memory → Reads scope names is (Err f)
-memory_told scope names is f e = subst (λ (g : ChartFault). Reads scope names is (Err g)) (sym e) tt
+pub memory_told : (scope : Scope) (names : List (List ℕ)) (is : GraphItems) (f : ReadFault) → f ≡ read_faults.Memory → Reads scope names is (Err f)
+memory_told scope names is f e = subst (λ (g : ReadFault). Reads scope names is (Err g)) (sym e) tt
 
 pub chart_told : (scope : Scope) (names new : List (List ℕ)) (is : GraphItems) (c : CodeChart) (m : Marks) → chart_view c ≡ chart_of scope names is → progress m new ≡ reading scope names is → IsLowestFault (chart_view c) m.events_fit m.codes_fit None → Reads scope names is (Ok c)
 chart_told scope names new is c m e p h = (fault_is scope names new is (chart_view c) m None e p h, e)

@@ -14,6 +14,7 @@ use Rattle.chart_reader.specs.Depth.{item_nests, state_nests, body_nests, subgra
 use Rattle.chart_reader.specs.Faults.{names_fault}
 use Rattle.chart_reader.specs.Reads.{Reads}
 use Rattle.chart_reader.specs.declared.fault.ChartFault.TheVariants as faults
+use Rattle.chart_reader.specs.declared.fault.ReadFault.TheVariants as read_faults
 
 and_left : (a b : Bool) → a ≡ false → (a && b) ≡ false
 and_left false b h = refl
@@ -134,7 +135,7 @@ unfolding names_fault
 deep_fault chart e = rw e refl
 
 -- such a text is told by its depth
-pub depth_told : (scope : Scope) (names : List (List ℕ)) (is : GraphItems) → graph_nests is 16 ≡ false → Reads scope names is (Err faults.DepthAbove16)
+pub depth_told : (scope : Scope) (names : List (List ℕ)) (is : GraphItems) → graph_nests is 16 ≡ false → Reads scope names is (Err (read_faults.Chart faults.DepthAbove16))
 unfolding nests_within chart_of
 depth_told scope names is h =
     let q = piece_of scope is [] (at_first names) in

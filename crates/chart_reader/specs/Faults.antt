@@ -14,7 +14,6 @@ number faults.NoDefault = 5
 number faults.ChoiceCycle = 6
 number faults.BadTrigger = 7
 number faults.BadAction = 8
-number faults.Memory = 0
 
 -- the first of the rules 1 to 5 that a chart breaks
 unfoldable pub names_fault : Chart → Option ChartFault

@@ -10,6 +10,8 @@ use Rattle.chart_trees.specs.chart_graphs.Views.{chart_view}
 use Rattle.chart_trees.specs.Reading.{chart_of, reading}
 use Rattle.chart_reader.specs.declared.fault.ChartFault.{ChartFault}
 use Rattle.chart_reader.specs.declared.fault.ChartFault.TheVariants as faults
+use Rattle.chart_reader.specs.declared.fault.ReadFault.{ReadFault}
+use Rattle.chart_reader.specs.declared.fault.ReadFault.TheVariants as read_faults
 use Rattle.chart_reader.specs.Faults.{names_fault}
 
 -- no node leads to itself
@@ -26,7 +28,6 @@ IsLowestFault chart events codes None = (names_fault chart ≡ None) × NoCircle
 IsLowestFault chart events codes (Some faults.ChoiceCycle) = (names_fault chart ≡ None) × ACircle chart
 IsLowestFault chart events codes (Some faults.BadTrigger) = (names_fault chart ≡ None) × NoCircle chart × (events ≡ false)
 IsLowestFault chart events codes (Some faults.BadAction) = (names_fault chart ≡ None) × NoCircle chart × (events ≡ true) × (codes ≡ false)
-IsLowestFault chart events codes (Some faults.Memory) = ⊥
 IsLowestFault chart events codes (Some faults.DepthAbove16) = names_fault chart ≡ Some faults.DepthAbove16
 IsLowestFault chart events codes (Some faults.BadPoint) = names_fault chart ≡ Some faults.BadPoint
 IsLowestFault chart events codes (Some faults.TwoInitials) = names_fault chart ≡ Some faults.TwoInitials
@@ -38,14 +39,7 @@ abbrev pub HasFault : Scope → List (List ℕ) → GraphItems → Option ChartF
 HasFault scope names is fault = IsLowestFault (chart_of scope names is) (reading scope names is).events_fit (is_some (reading scope names is).names) fault
 
 -- The chart that the text writes, which has no fault; or its lowest fault, unless memory ran out.
-abbrev pub Reads : Scope → List (List ℕ) → GraphItems → Result CodeChart ChartFault → Type 0
+abbrev pub Reads : Scope → List (List ℕ) → GraphItems → Result CodeChart ReadFault → Type 0
 Reads scope names is (Ok c) = HasFault scope names is None × (chart_view c ≡ chart_of scope names is)
-Reads scope names is (Err faults.Memory) = Unit {0}
-Reads scope names is (Err faults.DepthAbove16) = HasFault scope names is (Some faults.DepthAbove16)
-Reads scope names is (Err faults.BadPoint) = HasFault scope names is (Some faults.BadPoint)
-Reads scope names is (Err faults.TwoInitials) = HasFault scope names is (Some faults.TwoInitials)
-Reads scope names is (Err faults.NoInitial) = HasFault scope names is (Some faults.NoInitial)
-Reads scope names is (Err faults.NoDefault) = HasFault scope names is (Some faults.NoDefault)
-Reads scope names is (Err faults.ChoiceCycle) = HasFault scope names is (Some faults.ChoiceCycle)
-Reads scope names is (Err faults.BadTrigger) = HasFault scope names is (Some faults.BadTrigger)
-Reads scope names is (Err faults.BadAction) = HasFault scope names is (Some faults.BadAction)
+Reads scope names is (Err (read_faults.Chart fault)) = HasFault scope names is (Some fault)
+Reads scope names is (Err read_faults.Memory) = Unit {0}

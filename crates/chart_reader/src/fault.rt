@@ -1,12 +1,12 @@
-//! What is wrong with a chart.
+//! What is wrong with a chart, and why one was not read.
 
 ghost use Rattle.std.specs.Prelude.{◌≡◌};
 ghost use Rattle.chart_reader.specs.Faults.{number};
-ghost use Rattle.chart_reader.specs.declared.fault.ChartFault.TheVariants.{Memory};
+ghost use Rattle.chart_reader.specs.declared.fault.ReadFault.TheVariants.{Memory};
 
 use std::alloc::AllocError;
 
-/// A fault of a chart, in the order in which they are told, or that memory ran out.
+/// A fault of a chart, in the order in which they are told.
 #[derive(Clone, Copy, Drop, PartialEq, Eq)]
 pub enum ChartFault {
     /// States nest deeper than 16.
@@ -27,19 +27,10 @@ pub enum ChartFault {
     BadTrigger,
     /// A code isn't a program or a condition, or names what the class doesn't have.
     BadAction,
-    Memory,
-}
-
-impl From<AllocError> for ChartFault {
-    ghost from_gives = { λ _ fault. fault ≡ Memory };
-
-    fn from(_: AllocError) -> ChartFault {
-        ChartFault::Memory
-    }
 }
 
 impl ChartFault {
-    /// The number by which a fault is told: 1 to 8; 0 where memory ran out.
+    /// The number by which a fault is told: 1 to 8.
     pub fn number(self) -> u8
         ensures { result ≡ number self }
     {
@@ -52,7 +43,23 @@ impl ChartFault {
             ChartFault::ChoiceCycle => 6,
             ChartFault::BadTrigger => 7,
             ChartFault::BadAction => 8,
-            ChartFault::Memory => 0,
         }
+    }
+}
+
+/// Why a chart was not read.
+#[derive(Clone, Copy, Drop, PartialEq, Eq)]
+pub enum ReadFault {
+    /// The lowest fault that it has.
+    Chart(ChartFault),
+    /// There was no memory.
+    Memory,
+}
+
+impl From<AllocError> for ReadFault {
+    ghost from_gives = { λ _ fault. fault ≡ Memory };
+
+    fn from(_: AllocError) -> ReadFault {
+        ReadFault::Memory
     }
 }

@@ -13,6 +13,6 @@ pub mod model_charts;
 mod reader;
 
 pub use chart_nodes::{Step, named_key, node_order, plain_key, steps_of, target_index, target_key};
-pub use fault::ChartFault;
+pub use fault::{ChartFault, ReadFault};
 pub use model_charts::{ChartsFault, charts_are_one, charts_of};
 pub use reader::read_chart;

@@ -15,7 +15,7 @@ use crate::chart_rules::{
     is_shallow,
 };
 use crate::depth::{MOST_DEEP, graph_nests};
-use crate::fault::ChartFault;
+use crate::fault::{ChartFault, ReadFault};
 use action_lang::action_check::ServiceNames;
 use chart_trees::{Chart, Marks, write_chart};
 use room_ast::{Scope, StateMachine};
@@ -100,7 +100,7 @@ pub fn read_chart(
     machine: &StateMachine,
     scope: &Scope,
     names: &mut ServiceNames,
-) -> Result<Chart, ChartFault>
+) -> Result<Chart, ReadFault>
     ensures reads { Reads scope.now names.old (graph_view machine.now.items.items) result }
     ensures valid { IfOk result (λ c. IsValid (chart_view c)) }
     ensures names { OnOk result ((reading scope.now names.old
@@ -109,11 +109,11 @@ pub fn read_chart(
     ensures grown { Grows names.old names.new }
 {
     if !graph_nests(&machine.items, MOST_DEEP) {
-        return Err(ChartFault::DepthAbove16);
+        return Err(ReadFault::Chart(ChartFault::DepthAbove16));
     }
     let written = write_chart(alloc, machine, scope, names)?;
     match lowest_fault(alloc, &written.chart, written.marks)? {
-        Some(fault) => Err(fault),
+        Some(fault) => Err(ReadFault::Chart(fault)),
         None => Ok(written.chart),
     }
 }

@@ -2,10 +2,11 @@
 
 ghost use Rattle.std.specs.Prelude.{◌≡◌, IfOk, OnOk, length, position, is_some};
 ghost use Rattle.name_tables.specs.name_numbers.Names.{same, is_among, names_of};
-ghost use Rattle.name_tables.specs.name_index.Places.{FindsFirst, FindsIfMany, NotesFirst, place_called};
+ghost use Rattle.name_tables.specs.name_index.Places.{FindsFirst, FindsByTable, NotesFirst, place_called};
 
 use indexmap::IndexMap;
 use std::alloc::{AllocError, Global};
+use std::boxed::Box;
 use std::marker::Model;
 
 /// Up to this many names are compared one by one, which takes no longer than a table and no memory.
@@ -16,20 +17,21 @@ const FEW: usize = 8;
 #[derive(Drop)]
 pub struct NameIndex<'a> {
     names: Vec<&'a [u8]>,
-    /// The first place of each name; nothing where the names are few.
-    first: IndexMap<&'a [u8], usize>,
+    /// The first place of each name; none where the names are few. Most lists are short, so the
+    /// table stands behind a box.
+    first: Option<Box<IndexMap<&'a [u8], usize>>>,
 }
 
 impl<'a> Model for NameIndex<'a> {
     ghost use Rattle.std.specs.Prelude.{List, ℕ};
     ghost use Rattle.name_tables.specs.name_numbers.Names.{names_of};
-    ghost use Rattle.name_tables.specs.name_index.Places.{FindsIfMany};
+    ghost use Rattle.name_tables.specs.name_index.Places.{FindsByTable};
 
     ghost Value = { List (List ℕ) };
 
     ghost view = { λ n. names_of n.names.items };
 
-    ghost invariant = { λ n. FindsIfMany n.first (names_of n.names.items) };
+    ghost invariant = { λ n. FindsByTable n.first (names_of n.names.items) };
 }
 
 /// Notes the place of a name that has none yet.
@@ -60,13 +62,17 @@ fn first_places<'a>(
 }
 
 /// The first place of each name, where they are more than a few.
-fn table_of<'a>(alloc: Global, names: &[&'a [u8]]) -> Result<IndexMap<&'a [u8], usize>, AllocError>
-    ensures { IfOk result (λ m. FindsIfMany m (names_of names.now)) }
+fn table_of<'a>(
+    alloc: Global,
+    names: &[&'a [u8]],
+) -> Result<Option<Box<IndexMap<&'a [u8], usize>>>, AllocError>
+    ensures { IfOk result (λ m. FindsByTable m (names_of names.now)) }
 {
     if names.len() <= FEW {
-        return Ok(IndexMap::new(alloc));
+        return Ok(None);
     }
-    first_places(alloc, names)
+    let first = first_places(alloc, names)?;
+    Ok(Some(Box::new(alloc, first)?))
 }
 
 /// The first place at which a name stands in a list, by comparing one after the other.
@@ -89,11 +95,10 @@ impl<'a> NameIndex<'a> {
     pub fn place_of(&self, name: &[u8]) -> Option<usize>
         ensures { result ≡ position (same name.now) self.now }
     {
-        let names = self.names.as_slice();
-        if names.len() <= FEW {
-            return place_among(names, name);
+        match &self.first {
+            None => place_among(self.names.as_slice(), name),
+            Some(first) => first.get(name).copied(),
         }
-        self.first.get(name).copied()
     }
 
     /// Whether a name is one of these.

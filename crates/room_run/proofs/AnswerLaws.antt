@@ -7,16 +7,21 @@ use Rattle.room_lexer.specs.declared.token.Token.{Token}
 use Rattle.room_tokens.specs.Single.{values}
 use Rattle.room_parser.proofs.WhatParsingAnswers.{same_tokens_same_model}
 use Rattle.structure_check.specs.Rules.{Rule, first_broken, IsBroken, IsLowest}
-use Rattle.structure_check.specs.List.{all_rules}
+use Rattle.structure_check.specs.List.{all_rules, rule_of}
+use Rattle.structure_check.specs.declared.flat_rule.FlatRule.{FlatRule}
 use Rattle.binding_expand.specs.Faults.{HasNoFault, IsLowestFault, number}
+use Rattle.binding_expand.specs.declared.fault.WiringFault.{WiringFault}
 use Rattle.binding_expand.proofs.one_wiring.Same.{same_wiring}
 use Rattle.chart_reader.specs.model_charts.Charts.{HasCharts, HasFaultyChart}
+use Rattle.chart_reader.specs.declared.fault.ChartFault.{ChartFault}
 use Rattle.binding_expand.specs.Wirings.{IsWiringOf}
 use Rattle.chart_reader.proofs.model_charts.One.{are_one}
 use Rattle.room_wiring.specs.declared.tables.Tables.{Tables}
 use Rattle.inject_reader.specs.declared.inject_lines.accepted.Advances.{Advances}
 use Rattle.inject_reader.specs.declared.inject_lines.accepted.Advances.TheVariants.{Taken, Refused}
 use Rattle.inject_reader.specs.declared.inject_lines.accepted.Line.{Line}
+use Rattle.inject_reader.specs.LineFaults.{code_of}
+use Rattle.inject_reader.specs.declared.line_fault.LineFault.{LineFault}
 use Rattle.chart_model.specs.Chart.{Chart}
 use Rattle.model_run.specs.part_posts.Items.{items_of}
 use Rattle.law_charts.specs.Charts.{behaviour_by_charts}
@@ -34,6 +39,8 @@ use Rattle.controller_actors.specs.declared.plant.Plant.{Plant}
 use Rattle.made_model.specs.Texts.{model_text, injections_text}
 use Rattle.room_inherit.specs.Flat.{flat}
 use Rattle.room_inherit.specs.Rules.{lowest_broken}
+use Rattle.room_inherit.specs.BaseRules.{number_of as number_of_base}
+use Rattle.room_inherit.specs.declared.base_rule.BaseRule.{BaseRule}
 use Rattle.room_kinds.specs.declared.numbers.ControllerId.{ControllerId}
 use Rattle.room_kinds.specs.declared.numbers.Stamp.{Stamp}
 use Rattle.journal.specs.declared.entry.Journals.{Journals}
@@ -57,6 +64,7 @@ use Rattle.room_run.specs.declared.status.Status.{Status}
 use Rattle.room_run.specs.declared.status.Status.TheVariants as statuses
 use Rattle.room_run.proofs.JournalLaws.{same_journals, same_first, none_first}
 use Rattle.room_run.proofs.OneCut.{not_both_cut, one_fault, one_cut}
+use Rattle.room_run.proofs.FaultNumbers.{base_by_number, line_by_code, rule_by_number, wiring_by_number}
 
 -- ---- a text has one tree, and a tree one lowest fault
 
@@ -80,15 +88,18 @@ no_such_tree : (text : List ℕ) (tree : ModelTree) → HasNoTree text → HasTr
 no_such_tree text tree h k = not_written text k.written h k.is
 
 -- a text that breaks a rule on bases has no tree
-no_flat_tree : (text : List ℕ) (rule : ℕ) (tree : ModelTree) → BreaksBaseRule text rule → HasTree text tree → ⊥
+no_flat_tree : (text : List ℕ) (rule : BaseRule) (tree : ModelTree) → BreaksBaseRule text rule → HasTree text tree → ⊥
 no_flat_tree text rule tree h k =
     let kept = subst (λ (z : ModelTree). lowest_broken z ≡ None) (same_written text k.written h.written k.is h.is) k.allowed in
-    let both : ◌≡◌ {A = Option ℕ} (Some rule) None = sym h.lowest ∙ kept in absurd cc
+    let both : ◌≡◌ {A = Option ℕ} (Some (number_of_base rule)) None = sym h.lowest ∙ kept in absurd cc
 
-same_base_rule : (text : List ℕ) (a b : ℕ) → BreaksBaseRule text a → BreaksBaseRule text b → a ≡ b
+some_number : (a b : ℕ) → ◌≡◌ {A = Option ℕ} (Some a) (Some b) → a ≡ b
+some_number a b e = cc
+
+same_base_rule : (text : List ℕ) (a b : BaseRule) → BreaksBaseRule text a → BreaksBaseRule text b → a ≡ b
 same_base_rule text a b h k =
-    let other = subst (λ (z : ModelTree). lowest_broken z ≡ Some b) (same_written text k.written h.written k.is h.is) k.lowest in
-    let both : ◌≡◌ {A = Option ℕ} (Some a) (Some b) = sym h.lowest ∙ other in cc
+    let other = subst (λ (z : ModelTree). lowest_broken z ≡ Some (number_of_base b)) (same_written text k.written h.written k.is h.is) k.lowest in
+    base_by_number a b (some_number (number_of_base a) (number_of_base b) (sym h.lowest ∙ other))
 
 none_broken : (rs : List Rule) (m : ModelTree) (n : ℕ) → first_broken rs m ≡ None → IsBroken rs m n → ⊥
 none_broken [] m n e h = h
@@ -101,31 +112,31 @@ none_broken (r ∷ rs) m n e h = go (r.keeps m) refl e h (λ k b. none_broken rs
     go true is k (inr x) more = more k x
     go false is k x more = absurd cc
 
-breaks_none : (text : List ℕ) (rule : ℕ) (tree : ModelTree) → BreaksRule text rule → HasTree text tree
+breaks_none : (text : List ℕ) (rule : FlatRule) (tree : ModelTree) → BreaksRule text rule → HasTree text tree
     → first_broken all_rules tree ≡ None → ⊥
 breaks_none text rule tree h k keeps =
-    none_broken all_rules h.tree rule (subst (λ (z : ModelTree). first_broken all_rules z ≡ None) (same_tree text tree h.tree k h.read) keeps) h.lowest.0
+    none_broken all_rules h.tree (rule_of rule).number (subst (λ (z : ModelTree). first_broken all_rules z ≡ None) (same_tree text tree h.tree k h.read) keeps) h.lowest.0
 
-wired_well : (text : List ℕ) (n : ℕ) (tree : ModelTree) → HasBadWiring text n → HasTree text tree → HasNoFault tree → ⊥
-wired_well text n tree h k none = (subst HasNoFault (same_tree text tree h.tree k h.read) none) h.fault h.lowest.has
+wired_well : (text : List ℕ) (fault : WiringFault) (tree : ModelTree) → HasBadWiring text fault → HasTree text tree → HasNoFault tree → ⊥
+wired_well text fault tree h k none = (subst HasNoFault (same_tree text tree h.tree k h.read) none) fault h.lowest.has
 
-same_rule : (text : List ℕ) (a b : ℕ) → BreaksRule text a → BreaksRule text b → a ≡ b
+same_rule : (text : List ℕ) (a b : FlatRule) → BreaksRule text a → BreaksRule text b → a ≡ b
 same_rule text a b h k =
-    let other = subst (λ (z : ModelTree). IsLowest all_rules z (Some b)) (same_tree text k.tree h.tree k.read h.read) k.lowest in
-    let below = h.lowest.1 b other.0 in
-    let above = other.1 a h.lowest.0 in
-    omega (arith, below, above)
+    let other = subst (λ (z : ModelTree). IsLowest all_rules z (Some (rule_of b).number)) (same_tree text k.tree h.tree k.read h.read) k.lowest in
+    let below = h.lowest.1 (rule_of b).number other.0 in
+    let above = other.1 (rule_of a).number h.lowest.0 in
+    rule_by_number a b (omega (arith, below, above))
 
-same_wiring_fault : (text : List ℕ) (a b : ℕ) → HasBadWiring text a → HasBadWiring text b → a ≡ b
-same_wiring_fault text a b h k = go (cases_order (number h.fault) (number k.fault))
+same_wiring_fault : (text : List ℕ) (a b : WiringFault) → HasBadWiring text a → HasBadWiring text b → a ≡ b
+same_wiring_fault text a b h k = go (cases_order (number a) (number b))
   where
-    other : IsLowestFault h.tree k.fault
-    other = subst (λ (z : ModelTree). IsLowestFault z k.fault) (same_tree text k.tree h.tree k.read h.read) k.lowest
+    other : IsLowestFault h.tree b
+    other = subst (λ (z : ModelTree). IsLowestFault z b) (same_tree text k.tree h.tree k.read h.read) k.lowest
 
-    go : (number h.fault ≡ number k.fault) ⊎ ((number h.fault < number k.fault) ⊎ (number k.fault < number h.fault)) → a ≡ b
-    go (inl is) = h.number_is ∙ is ∙ sym k.number_is
-    go (inr (inl less)) = absurd (other.lowest h.fault less h.lowest.has)
-    go (inr (inr more)) = absurd (h.lowest.lowest k.fault more other.has)
+    go : (number a ≡ number b) ⊎ ((number a < number b) ⊎ (number b < number a)) → a ≡ b
+    go (inl is) = wiring_by_number a b is
+    go (inr (inl less)) = absurd (other.lowest a less h.lowest.has)
+    go (inr (inr more)) = absurd (h.lowest.lowest b more other.has)
 
 -- ---- a text has one fault
 
@@ -159,37 +170,37 @@ module _ (text : List ℕ) where
   one_syntax line h _ (bad_chart class n k) = absurd (no_such_tree text k.tree h k.read)
   one_syntax line h _ no_memory = inr (inl refl)
 
-  one_base_rule : (rule : ℕ) → BreaksBaseRule text rule → (g : ModelFault) → SoundCauses text g → OneFault (faults.Rule rule) g
+  one_base_rule : (rule : BaseRule) → BreaksBaseRule text rule → (g : ModelFault) → SoundCauses text g → OneFault (faults.Bases rule) g
   one_base_rule rule h _ (uncut place k) = absurd (no_tokens text place h.is.tokens k h.is.cut)
   one_base_rule rule h _ (no_tree other k) = absurd (not_written text h.written k h.is)
   one_base_rule rule h _ (breaks_base_rule other k) =
-      is_one (faults.Rule rule) (faults.Rule other) (ap (λ (n : ℕ). faults.Rule n) (same_base_rule text rule other h k))
+      is_one (faults.Bases rule) (faults.Bases other) (ap (λ (z : BaseRule). faults.Bases z) (same_base_rule text rule other h k))
   one_base_rule rule h _ (breaks_rule other k) = absurd (no_flat_tree text rule k.tree h k.read)
   one_base_rule rule h _ (bad_wiring n k) = absurd (no_flat_tree text rule k.tree h k.read)
   one_base_rule rule h _ (bad_chart class n k) = absurd (no_flat_tree text rule k.tree h k.read)
   one_base_rule rule h _ no_memory = inr (inl refl)
 
-  one_rule : (rule : ℕ) → BreaksRule text rule → (g : ModelFault) → SoundCauses text g → OneFault (faults.Rule rule) g
+  one_rule : (rule : FlatRule) → BreaksRule text rule → (g : ModelFault) → SoundCauses text g → OneFault (faults.Rule rule) g
   one_rule rule h _ (uncut place k) = absurd (no_tokens text place h.read.is.tokens k h.read.is.cut)
   one_rule rule h _ (no_tree other k) = absurd (no_such_tree text h.tree k h.read)
   one_rule rule h _ (breaks_base_rule other k) = absurd (no_flat_tree text other h.tree k h.read)
   one_rule rule h _ (breaks_rule other k) =
-      is_one (faults.Rule rule) (faults.Rule other) (ap (λ (n : ℕ). faults.Rule n) (same_rule text rule other h k))
+      is_one (faults.Rule rule) (faults.Rule other) (ap (λ (z : FlatRule). faults.Rule z) (same_rule text rule other h k))
   one_rule rule h _ (bad_wiring n k) = absurd (breaks_none text rule k.tree h k.read k.keeps)
   one_rule rule h _ (bad_chart class n k) = absurd (breaks_none text rule k.tree h k.read k.keeps)
   one_rule rule h _ no_memory = inr (inl refl)
 
-  one_wiring : (n : ℕ) → HasBadWiring text n → (g : ModelFault) → SoundCauses text g → OneFault (faults.Wiring n) g
+  one_wiring : (n : WiringFault) → HasBadWiring text n → (g : ModelFault) → SoundCauses text g → OneFault (faults.Wiring n) g
   one_wiring n h _ (uncut place k) = absurd (no_tokens text place h.read.is.tokens k h.read.is.cut)
   one_wiring n h _ (no_tree other k) = absurd (no_such_tree text h.tree k h.read)
   one_wiring n h _ (breaks_base_rule rule k) = absurd (no_flat_tree text rule h.tree k h.read)
   one_wiring n h _ (breaks_rule rule k) = absurd (breaks_none text rule h.tree k h.read h.keeps)
   one_wiring n h _ (bad_wiring other k) =
-      is_one (faults.Wiring n) (faults.Wiring other) (ap (λ (z : ℕ). faults.Wiring z) (same_wiring_fault text n other h k))
+      is_one (faults.Wiring n) (faults.Wiring other) (ap (λ (z : WiringFault). faults.Wiring z) (same_wiring_fault text n other h k))
   one_wiring n h _ (bad_chart class m k) = absurd (wired_well text n k.tree h k.read k.wired.flawless)
   one_wiring n h _ no_memory = inr (inl refl)
 
-  one_chart : (class : List ℕ) (n : ℕ) → HasBadChart text class n → (g : ModelFault) → SoundCauses text g
+  one_chart : (class : List ℕ) (n : ChartFault) → HasBadChart text class n → (g : ModelFault) → SoundCauses text g
       → OneFault (faults.Chart class n) g
   one_chart class n h _ (uncut place k) = absurd (no_tokens text place h.read.is.tokens k h.read.is.cut)
   one_chart class n h _ (no_tree other k) = absurd (no_such_tree text h.tree k h.read)
@@ -297,15 +308,15 @@ sound_model text wiring why s (says_fault f h is) = memory_is f why (sound_has_n
 data LinesSay (k : Advances) (wiring : Tables) (text : List ℕ) (why : Refusal) : Type 0 where
   lines_memory : IsMemory why → LinesSay k wiring text why
   lines_long : most_bytes < length text → why ≡ refusals.InjectionsTooLong → LinesSay k wiring text why
-  lines_faulty : (n code : ℕ) → HasBadLine k wiring text n code → why ≡ refusals.InjectionsLine n code → LinesSay k wiring text why
+  lines_faulty : (n : ℕ) (fault : LineFault) → HasBadLine k wiring text n fault → why ≡ refusals.InjectionsLine n fault → LinesSay k wiring text why
 
 lines_say : (before after : Shown) (name : List ℕ) (k : Advances) (wiring : Tables) (why : Refusal) → (read : IsRead before after name)
     → InjectionsCauses before after name k wiring why → LinesSay k wiring read.text why
 lines_say before after name k wiring why read (injections_unread h is) = absurd (read.unfailed h)
 lines_say before after name k wiring why read (injections_long h is) =
     lines_long (told_text before name read.text (λ t. most_bytes < length t) read.told h) is
-lines_say before after name k wiring why read (bad_line number code h is) =
-    lines_faulty number code (told_text before name read.text (λ t. HasBadLine k wiring t number code) read.told h) is
+lines_say before after name k wiring why read (bad_line number fault h is) =
+    lines_faulty number fault (told_text before name read.text (λ t. HasBadLine k wiring t number fault) read.told h) is
 lines_say before after name k wiring why read (injections_no_memory is) = lines_memory (ap status_of is)
 
 err_pair : (a b : ℕ × ℕ) → ◌≡◌ {A = Result (List Line) (ℕ × ℕ)} (Err a) (Err b) → a ≡ b
@@ -320,8 +331,10 @@ lines_once advances wiring text why other (lines_long long is) (lines_faulty n c
 lines_once advances wiring text why other (lines_faulty n c h is) (lines_memory e) = inr (inl e)
 lines_once advances wiring text why other (lines_faulty n c h is) (lines_long long are) = let short = h.short in absurd (omega (arith, long, short))
 lines_once advances wiring text why other (lines_faulty n c h is) (lines_faulty m d k are) =
-    let same = err_pair (n, c) (m, d) (sym h.faulty ∙ k.faulty) in
-    inr (inr (inl (is ∙ ap (λ (z : ℕ × ℕ). refusals.InjectionsLine z.0 z.1) same ∙ sym are)))
+    let same = err_pair (n, code_of c) (m, code_of d) (sym h.faulty ∙ k.faulty) in
+    let line : n ≡ m = ap (λ (z : ℕ × ℕ). z.0) same in
+    let fault : c ≡ d = line_by_code c d (ap (λ (z : ℕ × ℕ). z.1) same) in
+    inr (inr (inl (is ∙ (λ i. refusals.InjectionsLine (line i) (fault i)) ∙ sym are)))
 
 -- accepted injections are refused for want of memory alone
 sound_lines : (k : Advances) (wiring : Tables) (text : List ℕ) (lines : List Line) (why : Refusal) → IsInjections k wiring text lines
@@ -329,7 +342,7 @@ sound_lines : (k : Advances) (wiring : Tables) (text : List ℕ) (lines : List L
 sound_lines k wiring text lines why s (lines_memory e) = e
 sound_lines k wiring text lines why s (lines_long long is) = let short = s.short in absurd (omega (arith, long, short))
 sound_lines k wiring text lines why s (lines_faulty n c h is) =
-    let both : ◌≡◌ {A = Result (List Line) (ℕ × ℕ)} (Ok lines) (Err (n, c)) = sym s.accepted ∙ h.faulty in absurd cc
+    let both : ◌≡◌ {A = Result (List Line) (ℕ × ℕ)} (Ok lines) (Err (n, code_of c)) = sym s.accepted ∙ h.faulty in absurd cc
 
 -- a run of two texts is refused so
 data RunSays (k : Advances) (model injections : List ℕ) (why : Refusal) : Type 0 where

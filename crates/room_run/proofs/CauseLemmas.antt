@@ -13,7 +13,6 @@ use Rattle.inject_reader.specs.Answer.{answer}
 use Rattle.inject_reader.specs.declared.inject_lines.accepted.Advances.{Advances}
 use Rattle.inject_reader.specs.declared.inject_lines.accepted.Advances.TheVariants.{Taken, Refused}
 use Rattle.inject_reader.specs.Gives.{Fails}
-use Rattle.inject_reader.specs.LineFaults.{code_of}
 use Rattle.inject_reader.specs.declared.fault.InjectFault.{InjectFault}
 use Rattle.inject_reader.specs.declared.fault.InjectFault.TheVariants as inject_faults
 use Rattle.room_run.specs.Causes.{IsInjections, HasBadLine, TextIs, AreOf, ModelCauses, model_refused, LinesCauses, faulty_line, no_memory_for_lines, refusal_of_lines, InjectionsCauses, injections_unread, injections_long, bad_line, injections_no_memory, RunCauses, of_injections}
@@ -50,13 +49,13 @@ found_lines shelf name bytes k w (Err why) is h = tt
 -- the text was read, and its lines are refused
 pub lines_cause : (before after : Shown) (name bytes : List ℕ) (k : Advances) (w : Tables) (r : Result (Vec Line) Refusal) → IfSome (before.text name) (λ text. bytes ≡ text) → IfErr r (λ why. LinesCauses k w bytes why) → IfErr r (λ why. InjectionsCauses before after name k w why)
 lines_cause before after name bytes k w (Ok lines) is h = tt
-lines_cause before after name bytes k w (Err _) is (faulty_line number code h) =
-    bad_line number code (found_fact (λ text. HasBadLine k w text number code) (before.text name) bytes is h) refl
+lines_cause before after name bytes k w (Err _) is (faulty_line number fault h) =
+    bad_line number fault (found_fact (λ text. HasBadLine k w text number fault) (before.text name) bytes is h) refl
 lines_cause before after name bytes k w (Err _) is no_memory_for_lines = injections_no_memory refl
 
 -- a line is faulty
 pub line_told : (k : Advances) (w : Tables) (bytes : List ℕ) (e : InjectFault) → length bytes ≤ most_bytes → Fails e (answer k w bytes) → LinesCauses k w bytes (refusal_of_lines e)
-line_told k w bytes (inject_faults.Code n fault) short h = faulty_line n (code_of fault) (record { short = short; faulty = h })
+line_told k w bytes (inject_faults.Code n fault) short h = faulty_line n fault (record { short = short; faulty = h })
 line_told k w bytes inject_faults.Memory short h = no_memory_for_lines
 
 -- ---- both
@@ -64,7 +63,7 @@ line_told k w bytes inject_faults.Memory short h = no_memory_for_lines
 pub lines_causes_before : {a b c : Shown} {name : List ℕ} {advances : Advances} {w : Tables} {why : Refusal} → Keeps a b → InjectionsCauses b c name advances w why → InjectionsCauses a c name advances w why
 lines_causes_before {a} {b} {c} {name} k (injections_unread r is) = injections_unread (Rose-before name k r) is
 lines_causes_before {a} {b} {c} {name} k (injections_long h is) = injections_long (IfSome-before name _ k h) is
-lines_causes_before {a} {b} {c} {name} k (bad_line number code h is) = bad_line number code (IfSome-before name _ k h) is
+lines_causes_before {a} {b} {c} {name} k (bad_line number fault h is) = bad_line number fault (IfSome-before name _ k h) is
 lines_causes_before k (injections_no_memory is) = injections_no_memory is
 
 -- the model was read, and the injections are refused

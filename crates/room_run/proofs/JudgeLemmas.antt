@@ -40,18 +40,20 @@ use Rattle.structure_check.specs.Checks.{TellsLowest}
 use Rattle.structure_check.specs.declared.fault.CheckFault.{CheckFault}
 use Rattle.structure_check.specs.declared.fault.CheckFault.TheVariants as check_faults
 use Rattle.chart_model.specs.Chart.{Chart}
+use Rattle.chart_reader.specs.declared.fault.ChartFault.{ChartFault}
 use Rattle.chart_reader.specs.model_charts.Charts.{HasFaultyChart}
 use Rattle.chart_reader.specs.model_charts.Reads.{ReadsCharts}
 use Rattle.chart_reader.specs.declared.model_charts.fault.ChartsFault.{ChartsFault}
 use Rattle.chart_reader.specs.declared.model_charts.fault.ChartsFault.TheVariants as chart_faults
 use Rattle.room_wiring.specs.declared.tables.Tables.{Tables}
 use Rattle.binding_expand.specs.Answers.{Expands}
-use Rattle.binding_expand.specs.Faults.{number}
+use Rattle.binding_expand.specs.Faults.{IsLowestFault}
 use Rattle.binding_expand.specs.declared.fault.WiringFault.{WiringFault}
-use Rattle.binding_expand.specs.declared.fault.WiringFault.TheVariants as wiring_faults
+use Rattle.binding_expand.specs.declared.fault.ExpandFault.{ExpandFault}
+use Rattle.binding_expand.specs.declared.fault.ExpandFault.TheVariants as expand_faults
 use Rattle.room_run.proofs.OneCut.{fails_within}
 use Rattle.room_run.specs.Models.{most_bytes, IsSoundTree, IsSoundText, IsGoodWiring, SoundCauses, uncut, no_tree, breaks_base_rule, breaks_rule, bad_wiring, bad_chart, no_memory}
-use Rattle.room_run.specs.Reading.{HasItsTokens, IsWrittenOnce, HasItsTree, ChartCauses, first_faulty, no_memory_for_charts, TreeCauses, breaks, miswired, faulty, no_memory_for_tree, fault_of}
+use Rattle.room_run.specs.Reading.{HasItsTokens, IsWrittenOnce, HasItsTree, ChartCauses, first_faulty, no_memory_for_charts, TreeCauses, breaks, miswired, faulty, no_memory_for_tree}
 use Rattle.room_run.specs.declared.model_fault.ModelFault.{ModelFault}
 use Rattle.room_run.specs.declared.model_fault.ModelFault.TheVariants as faults
 
@@ -103,10 +105,10 @@ tree_flat text written tree h allowed is = record {
 }
 
 -- the lowest rule on bases that is broken was told
-pub base_rule_told : (text : List ℕ) (written : ModelTree) (rule : BaseRule) (e : InheritFault) → length text ≤ most_bytes → IsWrittenOnce text written → IsFlattened written (Err e) → e ≡ bases.Rule rule → SoundCauses text (faults.Rule (number_of_base rule))
+pub base_rule_told : (text : List ℕ) (written : ModelTree) (rule : BaseRule) (e : InheritFault) → length text ≤ most_bytes → IsWrittenOnce text written → IsFlattened written (Err e) → e ≡ bases.Rule rule → SoundCauses text (faults.Bases rule)
 base_rule_told text written rule (bases.Rule r) short h told is =
     let same : r ≡ rule = cc in
-    breaks_base_rule (number_of_base rule) (record { short = short; written = written; is = h.is; lowest = subst (λ (z : BaseRule). lowest_broken written ≡ Some (number_of_base z)) same told })
+    breaks_base_rule rule (record { short = short; written = written; is = h.is; lowest = subst (λ (z : BaseRule). lowest_broken written ≡ Some (number_of_base z)) same told })
 base_rule_told text written rule bases.Memory short h told is = absurd cc
 
 parsed_none : (ts : List TokenValue) (line : ℕ) (e : ParseFault) → IsParsed ts (Err e) → e ≡ parsing.Syntax line → HasNoModel ts
@@ -124,8 +126,8 @@ rule_lowest m r (check_faults.Rule x) h is = let same : x ≡ r = cc in subst (�
 rule_lowest m r check_faults.Memory h is = absurd cc
 
 -- the lowest rule that is broken was told
-pub rule_told : (m : ModelTree) (r : FlatRule) (e : CheckFault) → TellsLowest m (Err e) → e ≡ check_faults.Rule r → TreeCauses m (faults.Rule (rule_of r).number)
-rule_told m r e h is = breaks (rule_of r).number (rule_lowest m r e h is)
+pub rule_told : (m : ModelTree) (r : FlatRule) (e : CheckFault) → TellsLowest m (Err e) → e ≡ check_faults.Rule r → TreeCauses m (faults.Rule r)
+rule_told m r e h is = breaks r (rule_lowest m r e h is)
 
 -- ---- the wiring
 
@@ -134,38 +136,34 @@ pub wiring_kept : (m : ModelTree) (w : Tables) → Expands m (Ok w) → IsGoodWi
 wiring_kept m w h = record { wired = h.0; flawless = h.1 }
 
 -- the lowest fault of the wiring was told
-pub wiring_refused : (m : ModelTree) (e : WiringFault) → first_broken all_rules m ≡ None → Expands m (Err e) → TreeCauses m (fault_of e)
-wiring_refused m wiring_faults.TooManySlots keeps h = miswired wiring_faults.TooManySlots keeps h
-wiring_refused m wiring_faults.TooManyPlaces keeps h = miswired wiring_faults.TooManyPlaces keeps h
-wiring_refused m wiring_faults.NoFreePlace keeps h = miswired wiring_faults.NoFreePlace keeps h
-wiring_refused m wiring_faults.SocketPair keeps h = miswired wiring_faults.SocketPair keeps h
-wiring_refused m wiring_faults.SocketAway keeps h = miswired wiring_faults.SocketAway keeps h
-wiring_refused m wiring_faults.Memory keeps h = no_memory_for_tree
+pub wiring_told : (m : ModelTree) (fault : WiringFault) (e : ExpandFault) → first_broken all_rules m ≡ None → Expands m (Err e) → e ≡ expand_faults.Wiring fault → TreeCauses m (faults.Wiring fault)
+wiring_told m fault (expand_faults.Wiring f) keeps h is = let same : f ≡ fault = cc in miswired fault keeps (subst (IsLowestFault m) same h)
+wiring_told m fault expand_faults.Memory keeps h is = absurd cc
 
 -- ---- the charts
 
-chart_first : (m : ModelTree) (class : List ℕ) (n : ℕ) (e : ChartsFault) → ReadsCharts m (Err e) → e ≡ chart_faults.Chart class n → HasFaultyChart m class n
-chart_first m class n (chart_faults.Chart c k) h is =
-    let same : c ≡ class = cc in let number : k ≡ n = cc in
-    subst (λ d. HasFaultyChart m d n) same (subst (λ x. HasFaultyChart m c x) number h)
-chart_first m class n chart_faults.Memory h is = absurd cc
+chart_first : (m : ModelTree) (class : List ℕ) (fault : ChartFault) (e : ChartsFault) → ReadsCharts m (Err e) → e ≡ chart_faults.Chart class fault → HasFaultyChart m class fault
+chart_first m class fault (chart_faults.Chart c f) h is =
+    let same : c ≡ class = cc in let kind : f ≡ fault = cc in
+    subst (λ d. HasFaultyChart m d fault) same (subst (λ x. HasFaultyChart m c x) kind h)
+chart_first m class fault chart_faults.Memory h is = absurd cc
 
 -- the first class whose chart has a fault was told
-pub chart_told : (m : ModelTree) (class : List ℕ) (n : ℕ) (e : ChartsFault) → ReadsCharts m (Err e) → e ≡ chart_faults.Chart class n → ChartCauses m (faults.Chart class n)
-chart_told m class n e h is = first_faulty class n (chart_first m class n e h is)
+pub chart_told : (m : ModelTree) (class : List ℕ) (fault : ChartFault) (e : ChartsFault) → ReadsCharts m (Err e) → e ≡ chart_faults.Chart class fault → ChartCauses m (faults.Chart class fault)
+chart_told m class fault e h is = first_faulty class fault (chart_first m class fault e h is)
 
 -- ---- the tree
 
 chart_cause : (text : List ℕ) (tree : ModelTree) (wiring : Tables) {why : ModelFault} → length text ≤ most_bytes → HasItsTree text tree → first_broken all_rules tree ≡ None → IsGoodWiring tree wiring → ChartCauses tree why → SoundCauses text why
-chart_cause text tree wiring short h keeps wired (first_faulty class n e) =
-    bad_chart class n (record { short = short; tree = tree; read = h.has; keeps = keeps; wiring = wiring; wired = wired; first = e })
+chart_cause text tree wiring short h keeps wired (first_faulty class fault e) =
+    bad_chart class fault (record { short = short; tree = tree; read = h.has; keeps = keeps; wiring = wiring; wired = wired; first = e })
 chart_cause text tree wiring short h keeps wired no_memory_for_charts = no_memory
 
 -- the tree of a text is refused for the same cause as the text
 pub tree_cause : (text : List ℕ) (tree : ModelTree) {why : ModelFault} → length text ≤ most_bytes → HasItsTree text tree → TreeCauses tree why → SoundCauses text why
 tree_cause text tree short h (breaks r e) = breaks_rule r (record { short = short; tree = tree; read = h.has; lowest = e })
 tree_cause text tree short h (miswired fault keeps e) =
-    bad_wiring (number fault) (record { short = short; tree = tree; read = h.has; keeps = keeps; fault = fault; number_is = refl; lowest = e })
+    bad_wiring fault (record { short = short; tree = tree; read = h.has; keeps = keeps; lowest = e })
 tree_cause text tree short h (faulty wiring keeps wired e) = chart_cause text tree wiring short h keeps wired e
 tree_cause text tree short h no_memory_for_tree = no_memory
 

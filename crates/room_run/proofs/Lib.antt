@@ -6,6 +6,7 @@ pub mod AnswerLaws
 pub mod settled
 pub mod JudgeLemmas
 pub mod CauseLemmas
+pub mod FaultNumbers
 pub mod ConvertLemmas
 pub mod Retold
 pub mod Untimed

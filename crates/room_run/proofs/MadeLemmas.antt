@@ -21,7 +21,7 @@ model_cause actors why (unfit_model fault h) = of_model (model_refused fault h)
 
 lines_cause : (actors : ℕ) (p : Plant) (why : Refusal) → IsModel (model_text actors) p → InjectedCauses p.wiring (injections_text actors) why → RunCauses (made_shelf actors) (made_shelf actors) made_files why
 lines_cause actors p why model (long_injections h is) = of_injections p model (injections_long h is)
-lines_cause actors p _ model (unfit_lines (faulty_line number code h)) = of_injections p model (bad_line number code h refl)
+lines_cause actors p _ model (unfit_lines (faulty_line number fault h)) = of_injections p model (bad_line number fault h refl)
 lines_cause actors p _ model (unfit_lines no_memory_for_lines) = of_injections p model (injections_no_memory refl)
 
 -- the text of the model is refused

@@ -9,6 +9,10 @@ use Rattle.room_outside.specs.Shown.{Shown}
 use Rattle.room_outside.specs.line_text.Lines.{line}
 use Rattle.room_kinds.specs.declared.numbers.ControllerId.{ControllerId}
 use Rattle.room_kinds.specs.declared.numbers.Stamp.{Stamp}
+use Rattle.room_inherit.specs.BaseRules.{number_of as number_of_base}
+use Rattle.structure_check.specs.List.{rule_of}
+use Rattle.binding_expand.specs.Faults.{number as number_of_wiring}
+use Rattle.chart_reader.specs.Faults.{number as number_of_chart}
 use Rattle.room_wiring.specs.declared.tables.Tables.{Tables}
 use Rattle.controller_actors.specs.declared.plant.Plant.{Plant}
 use Rattle.inject_reader.specs.Fitting.{FitLines, LinesFit}
@@ -17,6 +21,7 @@ use Rattle.inject_reader.specs.declared.inject_lines.accepted.Advances.TheVarian
 use Rattle.inject_reader.specs.declared.inject_lines.accepted.Line.{Line}
 use Rattle.inject_reader.specs.Answer.{answer}
 use Rattle.inject_reader.specs.LineFaults.{code_of}
+use Rattle.inject_reader.specs.declared.line_fault.LineFault.{LineFault}
 use Rattle.inject_reader.specs.declared.fault.InjectFault.{InjectFault}
 use Rattle.inject_reader.specs.declared.fault.InjectFault.TheVariants as inject_faults
 use Rattle.journal_reader.specs.declared.fault.ReadFaultOf.{ReadFaultOf}
@@ -56,10 +61,10 @@ pub record IsInjections (advances : Advances) (wiring : Tables) (text : List ℕ
   pub accepted : answer advances wiring text ≡ Ok lines
   pub fit : FitLines wiring lines
 
--- over the names of this wiring, the line of this number is the first faulty one of the text, and this is its lowest code
-pub record HasBadLine (advances : Advances) (wiring : Tables) (text : List ℕ) (number code : ℕ) : Type 0 where
+-- over the names of this wiring, the line of this number is the first faulty one of the text, and this is its first fault
+pub record HasBadLine (advances : Advances) (wiring : Tables) (text : List ℕ) (number : ℕ) (fault : LineFault) : Type 0 where
   pub short : length text ≤ most_bytes
-  pub faulty : answer advances wiring text ≡ Err (number, code)
+  pub faulty : answer advances wiring text ≡ Err (number, code_of fault)
 
 -- where the shelf tells the text under a name, it is so
 abbrev pub TextIs : Shown → List ℕ → (List ℕ → Type 0) → Type 0
@@ -158,19 +163,19 @@ pub data ModelCauses (before after : Shown) (name : List ℕ) : Refusal → Type
 
 -- why injections are refused whose lines have this fault
 abbrev pub refusal_of_lines : InjectFault → Refusal
-refusal_of_lines (inject_faults.Code number fault) = refusals.InjectionsLine number (code_of fault)
+refusal_of_lines (inject_faults.Code number fault) = refusals.InjectionsLine number fault
 refusal_of_lines inject_faults.Memory = refusals.Memory
 
 -- why a text of injections may be refused
 pub data LinesCauses (advances : Advances) (wiring : Tables) (text : List ℕ) : Refusal → Type 0 where
-  faulty_line : (number code : ℕ) → HasBadLine advances wiring text number code → LinesCauses advances wiring text (refusals.InjectionsLine number code)
+  faulty_line : (number : ℕ) (fault : LineFault) → HasBadLine advances wiring text number fault → LinesCauses advances wiring text (refusals.InjectionsLine number fault)
   no_memory_for_lines : LinesCauses advances wiring text refusals.Memory
 
 -- why the injections may be refused, whose text is looked for under a name
 pub data InjectionsCauses (before after : Shown) (name : List ℕ) (advances : Advances) (wiring : Tables) (why : Refusal) : Type 0 where
   injections_unread : RoseAt before after name → why ≡ refusals.ReadFault → InjectionsCauses before after name advances wiring why
   injections_long : TextIs before name (λ text. most_bytes < length text) → why ≡ refusals.InjectionsTooLong → InjectionsCauses before after name advances wiring why
-  bad_line : (number code : ℕ) → TextIs before name (λ text. HasBadLine advances wiring text number code) → why ≡ refusals.InjectionsLine number code → InjectionsCauses before after name advances wiring why
+  bad_line : (number : ℕ) (fault : LineFault) → TextIs before name (λ text. HasBadLine advances wiring text number fault) → why ≡ refusals.InjectionsLine number fault → InjectionsCauses before after name advances wiring why
   injections_no_memory : why ≡ refusals.Memory → InjectionsCauses before after name advances wiring why
 
 -- Why the run of two files may be refused. The order is: reading the model, the model, reading the
@@ -271,9 +276,10 @@ pub data Causes (before after : Shown) (words : List (List ℕ)) (why : Refusal)
 abbrev pub status_of_fault : ModelFault → Status
 status_of_fault (faults.Byte offset) = statuses.ModelRefused
 status_of_fault (faults.Syntax number) = statuses.ModelRefused
-status_of_fault (faults.Rule number) = statuses.ModelRefused
-status_of_fault (faults.Wiring number) = statuses.ModelRefused
-status_of_fault (faults.Chart class number) = statuses.ModelRefused
+status_of_fault (faults.Bases rule) = statuses.ModelRefused
+status_of_fault (faults.Rule rule) = statuses.ModelRefused
+status_of_fault (faults.Wiring fault) = statuses.ModelRefused
+status_of_fault (faults.Chart class fault) = statuses.ModelRefused
 status_of_fault faults.Memory = statuses.Memory
 
 -- the status of a refusal
@@ -282,7 +288,7 @@ status_of refusals.Words = statuses.WordsRefused
 status_of refusals.ModelTooLong = statuses.ModelRefused
 status_of (refusals.Model fault) = status_of_fault fault
 status_of refusals.InjectionsTooLong = statuses.InjectionsRefused
-status_of (refusals.InjectionsLine number code) = statuses.InjectionsRefused
+status_of (refusals.InjectionsLine number fault) = statuses.InjectionsRefused
 status_of refusals.JournalsTooLong = statuses.JournalsRefused
 status_of (refusals.JournalsMalformed offset) = statuses.JournalsRefused
 status_of (refusals.JournalsUntied controller stamp) = statuses.JournalsRefused
@@ -294,9 +300,10 @@ status_of refusals.Memory = statuses.Memory
 abbrev pub note_of_fault : ModelFault → List ℕ
 note_of_fault (faults.Byte offset) = line (codes "room: model refused: byte " ∷ decimal offset ∷ [])
 note_of_fault (faults.Syntax number) = line (codes "room: model refused: syntax " ∷ decimal number ∷ [])
-note_of_fault (faults.Rule number) = line (codes "room: model refused: rule " ∷ decimal number ∷ [])
-note_of_fault (faults.Wiring number) = line (codes "room: model refused: wiring " ∷ decimal number ∷ [])
-note_of_fault (faults.Chart class number) = line (codes "room: model refused: chart " ∷ class ∷ codes " " ∷ decimal number ∷ [])
+note_of_fault (faults.Bases rule) = line (codes "room: model refused: rule " ∷ decimal (number_of_base rule) ∷ [])
+note_of_fault (faults.Rule rule) = line (codes "room: model refused: rule " ∷ decimal (rule_of rule).number ∷ [])
+note_of_fault (faults.Wiring fault) = line (codes "room: model refused: wiring " ∷ decimal (number_of_wiring fault) ∷ [])
+note_of_fault (faults.Chart class fault) = line (codes "room: model refused: chart " ∷ class ∷ codes " " ∷ decimal (number_of_chart fault) ∷ [])
 note_of_fault faults.Memory = line (codes "room: memory" ∷ [])
 
 -- what a party is called, where there are so many controllers
@@ -321,7 +328,7 @@ note_of refusals.Words = line (codes "room: words refused" ∷ [])
 note_of refusals.ModelTooLong = line (codes "room: model refused: too long" ∷ [])
 note_of (refusals.Model fault) = note_of_fault fault
 note_of refusals.InjectionsTooLong = line (codes "room: injections refused: too long" ∷ [])
-note_of (refusals.InjectionsLine number code) = line (codes "room: injections refused: line " ∷ decimal number ∷ codes " " ∷ decimal code ∷ [])
+note_of (refusals.InjectionsLine number fault) = line (codes "room: injections refused: line " ∷ decimal number ∷ codes " " ∷ decimal (code_of fault) ∷ [])
 note_of refusals.JournalsTooLong = line (codes "room: journals refused: too long" ∷ [])
 note_of (refusals.JournalsMalformed offset) = line (codes "room: journals refused: malformed " ∷ decimal offset ∷ [])
 note_of (refusals.JournalsUntied controller stamp) =

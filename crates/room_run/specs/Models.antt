@@ -13,13 +13,17 @@ use Rattle.room_tokens.specs.Single.{values}
 use Rattle.room_parser.specs.Parsed.{HasNoModel}
 use Rattle.room_inherit.specs.Flat.{flat}
 use Rattle.room_inherit.specs.Rules.{lowest_broken}
+use Rattle.room_inherit.specs.BaseRules.{number_of as number_of_base}
+use Rattle.room_inherit.specs.declared.base_rule.BaseRule.{BaseRule}
 use Rattle.structure_check.specs.Rules.{first_broken, IsLowest}
-use Rattle.structure_check.specs.List.{all_rules}
+use Rattle.structure_check.specs.List.{all_rules, rule_of}
+use Rattle.structure_check.specs.declared.flat_rule.FlatRule.{FlatRule}
 use Rattle.chart_model.specs.Chart.{Chart}
 use Rattle.chart_reader.specs.model_charts.Charts.{HasCharts, HasFaultyChart}
+use Rattle.chart_reader.specs.declared.fault.ChartFault.{ChartFault}
 use Rattle.room_wiring.specs.declared.tables.Tables.{Tables}
 use Rattle.binding_expand.specs.Wirings.{IsWiringOf}
-use Rattle.binding_expand.specs.Faults.{HasNoFault, IsLowestFault, number as number_of}
+use Rattle.binding_expand.specs.Faults.{HasNoFault, IsLowestFault}
 use Rattle.binding_expand.specs.declared.fault.WiringFault.{WiringFault}
 use Rattle.law_charts.specs.Charts.{ShowCharts}
 use Rattle.controller_actors.specs.declared.plant.Plant.{Plant}
@@ -93,40 +97,37 @@ pub record HasNoTree (text : List ℕ) : Type 0 where
   pub cut : HasTokens text tokens
   pub none : HasNoModel (values text tokens)
 
--- what is written breaks the rule on bases of this number, and none of a lower one; these rules, from 26 on,
--- are told before all others
-pub record BreaksBaseRule (text : List ℕ) (rule : ℕ) : Type 0 where
+-- what is written breaks this rule on bases, and none of a lower number; these rules are told before all others
+pub record BreaksBaseRule (text : List ℕ) (rule : BaseRule) : Type 0 where
   pub short : length text ≤ most_bytes
   pub written : ModelTree
   pub is : IsWritten text written
-  pub lowest : lowest_broken written ≡ Some rule
+  pub lowest : lowest_broken written ≡ Some (number_of_base rule)
 
--- the text has a tree that breaks the rule of this number, and none of a lower one
-pub record BreaksRule (text : List ℕ) (rule : ℕ) : Type 0 where
+-- the text has a tree that breaks this rule, and none of a lower number
+pub record BreaksRule (text : List ℕ) (rule : FlatRule) : Type 0 where
   pub short : length text ≤ most_bytes
   pub tree : ModelTree
   pub read : HasTree text tree
-  pub lowest : IsLowest all_rules tree (Some rule)
+  pub lowest : IsLowest all_rules tree (Some (rule_of rule).number)
 
--- the text has a tree that keeps all rules, and the lowest fault of its wiring has this number
-pub record HasBadWiring (text : List ℕ) (number : ℕ) : Type 0 where
+-- the text has a tree that keeps all rules, and this is the lowest fault of its wiring
+pub record HasBadWiring (text : List ℕ) (fault : WiringFault) : Type 0 where
   pub short : length text ≤ most_bytes
   pub tree : ModelTree
   pub read : HasTree text tree
   pub keeps : first_broken all_rules tree ≡ None
-  pub fault : WiringFault
-  pub number_is : number ≡ number_of fault
   pub lowest : IsLowestFault tree fault
 
--- the text has a tree that keeps all rules and has a wiring, and the actor class of this name is the first whose chart has a fault; the lowest one has this number
-pub record HasBadChart (text : List ℕ) (class : List ℕ) (number : ℕ) : Type 0 where
+-- the text has a tree that keeps all rules and has a wiring, and the actor class of this name is the first whose chart has a fault, of which this is the lowest
+pub record HasBadChart (text : List ℕ) (class : List ℕ) (fault : ChartFault) : Type 0 where
   pub short : length text ≤ most_bytes
   pub tree : ModelTree
   pub read : HasTree text tree
   pub keeps : first_broken all_rules tree ≡ None
   pub wiring : Tables
   pub wired : IsGoodWiring tree wiring
-  pub first : HasFaultyChart tree class number
+  pub first : HasFaultyChart tree class fault
 
 -- Why a text may be refused as that of a model which keeps all rules and whose wiring and charts have
 -- no fault. The order is: the cut, the tree, the rules on bases, the other rules, each in order of their
@@ -134,8 +135,8 @@ pub record HasBadChart (text : List ℕ) (class : List ℕ) (number : ℕ) : Typ
 pub data SoundCauses (text : List ℕ) : ModelFault → Type 0 where
   uncut : (offset : ℕ) → IsUncut text offset → SoundCauses text (faults.Byte offset)
   no_tree : (line : ℕ) → HasNoTree text → SoundCauses text (faults.Syntax line)
-  breaks_base_rule : (rule : ℕ) → BreaksBaseRule text rule → SoundCauses text (faults.Rule rule)
-  breaks_rule : (rule : ℕ) → BreaksRule text rule → SoundCauses text (faults.Rule rule)
-  bad_wiring : (number : ℕ) → HasBadWiring text number → SoundCauses text (faults.Wiring number)
-  bad_chart : (class : List ℕ) (number : ℕ) → HasBadChart text class number → SoundCauses text (faults.Chart class number)
+  breaks_base_rule : (rule : BaseRule) → BreaksBaseRule text rule → SoundCauses text (faults.Bases rule)
+  breaks_rule : (rule : FlatRule) → BreaksRule text rule → SoundCauses text (faults.Rule rule)
+  bad_wiring : (fault : WiringFault) → HasBadWiring text fault → SoundCauses text (faults.Wiring fault)
+  bad_chart : (class : List ℕ) (fault : ChartFault) → HasBadChart text class fault → SoundCauses text (faults.Chart class fault)
   no_memory : SoundCauses text faults.Memory

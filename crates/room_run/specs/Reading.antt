@@ -6,14 +6,15 @@ use Rattle.room_ast.specs.Tokens.{model_tokens}
 use Rattle.room_tokens.specs.Single.{values}
 use Rattle.room_tokens.specs.token_names.Names.{HasNames}
 use Rattle.structure_check.specs.Rules.{first_broken, IsLowest}
-use Rattle.structure_check.specs.List.{all_rules}
+use Rattle.structure_check.specs.List.{all_rules, rule_of}
+use Rattle.structure_check.specs.declared.flat_rule.FlatRule.{FlatRule}
 use Rattle.structure_check.specs.Classes.{HasClasses}
 use Rattle.structure_check.specs.declared.checked_model.Checked.{Checked}
 use Rattle.room_wiring.specs.declared.tables.Tables.{Tables}
-use Rattle.binding_expand.specs.Faults.{IsLowestFault, number}
+use Rattle.binding_expand.specs.Faults.{IsLowestFault}
 use Rattle.binding_expand.specs.declared.fault.WiringFault.{WiringFault}
-use Rattle.binding_expand.specs.declared.fault.WiringFault.TheVariants as wiring_faults
 use Rattle.chart_reader.specs.model_charts.Charts.{HasFaultyChart}
+use Rattle.chart_reader.specs.declared.fault.ChartFault.{ChartFault}
 use Rattle.room_run.specs.Models.{HasTokens, IsWritten, HasTree, IsGoodWiring}
 use Rattle.room_run.specs.declared.model_fault.ModelFault.{ModelFault}
 use Rattle.room_run.specs.declared.model_fault.ModelFault.TheVariants as faults
@@ -42,23 +43,14 @@ pub record IsCheckedFor (tree : ModelTree) (checked : Checked) : Type 0 where
   pub model : model_view checked.model.now ≡ tree
   pub classes : HasClasses checked
 
--- why a tree is refused whose wiring has this fault
-abbrev pub fault_of : WiringFault → ModelFault
-fault_of wiring_faults.Memory = faults.Memory
-fault_of wiring_faults.TooManySlots = faults.Wiring (number wiring_faults.TooManySlots)
-fault_of wiring_faults.TooManyPlaces = faults.Wiring (number wiring_faults.TooManyPlaces)
-fault_of wiring_faults.NoFreePlace = faults.Wiring (number wiring_faults.NoFreePlace)
-fault_of wiring_faults.SocketPair = faults.Wiring (number wiring_faults.SocketPair)
-fault_of wiring_faults.SocketAway = faults.Wiring (number wiring_faults.SocketAway)
-
 -- why the charts of a tree may be refused: the first that has a fault, or want of memory
 pub data ChartCauses (tree : ModelTree) : ModelFault → Type 0 where
-  first_faulty : (class : List ℕ) (number : ℕ) → HasFaultyChart tree class number → ChartCauses tree (faults.Chart class number)
+  first_faulty : (class : List ℕ) (fault : ChartFault) → HasFaultyChart tree class fault → ChartCauses tree (faults.Chart class fault)
   no_memory_for_charts : ChartCauses tree faults.Memory
 
 -- why a tree may be refused: the lowest rule that it breaks; where it keeps all rules, the lowest fault of its wiring; where it has a wiring, the first chart that has a fault; or want of memory
 pub data TreeCauses (tree : ModelTree) : ModelFault → Type 0 where
-  breaks : (rule : ℕ) → IsLowest all_rules tree (Some rule) → TreeCauses tree (faults.Rule rule)
-  miswired : (fault : WiringFault) → first_broken all_rules tree ≡ None → IsLowestFault tree fault → TreeCauses tree (faults.Wiring (number fault))
+  breaks : (rule : FlatRule) → IsLowest all_rules tree (Some (rule_of rule).number) → TreeCauses tree (faults.Rule rule)
+  miswired : (fault : WiringFault) → first_broken all_rules tree ≡ None → IsLowestFault tree fault → TreeCauses tree (faults.Wiring fault)
   faulty : {why : ModelFault} (wiring : Tables) → first_broken all_rules tree ≡ None → IsGoodWiring tree wiring → ChartCauses tree why → TreeCauses tree why
   no_memory_for_tree : TreeCauses tree faults.Memory

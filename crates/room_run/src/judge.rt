@@ -8,11 +8,11 @@ ghost use Rattle.chart_trees.specs.chart_graphs.Views.{chart_view};
 ghost use Rattle.chart_reader.specs.model_charts.Charts.{AreValid, HasCharts};
 ghost use Rattle.room_run.specs.fitting_plants.Plants.{PlantFits};
 ghost use Rattle.room_run.specs.Models.{IsGoodWiring, IsModel, IsSound, IsSoundText, IsSoundTree, SoundCauses};
-ghost use Rattle.room_run.specs.Reading.{ChartCauses, HasItsTokens, HasItsTree, IsCheckedFor, IsWrittenOnce, TreeCauses, fault_of};
+ghost use Rattle.room_run.specs.Reading.{ChartCauses, HasItsTokens, HasItsTree, IsCheckedFor, IsWrittenOnce, TreeCauses};
 
 use crate::model_fault::ModelFault;
 use crate::model_plants::plant_of;
-use binding_expand::{WiringFault, expand};
+use binding_expand::{ExpandFault, expand};
 use chart_reader::{ChartsFault, charts_of};
 use chart_trees::Chart;
 use controller::Plant;
@@ -69,7 +69,7 @@ fn read_tree(alloc: Global, text: &[u8]) -> Result<Model, ModelFault>
     };
     match flatten(alloc, written) {
         Ok(tree) => Ok(tree),
-        Err(InheritFault::Rule(rule)) => Err(ModelFault::Rule(rule.number())),
+        Err(InheritFault::Rule(rule)) => Err(ModelFault::Bases(rule)),
         Err(InheritFault::Memory) => Err(ModelFault::Memory),
     }
 }
@@ -81,22 +81,8 @@ fn keep_rules(alloc: Global, tree: &Model) -> Result<Checked<'_>, ModelFault>
 {
     match check(alloc, tree) {
         Ok(checked) => Ok(checked),
-        Err(CheckFault::Rule(rule)) => Err(ModelFault::Rule(rule.number())),
+        Err(CheckFault::Rule(rule)) => Err(ModelFault::Rule(rule)),
         Err(CheckFault::Memory) => Err(ModelFault::Memory),
-    }
-}
-
-/// Why a model is refused whose wiring has this fault.
-fn fault_of(fault: WiringFault) -> ModelFault
-    ensures { result ≡ fault_of fault }
-{
-    match fault {
-        WiringFault::Memory => ModelFault::Memory,
-        WiringFault::TooManySlots
-        | WiringFault::TooManyPlaces
-        | WiringFault::NoFreePlace
-        | WiringFault::SocketPair
-        | WiringFault::SocketAway => ModelFault::Wiring(fault.number()),
     }
 }
 
@@ -108,7 +94,8 @@ fn keep_wiring(alloc: Global, checked: &Checked) -> Result<Wiring, ModelFault>
 {
     match expand(alloc, checked) {
         Ok(wiring) => Ok(wiring),
-        Err(fault) => Err(fault_of(fault)),
+        Err(ExpandFault::Wiring(fault)) => Err(ModelFault::Wiring(fault)),
+        Err(ExpandFault::Memory) => Err(ModelFault::Memory),
     }
 }
 
@@ -123,7 +110,7 @@ fn keep_charts(alloc: Global, checked: &Checked) -> Result<Vec<Option<Chart>>, M
 {
     match charts_of(alloc, checked) {
         Ok(charts) => Ok(charts),
-        Err(ChartsFault::Chart { class, number }) => Err(ModelFault::Chart { class, number }),
+        Err(ChartsFault::Chart { class, fault }) => Err(ModelFault::Chart { class, fault }),
         Err(ChartsFault::Memory) => Err(ModelFault::Memory),
     }
 }

@@ -3,7 +3,11 @@ ghost use Rattle.std.specs.Prelude.{◌≡◌};
 ghost use Rattle.room_run.specs.Causes.{status_of_fault};
 
 use crate::status::Status;
+use binding_expand::WiringFault;
+use chart_reader::ChartFault;
 use room_ast::Name;
+use room_inherit::BaseRule;
+use structure_check::FlatRule;
 
 /// Why a text is refused: it isn't that of a model which runs.
 #[derive(Drop)]
@@ -13,14 +17,16 @@ pub enum ModelFault {
     /// No model has its tokens. The line, from 1, is that of the first token with which no model
     /// goes on, or of the end of the text.
     Syntax { line: u32 },
-    /// The model breaks the rule of this number, and none of a lower number.
-    Rule(u8),
-    /// The model keeps all rules, and its wiring has the fault of this number, 1 to 5, and none of
-    /// a lower number.
-    Wiring(u8),
+    /// The model breaks this rule on bases, and none of a lower number. These rules are asked first,
+    /// of the model as it is written.
+    Bases(BaseRule),
+    /// The model breaks this rule, and none of a lower number.
+    Rule(FlatRule),
+    /// The model keeps all rules, and its wiring has this fault, and none of a lower number.
+    Wiring(WiringFault),
     /// The model keeps all rules, its wiring has no fault, and the actor class of this name is the
-    /// first whose chart has a fault; the lowest one has this number, 1 to 8.
-    Chart { class: Name, number: u8 },
+    /// first whose chart has a fault; this is the lowest one.
+    Chart { class: Name, fault: ChartFault },
     Memory,
 }
 
@@ -31,6 +37,7 @@ impl ModelFault {
         match self {
             ModelFault::Byte(_) => Status::ModelRefused,
             ModelFault::Syntax { .. } => Status::ModelRefused,
+            ModelFault::Bases(_) => Status::ModelRefused,
             ModelFault::Rule(_) => Status::ModelRefused,
             ModelFault::Wiring(_) => Status::ModelRefused,
             ModelFault::Chart { .. } => Status::ModelRefused,

@@ -146,17 +146,32 @@ fn write_model_fault<K: Sink>(why: &ModelFault, notes: &mut K) -> Result<(), Wri
         ModelFault::Syntax { line } => {
             write_number(notes, b"room: model refused: syntax ", u64::from(*line))
         }
+        ModelFault::Bases(rule) => {
+            write_number(
+                notes,
+                b"room: model refused: rule ",
+                u64::from(rule.number()),
+            )
+        }
         ModelFault::Rule(rule) => {
-            write_number(notes, b"room: model refused: rule ", u64::from(*rule))
+            write_number(
+                notes,
+                b"room: model refused: rule ",
+                u64::from(rule.number()),
+            )
         }
-        ModelFault::Wiring(number) => {
-            write_number(notes, b"room: model refused: wiring ", u64::from(*number))
+        ModelFault::Wiring(fault) => {
+            write_number(
+                notes,
+                b"room: model refused: wiring ",
+                u64::from(fault.number()),
+            )
         }
-        ModelFault::Chart { class, number } => write_class(
+        ModelFault::Chart { class, fault } => write_class(
             notes,
             b"room: model refused: chart ",
             class.as_bytes(),
-            u64::from(*number),
+            u64::from(fault.number()),
         ),
         ModelFault::Memory => write_text(notes, b"room: memory"),
     }
@@ -171,11 +186,11 @@ fn write_refusal<K: Sink>(why: &Refusal, notes: &mut K) -> Result<(), WriteFault
         Refusal::ModelTooLong => write_text(notes, b"room: model refused: too long"),
         Refusal::Model(fault) => write_model_fault(fault, notes),
         Refusal::InjectionsTooLong => write_text(notes, b"room: injections refused: too long"),
-        Refusal::InjectionsLine { line, code } => write_place(
+        Refusal::InjectionsLine { line, fault } => write_place(
             notes,
             b"room: injections refused: line ",
             u64::from(*line),
-            u64::from(*code),
+            u64::from(fault.code()),
         ),
         Refusal::JournalsTooLong => write_text(notes, b"room: journals refused: too long"),
         Refusal::JournalsMalformed { offset } => {

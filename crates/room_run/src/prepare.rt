@@ -128,10 +128,7 @@ fn refusal_of_lines(fault: InjectFault) -> Refusal
     ensures { result ≡ refusal_of_lines fault }
 {
     match fault {
-        InjectFault::Code { line, fault } => Refusal::InjectionsLine {
-            line,
-            code: fault.code(),
-        },
+        InjectFault::Code { line, fault } => Refusal::InjectionsLine { line, fault },
         InjectFault::Memory => Refusal::Memory,
     }
 }

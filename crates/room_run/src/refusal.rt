@@ -4,6 +4,7 @@ ghost use Rattle.room_run.specs.Causes.{status_of};
 
 use crate::model_fault::ModelFault;
 use crate::status::Status;
+use inject_reader::LineFault;
 use room_kinds::{ControllerId, Stamp};
 use room_verify::Verdict;
 
@@ -15,11 +16,11 @@ pub enum Refusal {
     /// The text of the model is refused.
     Model(ModelFault),
     InjectionsTooLong,
-    /// The line of this number, from 1, is the first of the injections that is faulty; its lowest
-    /// code is this one, 1 to 5. Code 6, at line 10,001, says that there are more lines than may be.
+    /// The line of this number, from 1, is the first of the injections that is faulty, and this is its
+    /// first fault.
     InjectionsLine {
         line: u32,
-        code: u8,
+        fault: LineFault,
     },
     JournalsTooLong,
     /// No journals have this text. The offset is that of the first byte, from 0, at which it differs from the

@@ -1,5 +1,5 @@
 //! Whether a fault is gone from a text.
-use room_inherit::{InheritFault, flatten};
+use room_inherit::{BaseRule, InheritFault, flatten};
 use room_lexer::{LexFault, lex};
 use room_outside::MAX_TEXT;
 use room_parser::{ParseFault, parse};
@@ -7,32 +7,16 @@ use room_run::{ModelFault, read_wiring};
 use std::alloc::{AllocError, Global};
 use view_causes::Judge;
 
-/// Whether a rule is one on classes that extend others. These are asked before all others, of the text as it is written.
-fn is_of_bases(rule: u8) -> bool {
-    rule > 25
-}
-
-/// The rule on how many tokens all classes have together with what they have from their bases.
-const SIZE_RULE: u8 = 31;
-
-/// Whether a model is too large with all that its classes have from their bases.
-fn is_of_size(fault: &ModelFault) -> bool {
-    match fault {
-        ModelFault::Rule(number) => *number == SIZE_RULE,
-        _ => false,
-    }
-}
-
 /// Where in the order of the faults a fault stands, and which of its kind it is.
 fn rank(fault: &ModelFault) -> (u8, u8) {
     match fault {
         ModelFault::Memory => (0, 0),
         ModelFault::Byte(_) => (1, 0),
         ModelFault::Syntax { .. } => (2, 0),
-        ModelFault::Rule(number) if is_of_bases(*number) => (3, *number),
-        ModelFault::Rule(number) => (4, *number),
-        ModelFault::Wiring(number) => (5, *number),
-        ModelFault::Chart { number, .. } => (6, *number),
+        ModelFault::Bases(rule) => (3, rule.number()),
+        ModelFault::Rule(rule) => (4, rule.number()),
+        ModelFault::Wiring(fault) => (5, fault.number()),
+        ModelFault::Chart { fault, .. } => (6, fault.number()),
     }
 }
 
@@ -75,8 +59,9 @@ fn reached_behind(other: &ModelFault, fault: &ModelFault) -> Option<u32> {
     }
 }
 
-/// Whether a text breaks no rule on bases but those that are told after this one.
-fn keeps_bases(alloc: Global, text: &[u8], rule: u8) -> Result<bool, AllocError> {
+/// Whether a text breaks no rule on bases but those that are told after this one. These rules are asked before all
+/// others, of the text as it is written.
+fn keeps_bases(alloc: Global, text: &[u8], rule: BaseRule) -> Result<bool, AllocError> {
     let tokens = match lex(alloc, text) {
         Ok(tokens) => tokens,
         Err(LexFault::Memory) => return Err(AllocError),
@@ -95,14 +80,14 @@ fn keeps_bases(alloc: Global, text: &[u8], rule: u8) -> Result<bool, AllocError>
     match flatten(alloc, written) {
         Ok(_) => Ok(true),
         Err(InheritFault::Memory) => Err(AllocError),
-        Err(InheritFault::Rule(other)) => Ok(other.number() > rule),
+        Err(InheritFault::Rule(other)) => Ok(other.number() > rule.number()),
     }
 }
 
 impl<'a> Judge for FaultOf<'a> {
     fn is_mended(&self, text: &[u8]) -> Result<bool, AllocError> {
         match self.fault {
-            ModelFault::Rule(rule) if is_of_bases(*rule) => keeps_bases(self.alloc, text, *rule),
+            ModelFault::Bases(rule) => keeps_bases(self.alloc, text, *rule),
             _ => Ok(self.reached(text)?.is_some()),
         }
     }
@@ -112,8 +97,8 @@ impl<'a> Judge for FaultOf<'a> {
             return Ok(None);
         }
         // A text that keeps this rule just so is dear to read whole.
-        if is_of_size(self.fault) {
-            let kept = keeps_bases(self.alloc, text, SIZE_RULE)?;
+        if let ModelFault::Bases(BaseRule::SmallModel) = self.fault {
+            let kept = keeps_bases(self.alloc, text, BaseRule::SmallModel)?;
             return Ok(kept.then_some(u32::MAX));
         }
         match read_wiring(self.alloc, text) {

@@ -3,6 +3,7 @@ ghost use Rattle.std.specs.Prelude.{◌≤◌, length};
 
 use crate::accepted::Accepted;
 use crate::judge::FaultOf;
+use chart_reader::ChartFault;
 use room_ast::{Model, Scope};
 use room_inherit::{InheritFault, flatten};
 use room_lexer::{LexFault, Token, lex};
@@ -10,10 +11,10 @@ use room_outside::MAX_TEXT;
 use room_parser::{ParseFault, parse};
 use room_run::{ModelFault, read_plant};
 use std::alloc::{AllocError, Global};
-use structure_check::{CheckFault, Checked, check};
+use structure_check::{CheckFault, Checked, FlatRule, check};
 use view_causes::{
-    Cause, ChartFault, Unread, chart_causes, chart_meaning, could_stand, find_causes, named_by,
-    rule_cause, rule_meaning, system_causes, wiring_meaning, word_meaning,
+    Cause, FaultyChart, Unread, base_cause, base_meaning, chart_causes, chart_meaning, could_stand,
+    find_causes, named_by, rule_cause, rule_meaning, system_causes, wiring_meaning, word_meaning,
 };
 use view_charts::{Item, Source, head_of};
 use view_pages::{Meaning, Named, Page};
@@ -229,15 +230,15 @@ fn seen_within<'f>(
     source: Source<'_>,
     checked: &'f Checked<'_>,
     class: &'f [u8],
-    number: u8,
+    fault: ChartFault,
 ) -> Result<Vec<Cause>, AllocError> {
     let scope = scope_in(checked, class);
-    let fault = ChartFault {
+    let faulty = FaultyChart {
         class,
-        number,
+        fault,
         scope,
     };
-    chart_causes(source, fault)
+    chart_causes(source, faulty)
 }
 
 /// What is wrong with the chart of a class that has a fault, as far as the text shows it. The tree is that of the text.
@@ -245,14 +246,14 @@ fn seen_in_chart(
     source: Source<'_>,
     tree: &Model,
     class: &[u8],
-    number: u8,
+    fault: ChartFault,
 ) -> Result<Vec<Cause>, AllocError> {
     let checked = match check(source.alloc, tree) {
         Ok(checked) => checked,
         Err(CheckFault::Memory) => return Err(AllocError),
         Err(CheckFault::Rule(_)) => return Ok(Vec::new(source.alloc)),
     };
-    seen_within(source, &checked, class, number)
+    seen_within(source, &checked, class, fault)
 }
 
 /// What is wrong where a model is refused, as far as the text shows it by itself.
@@ -261,12 +262,18 @@ fn seen(
     fault: &ModelFault,
     tree: Option<&Model>,
 ) -> Result<Vec<Cause>, AllocError> {
-    match (fault, tree) {
-        (ModelFault::Chart { class, number }, Some(tree)) => {
-            seen_in_chart(source, tree, class.as_bytes(), *number)
-        }
-        (ModelFault::Rule(1), _) => system_causes(source),
-        _ => Ok(Vec::new(source.alloc)),
+    match fault {
+        ModelFault::Rule(FlatRule::OneSystem) => system_causes(source),
+        ModelFault::Chart { class, fault } => match tree {
+            Some(tree) => seen_in_chart(source, tree, class.as_bytes(), *fault),
+            None => Ok(Vec::new(source.alloc)),
+        },
+        ModelFault::Byte(_)
+        | ModelFault::Syntax { .. }
+        | ModelFault::Bases(_)
+        | ModelFault::Rule(_)
+        | ModelFault::Wiring(_)
+        | ModelFault::Memory => Ok(Vec::new(source.alloc)),
     }
 }
 
@@ -292,8 +299,13 @@ fn seen_at(
     item: Item,
 ) -> Result<Option<Cause>, AllocError> {
     match fault {
+        ModelFault::Bases(rule) => base_cause(source, *rule, item),
         ModelFault::Rule(rule) => rule_cause(source, *rule, item),
-        _ => Ok(None),
+        ModelFault::Byte(_)
+        | ModelFault::Syntax { .. }
+        | ModelFault::Wiring(_)
+        | ModelFault::Chart { .. }
+        | ModelFault::Memory => Ok(None),
     }
 }
 
@@ -326,13 +338,22 @@ fn tell_head(
     fault: &ModelFault,
 ) -> Result<(), AllocError> {
     match fault {
+        ModelFault::Bases(rule) => {
+            tell_numbered(page, named, b"rule ", rule.number(), base_meaning(*rule))
+        }
         ModelFault::Rule(rule) => {
-            tell_numbered(page, named, b"rule ", *rule, rule_meaning(*rule))
+            tell_numbered(page, named, b"rule ", rule.number(), rule_meaning(*rule))
         }
-        ModelFault::Wiring(number) => {
-            tell_numbered(page, named, b"wiring ", *number, wiring_meaning(*number))
+        ModelFault::Wiring(fault) => {
+            tell_numbered(
+                page,
+                named,
+                b"wiring ",
+                fault.number(),
+                wiring_meaning(*fault),
+            )
         }
-        ModelFault::Chart { class, number } => {
+        ModelFault::Chart { class, fault } => {
             let mut what = Vec::new(alloc);
             what.extend_from_slice(b"chart ")?;
             what.extend_from_slice(class.as_bytes())?;
@@ -341,8 +362,8 @@ fn tell_head(
                 page,
                 named,
                 what.as_slice(),
-                *number,
-                chart_meaning(*number),
+                fault.number(),
+                chart_meaning(*fault),
             )
         }
         ModelFault::Byte(_) | ModelFault::Syntax { .. } | ModelFault::Memory => Ok(()),
@@ -413,7 +434,7 @@ fn tell_tree(
         Ok(tree) => Ok(Some(tree)),
         Err(InheritFault::Memory) => Err(AllocError),
         Err(InheritFault::Rule(rule)) => {
-            let fault = ModelFault::Rule(rule.number());
+            let fault = ModelFault::Bases(rule);
             tell_fault(alloc, page, named, tokens, &fault, None)?;
             Ok(None)
         }

@@ -4,6 +4,7 @@ use crate::circles::circle_causes;
 use crate::code_causes::code_causes;
 use crate::shape_causes::Shape;
 use crate::triggers::trigger_causes;
+use chart_reader::ChartFault;
 use room_ast::Scope;
 use std::alloc::AllocError;
 use view_charts::{Chart, ClassItems, Item, Source};
@@ -11,11 +12,11 @@ use view_charts::{Chart, ClassItems, Item, Source};
 /// The most causes that are told.
 pub(crate) const MOST_CAUSES: usize = 12;
 
-/// A fault of the chart of an actor class, by its number, and what the class's actions can name, if that is known.
+/// An actor class whose chart has a fault, and what the class's actions can name, if that is known.
 #[derive(Clone, Copy)]
-pub struct ChartFault<'a> {
+pub struct FaultyChart<'a> {
     pub class: &'a [u8],
-    pub number: u8,
+    pub fault: ChartFault,
     pub scope: Option<&'a Scope>,
 }
 
@@ -56,29 +57,35 @@ fn in_order(source: Source<'_>, causes: Vec<Cause>) -> Result<Vec<Cause>, AllocE
     Ok(all)
 }
 
-/// What is wrong with a chart by the number of its fault, in any order.
+/// What is wrong with a chart by its fault, in any order. Triggers and codes are looked at only where it is known what
+/// the class's actions can name.
 fn causes_of(
     source: Source<'_>,
     chain: &[Item],
     chart: &Chart,
-    fault: ChartFault<'_>,
+    faulty: FaultyChart<'_>,
 ) -> Result<Vec<Cause>, AllocError> {
-    match (fault.number, fault.scope) {
-        (2..=5, _) => Shape::of(source, chart)?.causes(chain, fault.number),
-        (6, _) => circle_causes(source, chart),
-        (7, Some(scope)) => trigger_causes(&Suspect {
+    match (faulty.fault, faulty.scope) {
+        (ChartFault::BadPoint, _) => Shape::of(source, chart)?.name_causes(),
+        (ChartFault::TwoInitials, _) => Shape::of(source, chart)?.beginning_causes(),
+        (ChartFault::NoInitial, _) => Shape::of(source, chart)?.missing_causes(chain),
+        (ChartFault::NoDefault, _) => Shape::of(source, chart)?.branch_causes(),
+        (ChartFault::ChoiceCycle, _) => circle_causes(source, chart),
+        (ChartFault::BadTrigger, Some(scope)) => trigger_causes(&Suspect {
             source,
             chain,
             chart,
             scope,
         }),
-        (8, Some(scope)) => code_causes(&Suspect {
+        (ChartFault::BadAction, Some(scope)) => code_causes(&Suspect {
             source,
             chain,
             chart,
             scope,
         }),
-        _ => Ok(Vec::new(source.alloc)),
+        (ChartFault::DepthAbove16, _)
+        | (ChartFault::BadTrigger, None)
+        | (ChartFault::BadAction, None) => Ok(Vec::new(source.alloc)),
     }
 }
 
@@ -92,16 +99,16 @@ fn chain_of(source: Source<'_>, class: &[u8]) -> Result<Vec<Item>, AllocError> {
 fn causes_in(
     source: Source<'_>,
     chain: &[Item],
-    fault: ChartFault<'_>,
+    faulty: FaultyChart<'_>,
 ) -> Result<Vec<Cause>, AllocError> {
     let chart = Chart::of(source, chain)?;
-    causes_of(source, chain, &chart, fault)
+    causes_of(source, chain, &chart, faulty)
 }
 
 /// What is wrong with the chart of a class that has a fault, in the order of the text: the first places that are seen;
 /// none where the text doesn't show it.
-pub fn chart_causes(source: Source<'_>, fault: ChartFault<'_>) -> Result<Vec<Cause>, AllocError> {
-    let chain = chain_of(source, fault.class)?;
-    let causes = causes_in(source, chain.as_slice(), fault)?;
+pub fn chart_causes(source: Source<'_>, faulty: FaultyChart<'_>) -> Result<Vec<Cause>, AllocError> {
+    let chain = chain_of(source, faulty.class)?;
+    let causes = causes_in(source, chain.as_slice(), faulty)?;
     in_order(source, causes)
 }

@@ -7,8 +7,8 @@
 //! What the text shows comes first: which name isn't there and which are, which part of a chart has no way on, which
 //! statement of a code is none.
 //! `chart_causes` looks at the whole chart of a class, so that what is told are causes alone. `rule_cause` looks at
-//! a part that was found to be the cause of a broken rule, `system_causes` at what a system names. All of them name what
-//! there is in place of what there isn't.
+//! a part that was found to be the cause of a broken rule, and `base_cause` at one where the rule is on bases;
+//! `system_causes` looks at what a system names. All of them name what there is in place of what there isn't.
 //!
 //! All calls are safe and end; that they tell what they should is shown by cases.
 #![tactic(auto)]
@@ -32,10 +32,10 @@ mod syntax;
 mod triggers;
 
 pub use cause::Cause;
-pub use charts::{ChartFault, chart_causes};
-pub use meanings::{chart_meaning, rule_meaning, wiring_meaning};
+pub use charts::{FaultyChart, chart_causes};
+pub use meanings::{base_meaning, chart_meaning, rule_meaning, wiring_meaning};
 pub use misread::word_meaning;
 pub use names::named_by;
-pub use rule_causes::{rule_cause, system_causes};
+pub use rule_causes::{base_cause, rule_cause, system_causes};
 pub use search::{Judge, find_causes};
 pub use syntax::{Unread, could_stand};

@@ -1,246 +1,219 @@
-//! What the numbers of faults mean, and how such a fault is mended.
+//! What faults mean, and how such a fault is mended.
+use binding_expand::WiringFault;
+use chart_reader::ChartFault;
+use room_inherit::BaseRule;
+use structure_check::FlatRule;
 use view_pages::Meaning;
 
 const fn of(fault: &'static str, cure: &'static str) -> Meaning {
     Meaning { fault, cure }
 }
 
-/// The rules on classes, names, types and values.
-fn class_rule(rule: u8) -> Meaning {
+/// A rule of flat models.
+pub fn rule_meaning(rule: FlatRule) -> Meaning {
     match rule {
-        1 => of(
+        // Classes, names, types and values.
+        FlatRule::OneSystem => of(
             "a model has one LogicalSystem, with one SubSystemRef that names a SubSystemClass",
             "keep the one SubSystemRef that is to run, and let it name a SubSystemClass",
         ),
-        2 => of(
+        FlatRule::ClassNames => of(
             "two classes have one name, or a class has the name of a type of numbers",
             "rename one of them",
         ),
-        3 => of(
+        FlatRule::PartNames => of(
             "in an actor class a port, service point, attribute or reference has a name that another has, or \
              `frame`, or a word of the action language",
             "rename it; docs/CHEATSHEET.md has all words that can't be names",
         ),
-        4 => of(
+        FlatRule::MessageNames => of(
             "two messages of a protocol class have one name; both directions count together",
             "rename one of the two messages",
         ),
-        5 => of(
+        FlatRule::FieldNames => of(
             "two fields of a data class have one name",
             "rename one of the two fields",
         ),
-        6 => of(
+        FlatRule::KnownTypes => of(
             "a type is named that is none of the seven types of numbers, and no data class",
             "write int8, int16, int32, uint8, uint16, uint32, boolean, or the name of a data class",
         ),
-        7 => of(
+        FlatRule::FiniteData => of(
             "a data class contains itself, by a field or through its fields' classes",
             "let a number stand for the inner one, as its index or key",
         ),
-        8 => of(
+        FlatRule::SmallClasses => of(
             "a data class stands for more than 64 numbers, which is what a message carries at most",
             "fewer fields; send several messages",
         ),
-        _ => of(
+        FlatRule::FittingValues => of(
             "an initial value lies out of its type's range, or stands at a data class",
             "a value in range, or a wider type; the fields of a data class have values of their own",
         ),
-    }
-}
-
-/// The rules on ports, references and bindings.
-fn structure_rule(rule: u8) -> Meaning {
-    match rule {
-        10 => of(
+        // Ports, references and bindings.
+        FlatRule::KnownProtocols => of(
             "a port or a service point names no protocol class",
             "name a ProtocolClass behind the colon",
         ),
-        11 => of(
+        FlatRule::OwnPorts => of(
             "an `external Port` repeats no port of the Interface, or a ServiceImplementation no SPP, or one is \
              repeated twice",
             "declare the port or the SPP in the Interface, and repeat it once",
         ),
-        12 => of(
+        FlatRule::KnownActors => of(
             "a reference names no actor class",
             "name an ActorClass behind the colon",
         ),
-        13 => of(
+        FlatRule::FiniteActors => of(
             "an actor class contains itself through references, so the actors would have no end",
             "break the circle: reach the outer actor by a port",
         ),
-        14 => of(
+        FlatRule::Replication => of(
             "a number in brackets is not 1 to 256",
             "write a number from 1 to 256",
         ),
-        15 => of(
+        FlatRule::AnyPlacesAtEnds => of(
             "a port `[*]` is a relay port, which needs a number of places",
             "write a number of places, or repeat the port as `external Port` in the Structure",
         ),
-        16 => of(
+        FlatRule::PlainSubsystems => of(
             "references of a SubSystemClass have one name, or one is optional or imported",
             "rename one; leave the word out, and put optional actors into an actor class",
         ),
-        17 => of(
+        FlatRule::ImportedEnds => of(
             "the class of an imported reference has a relay port, a port `[*]` or a SPP in its Interface",
             "import a class whose Interface has end ports alone, with a number of places or none",
         ),
-        18 => of(
+        FlatRule::BindingSides => of(
             "a side of a binding names no relay port or internal port of the class itself, and no interface port \
              of one of its references",
             "bind an end port of the Interface outside, in the class that has the reference; or correct the name",
         ),
-        _ => of(
+        FlatRule::SidesAgree => of(
             "the ports of a binding have different protocols, or both send what the other one sends",
             "write `conjugated` at one of the two ports; a relay port of the class itself is declared like the \
              inner one",
         ),
-    }
-}
-
-/// The rules on layers, threads, mappings and sizes.
-fn mapping_rule(rule: u8) -> Meaning {
-    match rule {
-        20 => of(
+        FlatRule::AnyPlacesOnce => of(
             "both sides of a binding have `[*]`, or one with `[*]` names a replicated reference",
             "write a number of places at one side",
         ),
-        21 => of(
+        // Layers, threads, mappings and sizes.
+        FlatRule::KnownLayers => of(
             "a layer connection names an imported reference, or what serves is no SPP of a reference that is \
              neither imported nor replicated",
             "name a single, fixed or optional reference and one of its SPPs behind satisfied_by",
         ),
-        22 => of(
+        FlatRule::FewThreads => of(
             "two threads have one name, or there are more than 32",
             "rename one, or map several actors to one thread",
         ),
-        23 => of(
+        FlatRule::KnownMappings => of(
             "a mapping names a path or a thread that isn't there, or a path is mapped twice",
             "write the whole path, as `room tree` prints it, with indexes in range; map it once",
         ),
-        24 => of(
+        FlatRule::AllowedMappings => of(
             "a mapped path ends at an imported reference, or below an optional one at one that isn't fixed",
             "map the container, or a fixed actor further inside",
         ),
-        25 => of(
+        FlatRule::FewParts => of(
             "there are more classes, messages, ports, references, states or numbers of attributes than may be",
             "fewer of them; docs/LANGUAGE.md has the limits",
-        ),
-        _ => of(
-            "the model breaks a rule",
-            "docs/LANGUAGE.md tells what each rule asks",
         ),
     }
 }
 
-/// The rules on classes that extend others.
-fn base_rule(rule: u8) -> Meaning {
+/// A rule on classes that extend others.
+pub fn base_meaning(rule: BaseRule) -> Meaning {
     match rule {
-        26 => of(
+        BaseRule::KnownBases => of(
             "a class extends what is no actor class",
             "name an ActorClass behind `extends`",
         ),
-        27 => of(
+        BaseRule::NoCircle => of(
             "a class extends itself, at once or through its bases",
             "leave one `extends` of the circle out; put what both classes need into a class of its own",
         ),
-        28 => of(
+        BaseRule::RightPlaces => of(
             "a refinement stands in a class without `extends`, or inside of a state",
             "write it into the top graph of a class that extends another one, with the whole path: `RefinedState a.b`",
         ),
-        29 => of(
+        BaseRule::KnownRefinements => of(
             "a refinement names no state of the base's chart, or no transition, or one of several with that name",
             "correct the path; give the transition of the base a name of its own",
         ),
-        30 => of(
+        BaseRule::RefinedOnce => of(
             "a class refines one state or one transition twice",
             "write both into one refinement",
         ),
-        _ => of(
+        BaseRule::SmallModel => of(
             "with all that its classes have from their bases the model has more than 2,000,000 tokens",
             "fewer or shorter classes that extend a long one",
         ),
     }
 }
 
-/// A rule of models.
-pub fn rule_meaning(rule: u8) -> Meaning {
-    match rule {
-        1..=9 => class_rule(rule),
-        10..=19 => structure_rule(rule),
-        26..=31 => base_rule(rule),
-        _ => mapping_rule(rule),
-    }
-}
-
 /// A fault of the wiring.
-pub fn wiring_meaning(number: u8) -> Meaning {
-    match number {
-        1 => of(
+pub fn wiring_meaning(fault: WiringFault) -> Meaning {
+    match fault {
+        WiringFault::TooManySlots => of(
             "there are more than 4,096 slots for actors",
             "fewer actors, or smaller numbers in brackets",
         ),
-        2 => of(
+        WiringFault::TooManyPlaces => of(
             "there are more than 65,536 places of ports",
             "fewer places, or smaller numbers in brackets",
         ),
-        3 => of(
+        WiringFault::NoFreePlace => of(
             "a binding finds no free place at one of its ports",
             "more places at the port, `[*]` at an end port, or one binding less",
         ),
-        4 => of(
+        WiringFault::SocketPair => of(
             "ports of two imported references are joined to each other",
             "import one of the two alone; an actor stands between two that are lent",
         ),
-        5 => of(
+        WiringFault::SocketAway => of(
             "a port of an imported reference is joined to an actor of another thread",
             "one thread for both, or an actor between them",
-        ),
-        _ => of(
-            "the wiring has a fault",
-            "docs/WIRING.md tells what each fault is",
         ),
     }
 }
 
 /// A fault of a chart.
-pub fn chart_meaning(number: u8) -> Meaning {
-    match number {
-        1 => of(
+pub fn chart_meaning(fault: ChartFault) -> Meaning {
+    match fault {
+        ChartFault::DepthAbove16 => of(
             "states nest more than 16 deep",
             "fewer states one inside another",
         ),
-        2 => of(
+        ChartFault::BadPoint => of(
             "two states or points of a graph have one name, or a transition names what isn't in its graph, or a \
              trigger or a `cond` stands where none may, or a point doesn't go on once",
             "name what there is; triggers stand at transitions from states and transition points, `cond` at \
              branches of a choice point alone; each entry and exit point has one continuation",
         ),
-        3 => of("a graph has two initial transitions", "keep one of them"),
-        4 => of(
+        ChartFault::TwoInitials => of("a graph has two initial transitions", "keep one of them"),
+        ChartFault::NoInitial => of(
             "the top graph, or the graph of a state that is entered as a whole, has no initial transition",
             "add `Transition begin: initial -> S`",
         ),
-        5 => of(
+        ChartFault::NoDefault => of(
             "a choice point has no branch without a condition, or more than one",
             "leave `cond` out at one of its branches",
         ),
-        6 => of(
+        ChartFault::ChoiceCycle => of(
             "transitions without a stop lead in a circle",
             "lead the circle to a state",
         ),
-        7 => of(
+        ChartFault::BadTrigger => of(
             "a trigger or an `imported` names a port at which the actor doesn't work, or a message that doesn't \
              come in there",
             "name an end port of the class and a message that comes in; `external Port` makes a port of the \
              Interface one",
         ),
-        8 => of(
+        ChartFault::BadAction => of(
             "a code can't be read, or names what the class doesn't have, or sends a wrong number of numbers",
             "docs/ACTIONS.md has the forms; each statement ends with a semicolon",
-        ),
-        _ => of(
-            "the chart has a fault",
-            "docs/CHARTS.md tells what each fault is",
         ),
     }
 }

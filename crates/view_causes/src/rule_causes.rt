@@ -4,8 +4,10 @@ use crate::declared::{classes_by, last_name, named_among, names_of};
 use crate::misread::word_meaning;
 use crate::sides::{binding_cause, layer_cause, mapping_cause};
 use name_tables::is_type_name;
+use room_inherit::BaseRule;
 use room_lexer::{Token, TokenKind, Word};
 use std::alloc::AllocError;
+use structure_check::FlatRule;
 use view_charts::{Item, Source, is_word, joined};
 
 /// Which classes are wanted, and what they are called.
@@ -107,13 +109,21 @@ fn base_token<'a>(source: Source<'a>, item: Item) -> Option<&'a Token> {
     tokens.get(at.saturating_add(1))
 }
 
+/// That a reference of the system names no subsystem class, if it names none.
+fn subsystem_cause(source: Source<'_>, item: Item) -> Result<Option<Cause>, AllocError> {
+    if source.word(item) != Some(Word::SubSystemRef) {
+        return Ok(None);
+    }
+    class_cause(source, last_name(source, item), SUBSYSTEM)
+}
+
 /// What is wrong with the system of a model as far as its text shows it by itself: that it names no subsystem class.
 pub fn system_causes(source: Source<'_>) -> Result<Vec<Cause>, AllocError> {
     let mut causes = Vec::new(source.alloc);
     for system in classes_by(source, &[Word::LogicalSystem])?.as_slice() {
         let parts = source.parts(*system)?;
         for part in parts.as_slice() {
-            if let Some(found) = rule_cause(source, 1, *part)? {
+            if let Some(found) = subsystem_cause(source, *part)? {
                 causes.push(found)?;
             }
         }
@@ -121,21 +131,54 @@ pub fn system_causes(source: Source<'_>) -> Result<Vec<Cause>, AllocError> {
     Ok(causes)
 }
 
-/// What is wrong with a part of a text that is a cause of a broken rule, as far as it shows it: the name in it that isn't
-/// there, or is none.
-pub fn rule_cause(source: Source<'_>, rule: u8, item: Item) -> Result<Option<Cause>, AllocError> {
+/// What is wrong with a part of a text that is a cause of a broken rule of flat models, as far as it shows it: the name
+/// in it that isn't there, or is none.
+pub fn rule_cause(
+    source: Source<'_>,
+    rule: FlatRule,
+    item: Item,
+) -> Result<Option<Cause>, AllocError> {
     match rule {
-        1 if source.word(item) == Some(Word::SubSystemRef) => {
-            class_cause(source, last_name(source, item), SUBSYSTEM)
-        }
-        3 => word_cause(source, item),
-        6 => type_cause(source, item),
-        10 => class_cause(source, last_name(source, item), PROTOCOL),
-        11 | 18 => binding_cause(source, item),
-        12 => class_cause(source, last_name(source, item), ACTOR),
-        21 => layer_cause(source, item),
-        23 => mapping_cause(source, item),
-        26 => class_cause(source, base_token(source, item), ACTOR),
-        _ => Ok(None),
+        FlatRule::OneSystem => subsystem_cause(source, item),
+        FlatRule::PartNames => word_cause(source, item),
+        FlatRule::KnownTypes => type_cause(source, item),
+        FlatRule::KnownProtocols => class_cause(source, last_name(source, item), PROTOCOL),
+        FlatRule::KnownActors => class_cause(source, last_name(source, item), ACTOR),
+        FlatRule::OwnPorts | FlatRule::BindingSides => binding_cause(source, item),
+        FlatRule::KnownLayers => layer_cause(source, item),
+        FlatRule::KnownMappings => mapping_cause(source, item),
+        FlatRule::ClassNames
+        | FlatRule::MessageNames
+        | FlatRule::FieldNames
+        | FlatRule::FiniteData
+        | FlatRule::SmallClasses
+        | FlatRule::FittingValues
+        | FlatRule::FiniteActors
+        | FlatRule::Replication
+        | FlatRule::AnyPlacesAtEnds
+        | FlatRule::PlainSubsystems
+        | FlatRule::ImportedEnds
+        | FlatRule::SidesAgree
+        | FlatRule::AnyPlacesOnce
+        | FlatRule::FewThreads
+        | FlatRule::AllowedMappings
+        | FlatRule::FewParts => Ok(None),
+    }
+}
+
+/// What is wrong with a class that is a cause of a broken rule on bases, as far as it shows it: that what it extends is no
+/// actor class.
+pub fn base_cause(
+    source: Source<'_>,
+    rule: BaseRule,
+    item: Item,
+) -> Result<Option<Cause>, AllocError> {
+    match rule {
+        BaseRule::KnownBases => class_cause(source, base_token(source, item), ACTOR),
+        BaseRule::NoCircle
+        | BaseRule::RightPlaces
+        | BaseRule::KnownRefinements
+        | BaseRule::RefinedOnce
+        | BaseRule::SmallModel => Ok(None),
     }
 }

@@ -370,7 +370,7 @@ impl<'a> Shape<'a> {
     }
 
     /// What is wrong with names, and with where transitions begin and lead to.
-    fn name_causes(&self) -> Result<Vec<Cause>, AllocError> {
+    pub(crate) fn name_causes(&self) -> Result<Vec<Cause>, AllocError> {
         let mut causes = Vec::new(self.source().alloc);
         for arrow in self.keys.chart.arrows() {
             if causes.len() >= MOST_CAUSES {
@@ -398,7 +398,7 @@ impl<'a> Shape<'a> {
     }
 
     /// The initial transitions of graphs that have several.
-    fn beginning_causes(&self) -> Result<Vec<Cause>, AllocError> {
+    pub(crate) fn beginning_causes(&self) -> Result<Vec<Cause>, AllocError> {
         let source = self.source();
         let mut causes = Vec::new(source.alloc);
         for arrow in self.keys.chart.arrows() {
@@ -463,7 +463,7 @@ impl<'a> Shape<'a> {
     }
 
     /// What is wrong where an initial transition is missing.
-    fn missing_causes(&self, chain: &[Item]) -> Result<Vec<Cause>, AllocError> {
+    pub(crate) fn missing_causes(&self, chain: &[Item]) -> Result<Vec<Cause>, AllocError> {
         let source = self.source();
         let mut causes = Vec::new(source.alloc);
         if self.beginnings(None)? == 0 {
@@ -533,7 +533,7 @@ impl<'a> Shape<'a> {
     }
 
     /// What is wrong with the branches of choice points.
-    fn branch_causes(&self) -> Result<Vec<Cause>, AllocError> {
+    pub(crate) fn branch_causes(&self) -> Result<Vec<Cause>, AllocError> {
         let source = self.source();
         let mut causes = Vec::new(source.alloc);
         for point in self.keys.chart.points() {
@@ -549,16 +549,5 @@ impl<'a> Shape<'a> {
             }
         }
         Ok(causes)
-    }
-
-    /// What is wrong with a chart that has the fault of a number.
-    pub(crate) fn causes(&self, chain: &[Item], number: u8) -> Result<Vec<Cause>, AllocError> {
-        match number {
-            2 => self.name_causes(),
-            3 => self.beginning_causes(),
-            4 => self.missing_causes(chain),
-            5 => self.branch_causes(),
-            _ => Ok(Vec::new(self.source().alloc)),
-        }
     }
 }

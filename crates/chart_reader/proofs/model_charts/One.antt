@@ -11,7 +11,7 @@ use Rattle.check_scopes.specs.class_scopes.Views.{scope_view}
 use Rattle.chart_model.specs.Chart.{Name, Chart}
 use Rattle.chart_trees.specs.chart_codes.Progress.{Progress}
 use Rattle.chart_trees.specs.Reading.{chart_of, reading}
-use Rattle.chart_reader.specs.Faults.{number, names_fault}
+use Rattle.chart_reader.specs.Faults.{names_fault}
 use Rattle.chart_reader.specs.Reads.{IsLowestFault}
 use Rattle.chart_reader.specs.declared.fault.ChartFault.{ChartFault}
 use Rattle.chart_reader.specs.declared.fault.ChartFault.TheVariants as faults
@@ -60,7 +60,6 @@ of_names (Some faults.NoDefault) = Some faults.NoDefault
 of_names (Some faults.ChoiceCycle) = None
 of_names (Some faults.BadTrigger) = None
 of_names (Some faults.BadAction) = None
-of_names (Some faults.Memory) = None
 
 names_told : (c : Chart) (e k : Bool) (o : Option ChartFault) → IsLowestFault c e k o → names_fault c ≡ of_names o
 names_told c e k None h = h.0
@@ -72,7 +71,6 @@ names_told c e k (Some faults.NoDefault) h = h
 names_told c e k (Some faults.ChoiceCycle) h = h.0
 names_told c e k (Some faults.BadTrigger) h = h.0
 names_told c e k (Some faults.BadAction) h = h.0
-names_told c e k (Some faults.Memory) h = absurd h
 
 is_of_names : (o : Option ChartFault) (f : ChartFault) → of_names o ≡ Some f → o ≡ Some f
 is_of_names None f h = absurd cc
@@ -84,7 +82,6 @@ is_of_names (Some faults.NoDefault) f h = h
 is_of_names (Some faults.ChoiceCycle) f h = absurd cc
 is_of_names (Some faults.BadTrigger) f h = absurd cc
 is_of_names (Some faults.BadAction) f h = absurd cc
-is_of_names (Some faults.Memory) f h = absurd cc
 
 bad : {A : Type 0} (b : Bool) → b ≡ true → b ≡ false → A
 bad b h k = let e : true ≡ false = sym h ∙ k in absurd cc
@@ -107,8 +104,6 @@ one_late c e k (Some faults.BadAction) None a b h j = bad k j.3 h.3
 one_late c e k (Some faults.BadAction) (Some faults.ChoiceCycle) a b h j = absurd (h.1 j.1.0 j.1.1)
 one_late c e k (Some faults.BadAction) (Some faults.BadTrigger) a b h j = bad e h.2 j.2
 one_late c e k (Some faults.BadAction) (Some faults.BadAction) a b h j = refl
-one_late c e k (Some faults.Memory) p a b h j = absurd h
-one_late c e k o (Some faults.Memory) a b h j = absurd j
 one_late c e k (Some faults.DepthAbove16) p a b h j = absurd cc
 one_late c e k (Some faults.BadPoint) p a b h j = absurd cc
 one_late c e k (Some faults.TwoInitials) p a b h j = absurd cc
@@ -160,16 +155,16 @@ none_first (w ∷ ws) (suc i) f h k = none_first ws i f h.1 k.1
 charts_one : (m : ModelTree) (cs ds : List (Option Chart)) → HasCharts m cs → HasCharts m ds → cs ≡ ds
 charts_one m cs ds h k = h.charts_are ∙ ap (map chart_in) (one_written m h.all k.all h.written k.written) ∙ sym k.charts_are
 
-first_one : (m : ModelTree) (c d : Name) (n k : ℕ) → HasFaultyChart m c n → HasFaultyChart m d k → (c ≡ d) × (n ≡ k)
-first_one m c d n k h j =
-    let here : IsFirstFaulty j.all h.place h.fault = subst (λ ws. IsFirstFaulty ws h.place h.fault) (one_written m h.all j.all h.written j.written) h.first in
-    let same = one_first j.all h.place j.place h.fault j.fault here j.first in
+first_one : (m : ModelTree) (c d : Name) (f g : ChartFault) → HasFaultyChart m c f → HasFaultyChart m d g → (c ≡ d) × (f ≡ g)
+first_one m c d f g h j =
+    let here : IsFirstFaulty j.all h.place f = subst (λ ws. IsFirstFaulty ws h.place f) (one_written m h.all j.all h.written j.written) h.first in
+    let same = one_first j.all h.place j.place f g here j.first in
     let names : Some c ≡ Some d = sym h.named ∙ ap (λ i. option_map (λ (a : ActorTree). a.name) (slice_get (actors m) i)) same.place ∙ j.named in
     let class : c ≡ d = cc in
-    (class, h.told ∙ ap number same.fault ∙ sym j.told)
+    (class, same.fault)
 
-not_both_one : (m : ModelTree) (cs : List (Option Chart)) (c : Name) (n : ℕ) → HasCharts m cs → HasFaultyChart m c n → ⊥
-not_both_one m cs c n h j = none_first j.all j.place j.fault (subst NoneIsFaulty (one_written m h.all j.all h.written j.written) h.faultless) j.first
+not_both_one : (m : ModelTree) (cs : List (Option Chart)) (c : Name) (f : ChartFault) → HasCharts m cs → HasFaultyChart m c f → ⊥
+not_both_one m cs c f h j = none_first j.all j.place f (subst NoneIsFaulty (one_written m h.all j.all h.written j.written) h.faultless) j.first
 
 pub are_one : (m : ModelTree) → AreOne m
 are_one m = record { charts = charts_one m; first = first_one m; not_both = not_both_one m }

@@ -16,7 +16,8 @@ use Rattle.chart_reader.proofs.Lowest.{valid_told}
 use Rattle.chart_reader.proofs.NestedGraphs.{whole_told}
 use Rattle.chart_reader.proofs.model_charts.Few.{HaveFewStates}
 use Rattle.chart_reader.specs.declared.fault.ChartFault.{ChartFault}
-use Rattle.chart_reader.specs.declared.fault.ChartFault.TheVariants as chart_faults
+use Rattle.chart_reader.specs.declared.fault.ReadFault.{ReadFault}
+use Rattle.chart_reader.specs.declared.fault.ReadFault.TheVariants as read_faults
 use Rattle.check_scopes.specs.class_scopes.Views.{ScopeView, scope_view}
 use Rattle.chart_reader.specs.declared.model_charts.fault.ChartsFault.{ChartsFault}
 use Rattle.chart_reader.specs.declared.model_charts.fault.ChartsFault.TheVariants as faults
@@ -39,32 +40,13 @@ pub chart_read : (scope : Scope) (names new : List Name) (is : GraphItems) (c : 
 chart_read scope names new is c h n = (h.0, ap Some h.1, after_names scope names new is n)
 
 -- and has a fault
-pub chart_refused : (scope : Scope) (names new : List Name) (is : GraphItems) (f : ChartFault) → Reads scope names is (Err f) → ReadsClass scope names new (Some is) (Err f)
-chart_refused scope names new is chart_faults.DepthAbove16 h = h
-chart_refused scope names new is chart_faults.BadPoint h = h
-chart_refused scope names new is chart_faults.TwoInitials h = h
-chart_refused scope names new is chart_faults.NoInitial h = h
-chart_refused scope names new is chart_faults.NoDefault h = h
-chart_refused scope names new is chart_faults.ChoiceCycle h = h
-chart_refused scope names new is chart_faults.BadTrigger h = h
-chart_refused scope names new is chart_faults.BadAction h = h
-chart_refused scope names new is chart_faults.Memory h = tt
+pub chart_refused : (scope : Scope) (names new : List Name) (is : GraphItems) (f : ReadFault) → Reads scope names is (Err f) → ReadsClass scope names new (Some is) (Err f)
+chart_refused scope names new is (read_faults.Chart fault) h = h
+chart_refused scope names new is read_faults.Memory h = tt
 
 -- a class without a state machine
 pub nothing_read : (scope : Scope) (names new : List Name) → names ≡ new → ReadsClass scope names new None (Ok None)
 nothing_read scope names new e = (refl, refl, e)
-
--- a fault that isn't want of memory is one of the chart
-fault_there : (scope : Scope) (names new : List Name) (machine : Option GraphItems) (f : ChartFault) → ReadsClass scope names new machine (Err f) → (f ≡ chart_faults.Memory → ⊥) → HasFault (option_map (written scope names) machine) (Some f)
-fault_there scope names new machine chart_faults.DepthAbove16 h some = h
-fault_there scope names new machine chart_faults.BadPoint h some = h
-fault_there scope names new machine chart_faults.TwoInitials h some = h
-fault_there scope names new machine chart_faults.NoInitial h some = h
-fault_there scope names new machine chart_faults.NoDefault h some = h
-fault_there scope names new machine chart_faults.ChoiceCycle h some = h
-fault_there scope names new machine chart_faults.BadTrigger h some = h
-fault_there scope names new machine chart_faults.BadAction h some = h
-fault_there scope names new machine chart_faults.Memory h some = absurd (some refl)
 
 -- ---- class after class
 
@@ -122,10 +104,9 @@ module _ (all : List (Option Written)) (names : List Name) (ss : List Scope) (ks
       (rest_opens names ss ks i s machine lt many is m ∙ ap (λ n. option_map (written s names) machine ∷ written_from n (drop (i + 1) ss) (drop (i + 1) ks)) h.2) h.0 h.1
 
   -- the class has a fault
-  pub next_refused : (new : List Name) (f : ChartFault) → ReadsClass s names new machine (Err f) → (f ≡ chart_faults.Memory → ⊥) → IsFirstFaulty all (length charts) f
-  next_refused new f h some =
-      first_found all (written_from names (drop i ss) (drop i ks)) (written_from (names_after s names machine) (drop (i + 1) ss) (drop (i + 1) ks)) (option_map (written s names) machine) charts f inv (rest_opens names ss ks i s machine lt many is m)
-      (fault_there s names new machine f h some)
+  pub next_refused : (new : List Name) (f : ChartFault) → ReadsClass s names new machine (Err (read_faults.Chart f)) → IsFirstFaulty all (length charts) f
+  next_refused new f h =
+      first_found all (written_from names (drop i ss) (drop i ks)) (written_from (names_after s names machine) (drop (i + 1) ss) (drop (i + 1) ks)) (option_map (written s names) machine) charts f inv (rest_opens names ss ks i s machine lt many is m) h
 
 -- nothing is read yet
 pub begun : (all : List (Option Written)) → IsRead all all []
@@ -169,6 +150,6 @@ pub all_answered : (m : ModelTree) (all : List (Option Written)) (charts : List 
 all_answered m all charts w h = record { all = all; written = w; faultless = h.faultless; charts_are = h.charts_are }
 
 -- what was told of the first fault
-pub first_answered : (m : ModelTree) (all : List (Option Written)) (place : ℕ) (f : ChartFault) (e : ChartsFault) → AreWritten m all → ((f ≡ chart_faults.Memory → ⊥) → IsFirstFaulty all place f) → TellsClass m place f e → ReadsCharts m (Err e)
-first_answered m all place f (faults.Chart class n) w first t = record { all = all; written = w; place = place; fault = f; first = first t.0; named = t.1; told = t.2 }
+pub first_answered : (m : ModelTree) (all : List (Option Written)) (place : ℕ) (f : ChartFault) (e : ChartsFault) → AreWritten m all → IsFirstFaulty all place f → TellsClass m place f e → ReadsCharts m (Err e)
+first_answered m all place f (faults.Chart class g) w first t = record { all = all; written = w; place = place; first = subst (IsFirstFaulty all place) (sym t.1) first; named = t.0 }
 first_answered m all place f faults.Memory w first t = tt

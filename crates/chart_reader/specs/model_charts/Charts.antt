@@ -3,7 +3,6 @@ use Rattle.std.specs.Prelude.{◌≡◌, ℕ, zero, suc, List, [], ◌∷◌, ma
 use Rattle.room_ast.specs.Trees.{ModelTree, ActorTree}
 use Rattle.room_ast.specs.model_parts.Classes.{actors}
 use Rattle.chart_model.specs.Chart.{Name, Chart}
-use Rattle.chart_reader.specs.Faults.{number}
 use Rattle.chart_reader.specs.Reads.{IsLowestFault}
 use Rattle.chart_reader.specs.Whole.{IsWhole}
 use Rattle.chart_reader.specs.declared.fault.ChartFault.{ChartFault}
@@ -41,12 +40,10 @@ pub record HasCharts (m : ModelTree) (charts : List (Option Chart)) : Type 0 whe
   pub faultless : NoneIsFaulty all
   pub charts_are : charts ≡ map chart_in all
 
--- The actor class of this name is the first of a model whose chart has a fault, and its lowest fault has this number.
-pub record HasFaultyChart (m : ModelTree) (class : Name) (n : ℕ) : Type 0 where
+-- The actor class of this name is the first of a model whose chart has a fault, and this is its lowest fault.
+pub record HasFaultyChart (m : ModelTree) (class : Name) (fault : ChartFault) : Type 0 where
   pub all : List (Option Written)
   pub written : AreWritten m all
   pub place : ℕ
-  pub fault : ChartFault
   pub first : IsFirstFaulty all place fault
   pub named : option_map (λ (a : ActorTree). a.name) (slice_get (actors m) place) ≡ Some class
-  pub told : n ≡ number fault

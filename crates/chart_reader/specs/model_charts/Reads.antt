@@ -11,5 +11,5 @@ use Rattle.chart_reader.specs.model_charts.Charts.{HasCharts, HasFaultyChart}
 -- The charts of all actor classes, none of which has a fault; or the first class whose chart has one, unless memory ran out.
 abbrev pub ReadsCharts : ModelTree → Result (Vec (Option CodeChart)) ChartsFault → Type 0
 ReadsCharts m (Ok charts) = HasCharts m (map (option_map chart_view) charts.items)
-ReadsCharts m (Err (faults.Chart class n)) = HasFaultyChart m class n
+ReadsCharts m (Err (faults.Chart class fault)) = HasFaultyChart m class fault
 ReadsCharts m (Err faults.Memory) = Unit {0}

@@ -13,7 +13,7 @@ ghost use Rattle.chart_reader.specs.model_charts.Making.{ReadsClass, TellsClass}
 ghost use Rattle.chart_reader.specs.model_charts.Reads.{ReadsCharts};
 
 use crate::model_charts::fault::ChartsFault;
-use crate::{ChartFault, read_chart};
+use crate::{ChartFault, ReadFault, read_chart};
 use action_lang::action_check::ServiceNames;
 use chart_trees::Chart;
 use room_ast::{Scope, StateMachine};
@@ -26,7 +26,7 @@ fn chart_of(
     machine: Option<&StateMachine>,
     scope: &Scope,
     names: &mut ServiceNames,
-) -> Result<Option<Chart>, ChartFault>
+) -> Result<Option<Chart>, ReadFault>
     ensures { ReadsClass scope.now names.old names.new
         (option_map (λ s. graph_view s.now.items.items) machine.entry) result }
 {
@@ -53,14 +53,8 @@ fn told(alloc: Global, checked: &Checked, class: u16, fault: ChartFault) -> Char
     requires classes { HasClasses checked.now }
     ensures { TellsClass (model_view checked.now.model.now) class fault result }
 {
-    if let ChartFault::Memory = fault {
-        return ChartsFault::Memory;
-    }
     match checked.classes[class as usize].name.copy(alloc) {
-        Ok(class) => ChartsFault::Chart {
-            class,
-            number: fault.number(),
-        },
+        Ok(class) => ChartsFault::Chart { class, fault },
         Err(_) => ChartsFault::Memory,
     }
 }
@@ -81,7 +75,8 @@ pub fn charts_of(alloc: Global, checked: &Checked) -> Result<Vec<Option<Chart>>,
         let class = charts.len() as u16;
         match chart_of(alloc, checked.chart(class), scope, &mut names) {
             Ok(chart) => add(&mut charts, chart)?,
-            Err(fault) => return Err(told(alloc, checked, class, fault)),
+            Err(ReadFault::Chart(fault)) => return Err(told(alloc, checked, class, fault)),
+            Err(ReadFault::Memory) => return Err(ChartsFault::Memory),
         }
     }
     Ok(charts)

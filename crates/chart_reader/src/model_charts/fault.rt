@@ -3,15 +3,16 @@
 ghost use Rattle.std.specs.Prelude.{◌≡◌};
 ghost use Rattle.chart_reader.specs.declared.model_charts.fault.ChartsFault.TheVariants.{Memory};
 
+use crate::ChartFault;
 use room_ast::Name;
 use std::alloc::AllocError;
 
 /// Why the charts of a model were refused.
 #[derive(Drop)]
 pub enum ChartsFault {
-    /// The chart of the actor class of this name has the fault of this number, 1 to 8, and none of a
-    /// lower number; those of the classes before it have none.
-    Chart { class: Name, number: u8 },
+    /// The chart of the actor class of this name has this fault, and none of a lower number; those
+    /// of the classes before it have none.
+    Chart { class: Name, fault: ChartFault },
     /// There was no memory.
     Memory,
 }

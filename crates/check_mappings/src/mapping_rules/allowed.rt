@@ -38,7 +38,7 @@ fn may_end_at(place: Place) -> bool
 
 /// Whether a mapping's path, where it exists, may be mapped, and so may those in its braces.
 #[cycle(allowed)]
-fn is_allowed<'t>(classes: &'t [Container<'t>], place: Place<'t>, mapping: &Mapping) -> bool
+fn is_allowed<'m, 't>(classes: &'t [Container<'m>], place: Place<'m, 't>, mapping: &Mapping) -> bool
     ensures { result
         ≡ is_allowed classes.entry.now (place_view place.entry) (mapping_view mapping.now) }
 {
@@ -55,7 +55,11 @@ fn is_allowed<'t>(classes: &'t [Container<'t>], place: Place<'t>, mapping: &Mapp
 }
 
 #[cycle(allowed)]
-fn all_allowed<'t>(classes: &'t [Container<'t>], place: Place<'t>, mappings: &Vec<Mapping>) -> bool
+fn all_allowed<'m, 't>(
+    classes: &'t [Container<'m>],
+    place: Place<'m, 't>,
+    mappings: &Vec<Mapping>,
+) -> bool
     ensures { result ≡ all_allowed classes.entry.now (place_view place.entry)
         (mappings_of (map mapping_view mappings.now.items)) }
 {
@@ -67,7 +71,11 @@ fn all_allowed<'t>(classes: &'t [Container<'t>], place: Place<'t>, mappings: &Ve
     true
 }
 
-fn item_allowed<'t>(classes: &'t [Container<'t>], place: Place<'t>, item: &SubsystemItem) -> bool
+fn item_allowed<'m, 't>(
+    classes: &'t [Container<'m>],
+    place: Place<'m, 't>,
+    item: &SubsystemItem,
+) -> bool
     ensures { result
         ≡ item_allowed classes.entry.now (place_view place.entry) (subsystem_item_view item.now) }
 {
@@ -77,9 +85,9 @@ fn item_allowed<'t>(classes: &'t [Container<'t>], place: Place<'t>, item: &Subsy
     }
 }
 
-fn items_allowed<'t>(
-    classes: &'t [Container<'t>],
-    place: Place<'t>,
+fn items_allowed<'m, 't>(
+    classes: &'t [Container<'m>],
+    place: Place<'m, 't>,
     items: &[SubsystemItem],
 ) -> bool
     ensures { result ≡ items_allowed classes.entry.now (place_view place.entry)
@@ -93,13 +101,13 @@ fn items_allowed<'t>(
     true
 }
 
-fn subsystem_allowed<'t>(classes: &'t [Container<'t>], wired: Wired<'t>) -> bool
+fn subsystem_allowed<'m, 't>(classes: &'t [Container<'m>], wired: Wired<'m, 't>) -> bool
     ensures { result ≡ subsystem_allowed classes.entry.now (wired_view wired.entry) }
 {
     items_allowed(classes, top(wired.container), wired.items)
 }
 
-fn all_subsystems_allowed<'t>(classes: &'t [Container<'t>], wired: &[Wired<'t>]) -> bool
+fn all_subsystems_allowed<'m, 't>(classes: &'t [Container<'m>], wired: &[Wired<'m, 't>]) -> bool
     ensures { result ≡ list_all (subsystem_allowed classes.entry.now) (map wired_view wired.now) }
 {
     for subsystem in wired {

@@ -19,10 +19,10 @@ use std::alloc::{AllocError, Global};
 
 /// Whether a mapping's path exists from a place on, its thread is one, and so are those in its braces.
 #[cycle(known)]
-fn is_known<'t>(
-    classes: &'t [Container<'t>],
+fn is_known<'m, 't>(
+    classes: &'t [Container<'m>],
     threads: &NameIndex,
-    place: Place<'t>,
+    place: Place<'m, 't>,
     mapping: &Mapping,
 ) -> bool
     ensures { result ≡ is_known classes.entry.now threads.now (place_view place.entry)
@@ -41,10 +41,10 @@ fn is_known<'t>(
 }
 
 #[cycle(known)]
-fn all_known<'t>(
-    classes: &'t [Container<'t>],
+fn all_known<'m, 't>(
+    classes: &'t [Container<'m>],
     threads: &NameIndex,
-    place: Place<'t>,
+    place: Place<'m, 't>,
     mappings: &Vec<Mapping>,
 ) -> bool
     ensures { result ≡ all_known classes.entry.now threads.now (place_view place.entry)
@@ -58,10 +58,10 @@ fn all_known<'t>(
     true
 }
 
-fn item_known<'t>(
-    classes: &'t [Container<'t>],
+fn item_known<'m, 't>(
+    classes: &'t [Container<'m>],
     threads: &NameIndex,
-    place: Place<'t>,
+    place: Place<'m, 't>,
     item: &SubsystemItem,
 ) -> bool
     ensures { result ≡ item_known classes.entry.now threads.now (place_view place.entry)
@@ -73,10 +73,10 @@ fn item_known<'t>(
     }
 }
 
-fn items_known<'t>(
-    classes: &'t [Container<'t>],
+fn items_known<'m, 't>(
+    classes: &'t [Container<'m>],
     threads: &NameIndex,
-    place: Place<'t>,
+    place: Place<'m, 't>,
     items: &[SubsystemItem],
 ) -> bool
     ensures { result ≡ items_known classes.entry.now threads.now (place_view place.entry)
@@ -115,10 +115,10 @@ pub fn thread_names<'m>(
     NameIndex::of(alloc, names)
 }
 
-fn subsystem_known<'t>(
+fn subsystem_known<'m, 't>(
     alloc: Global,
-    classes: &'t [Container<'t>],
-    wired: Wired<'t>,
+    classes: &'t [Container<'m>],
+    wired: Wired<'m, 't>,
 ) -> Result<bool, AllocError>
     ensures { IfOk result (λ b. b ≡ subsystem_known classes.entry.now (wired_view wired.entry)) }
 {
@@ -126,10 +126,10 @@ fn subsystem_known<'t>(
     Ok(items_known(classes, &threads, top(wired.container), wired.items))
 }
 
-fn all_subsystems_known<'t>(
+fn all_subsystems_known<'m, 't>(
     alloc: Global,
-    classes: &'t [Container<'t>],
-    wired: &[Wired<'t>],
+    classes: &'t [Container<'m>],
+    wired: &[Wired<'m, 't>],
 ) -> Result<bool, AllocError>
     ensures { IfOk result (λ b.
         b ≡ list_all (subsystem_known classes.entry.now) (map wired_view wired.now)) }

@@ -11,9 +11,9 @@ use room_kinds::ReferenceKind;
 
 /// Where a path has led.
 #[derive(Clone, Copy, Drop)]
-pub(crate) struct Place<'t> {
+pub(crate) struct Place<'m, 't> {
     /// The class in which the path can go on, if there is one.
-    pub(crate) container: Option<&'t Container<'t>>,
+    pub(crate) container: Option<&'t Container<'m>>,
     /// Whether a reference before the last one is optional.
     pub(crate) below_optional: bool,
     /// The kind of the last reference, if there is one.
@@ -21,7 +21,7 @@ pub(crate) struct Place<'t> {
 }
 
 /// The place at which the paths of a subsystem begin.
-pub(crate) fn top<'t>(subsystem: &'t Container<'t>) -> Place<'t>
+pub(crate) fn top<'m, 't>(subsystem: &'t Container<'m>) -> Place<'m, 't>
     ensures { place_view result ≡ top subsystem.entry.now }
 {
     Place {
@@ -72,7 +72,10 @@ fn index_fits(reference: ReferenceEntry, index: Option<u64>) -> bool
 }
 
 /// The class in which a path goes on behind a reference. An imported reference has no inside.
-fn inside<'t>(classes: &'t [Container<'t>], reference: ReferenceEntry) -> Option<&'t Container<'t>>
+fn inside<'m, 't>(
+    classes: &'t [Container<'m>],
+    reference: ReferenceEntry,
+) -> Option<&'t Container<'m>>
     ensures { option_map (λ c. c.now) result ≡ inside classes.entry.now reference }
 {
     if reference.kind.is_imported() {
@@ -94,11 +97,11 @@ fn ends_at_optional(place: Place) -> bool
     }
 }
 
-fn behind<'t>(
-    classes: &'t [Container<'t>],
-    place: Place<'t>,
+fn behind<'m, 't>(
+    classes: &'t [Container<'m>],
+    place: Place<'m, 't>,
     reference: ReferenceEntry,
-) -> Place<'t>
+) -> Place<'m, 't>
     ensures { place_view result ≡ behind classes.entry.now (place_view place.entry) reference }
 {
     Place {
@@ -110,7 +113,11 @@ fn behind<'t>(
 
 /// One segment further, if there is such a reference and index.
 #[tactic(auto, unfolding(crate::specs::mapping_rules::Walks::step))]
-fn step<'t>(classes: &'t [Container<'t>], place: Place<'t>, segment: &Segment) -> Option<Place<'t>>
+fn step<'m, 't>(
+    classes: &'t [Container<'m>],
+    place: Place<'m, 't>,
+    segment: &Segment,
+) -> Option<Place<'m, 't>>
     ensures { option_map place_view result
         ≡ step classes.entry.now (place_view place.entry) segment.now }
 {
@@ -128,11 +135,11 @@ fn step<'t>(classes: &'t [Container<'t>], place: Place<'t>, segment: &Segment) -
 
 /// So many segments further.
 #[tactic(auto, using(crate::proofs::mapping_rules::Steps::walk_start, crate::proofs::mapping_rules::Steps::walk_more, crate::proofs::mapping_rules::Steps::walk_stops, crate::proofs::mapping_rules::Steps::walk_ends))]
-fn walk<'t>(
-    classes: &'t [Container<'t>],
-    place: Place<'t>,
+fn walk<'m, 't>(
+    classes: &'t [Container<'m>],
+    place: Place<'m, 't>,
     segments: &[Segment],
-) -> Option<Place<'t>>
+) -> Option<Place<'m, 't>>
     ensures { option_map place_view result
         ≡ walk classes.entry.now (place_view place.entry) segments.now }
 {
@@ -148,11 +155,11 @@ fn walk<'t>(
 
 /// Where a mapping's path leads, if it exists.
 #[tactic(auto, unfolding(crate::specs::mapping_rules::Walks::path_end))]
-pub(crate) fn path_end<'t>(
-    classes: &'t [Container<'t>],
-    place: Place<'t>,
+pub(crate) fn path_end<'m, 't>(
+    classes: &'t [Container<'m>],
+    place: Place<'m, 't>,
     path: &MappingPath,
-) -> Option<Place<'t>>
+) -> Option<Place<'m, 't>>
     ensures { option_map place_view result
         ≡ path_end classes.entry.now (place_view place.entry) path.now }
 {

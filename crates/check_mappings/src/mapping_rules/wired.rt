@@ -11,18 +11,18 @@ use std::alloc::{AllocError, Global};
 
 /// A subsystem class: its items, and what it knows of its references.
 #[derive(Clone, Copy, Drop)]
-pub(crate) struct Wired<'m> {
-    pub(crate) items: &'m [SubsystemItem],
-    pub(crate) container: &'m Container<'m>,
+pub(crate) struct Wired<'m, 't> {
+    pub(crate) items: &'t [SubsystemItem],
+    pub(crate) container: &'t Container<'m>,
 }
 
 /// The subsystem classes, where `containers` is what each knows of its references.
 #[tactic(auto, using(crate::proofs::mapping_rules::Pairing::paired_start))]
-pub(crate) fn wired_in<'m>(
+pub(crate) fn wired_in<'m, 't>(
     alloc: Global,
-    classes: &'m [Class],
-    containers: &'m [Container<'m>],
-) -> Result<Vec<Wired<'m>>, AllocError>
+    classes: &'t [Class],
+    containers: &'t [Container<'m>],
+) -> Result<Vec<Wired<'m, 't>>, AllocError>
     ensures { IfOk result (λ v.
         (actors : List (List ℕ))
         → containers.entry.now ≡ subsystem_containers actors (map class_view classes.entry.now)

@@ -45,7 +45,7 @@ pub fn create_refused(
 }
 
 /// DestroyDone from what ended: its container is told `destroyed`, with the number of the actor; or, from
-/// the slot in generation 0, `refused`, with code 3, where nothing was there. Another code, or another
+/// the slot in generation 0, `refused`, with `NotHere`, where nothing was there. Another code, or another
 /// generation, says nothing.
 #[tactic(auto, unfolding(actor_duties::specs::Lives::destroy_done))]
 pub fn destroy_done(
@@ -61,7 +61,7 @@ pub fn destroy_done(
     let none_stood = gone.generation.0 == 0;
     let (signal, last) = if code == 0 && !none_stood {
         (FrameSignal::Destroyed, id_of(whose(gone)))
-    } else if code == 3 && none_stood {
+    } else if code == u32::from(Code::NotHere.number()) && none_stood {
         (FrameSignal::Refused, i64::from(code))
     } else {
         return Ok(());

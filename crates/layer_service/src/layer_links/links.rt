@@ -389,14 +389,13 @@ impl Links {
             )?;
             return Ok(());
         }
-        // 8: the name has a provider already.
-        if code == 8 {
+        if code == u64::from(Code::NameTaken.number()) {
             self.hear(
                 me,
                 own,
                 Registration::Unnamed,
                 FrameSignal::NameRefused,
-                &[port, 8],
+                &[port, i64::from(Code::NameTaken.number())],
                 out,
             )?;
             return Ok(());

@@ -1,5 +1,5 @@
 -- Maps from names to places in a list of names.
-use Rattle.std.specs.Prelude.{◌≡◌, ◌<◌, ℕ, List, Option, Some, None, length, position, if◌then◌else◌}
+use Rattle.std.specs.Prelude.{◌≡◌, ℕ, ⊤, Box, List, Option, Some, None, box_value, position, if◌then◌else◌}
 use Rattle.std.specs.Borrow.{Bor}
 use Rattle.indexmap.specs.IndexMap.{IndexMap, get_by}
 use Rattle.name_tables.specs.name_numbers.Names.{same}
@@ -21,13 +21,10 @@ earlier_or None place = place
 abbrev pub NotesFirst : {S : Type 0} → IndexMap (Bor (List ℕ)) ℕ S → IndexMap (Bor (List ℕ)) ℕ S → List ℕ → ℕ → Type 0
 NotesFirst old new name place = (q : List ℕ) → place_in new q ≡ earlier_or (place_in old q) (if same q name then Some place else None)
 
--- up to this many names are compared one by one
-abbrev pub few : ℕ
-few = 8
-
--- where the names are more than a few, each has its first place
-abbrev pub FindsIfMany : {S : Type 0} → IndexMap (Bor (List ℕ)) ℕ S → List (List ℕ) → Type 0
-FindsIfMany m names = (few < length names) → FindsFirst m names
+-- a table, where there is one, has the first place of each name
+abbrev pub FindsByTable : {S Z : Type 0} → Option (Box (IndexMap (Bor (List ℕ)) ℕ S) Z) → List (List ℕ) → Type 0
+FindsByTable None names = ⊤
+FindsByTable (Some table) names = FindsFirst (box_value table) names
 
 -- the first place at which a reference to the name stands
 abbrev pub place_called : List ℕ → List (Bor (List ℕ)) → Option ℕ

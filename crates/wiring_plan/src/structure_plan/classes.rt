@@ -61,8 +61,8 @@ fn class_plan(
 
 // ---- actor classes
 
-fn item_binding<'t>(
-    actors: &'t [Container<'t>],
+fn item_binding<'m, 't>(
+    actors: &'t [Container<'m>],
     class: &Container,
     item: &StructureItem,
 ) -> Option<BindingPlan>
@@ -74,8 +74,8 @@ fn item_binding<'t>(
     }
 }
 
-fn item_layer<'t>(
-    actors: &'t [Container<'t>],
+fn item_layer<'m, 't>(
+    actors: &'t [Container<'m>],
     class: &Container,
     item: &StructureItem,
 ) -> Option<LayerPlan>
@@ -87,9 +87,9 @@ fn item_layer<'t>(
     }
 }
 
-fn item_bindings<'t>(
+fn item_bindings<'m, 't>(
     alloc: Global,
-    actors: &'t [Container<'t>],
+    actors: &'t [Container<'m>],
     class: &Container,
     items: &[StructureItem],
 ) -> Result<Vec<BindingPlan>, AllocError>
@@ -103,9 +103,9 @@ fn item_bindings<'t>(
     Ok(plans)
 }
 
-fn item_layers<'t>(
+fn item_layers<'m, 't>(
     alloc: Global,
-    actors: &'t [Container<'t>],
+    actors: &'t [Container<'m>],
     class: &Container,
     items: &[StructureItem],
 ) -> Result<Vec<LayerPlan>, AllocError>
@@ -120,9 +120,9 @@ fn item_layers<'t>(
 }
 
 /// The plan of an actor class with these items in its Structure.
-pub(crate) fn actor_plan<'t>(
+pub(crate) fn actor_plan<'m, 't>(
     alloc: Global,
-    actors: &'t [Container<'t>],
+    actors: &'t [Container<'m>],
     class: &Container,
     items: &[StructureItem],
 ) -> Result<ClassPlan, AllocError>
@@ -135,8 +135,8 @@ pub(crate) fn actor_plan<'t>(
 
 // ---- subsystem classes
 
-fn subsystem_binding<'t>(
-    actors: &'t [Container<'t>],
+fn subsystem_binding<'m, 't>(
+    actors: &'t [Container<'m>],
     class: &Container,
     item: &SubsystemItem,
 ) -> Option<BindingPlan>
@@ -148,8 +148,8 @@ fn subsystem_binding<'t>(
     }
 }
 
-fn subsystem_layer<'t>(
-    actors: &'t [Container<'t>],
+fn subsystem_layer<'m, 't>(
+    actors: &'t [Container<'m>],
     class: &Container,
     item: &SubsystemItem,
 ) -> Option<LayerPlan>
@@ -161,9 +161,9 @@ fn subsystem_layer<'t>(
     }
 }
 
-fn subsystem_bindings<'t>(
+fn subsystem_bindings<'m, 't>(
     alloc: Global,
-    actors: &'t [Container<'t>],
+    actors: &'t [Container<'m>],
     class: &Container,
     items: &[SubsystemItem],
 ) -> Result<Vec<BindingPlan>, AllocError>
@@ -178,9 +178,9 @@ fn subsystem_bindings<'t>(
     Ok(plans)
 }
 
-fn subsystem_layers<'t>(
+fn subsystem_layers<'m, 't>(
     alloc: Global,
-    actors: &'t [Container<'t>],
+    actors: &'t [Container<'m>],
     class: &Container,
     items: &[SubsystemItem],
 ) -> Result<Vec<LayerPlan>, AllocError>
@@ -196,9 +196,9 @@ fn subsystem_layers<'t>(
 }
 
 /// The plan of a subsystem class with these items.
-pub(crate) fn subsystem_plan<'t>(
+pub(crate) fn subsystem_plan<'m, 't>(
     alloc: Global,
-    actors: &'t [Container<'t>],
+    actors: &'t [Container<'m>],
     class: &Container,
     items: &[SubsystemItem],
 ) -> Result<ClassPlan, AllocError>

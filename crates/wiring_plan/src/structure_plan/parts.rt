@@ -88,7 +88,7 @@ pub fn reference_plan(reference: &ReferenceEntry) -> ReferencePlan
     }
 }
 
-fn class_at<'t>(actors: &'t [Container<'t>], class: Option<usize>) -> Option<&'t Container<'t>>
+fn class_at<'m, 't>(actors: &'t [Container<'m>], class: Option<usize>) -> Option<&'t Container<'m>>
     ensures { option_map (λ c. c.now) result ≡ option_and_then (slice_get actors.entry.now) class }
 {
     match class {
@@ -99,11 +99,11 @@ fn class_at<'t>(actors: &'t [Container<'t>], class: Option<usize>) -> Option<&'t
 
 /// What the class of a reference, by number, knows of its parts; none where there is no such reference
 /// or class.
-pub fn class_behind<'t>(
-    actors: &'t [Container<'t>],
+pub fn class_behind<'m, 't>(
+    actors: &'t [Container<'m>],
     class: &Container,
     reference: u16,
-) -> Option<&'t Container<'t>>
+) -> Option<&'t Container<'m>>
     ensures { option_map (λ c. c.now) result ≡ class_behind actors.entry.now class.now reference }
 {
     match class.references.as_slice().get(usize::from(reference)) {
@@ -113,8 +113,8 @@ pub fn class_behind<'t>(
 }
 
 /// The number of a port in the class of a reference.
-fn port_behind<'t>(
-    actors: &'t [Container<'t>],
+fn port_behind<'m, 't>(
+    actors: &'t [Container<'m>],
     class: &Container,
     reference: u16,
     name: &[u8],
@@ -136,8 +136,8 @@ fn own_side(class: &Container, name: &[u8]) -> Option<SidePlan>
     }
 }
 
-fn inner_side<'t>(
-    actors: &'t [Container<'t>],
+fn inner_side<'m, 't>(
+    actors: &'t [Container<'m>],
     class: &Container,
     port: &[u8],
     reference: u16,
@@ -150,8 +150,8 @@ fn inner_side<'t>(
     }
 }
 
-fn named_side<'t>(
-    actors: &'t [Container<'t>],
+fn named_side<'m, 't>(
+    actors: &'t [Container<'m>],
     class: &Container,
     reference: &[u8],
     port: &[u8],
@@ -166,7 +166,11 @@ fn named_side<'t>(
 }
 
 /// What a side of a binding names.
-fn side_plan<'t>(actors: &'t [Container<'t>], class: &Container, side: &Side) -> Option<SidePlan>
+fn side_plan<'m, 't>(
+    actors: &'t [Container<'m>],
+    class: &Container,
+    side: &Side,
+) -> Option<SidePlan>
     ensures { result ≡ side_plan actors.entry.now class.now side.now }
 {
     match side {
@@ -187,8 +191,8 @@ fn joined(left: Option<SidePlan>, right: Option<SidePlan>) -> Option<BindingPlan
 }
 
 /// What a binding joins, where its names are known.
-pub(crate) fn binding_plan<'t>(
-    actors: &'t [Container<'t>],
+pub(crate) fn binding_plan<'m, 't>(
+    actors: &'t [Container<'m>],
     class: &Container,
     binding: &Binding,
 ) -> Option<BindingPlan>
@@ -200,8 +204,8 @@ pub(crate) fn binding_plan<'t>(
     )
 }
 
-fn layer_to<'t>(
-    actors: &'t [Container<'t>],
+fn layer_to<'m, 't>(
+    actors: &'t [Container<'m>],
     class: &Container,
     service: &[u8],
     reference: u16,
@@ -219,8 +223,8 @@ fn layer_to<'t>(
     }
 }
 
-fn layer_from<'t>(
-    actors: &'t [Container<'t>],
+fn layer_from<'m, 't>(
+    actors: &'t [Container<'m>],
     class: &Container,
     layer: &LayerConnection,
     reference: u16,
@@ -234,8 +238,8 @@ fn layer_from<'t>(
 }
 
 /// What a layer connection names, where its names are known.
-pub(crate) fn layer_plan<'t>(
-    actors: &'t [Container<'t>],
+pub(crate) fn layer_plan<'m, 't>(
+    actors: &'t [Container<'m>],
     class: &Container,
     layer: &LayerConnection,
 ) -> Option<LayerPlan>

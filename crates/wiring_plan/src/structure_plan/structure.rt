@@ -16,10 +16,10 @@ use room_kinds::Sequence;
 use std::alloc::{AllocError, Global};
 
 /// The plans of the actor classes, where `left` is what each knows of its parts.
-fn actor_plans<'t>(
+fn actor_plans<'m, 't>(
     alloc: Global,
     classes: &[Class],
-    actors: &'t [Container<'t>],
+    actors: &'t [Container<'m>],
 ) -> Result<Vec<ClassPlan>, AllocError>
     ensures { IfOk result (λ v.
         v.items ≡ actor_plans actors.entry.now (map class_view classes.now)) }
@@ -39,12 +39,12 @@ fn actor_plans<'t>(
 }
 
 /// The plan of the first subsystem class with this name, if there is one.
-fn named_plan<'t>(
+fn named_plan<'m, 't>(
     alloc: Global,
     name: &Name,
     classes: &[Class],
-    actors: &'t [Container<'t>],
-    subsystems: &'t [Container<'t>],
+    actors: &'t [Container<'m>],
+    subsystems: &'t [Container<'m>],
 ) -> Result<Option<ClassPlan>, AllocError>
     ensures { IfOk result (λ p.
         p
@@ -88,11 +88,11 @@ pub fn wired_name<'m>(classes: &'m [Class]) -> Option<&'m Name>
     None
 }
 
-fn wired_plan<'t>(
+fn wired_plan<'m, 't>(
     alloc: Global,
     classes: &[Class],
-    actors: &'t [Container<'t>],
-    subsystems: &'t [Container<'t>],
+    actors: &'t [Container<'m>],
+    subsystems: &'t [Container<'m>],
 ) -> Result<ClassPlan, AllocError>
     ensures { IfOk result (λ p.
         p ≡ wired_plan actors.entry.now subsystems.entry.now (map class_view classes.now)) }
@@ -106,11 +106,11 @@ fn wired_plan<'t>(
     }
 }
 
-fn plan_in<'t>(
+fn plan_in<'m, 't>(
     alloc: Global,
     classes: &[Class],
-    actors: &'t [Container<'t>],
-    subsystems: &'t [Container<'t>],
+    actors: &'t [Container<'m>],
+    subsystems: &'t [Container<'m>],
 ) -> Result<StructurePlan, AllocError>
     ensures { IfOk result (λ p.
         p ≡ plan_in actors.entry.now subsystems.entry.now (map class_view classes.now)) }

@@ -30,10 +30,10 @@ pub struct WiredSlots {
 /// The slots of a model that keeps the rules, with its structure and its names, where these are its
 /// tables. A structure that stands for too many slots is refused before names and mappings are made,
 /// and before more slots than the limit are.
-pub fn wired_slots<'m>(
+pub fn wired_slots<'m, 't>(
     alloc: Global,
-    model: &'m Model,
-    tables: &'m Tables<'m>,
+    model: &'t Model,
+    tables: &'t Tables<'m>,
 ) -> Result<WiredSlots, SlotFault>
     requires tables { tables.now ≡ tables_of (model_view model.now) }
     requires finite { data_is_finite (model_view model.now) ≡ true }

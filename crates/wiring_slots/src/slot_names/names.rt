@@ -126,10 +126,10 @@ fn controllers_of(alloc: Global, threads: &NameIndex) -> Result<Vec<Label>, Allo
 
 // ---- mappings
 
-fn mappings_in<'m>(
+fn mappings_in<'m, 't>(
     alloc: Global,
-    actors: &'m [Container<'m>],
-    wired: Wired<'m>,
+    actors: &'t [Container<'m>],
+    wired: Wired<'m, 't>,
     threads: &NameIndex,
 ) -> Result<MappingOrder, AllocError>
     ensures { IfOk result (λ v.
@@ -147,10 +147,10 @@ fn mappings_in<'m>(
 
 // ---- the whole
 
-fn names_with<'m>(
+fn names_with<'m, 't>(
     alloc: Global,
-    actors: &'m [Container<'m>],
-    wired: Wired<'m>,
+    actors: &'t [Container<'m>],
+    wired: Wired<'m, 't>,
 ) -> Result<WiredNames, AllocError>
     ensures { IfOk result (λ n. n ≡ names_with actors.entry.now (wired_view wired.entry)) }
 {
@@ -170,7 +170,10 @@ fn names_with<'m>(
 }
 
 /// The names of a model of which no subsystem class is wired.
-fn names_without<'m>(alloc: Global, actors: &'m [Container<'m>]) -> Result<WiredNames, AllocError>
+fn names_without<'m, 't>(
+    alloc: Global,
+    actors: &'t [Container<'m>],
+) -> Result<WiredNames, AllocError>
     ensures { IfOk result (λ n. n ≡ names_with actors.entry.now nothing_wired) }
 {
     let classes = all_labels(alloc, actors)?;
@@ -185,11 +188,11 @@ fn names_without<'m>(alloc: Global, actors: &'m [Container<'m>]) -> Result<Wired
     })
 }
 
-fn names_in<'m>(
+fn names_in<'m, 't>(
     alloc: Global,
-    classes: &'m [Class],
-    actors: &'m [Container<'m>],
-    subsystems: &'m [Container<'m>],
+    classes: &'t [Class],
+    actors: &'t [Container<'m>],
+    subsystems: &'t [Container<'m>],
 ) -> Result<WiredNames, AllocError>
     ensures { IfOk result (λ n.
         n ≡ names_with actors.entry.now (unwrap_or
@@ -203,10 +206,10 @@ fn names_in<'m>(
 
 /// The controllers, the names of the slots and the mappings of a model, where these are its tables.
 #[tactic(auto, using(crate::proofs::slot_names::Tops::names_are))]
-pub fn wired_names<'m>(
+pub fn wired_names<'m, 't>(
     alloc: Global,
-    model: &'m Model,
-    tables: &'m Tables<'m>,
+    model: &'t Model,
+    tables: &'t Tables<'m>,
 ) -> Result<WiredNames, AllocError>
     requires { tables.now ≡ tables_of (model_view model.now) }
     ensures { IfOk result (λ n. n ≡ wired_names (model_view model.entry.now)) }

@@ -16,20 +16,20 @@ use wiring_plan::{class_behind, number_of};
 
 /// How far a path has led.
 #[derive(Drop)]
-pub(crate) struct Way<'t> {
+pub(crate) struct Way<'m, 't> {
     pub(crate) steps: Vec<StepPlan>,
     /// The class in which the path goes on, if there is one.
-    pub(crate) place: Option<&'t Container<'t>>,
+    pub(crate) place: Option<&'t Container<'m>>,
 }
 
 /// One step further, by the reference with this number in a class.
-fn stepped<'t>(
-    actors: &'t [Container<'t>],
-    way: Way<'t>,
+fn stepped<'m, 't>(
+    actors: &'t [Container<'m>],
+    way: Way<'m, 't>,
     index: Option<u64>,
     class: &Container,
     reference: u16,
-) -> Result<Way<'t>, AllocError>
+) -> Result<Way<'m, 't>, AllocError>
     ensures { IfOk result (λ w.
         way_view w ≡ stepped actors.entry.now (way_view way.entry) index class.now reference) }
 {
@@ -39,12 +39,12 @@ fn stepped<'t>(
     Ok(Way { steps, place })
 }
 
-fn step_in<'t>(
-    actors: &'t [Container<'t>],
-    way: Way<'t>,
+fn step_in<'m, 't>(
+    actors: &'t [Container<'m>],
+    way: Way<'m, 't>,
     segment: &Segment,
     class: &Container,
-) -> Result<Option<Way<'t>>, AllocError>
+) -> Result<Option<Way<'m, 't>>, AllocError>
     ensures { IfOk result (λ w.
         option_map way_view w
         ≡ step_in actors.entry.now (way_view way.entry) segment.now class.now) }
@@ -60,11 +60,11 @@ fn step_in<'t>(
 
 /// One segment further, if there is such a reference.
 #[tactic(auto, unfolding(crate::specs::slot_names::Ways::further))]
-fn further<'t>(
-    actors: &'t [Container<'t>],
-    way: Way<'t>,
+fn further<'m, 't>(
+    actors: &'t [Container<'m>],
+    way: Way<'m, 't>,
     segment: &Segment,
-) -> Result<Option<Way<'t>>, AllocError>
+) -> Result<Option<Way<'m, 't>>, AllocError>
     ensures { IfOk result (λ w.
         option_map way_view w ≡ further actors.entry.now (way_view way.entry) segment.now) }
 {
@@ -76,11 +76,11 @@ fn further<'t>(
 
 /// So many segments further.
 #[tactic(auto, using(crate::proofs::slot_names::Steps::walk_start, crate::proofs::slot_names::Steps::walk_more, crate::proofs::slot_names::Steps::walk_stops, crate::proofs::slot_names::Steps::walk_ends))]
-fn walked<'t>(
-    actors: &'t [Container<'t>],
-    way: Way<'t>,
+fn walked<'m, 't>(
+    actors: &'t [Container<'m>],
+    way: Way<'m, 't>,
     segments: &[Segment],
-) -> Result<Option<Way<'t>>, AllocError>
+) -> Result<Option<Way<'m, 't>>, AllocError>
     ensures { IfOk result (λ w.
         option_map way_view w ≡ walked actors.entry.now (way_view way.entry) segments.now) }
 {
@@ -95,11 +95,11 @@ fn walked<'t>(
 }
 
 /// Where a path leads, if it exists.
-fn path_end<'t>(
-    actors: &'t [Container<'t>],
-    way: Way<'t>,
+fn path_end<'m, 't>(
+    actors: &'t [Container<'m>],
+    way: Way<'m, 't>,
     path: &MappingPath,
-) -> Result<Option<Way<'t>>, AllocError>
+) -> Result<Option<Way<'m, 't>>, AllocError>
     ensures { IfOk result (λ w.
         option_map way_view w ≡ path_end actors.entry.now (way_view way.entry) path.now) }
 {
@@ -111,12 +111,12 @@ fn path_end<'t>(
 
 /// Where a path leads from a place on, with the steps behind it, if it exists.
 #[tactic(auto, using(crate::proofs::slot_names::Behind::led_behind))]
-fn path_from<'t>(
+fn path_from<'m, 't>(
     alloc: Global,
-    actors: &'t [Container<'t>],
-    place: Option<&'t Container<'t>>,
+    actors: &'t [Container<'m>],
+    place: Option<&'t Container<'m>>,
     path: &MappingPath,
-) -> Result<Option<Way<'t>>, AllocError>
+) -> Result<Option<Way<'m, 't>>, AllocError>
     ensures { IfOk result (λ w.
         LeadsBehind actors.entry.now (option_map (λ c. c.now) place.entry) path.now
         (option_map way_view w)) }
@@ -161,13 +161,13 @@ fn own_plan(alloc: Global, way: &Way, controller: ControllerId) -> Result<Mappin
 /// there is one. Its own steps are put behind them while those in its braces are added, so that how
 /// many steps a path has is always the length of what stands in memory.
 #[cycle(mappings)]
-fn add_mapping<'t>(
+fn add_mapping<'m, 't>(
     alloc: Global,
     plans: &mut MappingOrder,
     path: &mut Vec<StepPlan>,
-    actors: &'t [Container<'t>],
+    actors: &'t [Container<'m>],
     threads: &NameIndex,
-    place: Option<&'t Container<'t>>,
+    place: Option<&'t Container<'m>>,
     mapping: &Mapping,
 ) -> Result<(), AllocError>
     requires there { LastBegins path.old.items plans.old }
@@ -201,13 +201,13 @@ fn add_mapping<'t>(
 }
 
 #[cycle(mappings)]
-fn add_all<'t>(
+fn add_all<'m, 't>(
     alloc: Global,
     plans: &mut MappingOrder,
     path: &mut Vec<StepPlan>,
-    actors: &'t [Container<'t>],
+    actors: &'t [Container<'m>],
     threads: &NameIndex,
-    place: Option<&'t Container<'t>>,
+    place: Option<&'t Container<'m>>,
     mappings: &Vec<Mapping>,
 ) -> Result<(), AllocError>
     requires there { LastBegins path.old.items plans.old }
@@ -225,12 +225,12 @@ fn add_all<'t>(
 
 /// Adds the mappings that an item of a subsystem class is, which begin in this class.
 #[tactic(auto, using(crate::proofs::slot_names::Behind::begins_all))]
-pub(crate) fn add_item<'t>(
+pub(crate) fn add_item<'m, 't>(
     alloc: Global,
     plans: &mut MappingOrder,
-    actors: &'t [Container<'t>],
+    actors: &'t [Container<'m>],
     threads: &NameIndex,
-    class: &'t Container<'t>,
+    class: &'t Container<'m>,
     item: &SubsystemItem,
 ) -> Result<(), AllocError>
     ensures { OnOk result (plans.new ≡ plans.old

@@ -10,17 +10,17 @@ use wiring_plan::wired_name;
 
 /// A subsystem class: its items, and what it knows of its references.
 #[derive(Clone, Copy, Drop)]
-pub(crate) struct Wired<'m> {
-    pub(crate) items: &'m [SubsystemItem],
-    pub(crate) container: &'m Container<'m>,
+pub(crate) struct Wired<'m, 't> {
+    pub(crate) items: &'t [SubsystemItem],
+    pub(crate) container: &'t Container<'m>,
 }
 
 /// The first subsystem class with this name, if there is one.
-fn named_in<'m>(
+fn named_in<'m, 't>(
     name: &Name,
-    classes: &'m [Class],
-    subsystems: &'m [Container<'m>],
-) -> Option<Wired<'m>>
+    classes: &'t [Class],
+    subsystems: &'t [Container<'m>],
+) -> Option<Wired<'m, 't>>
     ensures { option_map wired_view result
         ≡ named_in (map class_view classes.entry.now) subsystems.entry.now name.now }
 {
@@ -43,10 +43,10 @@ fn named_in<'m>(
 }
 
 /// The subsystem class that is wired, if there is one.
-pub(crate) fn wired_in<'m>(
-    classes: &'m [Class],
-    subsystems: &'m [Container<'m>],
-) -> Option<Wired<'m>>
+pub(crate) fn wired_in<'m, 't>(
+    classes: &'t [Class],
+    subsystems: &'t [Container<'m>],
+) -> Option<Wired<'m, 't>>
     ensures { option_map wired_view result
         ≡ wired_in (map class_view classes.entry.now) subsystems.entry.now }
 {

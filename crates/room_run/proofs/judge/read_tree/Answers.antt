@@ -1,7 +1,5 @@
-use Rattle.std.proofs.Common.{ℕ, sym, subst}
 use Rattle.room_ast.specs.Trees.{model_view}
-use Rattle.room_run.specs.declared.model_fault.ModelFault.TheVariants as faults
-use Rattle.room_run.specs.Models.{SoundCauses, no_memory}
+use Rattle.room_run.specs.Models.{no_memory}
 use Rattle.room_run.proofs.JudgeLemmas.{tree_flat, base_rule_told}
 use Rattle.room_run.proofs.judge.read_tree.Goals as goal
 
@@ -11,8 +9,7 @@ returns-in-Ok-flatten-clause-ok c =
 
 pub returns-in-Err-Rule-clause-err : goal.returns-in-Err-Rule-clause-err
 returns-in-Err-Rule-clause-err c =
-    subst (λ (n : ℕ). SoundCauses c.args.text.now (faults.Rule n)) (sym c.number.ensures)
-    (base_rule_told c.args.text.now (model_view c.in-Ok.written) c.in-Err-Rule.rule c.in-Err-Rule.field-0 c.requires c.in-Ok.ensures.ok c.in-Err-Rule.ensures.flat (cc))
+    base_rule_told c.args.text.now (model_view c.in-Ok.written) c.in-Err-Rule.rule c.in-Err-Rule.field-0 c.requires c.in-Ok.ensures.ok c.in-Err-Rule.ensures.flat (cc)
 
 pub returns-in-Err-Memory-clause-err : goal.returns-in-Err-Memory-clause-err
 returns-in-Err-Memory-clause-err c = no_memory

@@ -1,4 +1,4 @@
-use Rattle.std.proofs.Common.{ℕ, ◌∷◌, [], codes, decimal, sym, subst}
+use Rattle.std.proofs.Common.{◌∙◌, ℕ, ◌∷◌, [], codes, decimal, sym, subst}
 use Rattle.room_outside.specs.line_text.Lines.{line}
 use Rattle.room_outside.specs.Written.{Writes}
 use Rattle.room_run.specs.Causes.{note_of}
@@ -33,7 +33,7 @@ returns-in-JournalsMalformed g c =
 pub returns-in-InjectionsLine : goal.returns-in-InjectionsLine
 returns-in-InjectionsLine g c =
     subst (λ (z : Refusal). Writes c.write_place.result (g.K.Sink.written c.args.notes.now) (g.K.Sink.written c.write_place.new.notes) (note_of z)) (sym c.in-InjectionsLine.is)
-    (subst (λ (n : ℕ). Writes c.write_place.result (g.K.Sink.written c.args.notes.now) (g.K.Sink.written c.write_place.new.notes) (line (codes "room: injections refused: line " ∷ decimal c.in-InjectionsLine.line ∷ codes " " ∷ decimal n ∷ []))) c.from-in-InjectionsLine.ensures
+    (subst (λ (n : ℕ). Writes c.write_place.result (g.K.Sink.written c.args.notes.now) (g.K.Sink.written c.write_place.new.notes) (line (codes "room: injections refused: line " ∷ decimal c.in-InjectionsLine.line ∷ codes " " ∷ decimal n ∷ []))) (c.from-in-InjectionsLine.ensures ∙ c.code.ensures)
     (subst (λ (n : ℕ). Writes c.write_place.result (g.K.Sink.written c.args.notes.now) (g.K.Sink.written c.write_place.new.notes) (line (codes "room: injections refused: line " ∷ decimal n ∷ codes " " ∷ decimal c.from-in-InjectionsLine.result ∷ []))) c.from.ensures c.write_place.ensures))
 
 pub returns-in-JournalsUntied : goal.returns-in-JournalsUntied

@@ -19,17 +19,17 @@ overflow_cast-class c =
     let lt : c.loop-scope.scope-index < length c.args.checked.now.scopes.items = rw c.deref-scope-items.ensures.value at c.loop-scope-test.true in
     omega (arith, few, many, lt)
 
-pub returns-in-Err-clause-reads : goal.returns-in-Err-clause-reads
-returns-in-Err-clause-reads c =
+pub returns-in-Err-Chart-clause-reads : goal.returns-in-Err-Chart-clause-reads
+returns-in-Err-Chart-clause-reads c =
     let many = as_many (scope_of (model_view c.args.checked.now.model.now)) c.args.checked.now.scopes.items (actors (model_view c.args.checked.now.model.now)) c.args.checked.now.scoped in
     let here : c.len-class.result ≡ c.loop-scope.scope-index = omega arith in
     let place : length (map (option_map chart_view) c.loop-scope.charts.items) ≡ c.len-class.result = length-map c.loop-scope.charts.items (option_map chart_view) ∙ c.loop-scope.invariant.count ∙ sym here in
     let all = written_from [] c.args.checked.now.scopes.items (actors (model_view c.args.checked.now.model.now)) in
-    first_answered (model_view c.args.checked.now.model.now) all c.len-class.result c.in-Err.fault c.told.result
+    first_answered (model_view c.args.checked.now.model.now) all c.len-class.result c.in-Err-Chart.fault c.told.result
     (record { scopes = c.args.checked.now.scopes.items; seen = c.args.checked.now.scoped; written = refl })
-    (λ some. subst (λ n. IsFirstFaulty all n c.in-Err.fault) place
-    (next_refused all c.loop-scope.names c.args.checked.now.scopes.items (actors (model_view c.args.checked.now.model.now)) c.loop-scope.scope-index c.scope-item.result _ _ (rw c.deref-scope-items.ensures.value at c.loop-scope-test.true) many (rw c.deref-scope-items.ensures.value at c.scope-item.is) (rw here at c.chart.ensures) c.loop-scope.invariant.read c.chart_of.new.names c.in-Err.fault c.in-Err.ensures some))
-    c.told.ensures
+    (subst (λ n. IsFirstFaulty all n c.in-Err-Chart.fault) place
+    (next_refused all c.loop-scope.names c.args.checked.now.scopes.items (actors (model_view c.args.checked.now.model.now)) c.loop-scope.scope-index c.scope-item.result _ _ (rw c.deref-scope-items.ensures.value at c.loop-scope-test.true) many (rw c.deref-scope-items.ensures.value at c.scope-item.is) (rw here at c.chart.ensures) c.loop-scope.invariant.read c.chart_of.new.names c.in-Err-Chart.fault (rw c.in-Err-Chart.field-0-is at c.in-Err-Chart.ensures)))
+    (rw c.in-Err-Chart.field-0-is at c.told.ensures)
 
 pub loop-scope-preserved : goal.loop-scope-preserved
 loop-scope-preserved c =
