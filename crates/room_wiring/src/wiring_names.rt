@@ -5,5 +5,6 @@ mod class_names;
 mod named;
 mod names;
 mod path_index;
+mod slot_classes;
 
 pub use names::Names;

@@ -1,39 +1,25 @@
 -- What is looked up in numbered names.
-use Rattle.std.proofs.Common.{take, subst, ◌≡◌, ℕ, suc, zero, ◌<◌, List, [], ◌∷◌, length, refl, sym, ap, ◌∙◌, Option, Some, None, arith}
+use Rattle.std.proofs.Common.{subst, ◌≡◌, ℕ, List, refl, ap, Option, Some, None}
 use Rattle.std.specs.Prelude.{slice_get, All, option_map, option_and_then}
 use Rattle.std.specs.Option.{option_map_or}
-use Rattle.std.proofs.lemmas.Option.{slice_get-map, slice_get_within, get_or_from_slice_get}
+use Rattle.std.proofs.lemmas.Option.{slice_get_within, get_or_from_slice_get}
 use Rattle.room_wiring.specs.declared.tables.Tables.{Tables}
 use Rattle.room_wiring.specs.declared.slot.Slot.{Slot}
 use Rattle.room_wiring.specs.declared.names.ClassNames.{ClassNames}
 use Rattle.room_wiring.specs.declared.names.PortNames.{PortNames}
 use Rattle.room_wiring.specs.Slots.{slot_at, class_at, class_of}
-use Rattle.room_wiring.specs.declared.wiring_names.path_index.PathIndex.{PathIndex}
 use Rattle.room_wiring.specs.declared.wiring_names.class_names.ClassNumbers.{ClassNumbers}
 use Rattle.room_wiring.specs.wiring_names.Lookup.{place_of, port_in, port_called, state_in, state_called, signal_in, signal_called, signal_table, port_of}
 use Rattle.room_wiring.specs.wiring_names.Tables.{numbers_of_class}
-use Rattle.room_wiring.specs.wiring_names.Index.{IsIndexOf}
 
 -- what holds of all items holds of the one at a place
 pub all_at : {A : Type 0} (P : A → Type 0) (xs : List A) (k : ℕ) (x : A) → All P xs → slice_get xs k ≡ Some x → P x
 all_at P xs k x h e = subst P (get_or_from_slice_get xs k x x e) (h k x (slice_get_within xs k x e))
 
-get-take : {A : Type 0} (xs : List A) (k n : ℕ) → k < n → slice_get (take n xs) k ≡ slice_get xs k
-get-take xs k zero h = absurd (omega arith)
-get-take [] k (suc n) h = refl
-get-take (x ∷ xs) zero (suc n) h = refl
-get-take (x ∷ xs) (suc k) (suc n) h = get-take xs k n (omega arith)
-
 -- the class of a slot that there is
 pub class_there : (t : Tables) (s : ℕ) (x : Slot) → slot_at t s ≡ Some x → class_of t s ≡ class_at t x.class
 unfolding class_of
 class_there t s x e = ap (option_and_then (λ (y : Slot). class_at t y.class)) e
-
-pub found_class : (t : Tables) (slots : PathIndex) (classes : List ClassNumbers) (s : ℕ) (x : Slot) (got : Option ClassNumbers) → IsIndexOf t slots classes → slot_at t s ≡ Some x → got ≡ slice_get classes x.class → got ≡ option_map numbers_of_class (class_of t s)
-found_class t slots classes s x got h e is =
-    let n = length classes in
-    is ∙ ap (λ (cs : List ClassNumbers). slice_get cs x.class) h.names ∙ slice_get-map numbers_of_class (take n t.classes) x.class
-    ∙ ap (option_map numbers_of_class) (get-take t.classes x.class n (h.enough s x e)) ∙ ap (option_map numbers_of_class) (sym (class_there t s x e))
 
 pub no_class : (t : Tables) (s : ℕ) → ◌≡◌ {A = Option Slot} None (slot_at t s) → ◌≡◌ {A = Option ClassNumbers} None (option_map numbers_of_class (class_of t s))
 unfolding class_of

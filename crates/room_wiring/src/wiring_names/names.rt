@@ -1,16 +1,16 @@
 //! The numbered names of a wiring.
-ghost use Rattle.std.specs.Prelude.{◌≡◌, ◌<◌, ◌≤◌, map, take, length, IfOk, option_map, option_and_then, slice_get};
+ghost use Rattle.std.specs.Prelude.{◌≡◌, length, IfOk, option_map, option_and_then};
 ghost use Rattle.std.specs.Option.{option_copied};
 ghost use Rattle.room_wiring.specs.Slots.{class_of};
 ghost use Rattle.room_wiring.specs.wiring_names.Lookup.{narrowed, place_of, slot_called, port_called, state_called, signal_called, signal_table, port_of};
 ghost use Rattle.room_wiring.specs.wiring_names.Tables.{numbers_of_class};
-ghost use Rattle.room_wiring.specs.wiring_names.Index.{IsAboveClasses};
 
 use crate::Wiring;
 use crate::wiring_names::class_names::ClassNumbers;
 use crate::wiring_names::path_index::PathIndex;
+use crate::wiring_names::slot_classes::SlotClasses;
 use name_tables::Numbers;
-use room_kinds::{Sequence, SlotId};
+use room_kinds::SlotId;
 use std::alloc::{AllocError, Global};
 use std::marker::Model;
 
@@ -22,8 +22,7 @@ use std::marker::Model;
 pub struct Names<'a> {
     wiring: &'a Wiring,
     slots: PathIndex,
-    /// The names of the classes, up to the last one that a slot has.
-    classes: Sequence<ClassNumbers<'a>>,
+    classes: SlotClasses<'a>,
 }
 
 impl<'a> Model for Names<'a> {
@@ -54,51 +53,13 @@ fn number_of(numbers: &Numbers<'_>, name: &[u8]) -> u16
     narrow(numbers.number_of(name))
 }
 
-/// One more than the greatest number of a class that a slot has.
-fn class_count(wiring: &Wiring) -> usize
-    ensures above { IsAboveClasses wiring.now result }
-    ensures within { result ≤ length wiring.now.classes }
-    ensures small { result ≤ 65536 }
-{
-    let mut count = 0;
-    for s in 0..wiring.slot_count() {
-        let class = usize::from(wiring.slot(SlotId(s as u16)).class);
-        if count <= class {
-            count = class + 1;
-        }
-    }
-    count
-}
-
-fn class_numbers(
-    alloc: Global,
-    wiring: &Wiring,
-    count: usize,
-) -> Result<Sequence<ClassNumbers<'_>>, AllocError>
-    requires within { count ≤ length wiring.now.classes }
-    requires small { count ≤ 65536 }
-    ensures { IfOk result (λ c. c ≡ map numbers_of_class (take count wiring.now.classes)) }
-{
-    let mut classes = Sequence::new(alloc);
-    for c in 0..count {
-        classes.push(ClassNumbers::of(alloc, wiring.class(c as u16))?)?;
-    }
-    Ok(classes)
-}
-
-fn class_at<'b, 'a>(classes: &'b [ClassNumbers<'a>], class: u16) -> Option<&'b ClassNumbers<'a>>
-    ensures { option_copied result ≡ slice_get classes.now class }
-{
-    classes.get(usize::from(class))
-}
-
 impl<'a> Names<'a> {
     /// Numbers the names of a wiring. It takes time and memory in proportion to the tables.
     pub fn of(alloc: Global, wiring: &'a Wiring) -> Result<Names<'a>, AllocError>
         ensures { IfOk result (λ n. n ≡ wiring.now) }
     {
         let slots = PathIndex::of(alloc, wiring)?;
-        let classes = class_numbers(alloc, wiring, class_count(wiring))?;
+        let classes = SlotClasses::of(alloc, wiring)?;
         Ok(Names {
             wiring,
             slots,
@@ -163,9 +124,6 @@ impl<'a> Names<'a> {
     fn class(&self, slot: SlotId) -> Option<&ClassNumbers<'a>>
         ensures { option_copied result ≡ option_map numbers_of_class (class_of self.now slot.0) }
     {
-        match self.wiring.get_slot(slot) {
-            Some(found) => class_at(self.classes.as_slice(), found.class),
-            None => None,
-        }
+        self.classes.of_slot(slot)
     }
 }
