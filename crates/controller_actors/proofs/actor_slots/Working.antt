@@ -70,67 +70,67 @@ module _ (t : Wiring) (me : ℕ) (f : Frame) (l : Links) (f' : Frame) (l' : Link
 
   -- a message
   module _ (m : Msg) (o : Option Tables) (old mid new : ActorSlot) (r : Reaction) (done : TurnResult) (h : Reacts m o old.occupant mid.occupant r) (same : mid.deferred ≡ old.deferred)
-      (w : Works t me f l f' l' x (Some m) r.commands mid new (record { messages = []; notes = r.notes }) [] (record { messages = done.sent; notes = done.notes }) done.back)
-      (did : done.did ≡ handled_as (handling_of (result_view r.came_to)) x r.state) where
+      (w : Works t me f l f' l' x (Some m) r.outcome.effects.commands mid new (record { messages = []; notes = r.outcome.effects.notes }) [] (record { messages = done.sent; notes = done.notes }) done.back)
+      (did : done.did ≡ handled_as (handling_of (result_view r.outcome.result)) x r.state) where
     turn_on : IsOf x old.occupant → (b : Body Actor)
         → turned t me (slot_body f l b x.slot.0 old) x m (handles x m o (actor_of old.occupant)) ≡ treated_on done (slot_body f' l' b x.slot.0 new)
     turn_on of b =
-        let result = handling_of (result_view r.came_to) in
+        let result = handling_of (result_view r.outcome.result) in
         ap (turned t me (slot_body f l b x.slot.0 old) x m) (h.handled x of)
         ∙ ap (λ (d : WorldDoing Actor). treated d (handled_as result x (state_number (actor_of mid.occupant))))
-        (applied_on b (Some m) r.commands old mid new (actor_of mid.occupant) (record { messages = []; notes = r.notes }) [] (record { messages = done.sent; notes = done.notes }) done.back h.stands same w)
+        (applied_on b (Some m) r.outcome.effects.commands old mid new (actor_of mid.occupant) (record { messages = []; notes = r.outcome.effects.notes }) [] (record { messages = done.sent; notes = done.notes }) done.back h.stands same w)
         ∙ ap (λ (d : Did). record { body = slot_body f' l' b x.slot.0 new; sent = done.sent; back = done.back; did = d; notes = done.notes })
         (ap (handled_as result x) (sym h.state) ∙ sym did)
 
     pub turns : SlotFits x o old → IsForActors m → SlotTurns t me f l f' l' x m o old new done
     turns fits prio =
-        let first : Doing = record { deferred = mid.deferred; output = record { messages = []; notes = r.notes }; back = []; kept = false } in
+        let first : Doing = record { deferred = mid.deferred; output = record { messages = []; notes = r.outcome.effects.notes }; back = []; kept = false } in
         let last : Doing = record { deferred = new.deferred; output = record { messages = done.sent; notes = done.notes }; back = done.back; kept = w.kept } in
         let kept : All IsForActors mid.deferred = subst (λ (ms : List Msg). All IsForActors ms) (sym same) fits.kept in
         record {
           stood = h.stood;
           turn = turn_on fits.of;
-          lives = lives_stay t me x (Some m) prio f l f' l' r.commands first last w.applied;
+          lives = lives_stay t me x (Some m) prio f l f' l' r.outcome.effects.commands first last w.applied;
           fits = record {
             of = subst (λ (s : Occupant). IsOf x s) (sym w.occupant) (h.me x fits.of);
             tables = subst (λ (s : Occupant). HasTables o s) (sym w.occupant) h.fits;
-            kept = kept_ranks t me x (Some m) prio f l f' l' r.commands first last w.applied kept;
+            kept = kept_ranks t me x (Some m) prio f l f' l' r.outcome.effects.commands first last w.applied kept;
           };
-          back = back_ranks t me x (Some m) prio f l f' l' r.commands first last w.applied kept (All-nil IsForActors);
+          back = back_ranks t me x (Some m) prio f l f' l' r.outcome.effects.commands first last w.applied kept (All-nil IsForActors);
         }
 
   -- a start
   module _ (o : Option Tables) (old mid new : ActorSlot) (r : Beginning) (sent before : List Msg) (e : Entrance) (h : Begins x o r) (occupant : mid.occupant ≡ r.occupant) (same : mid.deferred ≡ old.deferred)
-      (w : Works t me f l f' l' x None r.commands mid new (record { messages = sent; notes = r.notes }) before e.output e.back) (state : e.state ≡ r.state) where
+      (w : Works t me f l f' l' x None r.effects.commands mid new (record { messages = sent; notes = r.effects.notes }) before e.output e.back) (state : e.state ≡ r.state) where
     start_on : (b : Body Actor) (notes : List Note) (held : Bool)
         → entered t me x (begins x o) (record { body = slot_body f l b x.slot.0 old; sent = sent; back = before; notes = notes; kept = held })
         ≡ record { body = slot_body f' l' b x.slot.0 new; sent = e.output.messages; back = e.back; notes = e.output.notes; kept = w.kept }
     start_on b notes held =
         ap (λ (a : Begun Actor). entered t me x a (record { body = slot_body f l b x.slot.0 old; sent = sent; back = before; notes = notes; kept = held })) h.began
-        ∙ applied_on b None r.commands old mid new (actor_of r.occupant) (record { messages = sent; notes = r.notes }) before e.output e.back
+        ∙ applied_on b None r.effects.commands old mid new (actor_of r.occupant) (record { messages = sent; notes = r.effects.notes }) before e.output e.back
         (ap actor_in occupant ∙ h.stands) same w
 
     pub starts : All IsForActors old.deferred → SlotBegins t me f l f' l' x o old new sent before e
     starts kept =
-        let first : Doing = record { deferred = mid.deferred; output = record { messages = sent; notes = r.notes }; back = before; kept = false } in
+        let first : Doing = record { deferred = mid.deferred; output = record { messages = sent; notes = r.effects.notes }; back = before; kept = false } in
         let last : Doing = record { deferred = new.deferred; output = e.output; back = e.back; kept = w.kept } in
         let now : new.occupant ≡ r.occupant = w.occupant ∙ occupant in
         record {
           kept = w.kept;
           doing = start_on;
-          lives = lives_stay t me x None tt f l f' l' r.commands first last w.applied;
+          lives = lives_stay t me x None tt f l f' l' r.effects.commands first last w.applied;
           state = state ∙ h.state ∙ ap (λ (a : Begun Actor). state_number a.machine) (sym h.began);
           fits = record {
             of = subst (λ (s : Occupant). IsOf x s) (sym now) h.me;
             tables = subst (λ (s : Occupant). HasTables o s) (sym now) h.fits;
-            kept = kept_ranks t me x None tt f l f' l' r.commands first last w.applied (subst (λ (ms : List Msg). All IsForActors ms) (sym same) kept);
+            kept = kept_ranks t me x None tt f l f' l' r.effects.commands first last w.applied (subst (λ (ms : List Msg). All IsForActors ms) (sym same) kept);
           };
         }
 
   -- an actor that comes up
   module _ (o : Option Tables) (old mid new : ActorSlot) (r : Beginning) (first : Output) (before : List Msg) (last : Output) (after : List Msg) (h : Begins x o r) (occupant : mid.occupant ≡ r.occupant) (none : mid.deferred ≡ [])
-      (told : List Note) (w : Works t me f l f' l' x None r.commands mid new (record { messages = first.messages; notes = told }) before last after)
-      (up : told ≡ first.notes ++ notes.Up x r.state ∷ r.notes) where
+      (told : List Note) (w : Works t me f l f' l' x None r.effects.commands mid new (record { messages = first.messages; notes = told }) before last after)
+      (up : told ≡ first.notes ++ notes.Up x r.state ∷ r.effects.notes) where
     -- a slot where another actor stands, and nothing is kept
     over : (b : Body Actor) (actor : Option Actor)
         → ◌≡◌ {A = Body Actor}
@@ -146,13 +146,13 @@ module _ (t : Wiring) (me : ℕ) (f : Frame) (l : Links) (f' : Frame) (l' : Link
     up_on b held =
         let state : notes.Up x (state_number (actor_of r.occupant)) ≡ notes.Up x r.state = ap (notes.Up x) (sym h.state) in
         ap (λ (a : Begun Actor). risen t me x a (record { body = slot_body f l b x.slot.0 old; sent = first.messages; back = before; notes = first.notes; kept = held })) h.began
-        ∙ ap (λ (c : Body Actor). apply_all t me x None r.commands (record { body = c; sent = first.messages; back = before; notes = first.notes ++ (notes.Up x (state_number (actor_of r.occupant)) ∷ r.notes); kept = false }))
+        ∙ ap (λ (c : Body Actor). apply_all t me x None r.effects.commands (record { body = c; sent = first.messages; back = before; notes = first.notes ++ (notes.Up x (state_number (actor_of r.occupant)) ∷ r.effects.notes); kept = false }))
         (over b (Some (actor_of r.occupant)))
-        ∙ ap (λ (n : Note). apply_all t me x None r.commands (record { body = record b { frame = f; links = l; machines = updated b.machines x.slot.0 (Some (actor_of r.occupant)); deferred = updated b.deferred x.slot.0 [] }; sent = first.messages; back = before; notes = first.notes ++ (n ∷ r.notes); kept = false })) state
-        ∙ ap (λ (ns : List Note). apply_all t me x None r.commands (record { body = record b { frame = f; links = l; machines = updated b.machines x.slot.0 (Some (actor_of r.occupant)); deferred = updated b.deferred x.slot.0 [] }; sent = first.messages; back = before; notes = ns; kept = false })) (sym up)
-        ∙ ap (λ (a : Option Actor). apply_all t me x None r.commands (record { body = record b { frame = f; links = l; machines = updated b.machines x.slot.0 a; deferred = updated b.deferred x.slot.0 [] }; sent = first.messages; back = before; notes = told; kept = false }))
+        ∙ ap (λ (n : Note). apply_all t me x None r.effects.commands (record { body = record b { frame = f; links = l; machines = updated b.machines x.slot.0 (Some (actor_of r.occupant)); deferred = updated b.deferred x.slot.0 [] }; sent = first.messages; back = before; notes = first.notes ++ (n ∷ r.effects.notes); kept = false })) state
+        ∙ ap (λ (ns : List Note). apply_all t me x None r.effects.commands (record { body = record b { frame = f; links = l; machines = updated b.machines x.slot.0 (Some (actor_of r.occupant)); deferred = updated b.deferred x.slot.0 [] }; sent = first.messages; back = before; notes = ns; kept = false })) (sym up)
+        ∙ ap (λ (a : Option Actor). apply_all t me x None r.effects.commands (record { body = record b { frame = f; links = l; machines = updated b.machines x.slot.0 a; deferred = updated b.deferred x.slot.0 [] }; sent = first.messages; back = before; notes = told; kept = false }))
         (sym (ap actor_in occupant ∙ h.stands))
-        ∙ ap (λ (ds : List Msg). apply_all t me x None r.commands (record { body = record b { frame = f; links = l; machines = updated b.machines x.slot.0 (actor_in mid.occupant); deferred = updated b.deferred x.slot.0 ds }; sent = first.messages; back = before; notes = told; kept = false })) (sym none)
+        ∙ ap (λ (ds : List Msg). apply_all t me x None r.effects.commands (record { body = record b { frame = f; links = l; machines = updated b.machines x.slot.0 (actor_in mid.occupant); deferred = updated b.deferred x.slot.0 ds }; sent = first.messages; back = before; notes = told; kept = false })) (sym none)
         ∙ w.applied.on (record b { machines = updated b.machines x.slot.0 (actor_in mid.occupant) })
         ∙ ap (λ (s : Occupant). record {
           body = record b { frame = f'; links = l'; machines = updated b.machines x.slot.0 (actor_in s); deferred = updated b.deferred x.slot.0 new.deferred };
@@ -171,13 +171,13 @@ module _ (t : Wiring) (me : ℕ) (f : Frame) (l : Links) (f' : Frame) (l' : Link
         record {
           kept = w.kept;
           doing = up_on;
-          lives = lives_stay t me x None tt f l f' l' r.commands from to w.applied;
+          lives = lives_stay t me x None tt f l f' l' r.effects.commands from to w.applied;
           fits = record {
             of = subst (λ (s : Occupant). IsOf x s) (sym now) h.me;
             tables = subst (λ (s : Occupant). HasTables o s) (sym now) h.fits;
-            kept = kept_ranks t me x None tt f l f' l' r.commands from to w.applied kept;
+            kept = kept_ranks t me x None tt f l f' l' r.effects.commands from to w.applied kept;
           };
-          back = λ all. back_ranks t me x None tt f l f' l' r.commands from to w.applied kept all;
+          back = λ all. back_ranks t me x None tt f l f' l' r.effects.commands from to w.applied kept all;
         }
 
 -- an actor whose class has no chart comes up
@@ -185,7 +185,7 @@ pub comes_up_without_chart : (t : Wiring) (me : ℕ) (f : Frame) (l : Links) (x 
     → new ≡ record { occupant = occupants.Chartless; deferred = [] } → last.messages ≡ first.messages → last.notes ≡ first.notes ++ notes.Up x 65535 ∷ []
     → SlotComesUp t me f l f l x None old new first before last before
 comes_up_without_chart t me f l x old new first last before now sent told =
-    let r : Beginning = record { occupant = occupants.Chartless; state = 65535; notes = []; commands = [] } in
+    let r : Beginning = record { occupant = occupants.Chartless; state = 65535; effects = record { notes = []; commands = [] } } in
     comes_up t me f l f l x None old new new r first before last before (chartless_begins x) (ap (λ (s : ActorSlot). s.occupant) now) (ap (λ (s : ActorSlot). s.deferred) now) last.notes
     (record {
       kept = false;

@@ -13,7 +13,8 @@ use crate::actor_commands::{
     DeferredMessages, Doing, Output, Recalled, Services, Speaker, apply_all,
 };
 use crate::actor_slots::occupant::{Beginning, NO_STATE, Occupant, Reaction};
-use chart_run::{Handling, Tables};
+use action_program::Effects;
+use chart_run::{Handling, Outcome, Tables};
 use controller_mail::TurnResult;
 use journal::Did;
 use room_kinds::{Commands, Incarnation, Msg, Note, Notes, Outbox};
@@ -238,12 +239,9 @@ impl ActorSlot {
             Ok(None) => return Ok(None),
             Err(refused) => return Err(refused),
         };
-        let Reaction {
-            came_to,
-            state,
-            notes,
-            commands,
-        } = reaction;
+        let Reaction { outcome, state } = reaction;
+        let Outcome { result, effects } = outcome;
+        let Effects { notes, commands } = effects;
         let mut doing = self.take_up(alloc, notes);
         apply_all(alloc, speaker, services, Some(m), commands, &mut doing)?;
         let Doing {
@@ -257,7 +255,7 @@ impl ActorSlot {
         Ok(Some(TurnResult {
             sent: messages,
             back: back.into_sequence(),
-            did: did_of(came_to, speaker.who, state),
+            did: did_of(result, speaker.who, state),
             notes,
         }))
     }
@@ -290,9 +288,9 @@ impl ActorSlot {
         let Beginning {
             occupant,
             state,
-            notes,
-            commands,
+            effects,
         } = beginning;
+        let Effects { notes, commands } = effects;
         self.occupant = occupant;
         let mut output = Output {
             messages: sent,
@@ -334,9 +332,9 @@ impl ActorSlot {
         let Beginning {
             occupant,
             state,
-            notes,
-            commands,
+            effects,
         } = beginning;
+        let Effects { notes, commands } = effects;
         self.occupant = occupant;
         self.deferred = DeferredMessages::new(alloc);
         tell_up(&mut output.notes, speaker.who, state, notes.as_slice())?;

@@ -20,17 +20,17 @@ returns-clause-turns g c =
     let o = option_copied c.args.tables in
     let r = c.in-Ok-Some.reaction in
     let all = c.apply_all.new.doing in
-    let first : Doing = record { deferred = c.args.self.now.deferred; output = record { messages = []; notes = r.notes }; back = []; kept = false } in
+    let first : Doing = record { deferred = c.args.self.now.deferred; output = record { messages = []; notes = r.outcome.effects.notes }; back = []; kept = false } in
     let mid : ActorSlot = record { occupant = c.react.new.self; deferred = c.args.self.now.deferred } in
     let new : ActorSlot = record { occupant = c.take_up-doing.new.self.occupant; deferred = all.deferred } in
     let done : TurnResult = record { sent = all.output.messages; back = c.into_sequence.result; did = c.did_of.result; notes = all.output.notes } in
     let h : Reacts c.args.m o c.args.self.now.occupant c.react.new.self r = rw c.in-Ok-Some.field-0-is at c.in-Ok-Some.ensures in
-    let applied : AppliesAll t s.me.0 f l f2 l2 s.who (Some c.args.m) r.commands first all =
-    subst (λ (d : Doing). AppliesAll t s.me.0 f l f2 l2 s.who (Some c.args.m) r.commands d all) c.take_up-doing.ensures.doing (c.in_ok-apply_all.ensures.applied (Some c.args.m) (λ _. refl)) in
+    let applied : AppliesAll t s.me.0 f l f2 l2 s.who (Some c.args.m) r.outcome.effects.commands first all =
+    subst (λ (d : Doing). AppliesAll t s.me.0 f l f2 l2 s.who (Some c.args.m) r.outcome.effects.commands d all) c.take_up-doing.ensures.doing (c.in_ok-apply_all.ensures.applied (Some c.args.m) (λ _. refl)) in
     turns t s.me.0 f l f2 l2 s.who c.args.m o c.args.self.now mid new r done h refl
     (record {
       kept = all.kept;
       occupant = c.take_up-doing.ensures.occupant;
-      applied = subst (λ (back : List Msg). AppliesAll t s.me.0 f l f2 l2 s.who (Some c.args.m) r.commands first (record { deferred = all.deferred; output = all.output; back = back; kept = all.kept })) (sym c.into_sequence.ensures) applied;
+      applied = subst (λ (back : List Msg). AppliesAll t s.me.0 f l f2 l2 s.who (Some c.args.m) r.outcome.effects.commands first (record { deferred = all.deferred; output = all.output; back = back; kept = all.kept })) (sym c.into_sequence.ensures) applied;
     })
     c.did_of.ensures c.requires.fits c.requires.prio
