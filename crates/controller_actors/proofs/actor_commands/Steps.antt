@@ -43,18 +43,18 @@ nothing_left (c ∷ cs) none = absurd (omega (arith, none))
 
 -- a step that takes nothing back from what is kept
 pub keeps_here : (k : Kept) (old : Doing) (deferred : List Msg) (told : List Note) → KeptStep k deferred [] [] old.output.notes told
-    → Keeps k true old (record { deferred = deferred; output = record { messages = old.output.messages; notes = told }; back = old.back; kept = true })
+    → Keeps k true old (record { deferred = deferred; output = record { messages = old.output.messages; notes = told; back = old.output.back }; kept = true })
 keeps_here k old deferred told h = record {
   deferred = h.deferred;
   messages = refl;
   notes = h.notes;
-  back = ap (λ (ms : List Msg). ms ++ old.back) (h.back ∙ append-nil k.back);
+  back = ap (λ (ms : List Msg). ms ++ old.output.back) (h.back ∙ append-nil k.back);
   kept = refl;
 }
 
 -- a step by which messages may come back
-pub keeps_back : (k : Kept) (old : Doing) (deferred back : List Msg) (told : List Note) → KeptStep k deferred old.back back old.output.notes told
-    → Keeps k old.kept old (record { deferred = deferred; output = record { messages = old.output.messages; notes = told }; back = back; kept = old.kept })
+pub keeps_back : (k : Kept) (old : Doing) (deferred back : List Msg) (told : List Note) → KeptStep k deferred old.output.back back old.output.notes told
+    → Keeps k old.kept old (record { deferred = deferred; output = record { messages = old.output.messages; notes = told; back = back }; kept = old.kept })
 keeps_back k old deferred back told h = record { deferred = h.deferred; messages = refl; notes = h.notes; back = h.back; kept = refl }
 
 -- equal parts make equal states
@@ -68,8 +68,8 @@ same_doing f l b p q r s u = cc
 -- the same, with another state of the services and more messages
 same_asked : (b : Body Actor) (s : ℕ) (old : Doing) {f f' : Frame} {l l' : Links} {sent sent' : List Msg} → f ≡ f' → l ≡ l' → sent ≡ sent'
     → ◌≡◌ {A = WorldDoing Actor}
-    (record { body = record b { frame = f; links = l; deferred = updated b.deferred s old.deferred }; sent = sent; back = old.back; notes = old.output.notes; kept = old.kept })
-    (record { body = record b { frame = f'; links = l'; deferred = updated b.deferred s old.deferred }; sent = sent'; back = old.back; notes = old.output.notes; kept = old.kept })
+    (record { body = record b { frame = f; links = l; deferred = updated b.deferred s old.deferred }; sent = sent; back = old.output.back; notes = old.output.notes; kept = old.kept })
+    (record { body = record b { frame = f'; links = l'; deferred = updated b.deferred s old.deferred }; sent = sent'; back = old.output.back; notes = old.output.notes; kept = old.kept })
 same_asked b s old p q r = cc
 
 module _ (t : Tables) (me : ℕ) (f : Frame) (l : Links) (x : Incarnation) (m : Option Msg) where
@@ -109,7 +109,7 @@ module _ (t : Tables) (me : ℕ) (f : Frame) (l : Links) (x : Incarnation) (m : 
 
   sending_on : (b : Body Actor) (s : Sent) (old : Doing) (output : Output) → Adds s old.output output
       → sending (doing_on f l b x.slot.0 old) s ≡ doing_on f l b x.slot.0 (record old { output = output })
-  sending_on b s old output h = same_doing f l b refl (sym h.messages) refl (sym h.notes) refl
+  sending_on b s old output h = same_doing f l b refl (sym h.messages) (sym h.back) (sym h.notes) refl
 
   sends : (p : ℕ) (k : Option ℤ) (signal : ℕ) (payload : List ℤ) (prio : Priority) (old : Doing) (output : Output)
       → Adds (sent_at t me f l x p k (record { signal = signal; payload = payload; prio = prio })) old.output output
@@ -120,7 +120,7 @@ module _ (t : Tables) (me : ℕ) (f : Frame) (l : Links) (x : Incarnation) (m : 
   -- ---- what is asked of the frame service
 
   asks_frame : (c : FrameCommand) (f' : Frame) (l' : Links) (old : Doing) (out : List Msg) → FrameAsked t me x c f l f' l' old.output.messages out
-      → Applies t me f l f' l' x m (commands.Frame c) old (record old { output = record { messages = out; notes = old.output.notes } })
+      → Applies t me f l f' l' x m (commands.Frame c) old (record old { output = record { messages = out; notes = old.output.notes; back = old.output.back } })
   asks_frame c f' l' old out h = record {
     on = λ b. same_asked b x.slot.0 old (sym h.frame) (sym h.links) (sym h.sent);
   }
@@ -128,7 +128,7 @@ module _ (t : Tables) (me : ℕ) (f : Frame) (l : Links) (x : Incarnation) (m : 
   -- ---- what is asked of the layer service
 
   asks_name : (c : NameCommand) (f' : Frame) (l' : Links) (old : Doing) (out : List Msg) → NameAsked t me x c f l f' l' old.output.messages out
-      → Applies t me f l f' l' x m (commands.Name c) old (record old { output = record { messages = out; notes = old.output.notes } })
+      → Applies t me f l f' l' x m (commands.Name c) old (record old { output = record { messages = out; notes = old.output.notes; back = old.output.back } })
   asks_name c f' l' old out h = record {
     on = λ b. same_asked b x.slot.0 old (sym h.frame) (sym h.links) (sym h.sent);
   }
@@ -160,11 +160,11 @@ module _ (t : Tables) (me : ℕ) (f : Frame) (l : Links) (x : Incarnation) where
   sends_now p k signal payload prio hand old output h = record { on = λ m i. sends t me f l x m p k signal payload prio old output h; left = λ m i. i }
 
   pub asks_frame_now : (c : FrameCommand) (f' : Frame) (l' : Links) (hand : Option Msg) (old : Doing) (out : List Msg) → FrameAsked t me x c f l f' l' old.output.messages out
-      → AppliesNow t me f l f' l' x (commands.Frame c) hand old hand (record old { output = record { messages = out; notes = old.output.notes } })
+      → AppliesNow t me f l f' l' x (commands.Frame c) hand old hand (record old { output = record { messages = out; notes = old.output.notes; back = old.output.back } })
   asks_frame_now c f' l' hand old out h = record { on = λ m i. asks_frame t me f l x m c f' l' old out h; left = λ m i. i }
 
   pub asks_name_now : (c : NameCommand) (f' : Frame) (l' : Links) (hand : Option Msg) (old : Doing) (out : List Msg) → NameAsked t me x c f l f' l' old.output.messages out
-      → AppliesNow t me f l f' l' x (commands.Name c) hand old hand (record old { output = record { messages = out; notes = old.output.notes } })
+      → AppliesNow t me f l f' l' x (commands.Name c) hand old hand (record old { output = record { messages = out; notes = old.output.notes; back = old.output.back } })
   asks_name_now c f' l' hand old out h = record { on = λ m i. asks_name t me f l x m c f' l' old out h; left = λ m i. i }
 
   -- ---- one after another

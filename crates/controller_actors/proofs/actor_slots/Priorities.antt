@@ -90,7 +90,7 @@ module _ (t : Tables) (me : ℕ) (x : Incarnation) (m : Option Msg) (hand : InHa
         (all_deferred_keep cs (doing_on f l (some_body f l) x.slot.0 old) (written (λ s. []) old.deferred h))
 
     -- what comes back
-    pub back_ranks : All IsForActors old.deferred → All IsForActors old.back → All IsForActors new.back
+    pub back_ranks : All IsForActors old.deferred → All IsForActors old.output.back → All IsForActors new.output.back
     back_ranks h b =
         subst (λ ms. All IsForActors ms) (ap (λ (d : Doing Actor). d.back) (applied.on (some_body f l)))
         (all_back_keep cs (doing_on f l (some_body f l) x.slot.0 old) (written (λ s. []) old.deferred h) b)

@@ -16,7 +16,7 @@ abbrev pub doing_on : Frame → Links → Body Actor → ℕ → Doing → World
 doing_on f l b slot d = record {
   body = record b { frame = f; links = l; deferred = updated b.deferred slot d.deferred };
   sent = d.output.messages;
-  back = d.back;
+  back = d.output.back;
   notes = d.output.notes;
   kept = d.kept;
 }
@@ -32,7 +32,7 @@ pub record Keeps (k : Kept) (held : Bool) (old new : Doing) : Type 0 where
   pub deferred : new.deferred ≡ k.deferred
   pub messages : new.output.messages ≡ old.output.messages
   pub notes : new.output.notes ≡ old.output.notes ++ k.notes
-  pub back : new.back ≡ k.back ++ old.back
+  pub back : new.output.back ≡ k.back ++ old.output.back
   pub kept : new.kept ≡ held
 
 -- one command is applied, whatever else the body has: from this state of the services to that

@@ -4,7 +4,7 @@ ghost use Rattle.actor_duties.specs.Commands.{defer, recall, recall_all};
 ghost use Rattle.controller_actors.specs.actor_commands.Doings.{Keeps};
 
 use crate::actor_commands::command_sends::Output;
-use crate::actor_commands::deferred_messages::{DeferredMessages, Recalled};
+use crate::actor_commands::deferred_messages::DeferredMessages;
 use room_kinds::Msg;
 use std::alloc::AllocError;
 
@@ -15,10 +15,8 @@ use std::alloc::AllocError;
 pub struct Doing {
     /// The messages that the actor keeps for later.
     pub deferred: DeferredMessages,
-    /// The messages for the outbox, and the notes.
+    /// What is put out: messages for the outbox, notes, and messages that come back.
     pub output: Output,
-    /// The messages that come back, first the one that will be in front.
-    pub back: Recalled,
     /// Whether the message in hand is kept.
     pub kept: bool,
 }
@@ -43,7 +41,7 @@ impl Doing {
         ensures { OnOk result (Keeps (recall self.old.deferred) self.old.kept self.old self.new) }
     {
         self.deferred
-            .recall(&mut self.back, &mut self.output.notes)?;
+            .recall(&mut self.output.back, &mut self.output.notes)?;
         Ok(())
     }
 
@@ -54,7 +52,7 @@ impl Doing {
             self.new) }
     {
         self.deferred
-            .recall_all(&mut self.back, &mut self.output.notes)?;
+            .recall_all(&mut self.output.back, &mut self.output.notes)?;
         Ok(())
     }
 }

@@ -28,15 +28,6 @@ pub struct ActorSlot {
     pub deferred: DeferredMessages,
 }
 
-/// What came of an actor's start: what was sent so far, with the notes of this start alone, what came back
-/// so far, and the number of the actor's state.
-#[derive(Drop)]
-pub struct Entrance {
-    pub output: Output,
-    pub back: Recalled,
-    pub state: u16,
-}
-
 /// What a journal says of a message that an actor handled.
 fn did_of(came_to: Handling, who: Incarnation, state: u16) -> Did
     ensures { result ≡ handled_as (handling_of (result_view came_to)) who state }
@@ -45,16 +36,6 @@ fn did_of(came_to: Handling, who: Incarnation, state: u16) -> Did
         Handling::Handled => Did::Handled { who, state },
         Handling::Deferred => Did::Deferred { who, state },
         Handling::Unhandled => Did::Unhandled { who, state },
-    }
-}
-
-/// Nothing is sent, and nothing is told. It takes no memory.
-fn nothing_put_out(alloc: Global) -> Output
-    ensures { result ≡ record { messages = []; notes = [] } }
-{
-    Output {
-        messages: Outbox::new(alloc),
-        notes: Notes::new(alloc),
     }
 }
 
@@ -112,7 +93,7 @@ impl ActorSlot {
     }
 
     /// The commands of an actor that begins, which handles no message, are applied in order, on top of
-    /// what was put out and what came back before. Most actors have none then, and nothing is moved.
+    /// what was put out before. Most actors have none then, and nothing is moved.
     fn work<S: Services>(
         &mut self,
         alloc: Global,
@@ -120,7 +101,6 @@ impl ActorSlot {
         services: &mut S,
         commands: Commands,
         output: &mut Output,
-        back: &mut Recalled,
     ) -> Result<(), AllocError>
         requires serves { S.serves speaker.now.wiring.now speaker.now.me.0 services.old }
         requires there { speaker.now.who.slot.0 < length speaker.now.wiring.now.slots }
@@ -131,13 +111,12 @@ impl ActorSlot {
             (S.links_of services.old)
             (S.frame_of services.new)
             (S.links_of services.new)
-            speaker.now.who None commands self.old self.new output.old back.old output.new
-            back.new) }
+            speaker.now.who None commands self.old self.new output.old output.new) }
     {
         if commands.is_empty() {
             return Ok(());
         }
-        self.work_through(alloc, speaker, services, commands, output, back)?;
+        self.work_through(alloc, speaker, services, commands, output)?;
         Ok(())
     }
 
@@ -150,7 +129,6 @@ impl ActorSlot {
         services: &mut S,
         commands: Commands,
         output: &mut Output,
-        back: &mut Recalled,
     ) -> Result<(), AllocError>
         requires serves { S.serves speaker.now.wiring.now speaker.now.me.0 services.old }
         requires there { speaker.now.who.slot.0 < length speaker.now.wiring.now.slots }
@@ -161,25 +139,21 @@ impl ActorSlot {
             (S.links_of services.old)
             (S.frame_of services.new)
             (S.links_of services.new)
-            speaker.now.who None commands self.old self.new output.old back.old output.new
-            back.new) }
+            speaker.now.who None commands self.old self.new output.old output.new) }
     {
         let mut doing = Doing {
             deferred: mem::replace(&mut self.deferred, DeferredMessages::new(alloc)),
-            output: mem::replace(output, nothing_put_out(alloc)),
-            back: mem::replace(back, Recalled::new(alloc)),
+            output: mem::replace(output, Output::new(alloc)),
             kept: false,
         };
         apply_all(alloc, speaker, services, None, commands, &mut doing)?;
         let Doing {
             deferred,
             output: told,
-            back: all_back,
             kept: _,
         } = doing;
         self.deferred = deferred;
         *output = told;
-        *back = all_back;
         Ok(())
     }
 
@@ -188,8 +162,7 @@ impl ActorSlot {
         ensures doing { result
             ≡ record {
               deferred = self.old.deferred;
-              output = record { messages = []; notes = notes };
-              back = [];
+              output = record { messages = []; notes = notes; back = [] };
               kept = false;
             } }
         ensures occupant { self.new.occupant ≡ self.old.occupant }
@@ -199,8 +172,8 @@ impl ActorSlot {
             output: Output {
                 messages: Outbox::new(alloc),
                 notes,
+                back: Recalled::new(alloc),
             },
-            back: Recalled::new(alloc),
             kept: false,
         }
     }
@@ -247,42 +220,37 @@ impl ActorSlot {
         let Doing {
             deferred,
             output,
-            back,
             kept: _,
         } = doing;
         self.deferred = deferred;
-        let Output { messages, notes } = output;
-        Ok(Some(TurnResult {
-            sent: messages,
-            back: back.into_sequence(),
-            did: did_of(result, speaker.who, state),
-            notes,
-        }))
+        let did = did_of(result, speaker.who, state);
+        Ok(Some(output.into_turn_result(did)))
     }
 
-    /// The actor of a slot begins, and its commands are applied, where so much was sent and came back
-    /// before. After want of memory the slot is unspecified: the controller has failed.
+    /// The actor of a slot begins, and its commands are applied, on top of what was sent and came back
+    /// before; the notes are those of this start alone. It answers the number of the actor's state. After
+    /// want of memory the slot, and what was put out, is unspecified: the controller has failed.
     pub fn begin<S: Services>(
         &mut self,
         alloc: Global,
         speaker: &Speaker<'_>,
         services: &mut S,
         tables: Option<&Tables>,
-        sent: Outbox,
-        back: Recalled,
-    ) -> Result<Entrance, AllocError>
+        output: &mut Output,
+    ) -> Result<u16, AllocError>
         requires sound { AreSound (option_copied tables) }
         requires kept { All IsForActors self.old.deferred }
         requires serves { S.serves speaker.now.wiring.now speaker.now.me.0 services.old }
         requires there { speaker.now.who.slot.0 < length speaker.now.wiring.now.slots }
         ensures serves { OnOk result (S.serves speaker.now.wiring.now speaker.now.me.0
             services.new) }
-        ensures begins { IfOk result (λ e.
+        ensures begins { IfOk result (λ state.
             SlotBegins speaker.now.wiring.now speaker.now.me.0 (S.frame_of services.old)
             (S.links_of services.old)
             (S.frame_of services.new)
             (S.links_of services.new)
-            speaker.now.who (option_copied tables.entry) self.old self.new sent back e) }
+            speaker.now.who (option_copied tables.entry) self.old self.new output.old output.new
+            state) }
     {
         let beginning = Occupant::begin(alloc, tables, speaker.who)?;
         let Beginning {
@@ -292,17 +260,9 @@ impl ActorSlot {
         } = beginning;
         let Effects { notes, commands } = effects;
         self.occupant = occupant;
-        let mut output = Output {
-            messages: sent,
-            notes,
-        };
-        let mut back = back;
-        self.work(alloc, speaker, services, commands, &mut output, &mut back)?;
-        Ok(Entrance {
-            output,
-            back,
-            state,
-        })
+        output.notes = notes;
+        self.work(alloc, speaker, services, commands, output)?;
+        Ok(state)
     }
 
     /// The same, whether or not the actor's class has a chart.
@@ -313,7 +273,6 @@ impl ActorSlot {
         services: &mut S,
         tables: Option<&Tables>,
         output: &mut Output,
-        back: &mut Recalled,
     ) -> Result<(), AllocError>
         requires sound { AreSound (option_copied tables) }
         requires serves { S.serves speaker.now.wiring.now speaker.now.me.0 services.old }
@@ -325,8 +284,8 @@ impl ActorSlot {
             (S.links_of services.old)
             (S.frame_of services.new)
             (S.links_of services.new)
-            speaker.now.who (option_copied tables.entry) self.old self.new output.old back.old
-            output.new back.new) }
+            speaker.now.who (option_copied tables.entry) self.old self.new output.old
+            output.new) }
     {
         let beginning = Occupant::begin(alloc, tables, speaker.who)?;
         let Beginning {
@@ -338,14 +297,13 @@ impl ActorSlot {
         self.occupant = occupant;
         self.deferred = DeferredMessages::new(alloc);
         tell_up(&mut output.notes, speaker.who, state, notes.as_slice())?;
-        self.work(alloc, speaker, services, commands, output, back)?;
+        self.work(alloc, speaker, services, commands, output)?;
         Ok(())
     }
 
     /// The actor of a slot comes up: it begins with nothing kept for later, its note `up` tells its
-    /// state, and its commands are applied, on top of what was put out and what came back before. After
-    /// want of memory the slot, and what was put out and came back, is unspecified: the controller has
-    /// failed.
+    /// state, and its commands are applied, on top of what was put out before. After want of memory the
+    /// slot, and what was put out, is unspecified: the controller has failed.
     pub fn come_up<S: Services>(
         &mut self,
         alloc: Global,
@@ -353,7 +311,6 @@ impl ActorSlot {
         services: &mut S,
         tables: Option<&Tables>,
         output: &mut Output,
-        back: &mut Recalled,
     ) -> Result<(), AllocError>
         requires sound { AreSound (option_copied tables) }
         requires serves { S.serves speaker.now.wiring.now speaker.now.me.0 services.old }
@@ -365,12 +322,12 @@ impl ActorSlot {
             (S.links_of services.old)
             (S.frame_of services.new)
             (S.links_of services.new)
-            speaker.now.who (option_copied tables.entry) self.old self.new output.old back.old
-            output.new back.new) }
+            speaker.now.who (option_copied tables.entry) self.old self.new output.old
+            output.new) }
     {
         match tables {
             Some(_) => {
-                self.come_up_by(alloc, speaker, services, tables, output, back)?;
+                self.come_up_by(alloc, speaker, services, tables, output)?;
                 Ok(())
             }
             None => {
