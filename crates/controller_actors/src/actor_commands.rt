@@ -5,9 +5,7 @@
 pub mod command_sends;
 mod commands;
 pub mod deferred_messages;
-mod doing;
 
 pub use command_sends::{Output, Services, Speaker};
 pub use commands::apply_all;
 pub use deferred_messages::{DeferredMessages, Recalled};
-pub use doing::Doing;

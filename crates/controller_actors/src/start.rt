@@ -111,7 +111,7 @@ pub(crate) fn start(alloc: Global, plant: &Plant, me: ControllerId) -> Result<Be
             table: NameService::new(alloc),
             slots,
         },
-        output: Output::new(alloc),
+        output: Output::new(alloc, Notes::new(alloc)),
         entries: Journal::new(alloc),
     };
     starting.start_all(plant, me)?;

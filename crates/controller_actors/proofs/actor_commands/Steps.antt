@@ -22,8 +22,7 @@ use Rattle.controller_actors.specs.declared.actor_commands.command_sends.output.
 use Rattle.controller_actors.specs.actor_commands.command_sends.Adding.{Adds}
 use Rattle.controller_actors.specs.actor_commands.command_sends.Asking.{FrameAsked, NameAsked}
 use Rattle.controller_actors.specs.actor_commands.deferred_messages.Steps.{Applies as KeptStep}
-use Rattle.controller_actors.specs.declared.actor_commands.doing.Doing.{Doing}
-use Rattle.controller_actors.specs.actor_commands.Doings.{doing_on, sent_at, Keeps, Applies, AppliesAll, AppliesNow, IsInHand}
+use Rattle.controller_actors.specs.actor_commands.Doings.{Doing, doing_on, sent_at, Keeps, Applies, AppliesAll, AppliesNow, IsInHand}
 
 -- ---- functions that are updated twice
 
@@ -153,6 +152,23 @@ module _ (t : Tables) (me : ℕ) (f : Frame) (l : Links) (x : Incarnation) where
 
   pub recalls_all_now : (hand : Option Msg) (old new : Doing) → Keeps (recall_all old.deferred) old.kept old new → AppliesNow t me f l f l x commands.RecallAll hand old hand new
   recalls_all_now hand old new h = record { on = λ m i. recalls_all t me f l x m old new h; left = λ m i e. i (sym h.kept ∙ e) }
+
+  -- the same, by what they do to the messages that are kept
+  pub recalls_here : (hand : Option Msg) (deferred deferred' back : List Msg) (told : List Note) (old : Output) (kept : Bool) → KeptStep (recall deferred) deferred' old.back back old.notes told
+      → AppliesNow t me f l f l x commands.Recall hand (record { deferred = deferred; output = old; kept = kept }) hand
+      (record { deferred = deferred'; output = record { messages = old.messages; notes = told; back = back }; kept = kept })
+  recalls_here hand deferred deferred' back told old kept h =
+      let from : Doing = record { deferred = deferred; output = old; kept = kept } in
+      recalls_now hand from (record { deferred = deferred'; output = record { messages = old.messages; notes = told; back = back }; kept = kept })
+      (keeps_back (recall deferred) from deferred' back told h)
+
+  pub recalls_all_here : (hand : Option Msg) (deferred deferred' back : List Msg) (told : List Note) (old : Output) (kept : Bool) → KeptStep (recall_all deferred) deferred' old.back back old.notes told
+      → AppliesNow t me f l f l x commands.RecallAll hand (record { deferred = deferred; output = old; kept = kept }) hand
+      (record { deferred = deferred'; output = record { messages = old.messages; notes = told; back = back }; kept = kept })
+  recalls_all_here hand deferred deferred' back told old kept h =
+      let from : Doing = record { deferred = deferred; output = old; kept = kept } in
+      recalls_all_now hand from (record { deferred = deferred'; output = record { messages = old.messages; notes = told; back = back }; kept = kept })
+      (keeps_back (recall_all deferred) from deferred' back told h)
 
   pub sends_now : (p : ℕ) (k : Option ℤ) (signal : ℕ) (payload : List ℤ) (prio : Priority) (hand : Option Msg) (old : Doing) (output : Output)
       → Adds (sent_at t me f l x p k (record { signal = signal; payload = payload; prio = prio })) old.output output

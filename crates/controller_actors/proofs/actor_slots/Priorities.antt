@@ -15,8 +15,7 @@ use Rattle.actor_world.proofs.Notes.{apply_all_keeps}
 use Rattle.chart_behaviour.specs.ModelCharts.{Actor}
 use Rattle.controller_mail.specs.MailState.{IsForActors}
 use Rattle.frame_lives.proofs.Rows.{updated_here}
-use Rattle.controller_actors.specs.declared.actor_commands.doing.Doing.{Doing as CodeDoing}
-use Rattle.controller_actors.specs.actor_commands.Doings.{doing_on, AppliesAll}
+use Rattle.controller_actors.specs.actor_commands.Doings.{Doing as CodeDoing, doing_on, AppliesAll}
 
 -- the message in hand, if there is one
 abbrev pub InHand : Option Msg → Type 0

@@ -19,8 +19,7 @@ use Rattle.chart_behaviour.specs.ModelCharts.{Actor, begins, handles, handling_o
 use Rattle.controller_actors.specs.declared.actor_commands.command_sends.output.Output.{Output}
 use Rattle.controller_mail.specs.MailState.{IsForActors}
 use Rattle.controller_mail.specs.declared.mail_queues.TurnResult.{TurnResult}
-use Rattle.controller_actors.specs.declared.actor_commands.doing.Doing.{Doing}
-use Rattle.controller_actors.specs.actor_commands.Doings.{doing_on}
+use Rattle.controller_actors.specs.actor_commands.Doings.{Doing, doing_on}
 use Rattle.controller_actors.proofs.actor_commands.Steps.{updated_twice}
 use Rattle.controller_actors.specs.declared.actor_slots.occupant.Occupant.{Occupant}
 use Rattle.controller_actors.specs.declared.actor_slots.occupant.Occupant.TheVariants as occupants
@@ -52,19 +51,19 @@ module _ (t : Wiring) (me : ℕ) (f : Frame) (l : Links) (f' : Frame) (l' : Link
         notes = first.notes;
         kept = false;
       })
-      ≡ record { body = slot_body f' l' b x.slot.0 new; sent = last.messages; back = last.back; notes = last.notes; kept = w.kept }
+      ≡ record { body = slot_body f' l' b x.slot.0 new; sent = last.messages; back = last.back; notes = last.notes; kept = w.applied.kept }
   applied_on b m cs old mid new actor first last stands same w =
       let now = actor_in mid.occupant in
       ap (apply_all t me x m cs)
       (machines_on b old now _ (updated_twice b.machines x.slot.0 (actor_in old.occupant) (Some actor) ∙ ap (updated b.machines x.slot.0) (sym stands)) first.messages first.back first.notes false)
       ∙ ap (λ (ds : List Msg). apply_all t me x m cs (doing_on f l (record b { machines = updated b.machines x.slot.0 now }) x.slot.0 (record { deferred = ds; output = first; kept = false }))) (sym same)
-      ∙ w.applied.on (record b { machines = updated b.machines x.slot.0 now })
+      ∙ w.applied.all.on (record b { machines = updated b.machines x.slot.0 now })
       ∙ ap (λ (s : Occupant). record {
         body = record b { frame = f'; links = l'; machines = updated b.machines x.slot.0 (actor_in s); deferred = updated b.deferred x.slot.0 new.deferred };
         sent = last.messages;
         back = last.back;
         notes = last.notes;
-        kept = w.kept;
+        kept = w.applied.kept;
       }) (sym w.occupant)
 
   -- a message
@@ -84,18 +83,18 @@ module _ (t : Wiring) (me : ℕ) (f : Frame) (l : Links) (f' : Frame) (l' : Link
     pub turns : SlotFits x o old → IsForActors m → SlotTurns t me f l f' l' x m o old new done
     turns fits prio =
         let first : Doing = record { deferred = mid.deferred; output = record { messages = []; notes = r.outcome.effects.notes; back = [] }; kept = false } in
-        let last : Doing = record { deferred = new.deferred; output = record { messages = done.sent; notes = done.notes; back = done.back }; kept = w.kept } in
+        let last : Doing = record { deferred = new.deferred; output = record { messages = done.sent; notes = done.notes; back = done.back }; kept = w.applied.kept } in
         let kept : All IsForActors mid.deferred = subst (λ (ms : List Msg). All IsForActors ms) (sym same) fits.kept in
         record {
           stood = h.stood;
           turn = turn_on fits.of;
-          lives = lives_stay t me x (Some m) prio f l f' l' r.outcome.effects.commands first last w.applied;
+          lives = lives_stay t me x (Some m) prio f l f' l' r.outcome.effects.commands first last w.applied.all;
           fits = record {
             of = subst (λ (s : Occupant). IsOf x s) (sym w.occupant) (h.me x fits.of);
             tables = subst (λ (s : Occupant). HasTables o s) (sym w.occupant) h.fits;
-            kept = kept_ranks t me x (Some m) prio f l f' l' r.outcome.effects.commands first last w.applied kept;
+            kept = kept_ranks t me x (Some m) prio f l f' l' r.outcome.effects.commands first last w.applied.all kept;
           };
-          back = back_ranks t me x (Some m) prio f l f' l' r.outcome.effects.commands first last w.applied kept (All-nil IsForActors);
+          back = back_ranks t me x (Some m) prio f l f' l' r.outcome.effects.commands first last w.applied.all kept (All-nil IsForActors);
         }
 
   -- a start
@@ -103,7 +102,7 @@ module _ (t : Wiring) (me : ℕ) (f : Frame) (l : Links) (f' : Frame) (l' : Link
       (w : Works t me f l f' l' x None r.effects.commands mid new (record { messages = first.messages; notes = r.effects.notes; back = first.back }) last) where
     start_on : (b : Body Actor) (notes : List Note) (held : Bool)
         → entered t me x (begins x o) (record { body = slot_body f l b x.slot.0 old; sent = first.messages; back = first.back; notes = notes; kept = held })
-        ≡ record { body = slot_body f' l' b x.slot.0 new; sent = last.messages; back = last.back; notes = last.notes; kept = w.kept }
+        ≡ record { body = slot_body f' l' b x.slot.0 new; sent = last.messages; back = last.back; notes = last.notes; kept = w.applied.kept }
     start_on b notes held =
         ap (λ (a : Begun Actor). entered t me x a (record { body = slot_body f l b x.slot.0 old; sent = first.messages; back = first.back; notes = notes; kept = held })) h.began
         ∙ applied_on b None r.effects.commands old mid new (actor_of r.occupant) (record { messages = first.messages; notes = r.effects.notes; back = first.back }) last
@@ -112,17 +111,17 @@ module _ (t : Wiring) (me : ℕ) (f : Frame) (l : Links) (f' : Frame) (l' : Link
     pub starts : All IsForActors old.deferred → SlotBegins t me f l f' l' x o old new first last r.state
     starts kept =
         let from : Doing = record { deferred = mid.deferred; output = record { messages = first.messages; notes = r.effects.notes; back = first.back }; kept = false } in
-        let to : Doing = record { deferred = new.deferred; output = last; kept = w.kept } in
+        let to : Doing = record { deferred = new.deferred; output = last; kept = w.applied.kept } in
         let now : new.occupant ≡ r.occupant = w.occupant ∙ occupant in
         record {
-          kept = w.kept;
+          kept = w.applied.kept;
           doing = start_on;
-          lives = lives_stay t me x None tt f l f' l' r.effects.commands from to w.applied;
+          lives = lives_stay t me x None tt f l f' l' r.effects.commands from to w.applied.all;
           state = h.state ∙ ap (λ (a : Begun Actor). state_number a.machine) (sym h.began);
           fits = record {
             of = subst (λ (s : Occupant). IsOf x s) (sym now) h.me;
             tables = subst (λ (s : Occupant). HasTables o s) (sym now) h.fits;
-            kept = kept_ranks t me x None tt f l f' l' r.effects.commands from to w.applied (subst (λ (ms : List Msg). All IsForActors ms) (sym same) kept);
+            kept = kept_ranks t me x None tt f l f' l' r.effects.commands from to w.applied.all (subst (λ (ms : List Msg). All IsForActors ms) (sym same) kept);
           };
         }
 
@@ -141,7 +140,7 @@ module _ (t : Wiring) (me : ℕ) (f : Frame) (l : Links) (f' : Frame) (l' : Link
 
     up_on : (b : Body Actor) (held : Bool)
         → risen t me x (begins x o) (record { body = slot_body f l b x.slot.0 old; sent = first.messages; back = first.back; notes = first.notes; kept = held })
-        ≡ record { body = slot_body f' l' b x.slot.0 new; sent = last.messages; back = last.back; notes = last.notes; kept = w.kept }
+        ≡ record { body = slot_body f' l' b x.slot.0 new; sent = last.messages; back = last.back; notes = last.notes; kept = w.applied.kept }
     up_on b held =
         let state : notes.Up x (state_number (actor_of r.occupant)) ≡ notes.Up x r.state = ap (notes.Up x) (sym h.state) in
         ap (λ (a : Begun Actor). risen t me x a (record { body = slot_body f l b x.slot.0 old; sent = first.messages; back = first.back; notes = first.notes; kept = held })) h.began
@@ -152,31 +151,31 @@ module _ (t : Wiring) (me : ℕ) (f : Frame) (l : Links) (f' : Frame) (l' : Link
         ∙ ap (λ (a : Option Actor). apply_all t me x None r.effects.commands (record { body = record b { frame = f; links = l; machines = updated b.machines x.slot.0 a; deferred = updated b.deferred x.slot.0 [] }; sent = first.messages; back = first.back; notes = told; kept = false }))
         (sym (ap actor_in occupant ∙ h.stands))
         ∙ ap (λ (ds : List Msg). apply_all t me x None r.effects.commands (record { body = record b { frame = f; links = l; machines = updated b.machines x.slot.0 (actor_in mid.occupant); deferred = updated b.deferred x.slot.0 ds }; sent = first.messages; back = first.back; notes = told; kept = false })) (sym none)
-        ∙ w.applied.on (record b { machines = updated b.machines x.slot.0 (actor_in mid.occupant) })
+        ∙ w.applied.all.on (record b { machines = updated b.machines x.slot.0 (actor_in mid.occupant) })
         ∙ ap (λ (s : Occupant). record {
           body = record b { frame = f'; links = l'; machines = updated b.machines x.slot.0 (actor_in s); deferred = updated b.deferred x.slot.0 new.deferred };
           sent = last.messages;
           back = last.back;
           notes = last.notes;
-          kept = w.kept;
+          kept = w.applied.kept;
         }) (sym w.occupant)
 
     pub comes_up : SlotComesUp t me f l f' l' x o old new first last
     comes_up =
         let from : Doing = record { deferred = mid.deferred; output = record { messages = first.messages; notes = told; back = first.back }; kept = false } in
-        let to : Doing = record { deferred = new.deferred; output = last; kept = w.kept } in
+        let to : Doing = record { deferred = new.deferred; output = last; kept = w.applied.kept } in
         let now : new.occupant ≡ r.occupant = w.occupant ∙ occupant in
         let kept : All IsForActors mid.deferred = subst (λ (ms : List Msg). All IsForActors ms) (sym none) (All-nil IsForActors) in
         record {
-          kept = w.kept;
+          kept = w.applied.kept;
           doing = up_on;
-          lives = lives_stay t me x None tt f l f' l' r.effects.commands from to w.applied;
+          lives = lives_stay t me x None tt f l f' l' r.effects.commands from to w.applied.all;
           fits = record {
             of = subst (λ (s : Occupant). IsOf x s) (sym now) h.me;
             tables = subst (λ (s : Occupant). HasTables o s) (sym now) h.fits;
-            kept = kept_ranks t me x None tt f l f' l' r.effects.commands from to w.applied kept;
+            kept = kept_ranks t me x None tt f l f' l' r.effects.commands from to w.applied.all kept;
           };
-          back = λ all. back_ranks t me x None tt f l f' l' r.effects.commands from to w.applied kept all;
+          back = λ all. back_ranks t me x None tt f l f' l' r.effects.commands from to w.applied.all kept all;
         }
 
 -- an actor whose class has no chart comes up
@@ -187,8 +186,7 @@ comes_up_without_chart t me f l x old new first told now up =
     let r : Beginning = record { occupant = occupants.Chartless; state = 65535; effects = record { notes = []; commands = [] } } in
     comes_up t me f l f l x None old new new r first (record { messages = first.messages; notes = told; back = first.back }) (chartless_begins x) (ap (λ (s : ActorSlot). s.occupant) now) (ap (λ (s : ActorSlot). s.deferred) now) told
     (record {
-      kept = false;
       occupant = refl;
-      applied = record { on = λ b. refl };
+      applied = record { kept = false; all = record { on = λ b. refl } };
     })
     up

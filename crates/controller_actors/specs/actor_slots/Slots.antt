@@ -17,7 +17,7 @@ use Rattle.chart_behaviour.specs.ModelCharts.{Actor, begins, handles, state_numb
 use Rattle.controller_actors.specs.declared.actor_commands.command_sends.output.Output.{Output}
 use Rattle.controller_mail.specs.MailState.{IsForActors}
 use Rattle.controller_mail.specs.declared.mail_queues.TurnResult.{TurnResult}
-use Rattle.controller_actors.specs.actor_commands.Doings.{AppliesAll}
+use Rattle.controller_actors.specs.actor_commands.Doings.{HasApplied}
 use Rattle.controller_actors.specs.declared.actor_slots.actor_slot.ActorSlot.{ActorSlot}
 use Rattle.controller_actors.specs.actor_slots.Occupants.{HasTables, IsOf, actor_of, actor_in}
 
@@ -40,10 +40,8 @@ treated_on done body = record { body = body; sent = done.sent; back = done.back;
 -- the commands of an actor were applied, from what was put out before to what was then, and from one state
 -- of the services to another
 pub record Works (t : Wiring) (me : ℕ) (f : Frame) (l : Links) (f' : Frame) (l' : Links) (x : Incarnation) (m : Option Msg) (cs : List Command) (old new : ActorSlot) (first last : Output) : Type 0 where
-  pub kept : Bool
   pub occupant : new.occupant ≡ old.occupant
-  pub applied : AppliesAll t me f l f' l' x m cs (record { deferred = old.deferred; output = first; kept = false })
-      (record { deferred = new.deferred; output = last; kept = kept })
+  pub applied : HasApplied t me f l f' l' x m cs old.deferred first new.deferred last
 
 -- a turn in which an actor's machine did this with a message
 abbrev pub turned : Wiring → ℕ → Body Actor → Incarnation → Msg → Outcome Actor → Treated (Body Actor)

@@ -9,17 +9,14 @@ ghost use Rattle.actor_world.specs.Turns.{handled_as};
 ghost use Rattle.controller_actors.specs.actor_slots.Occupants.{AreSound, actor_in};
 ghost use Rattle.controller_actors.specs.actor_slots.Slots.{SlotComesUp, SlotFits, SlotTurns, SlotBegins, Works};
 
-use crate::actor_commands::{
-    DeferredMessages, Doing, Output, Recalled, Services, Speaker, apply_all,
-};
+use crate::actor_commands::{DeferredMessages, Output, Services, Speaker, apply_all};
 use crate::actor_slots::occupant::{Beginning, NO_STATE, Occupant, Reaction};
 use action_program::Effects;
 use chart_run::{Handling, Outcome, Tables};
 use controller_mail::TurnResult;
 use journal::Did;
-use room_kinds::{Commands, Incarnation, Msg, Note, Notes, Outbox};
+use room_kinds::{Commands, Incarnation, Msg, Note, Notes};
 use std::alloc::{AllocError, Global};
-use std::mem;
 
 /// What stands in a slot, and the messages that it keeps for later.
 #[derive(Drop)]
@@ -93,7 +90,7 @@ impl ActorSlot {
     }
 
     /// The commands of an actor that begins, which handles no message, are applied in order, on top of
-    /// what was put out before. Most actors have none then, and nothing is moved.
+    /// what was put out before. Most actors have none then.
     fn work<S: Services>(
         &mut self,
         alloc: Global,
@@ -116,66 +113,9 @@ impl ActorSlot {
         if commands.is_empty() {
             return Ok(());
         }
-        self.work_through(alloc, speaker, services, commands, output)?;
+        let deferred = &mut self.deferred;
+        apply_all(alloc, speaker, services, None, commands, deferred, output)?;
         Ok(())
-    }
-
-    /// The same, whether or not there are commands. It stands apart, since a function pays at its entry for
-    /// the room of what it moves.
-    fn work_through<S: Services>(
-        &mut self,
-        alloc: Global,
-        speaker: &Speaker<'_>,
-        services: &mut S,
-        commands: Commands,
-        output: &mut Output,
-    ) -> Result<(), AllocError>
-        requires serves { S.serves speaker.now.wiring.now speaker.now.me.0 services.old }
-        requires there { speaker.now.who.slot.0 < length speaker.now.wiring.now.slots }
-        ensures serves { OnOk result (S.serves speaker.now.wiring.now speaker.now.me.0
-            services.new) }
-        ensures works { OnOk result (Works speaker.now.wiring.now speaker.now.me.0
-            (S.frame_of services.old)
-            (S.links_of services.old)
-            (S.frame_of services.new)
-            (S.links_of services.new)
-            speaker.now.who None commands self.old self.new output.old output.new) }
-    {
-        let mut doing = Doing {
-            deferred: mem::replace(&mut self.deferred, DeferredMessages::new(alloc)),
-            output: mem::replace(output, Output::new(alloc)),
-            kept: false,
-        };
-        apply_all(alloc, speaker, services, None, commands, &mut doing)?;
-        let Doing {
-            deferred,
-            output: told,
-            kept: _,
-        } = doing;
-        self.deferred = deferred;
-        *output = told;
-        Ok(())
-    }
-
-    /// What the actor does in a turn, so far: it has told this. What it keeps for later is moved there.
-    fn take_up(&mut self, alloc: Global, notes: Notes) -> Doing
-        ensures doing { result
-            ≡ record {
-              deferred = self.old.deferred;
-              output = record { messages = []; notes = notes; back = [] };
-              kept = false;
-            } }
-        ensures occupant { self.new.occupant ≡ self.old.occupant }
-    {
-        Doing {
-            deferred: mem::replace(&mut self.deferred, DeferredMessages::new(alloc)),
-            output: Output {
-                messages: Outbox::new(alloc),
-                notes,
-                back: Recalled::new(alloc),
-            },
-            kept: false,
-        }
     }
 
     /// The actor handles a message, and its commands are applied; `None` where nobody stands there. After
@@ -215,14 +155,17 @@ impl ActorSlot {
         let Reaction { outcome, state } = reaction;
         let Outcome { result, effects } = outcome;
         let Effects { notes, commands } = effects;
-        let mut doing = self.take_up(alloc, notes);
-        apply_all(alloc, speaker, services, Some(m), commands, &mut doing)?;
-        let Doing {
+        let mut output = Output::new(alloc, notes);
+        let deferred = &mut self.deferred;
+        apply_all(
+            alloc,
+            speaker,
+            services,
+            Some(m),
+            commands,
             deferred,
-            output,
-            kept: _,
-        } = doing;
-        self.deferred = deferred;
+            &mut output,
+        )?;
         let did = did_of(result, speaker.who, state);
         Ok(Some(output.into_turn_result(did)))
     }

@@ -18,13 +18,13 @@ pub struct Output {
 }
 
 impl Output {
-    /// Nothing is sent, nothing is told, and nothing comes back. It takes no memory.
-    pub(crate) fn new(alloc: Global) -> Output
-        ensures { result ≡ record { messages = []; notes = []; back = [] } }
+    /// These notes are told, nothing is sent yet, and nothing comes back. It takes no memory.
+    pub(crate) fn new(alloc: Global, notes: Notes) -> Output
+        ensures { result ≡ record { messages = []; notes = notes; back = [] } }
     {
         Output {
             messages: Outbox::new(alloc),
-            notes: Notes::new(alloc),
+            notes,
             back: Recalled::new(alloc),
         }
     }

@@ -1,4 +1,3 @@
-use Rattle.std.proofs.Common.{refl}
 use Rattle.controller_actors.proofs.actor_slots.Working.{comes_up_without_chart}
 use Rattle.controller_actors.proofs.actor_slots.actor_slot.ActorSlot.come_up.Goals as goal
 
