@@ -22,7 +22,7 @@ use Rattle.controller_mail.specs.MailState.{IsForActors}
 use Rattle.frame_service.specs.State.{frame_in}
 use Rattle.controller_actors.specs.Served.{Serves, links_in}
 use Rattle.controller_actors.specs.declared.actor_slots.actor_slot.ActorSlot.{ActorSlot}
-use Rattle.controller_actors.specs.declared.actor_commands.command_sends.output.Output.{Output}
+use Rattle.controller_actors.specs.declared.actor_commands.output.Output.{Output}
 use Rattle.controller_actors.specs.actor_slots.Occupants.{actor_in}
 use Rattle.controller_actors.specs.actor_slots.Slots.{SlotBegins, SlotFits, slot_body, entered}
 use Rattle.controller_actors.specs.declared.plant.Plant.{Plant}

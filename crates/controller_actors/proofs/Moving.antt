@@ -15,7 +15,7 @@ use Rattle.controller_mail.specs.MailState.{IsForActors}
 use Rattle.frame_service.specs.declared.state.FrameState.{FrameState}
 use Rattle.frame_service.specs.State.{IsFrameOf, frame_in}
 use Rattle.controller_actors.specs.declared.actor_slots.actor_slot.ActorSlot.{ActorSlot}
-use Rattle.controller_actors.specs.declared.actor_commands.command_sends.output.Output.{Output}
+use Rattle.controller_actors.specs.declared.actor_commands.output.Output.{Output}
 use Rattle.controller_actors.specs.actor_slots.Slots.{SlotComesUp, SlotFits, slot_body, risen}
 use Rattle.controller_actors.specs.declared.plant.Plant.{Plant}
 use Rattle.controller_actors.specs.declared.actors.Actors.{Actors}

@@ -15,7 +15,7 @@ use Rattle.actor_world.specs.Turns.{dispatched, doing}
 use Rattle.chart_behaviour.specs.ModelCharts.{Actor, begins, state_number, tables_at}
 use Rattle.controller_mail.specs.MailState.{IsForActors, with_body}
 use Rattle.controller_mail.specs.declared.mail_queues.TurnResult.{TurnResult}
-use Rattle.controller_actors.specs.declared.actor_commands.command_sends.output.Output.{Output}
+use Rattle.controller_actors.specs.declared.actor_commands.output.Output.{Output}
 use Rattle.controller_actors.specs.actor_slots.Slots.{entered}
 use Rattle.controller_actors.specs.declared.plant.Plant.{Plant}
 use Rattle.controller_actors.specs.declared.actors.Actors.{Actors}

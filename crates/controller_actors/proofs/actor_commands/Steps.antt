@@ -18,7 +18,7 @@ use Rattle.actor_duties.specs.Commands.{Sent, Kept, defer, recall, recall_all}
 use Rattle.actor_world.specs.Body.{Body, Doing as WorldDoing, keeping, sending, apply_all}
 use Rattle.frame_lives.proofs.Rows.{updated_here, updated_else}
 use Rattle.chart_behaviour.specs.ModelCharts.{Actor}
-use Rattle.controller_actors.specs.declared.actor_commands.command_sends.output.Output.{Output}
+use Rattle.controller_actors.specs.declared.actor_commands.output.Output.{Output}
 use Rattle.controller_actors.specs.actor_commands.command_sends.Adding.{Adds}
 use Rattle.controller_actors.specs.actor_commands.command_sends.Asking.{FrameAsked, NameAsked}
 use Rattle.controller_actors.specs.actor_commands.deferred_messages.Steps.{Applies as KeptStep}

@@ -16,7 +16,7 @@ use Rattle.actor_world.specs.Turns.{handled_as, treated}
 use Rattle.chart_run.specs.declared.chart_tables.tables.Tables.{Tables}
 use Rattle.chart_run.specs.Machines.{result_view}
 use Rattle.chart_behaviour.specs.ModelCharts.{Actor, begins, handles, handling_of, state_number}
-use Rattle.controller_actors.specs.declared.actor_commands.command_sends.output.Output.{Output}
+use Rattle.controller_actors.specs.declared.actor_commands.output.Output.{Output}
 use Rattle.controller_mail.specs.MailState.{IsForActors}
 use Rattle.controller_mail.specs.declared.mail_queues.TurnResult.{TurnResult}
 use Rattle.controller_actors.specs.actor_commands.Doings.{Doing, doing_on}

@@ -9,7 +9,7 @@ use Rattle.actor_duties.specs.State.{Frame, Links}
 use Rattle.actor_duties.specs.Commands.{Content, Sent, send, broadcast, Kept}
 use Rattle.actor_world.specs.Body.{Body, Doing as WorldDoing, apply, apply_all}
 use Rattle.chart_behaviour.specs.ModelCharts.{Actor}
-use Rattle.controller_actors.specs.declared.actor_commands.command_sends.output.Output.{Output}
+use Rattle.controller_actors.specs.declared.actor_commands.output.Output.{Output}
 
 -- what an actor does in the turn of a message or at its start, so far: the messages that it keeps for later,
 -- what is put out, and whether the message in hand is kept

@@ -14,7 +14,7 @@ use Rattle.actor_world.specs.Body.{Body, Doing as WorldDoing, apply_all}
 use Rattle.actor_world.specs.Turns.{moved, handled_as, treated}
 use Rattle.chart_run.specs.declared.chart_tables.tables.Tables.{Tables}
 use Rattle.chart_behaviour.specs.ModelCharts.{Actor, begins, handles, state_number}
-use Rattle.controller_actors.specs.declared.actor_commands.command_sends.output.Output.{Output}
+use Rattle.controller_actors.specs.declared.actor_commands.output.Output.{Output}
 use Rattle.controller_mail.specs.MailState.{IsForActors}
 use Rattle.controller_mail.specs.declared.mail_queues.TurnResult.{TurnResult}
 use Rattle.controller_actors.specs.actor_commands.Doings.{HasApplied}

@@ -4,8 +4,9 @@ ghost use Rattle.actor_duties.specs.Commands.{defer};
 ghost use Rattle.controller_actors.specs.actor_commands.command_sends.Adding.{Adds, content_of};
 ghost use Rattle.controller_actors.specs.actor_commands.Doings.{AppliesNow, HasApplied, Keeps, sent_at};
 
-use crate::actor_commands::command_sends::{Content, Output, Services, Speaker, broadcast, send};
+use crate::actor_commands::command_sends::{Content, Services, Speaker, broadcast, send};
 use crate::actor_commands::deferred_messages::DeferredMessages;
+use crate::actor_commands::output::Output;
 use room_kinds::{Command, Commands, Msg};
 use std::alloc::{AllocError, Global};
 use std::collections::VecDeque;

@@ -10,7 +10,7 @@ use Rattle.room_wiring.specs.Places.{port_count, place_count}
 use Rattle.actor_duties.specs.Words.{is_spp, places_of}
 use Rattle.actor_duties.specs.State.{Frame, Links, Link}
 use Rattle.actor_duties.specs.Commands.{Content, Sent, send, all_places, broadcast_places, send_each, broadcast}
-use Rattle.controller_actors.specs.declared.actor_commands.command_sends.output.Output.{Output}
+use Rattle.controller_actors.specs.declared.actor_commands.output.Output.{Output}
 use Rattle.controller_actors.specs.actor_commands.command_sends.Adding.{Adds}
 
 -- nothing is said

@@ -11,7 +11,7 @@ use Rattle.actor_duties.specs.Words.{endpoint}
 use Rattle.actor_duties.specs.State.{Frame, Links}
 use Rattle.actor_duties.specs.Peers.{peer}
 use Rattle.actor_duties.specs.Commands.{Content, message, send_to, send}
-use Rattle.controller_actors.specs.declared.actor_commands.command_sends.output.Output.{Output}
+use Rattle.controller_actors.specs.declared.actor_commands.output.Output.{Output}
 use Rattle.controller_actors.specs.actor_commands.command_sends.Adding.{Adds}
 
 -- to a peer

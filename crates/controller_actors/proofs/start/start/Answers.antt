@@ -1,6 +1,6 @@
 use Rattle.std.proofs.Common.{ap, ◌∙◌, replicate}
 use Rattle.room_kinds.specs.declared.numbers.ControllerId.{ControllerId}
-use Rattle.controller_actors.specs.declared.actor_commands.command_sends.output.Output.{Output}
+use Rattle.controller_actors.specs.declared.actor_commands.output.Output.{Output}
 use Rattle.controller_actors.specs.declared.actors.Actors.{Actors}
 use Rattle.controller_actors.specs.declared.start.Starting.{Starting}
 use Rattle.controller_actors.specs.Bodies.{vacant}

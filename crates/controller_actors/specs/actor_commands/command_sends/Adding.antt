@@ -1,7 +1,7 @@
 -- What a send adds to what was put out so far.
 use Rattle.std.specs.Prelude.{◌≡◌, ◌++◌}
-use Rattle.controller_actors.specs.declared.actor_commands.command_sends.output.Output.{Output}
-use Rattle.controller_actors.specs.declared.actor_commands.command_sends.output.Content.{Content as CodeContent}
+use Rattle.controller_actors.specs.declared.actor_commands.output.Output.{Output}
+use Rattle.controller_actors.specs.declared.actor_commands.command_sends.speaker.Content.{Content as CodeContent}
 use Rattle.actor_duties.specs.Commands.{Content, Sent}
 
 -- the messages of a send follow those that were sent so far, its notes follow theirs, and nothing comes back

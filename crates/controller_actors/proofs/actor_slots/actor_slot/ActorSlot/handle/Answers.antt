@@ -2,7 +2,7 @@ use Rattle.std.proofs.Common.{[], Some, refl, sym, subst}
 use Rattle.std.specs.Option.{option_copied}
 use Rattle.controller_mail.specs.declared.mail_queues.TurnResult.{TurnResult}
 use Rattle.controller_actors.specs.declared.actor_slots.actor_slot.ActorSlot.{ActorSlot}
-use Rattle.controller_actors.specs.declared.actor_commands.command_sends.output.Output.{Output}
+use Rattle.controller_actors.specs.declared.actor_commands.output.Output.{Output}
 use Rattle.controller_actors.specs.actor_commands.Doings.{HasApplied}
 use Rattle.controller_actors.specs.actor_slots.Occupants.{Reacts}
 use Rattle.controller_actors.specs.actor_slots.Slots.{SlotTurns}

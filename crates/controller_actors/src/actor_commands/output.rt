@@ -1,12 +1,11 @@
-//! What an actor says, and what a turn puts out.
-ghost use Rattle.std.specs.Prelude.{◌≡◌, [], IfOk};
+//! What a turn puts out.
+ghost use Rattle.std.specs.Prelude.{◌≡◌, []};
 
 use crate::actor_commands::deferred_messages::Recalled;
 use controller_mail::TurnResult;
 use journal::Did;
-use room_kinds::{ControllerId, Incarnation, Notes, Outbox, Payload, Priority};
-use room_wiring::Wiring;
-use std::alloc::{AllocError, Global};
+use room_kinds::{Notes, Outbox};
+use std::alloc::Global;
 
 /// What a turn or a start has put out so far: the messages that were sent, the notes, and the deferred
 /// messages that come back, first the one that will be in front.
@@ -49,35 +48,5 @@ impl Output {
             did,
             notes,
         }
-    }
-}
-
-/// An actor that speaks, and the controller that runs it.
-#[derive(Clone, Copy)]
-pub struct Speaker<'a> {
-    pub wiring: &'a Wiring,
-    pub me: ControllerId,
-    pub who: Incarnation,
-}
-
-/// What is sent.
-#[derive(Drop)]
-pub struct Content {
-    pub signal: u16,
-    pub payload: Payload,
-    pub prio: Priority,
-}
-
-impl Content {
-    /// The same once more, for another place.
-    pub(crate) fn copy(&self, alloc: Global) -> Result<Content, AllocError>
-        ensures { IfOk result (λ c. c ≡ self.now) }
-    {
-        let payload = self.payload.copy(alloc)?;
-        Ok(Content {
-            signal: self.signal,
-            payload,
-            prio: self.prio,
-        })
     }
 }
