@@ -22,7 +22,7 @@ use Rattle.controller_mail.specs.MailState.{IsForActors}
 use Rattle.frame_service.specs.State.{frame_in}
 use Rattle.controller_actors.specs.Served.{Serves, links_in}
 use Rattle.controller_actors.specs.declared.actor_slots.actor_slot.ActorSlot.{ActorSlot}
-use Rattle.controller_actors.specs.declared.actor_slots.actor_slot.Entrance.{Entrance}
+use Rattle.controller_actors.specs.declared.actor_commands.output.Output.{Output}
 use Rattle.controller_actors.specs.actor_slots.Occupants.{actor_in}
 use Rattle.controller_actors.specs.actor_slots.Slots.{SlotBegins, SlotFits, slot_body, entered}
 use Rattle.controller_actors.specs.declared.plant.Plant.{Plant}
@@ -39,11 +39,11 @@ use Rattle.controller_actors.proofs.Bodies.{body_same, body_set, has_slots_set, 
 
 module _ (p : Plant) (me : ℕ) where
   -- the actor of a slot began
-  pub actors_begin : (old new : Actors) (s : ℕ) (before after : ActorSlot) (sent back : List Msg) (e : Entrance) → HasRow p.wiring me old.slots.items s
+  pub actors_begin : (old new : Actors) (s : ℕ) (before after : ActorSlot) (first last : Output) (n : ℕ) → HasRow p.wiring me old.slots.items s
       → before ≡ slot_at p.wiring me old.slots.items s → new.table ≡ old.table → new.slots.items ≡ set old.slots.items (own_below p.wiring me s) after → Serves p.wiring me new.services
-      → SlotBegins p.wiring me (frame_in old.services.frame) (links_in old.services) (frame_in new.services.frame) (links_in new.services) (last_of (lives_of old) s) (tables_at p.wiring p.tables.items s) before after sent back e
-      → (lives_of old).lives s ≡ true → HasSlots p me old → ActorsBegin p me s old new sent back e
-  actors_begin old new s before after sent back e l is table slots serves h live has_slots =
+      → SlotBegins p.wiring me (frame_in old.services.frame) (links_in old.services) (frame_in new.services.frame) (links_in new.services) (last_of (lives_of old) s) (tables_at p.wiring p.tables.items s) before after first last n
+      → (lives_of old).lives s ≡ true → HasSlots p me old → ActorsBegin p me s old new first last n
+  actors_begin old new s before after first last n l is table slots serves h live has_slots =
       let x = last_of (lives_of old) s in
       let o = tables_at p.wiring p.tables.items s in
       let f = frame_in old.services.frame in
@@ -51,10 +51,10 @@ module _ (p : Plant) (me : ℕ) where
       record {
         kept = h.kept;
         doing = λ notes held.
-            ap (λ (c : Body Actor). entered p.wiring me x (begins x o) (record { body = c; sent = sent; back = back; notes = notes; kept = held }))
+            ap (λ (c : Body Actor). entered p.wiring me x (begins x o) (record { body = c; sent = first.messages; back = first.back; notes = notes; kept = held }))
             (body_same p me old s ∙ ap (slot_body f (links_in old.services) b s) (sym is))
             ∙ h.doing b notes held
-            ∙ ap (λ (c : Body Actor). record { body = c; sent = e.output.messages; back = e.back; notes = e.output.notes; kept = h.kept })
+            ∙ ap (λ (c : Body Actor). record { body = c; sent = last.messages; back = last.back; notes = last.notes; kept = h.kept })
             (sym (body_set p me old new s after l table slots));
         state = h.state;
         has_slots = has_slots_set p me old new s after l h.lives slots serves has_slots h.fits;
@@ -77,37 +77,37 @@ module _ (p : Plant) (me : ℕ) where
   started_is s x = refl
 
   -- an actor has started after others
-  pub starts_in : (slot : ℕ) (old new : Starting) (e : Entrance) → ActorsBegin p me slot old.actors new.actors old.sent old.back e
-      → new.sent ≡ e.output.messages → new.back ≡ e.back
-      → new.entries ≡ old.entries ++ entry.Start (last_of (lives_of old.actors) slot) e.state e.output.notes ∷ []
+  pub starts_in : (slot : ℕ) (old new : Starting) (last : Output) (n : ℕ) → ActorsBegin p me slot old.actors new.actors old.output last n
+      → new.output.messages ≡ last.messages → new.output.back ≡ last.back
+      → new.entries ≡ old.entries ++ entry.Start (last_of (lives_of old.actors) slot) n last.notes ∷ []
       → StartsIn p me slot old new
-  starts_in slot old new e h sent back entries = record {
+  starts_in slot old new last n h sent back entries = record {
     on = λ xs s.
         let x = last_of (lives_of old.actors) slot in
         let o = tables_at p.wiring p.tables.items slot in
-        let before : Doing Actor = record { body = body_of p me old.actors; sent = old.sent; back = old.back; notes = s.notes; kept = s.kept } in
+        let before : Doing Actor = record { body = body_of p me old.actors; sent = old.output.messages; back = old.output.back; notes = s.notes; kept = s.kept } in
         record {
-          notes = e.output.notes;
+          notes = last.notes;
           kept = h.kept;
           started =
               last_started (model_of p) p.wiring xs x (unstarted p.wiring me)
               ∙ ap (λ (w : WorldStarting Actor). started (model_of p) p.wiring me w x) s.started
               ∙ started_is (record { doing = before; entries = old.entries }) x
               ∙ ap (λ (d : Doing Actor). record { doing = d; entries = old.entries ++ entry.Start x (state_number (begins x o).machine) d.notes ∷ [] }) (h.doing s.notes s.kept)
-              ∙ ap (λ (n : ℕ). record {
-                doing = record { body = body_of p me new.actors; sent = e.output.messages; back = e.back; notes = e.output.notes; kept = h.kept };
-                entries = old.entries ++ entry.Start x n e.output.notes ∷ [];
+              ∙ ap (λ (k : ℕ). record {
+                doing = record { body = body_of p me new.actors; sent = last.messages; back = last.back; notes = last.notes; kept = h.kept };
+                entries = old.entries ++ entry.Start x k last.notes ∷ [];
               }) (sym h.state)
               ∙ ap (λ (ms : List Msg). record {
-                doing = record { body = body_of p me new.actors; sent = ms; back = e.back; notes = e.output.notes; kept = h.kept };
-                entries = old.entries ++ entry.Start x e.state e.output.notes ∷ [];
+                doing = record { body = body_of p me new.actors; sent = ms; back = last.back; notes = last.notes; kept = h.kept };
+                entries = old.entries ++ entry.Start x n last.notes ∷ [];
               }) (sym sent)
               ∙ ap (λ (ms : List Msg). record {
-                doing = record { body = body_of p me new.actors; sent = new.sent; back = ms; notes = e.output.notes; kept = h.kept };
-                entries = old.entries ++ entry.Start x e.state e.output.notes ∷ [];
+                doing = record { body = body_of p me new.actors; sent = new.output.messages; back = ms; notes = last.notes; kept = h.kept };
+                entries = old.entries ++ entry.Start x n last.notes ∷ [];
               }) (sym back)
               ∙ ap (λ (es : List Entry). record {
-                doing = record { body = body_of p me new.actors; sent = new.sent; back = new.back; notes = e.output.notes; kept = h.kept };
+                doing = record { body = body_of p me new.actors; sent = new.output.messages; back = new.output.back; notes = last.notes; kept = h.kept };
                 entries = es;
               }) (sym entries);
           well = record { has_slots = h.has_slots; empty = h.empty [] s.well.empty };
@@ -174,7 +174,7 @@ module _ (p : Plant) (me : ℕ) where
 
   -- nobody has started
   pub starts_none : (s : Starting) → Serves p.wiring me s.actors.services → frame_in s.actors.services.frame ≡ first_frame p.wiring me → links_in s.actors.services ≡ first_links → s.actors.table ≡ []
-      → s.actors.slots.items ≡ replicate (own_below p.wiring me (length p.wiring.slots)) vacant → s.sent ≡ [] → s.back ≡ [] → s.entries ≡ [] → Starts p me [] s
+      → s.actors.slots.items ≡ replicate (own_below p.wiring me (length p.wiring.slots)) vacant → s.output.messages ≡ [] → s.output.back ≡ [] → s.entries ≡ [] → Starts p me [] s
   starts_none s serves frame links table slots sent back entries =
       let nobody : (n : ℕ) → slot_at p.wiring me s.actors.slots.items n ≡ vacant =
       λ n. ap (λ (xs : List ActorSlot). slot_at p.wiring me xs n) slots ∙ all_vacant p.wiring me (own_below p.wiring me (length p.wiring.slots)) n in
@@ -197,11 +197,11 @@ module _ (p : Plant) (me : ℕ) where
 
   -- all have
   module _ (s : Starting) (h : Starts p me (first_below p.wiring me (length p.wiring.slots)) s) where
-    whole : starting (model_of p) p.wiring me ≡ record { doing = record { body = body_of p me s.actors; sent = s.sent; back = s.back; notes = h.notes; kept = h.kept }; entries = s.entries }
+    whole : starting (model_of p) p.wiring me ≡ record { doing = record { body = body_of p me s.actors; sent = s.output.messages; back = s.output.back; notes = h.notes; kept = h.kept }; entries = s.entries }
     unfolding starting
     whole = ap (λ (xs : List Incarnation). all_started (model_of p) p.wiring me xs (unstarted p.wiring me)) (sym first_all) ∙ h.started
 
-    pub whole_state : first_state (model_of p) p.wiring me ≡ record { clock = 0; turns = 0; pending = λ q. []; outbox = s.sent; body = body_of p me s.actors }
+    pub whole_state : first_state (model_of p) p.wiring me ≡ record { clock = 0; turns = 0; pending = λ q. []; outbox = s.output.messages; body = body_of p me s.actors }
     whole_state = ap (λ (w : WorldStarting Actor). record { clock = 0; turns = 0; pending = λ q. []; outbox = w.doing.sent; body = w.doing.body }) whole
 
     pub whole_entries : s.entries ≡ start_entries (model_of p) p.wiring me

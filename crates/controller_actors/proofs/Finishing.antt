@@ -28,7 +28,7 @@ use Rattle.controller_mail.specs.declared.mail_queues.TurnResult.{TurnResult}
 use Rattle.controller_actors.specs.declared.actor_slots.occupant.Occupant.{Occupant}
 use Rattle.controller_actors.specs.declared.actor_slots.occupant.Occupant.TheVariants as occupants
 use Rattle.controller_actors.specs.declared.actor_slots.actor_slot.ActorSlot.{ActorSlot}
-use Rattle.controller_actors.specs.declared.changes.SoFar.{SoFar}
+use Rattle.controller_actors.specs.declared.actor_commands.output.Output.{Output}
 use Rattle.controller_actors.specs.declared.plant.Plant.{Plant}
 use Rattle.controller_actors.specs.declared.actors.Actors.{Actors}
 use Rattle.controller_actors.specs.declared.duties.Service.TheVariants as services
@@ -46,23 +46,23 @@ use Rattle.controller_actors.proofs.Turning.{treat_duty}
 -- ---- what is left to do
 
 module _ (p : Plant) (me : ℕ) where
-  closed : (a : Actors) (x y : SoFar) (last : Option Msg) (kept : Bool) → Closes x y last → closing (doing_of p me a x kept) last ≡ doing_of p me a y kept
+  closed : (a : Actors) (x y : Output) (last : Option Msg) (kept : Bool) → Closes x y last → closing (doing_of p me a x kept) last ≡ doing_of p me a y kept
   closed a x y None kept h =
       same x y h.messages h.back h.notes
     where
-      same : (x y : SoFar) → y.output.messages ≡ x.output.messages → y.back ≡ x.back → y.output.notes ≡ x.output.notes → doing_of p me a x kept ≡ doing_of p me a y kept
+      same : (x y : Output) → y.messages ≡ x.messages → y.back ≡ x.back → y.notes ≡ x.notes → doing_of p me a x kept ≡ doing_of p me a y kept
       same x y e f g = cc
   closed a x y (Some m) kept h = same x y h.messages h.back h.notes
     where
-      same : (x y : SoFar) → y.output.messages ≡ x.output.messages ++ m ∷ [] → y.back ≡ x.back → y.output.notes ≡ x.output.notes
+      same : (x y : Output) → y.messages ≡ x.messages ++ m ∷ [] → y.back ≡ x.back → y.notes ≡ x.notes
           → closing (doing_of p me a x kept) (Some m) ≡ doing_of p me a y kept
       same x y e f g = cc
 
-  pub finishes : (left : DutyDone) (sent : List Msg) (old mid new : Actors) (first one two last : SoFar) (done : TurnResult)
-      → first.output.messages ≡ sent → first.output.notes ≡ [] → first.back ≡ []
+  pub finishes : (left : DutyDone) (sent : List Msg) (old mid new : Actors) (first one two last : Output) (done : TurnResult)
+      → first.messages ≡ sent → first.notes ≡ [] → first.back ≡ []
       → Moves (all_begun (model_of p) p.wiring me left.made) p me old first mid one → Moves (all_gone p.wiring me left.ended) p me mid one new two
       → Closes two last left.last
-      → done ≡ record { sent = last.output.messages; back = last.back; did = did.Duty; notes = last.output.notes }
+      → done ≡ record { sent = last.messages; back = last.back; did = did.Duty; notes = last.notes }
       → AreEmpty p me [] new → Finishes p me left sent old new done
   finishes left sent old mid new first one two last done is told back h k c d empty =
       let both = then_moves p me (all_begun (model_of p) p.wiring me left.made) (all_gone p.wiring me left.ended) old mid new first one two h k in
@@ -80,7 +80,7 @@ module _ (p : Plant) (me : ℕ) where
             (subst (λ (ms : List Msg). All IsForActors ms) (sym c.back) (both.back (subst (λ (ms : List Msg). All IsForActors ms) (sym back) (All-nil IsForActors))));
       }
     where
-      begins : first.output.messages ≡ sent → first.output.notes ≡ [] → first.back ≡ [] → record (doing (body_of p me old)) { sent = sent } ≡ doing_of p me old first false
+      begins : first.messages ≡ sent → first.notes ≡ [] → first.back ≡ [] → record (doing (body_of p me old)) { sent = sent } ≡ doing_of p me old first false
       begins e f g = cc
 
 -- ---- after a duty of the frame service

@@ -15,7 +15,7 @@ use Rattle.controller_mail.specs.MailState.{IsForActors}
 use Rattle.frame_service.specs.declared.state.FrameState.{FrameState}
 use Rattle.frame_service.specs.State.{IsFrameOf, frame_in}
 use Rattle.controller_actors.specs.declared.actor_slots.actor_slot.ActorSlot.{ActorSlot}
-use Rattle.controller_actors.specs.declared.changes.SoFar.{SoFar}
+use Rattle.controller_actors.specs.declared.actor_commands.output.Output.{Output}
 use Rattle.controller_actors.specs.actor_slots.Slots.{SlotComesUp, SlotFits, slot_body, risen}
 use Rattle.controller_actors.specs.declared.plant.Plant.{Plant}
 use Rattle.controller_actors.specs.declared.actors.Actors.{Actors}
@@ -38,11 +38,11 @@ module _ (p : Plant) (me : ℕ) where
   -- ---- steps one after another
 
   -- nothing is done
-  pub stays : (a : Actors) (s : SoFar) → HasSlots p me a → Moves (λ d. d) p me a s a s
+  pub stays : (a : Actors) (s : Output) → HasSlots p me a → Moves (λ d. d) p me a s a s
   stays a s has_slots = record { on = λ held. (held, refl); has_slots = has_slots; lives = refl; back = λ all. all }
 
   -- one step after another
-  pub then_moves : (first second : Doing Actor → Doing Actor) (a b c : Actors) (x y z : SoFar)
+  pub then_moves : (first second : Doing Actor → Doing Actor) (a b c : Actors) (x y z : Output)
       → Moves first p me a x b y → Moves second p me b y c z → Moves (λ d. second (first d)) p me a x c z
   then_moves first second a b c x y z h k = record {
     on = λ held. ((k.on (h.on held).0).0, ap second (h.on held).1 ∙ (k.on (h.on held).0).1);
@@ -52,7 +52,7 @@ module _ (p : Plant) (me : ℕ) where
   }
 
   -- the same step, under another name
-  pub same_moves : (first second : Doing Actor → Doing Actor) (a b : Actors) (x y : SoFar) → ((d : Doing Actor) → second d ≡ first d)
+  pub same_moves : (first second : Doing Actor → Doing Actor) (a b : Actors) (x y : Output) → ((d : Doing Actor) → second d ≡ first d)
       → Moves first p me a x b y → Moves second p me a x b y
   same_moves first second a b x y e h = record {
     on = λ held. ((h.on held).0, e (doing_of p me a x held) ∙ (h.on held).1);
@@ -66,9 +66,9 @@ module _ (p : Plant) (me : ℕ) where
   begun_is : (x : Incarnation) (d : Doing Actor) → begun (model_of p) p.wiring me x d ≡ risen p.wiring me x (begins x (tables_at p.wiring p.tables.items x.slot.0)) d
   begun_is x d = refl
 
-  pub comes_up : (old new : Actors) (x : Incarnation) (before after : ActorSlot) (first last : SoFar) → HasRow p.wiring me old.slots.items x.slot.0
+  pub comes_up : (old new : Actors) (x : Incarnation) (before after : ActorSlot) (first last : Output) → HasRow p.wiring me old.slots.items x.slot.0
       → before ≡ slot_at p.wiring me old.slots.items x.slot.0 → new.table ≡ old.table → new.slots.items ≡ set old.slots.items (own_below p.wiring me x.slot.0) after → Serves p.wiring me new.services
-      → SlotComesUp p.wiring me (frame_in old.services.frame) (links_in old.services) (frame_in new.services.frame) (links_in new.services) x (tables_at p.wiring p.tables.items x.slot.0) before after first.output first.back last.output last.back
+      → SlotComesUp p.wiring me (frame_in old.services.frame) (links_in old.services) (frame_in new.services.frame) (links_in new.services) x (tables_at p.wiring p.tables.items x.slot.0) before after first last
       → HasSlots p me old → IsLast p.wiring me (lives_of old) x → Moves (begun (model_of p) p.wiring me x) p me old first new last
   comes_up old new x before after first last l is table slots serves h has_slots here =
       let s = x.slot.0 in
@@ -79,10 +79,10 @@ module _ (p : Plant) (me : ℕ) where
         on = λ held. (
           h.kept,
           begun_is x (doing_of p me old first held)
-              ∙ ap (λ (c : Body Actor). risen p.wiring me x (begins x o) (record { body = c; sent = first.output.messages; back = first.back; notes = first.output.notes; kept = held }))
+              ∙ ap (λ (c : Body Actor). risen p.wiring me x (begins x o) (record { body = c; sent = first.messages; back = first.back; notes = first.notes; kept = held }))
               (body_same p me old s ∙ ap (slot_body f (links_in old.services) b s) (sym is))
               ∙ h.doing b held
-              ∙ ap (λ (c : Body Actor). record { body = c; sent = last.output.messages; back = last.back; notes = last.output.notes; kept = h.kept })
+              ∙ ap (λ (c : Body Actor). record { body = c; sent = last.messages; back = last.back; notes = last.notes; kept = h.kept })
               (sym (body_set p me old new s after l table slots)),
         );
         has_slots = has_slots_set p me old new s after l h.lives slots serves has_slots (subst (λ y. SlotFits y o after) (sym here.last) h.fits);
@@ -96,7 +96,7 @@ module _ (p : Plant) (me : ℕ) where
   last_begun [] x d = refl
   last_begun (y ∷ ys) x d = last_begun ys x (begun (model_of p) p.wiring me y d)
 
-  pub more_begun : (xs : List Incarnation) (x : Incarnation) (a b c : Actors) (u v w : SoFar)
+  pub more_begun : (xs : List Incarnation) (x : Incarnation) (a b c : Actors) (u v w : Output)
       → Moves (all_begun (model_of p) p.wiring me xs) p me a u b v → Moves (begun (model_of p) p.wiring me x) p me b v c w
       → Moves (all_begun (model_of p) p.wiring me (xs ++ x ∷ [])) p me a u c w
   more_begun xs x a b c u v w h k =
@@ -105,11 +105,11 @@ module _ (p : Plant) (me : ℕ) where
 
   -- ---- an actor is gone
 
-  pub goes_down : (old new : Actors) (x : Incarnation) (first last : SoFar) → HasRow p.wiring me old.slots.items x.slot.0
+  pub goes_down : (old new : Actors) (x : Incarnation) (first last : Output) → HasRow p.wiring me old.slots.items x.slot.0
       → new.services.frame ≡ old.services.frame → links_in new.services ≡ (end_of p.wiring me (links_in old.services) x).now
       → new.table ≡ old.table → new.slots.items ≡ set old.slots.items (own_below p.wiring me x.slot.0) vacant
-      → last.output.messages ≡ first.output.messages ++ (end_of p.wiring me (links_in old.services) x).sent → last.back ≡ first.back
-      → last.output.notes ≡ first.output.notes ++ notes.Down x (length (slot_at p.wiring me old.slots.items x.slot.0).deferred) ∷ []
+      → last.messages ≡ first.messages ++ (end_of p.wiring me (links_in old.services) x).sent → last.back ≡ first.back
+      → last.notes ≡ first.notes ++ notes.Down x (length (slot_at p.wiring me old.slots.items x.slot.0).deferred) ∷ []
       → HasSlots p me old → Moves (gone p.wiring me x) p me old first new last
   unfolding body_of
   goes_down old new x first last l frame links table slots sent back told has_slots =
@@ -136,7 +136,7 @@ module _ (p : Plant) (me : ℕ) where
   last_gone t [] x d = refl
   last_gone t (y ∷ ys) x d = last_gone t ys x (gone t me y d)
 
-  pub more_gone : (xs : List Incarnation) (x : Incarnation) (a b c : Actors) (u v w : SoFar)
+  pub more_gone : (xs : List Incarnation) (x : Incarnation) (a b c : Actors) (u v w : Output)
       → Moves (all_gone p.wiring me xs) p me a u b v → Moves (gone p.wiring me x) p me b v c w
       → Moves (all_gone p.wiring me (xs ++ x ∷ [])) p me a u c w
   more_gone xs x a b c u v w h k =

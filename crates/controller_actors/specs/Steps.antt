@@ -15,11 +15,10 @@ use Rattle.actor_world.specs.Turns.{dispatched, doing}
 use Rattle.chart_behaviour.specs.ModelCharts.{Actor, begins, state_number, tables_at}
 use Rattle.controller_mail.specs.MailState.{IsForActors, with_body}
 use Rattle.controller_mail.specs.declared.mail_queues.TurnResult.{TurnResult}
-use Rattle.controller_actors.specs.declared.actor_slots.actor_slot.Entrance.{Entrance}
+use Rattle.controller_actors.specs.declared.actor_commands.output.Output.{Output}
 use Rattle.controller_actors.specs.actor_slots.Slots.{entered}
 use Rattle.controller_actors.specs.declared.plant.Plant.{Plant}
 use Rattle.controller_actors.specs.declared.actors.Actors.{Actors}
-use Rattle.controller_actors.specs.declared.changes.SoFar.{SoFar}
 use Rattle.controller_actors.specs.declared.start.Starting.{Starting}
 use Rattle.controller_actors.specs.Plants.{model_of}
 use Rattle.controller_actors.specs.Bodies.{AreEmpty, HasSlots, IsWell, body_of, done_of, lives_of}
@@ -38,14 +37,14 @@ pub record Dispatches (plant : Plant) (me : ℕ) (m : Msg) (old new : Actors) (d
   pub well : IsWell plant me new
   pub back : All IsForActors done.back
 
--- the actor of a slot began, where so much was sent and came back before
-pub record ActorsBegin (plant : Plant) (me slot : ℕ) (old new : Actors) (sent before : List Msg) (e : Entrance) : Type 0 where
+-- the actor of a slot began, on top of what was sent and came back before: its state has this number
+pub record ActorsBegin (plant : Plant) (me slot : ℕ) (old new : Actors) (first last : Output) (number : ℕ) : Type 0 where
   pub kept : Bool
   pub doing : (notes : List Note) (held : Bool)
       → let x = last_of (lives_of old) slot in
-      entered plant.wiring me x (begins x (tables_at plant.wiring plant.tables.items slot)) (record { body = body_of plant me old; sent = sent; back = before; notes = notes; kept = held })
-      ≡ record { body = body_of plant me new; sent = e.output.messages; back = e.back; notes = e.output.notes; kept = kept }
-  pub state : e.state ≡ state_number (begins (last_of (lives_of old) slot) (tables_at plant.wiring plant.tables.items slot)).machine
+      entered plant.wiring me x (begins x (tables_at plant.wiring plant.tables.items slot)) (record { body = body_of plant me old; sent = first.messages; back = first.back; notes = notes; kept = held })
+      ≡ record { body = body_of plant me new; sent = last.messages; back = last.back; notes = last.notes; kept = kept }
+  pub state : number ≡ state_number (begins (last_of (lives_of old) slot) (tables_at plant.wiring plant.tables.items slot)).machine
   pub has_slots : HasSlots plant me new
   pub lives : lives_of new ≡ lives_of old
   pub empty : StayEmpty plant me old new
@@ -60,21 +59,21 @@ pub record IsLast (t : Wiring) (me : ℕ) (l : Lives) (x : Incarnation) : Type 0
   pub last : last_of l x.slot.0 ≡ x
   pub live : l.lives x.slot.0 ≡ true
 
--- what is done by actors, with the messages, notes and recalled messages so far
-abbrev pub doing_of : Plant → ℕ → Actors → SoFar → Bool → Doing Actor
-doing_of p me a s kept = record { body = body_of p me a; sent = s.output.messages; back = s.back; notes = s.output.notes; kept = kept }
+-- what is done by actors, with what was put out so far
+abbrev pub doing_of : Plant → ℕ → Actors → Output → Bool → Doing Actor
+doing_of p me a o kept = record { body = body_of p me a; sent = o.messages; back = o.back; notes = o.notes; kept = kept }
 
 -- a step of the definitions, done by actors: no incarnation is made or ends in it
-pub record Moves (step : Doing Actor → Doing Actor) (plant : Plant) (me : ℕ) (old : Actors) (before : SoFar) (new : Actors) (after : SoFar) : Type 0 where
+pub record Moves (step : Doing Actor → Doing Actor) (plant : Plant) (me : ℕ) (old : Actors) (before : Output) (new : Actors) (after : Output) : Type 0 where
   pub on : (held : Bool) → (kept : Bool) × (step (doing_of plant me old before held) ≡ doing_of plant me new after kept)
   pub has_slots : HasSlots plant me new
   pub lives : lives_of new ≡ lives_of old
   pub back : All IsForActors before.back → All IsForActors after.back
 
 -- the last message is sent, if there is one
-pub record Closes (before after : SoFar) (last : Option Msg) : Type 0 where
-  pub messages : after.output.messages ≡ option_map_or (λ (m : Msg). before.output.messages ++ m ∷ []) last before.output.messages
-  pub notes : after.output.notes ≡ before.output.notes
+pub record Closes (before after : Output) (last : Option Msg) : Type 0 where
+  pub messages : after.messages ≡ option_map_or (λ (m : Msg). before.messages ++ m ∷ []) last before.messages
+  pub notes : after.notes ≡ before.notes
   pub back : after.back ≡ before.back
 
 -- before any actor of a controller has started
@@ -86,7 +85,7 @@ pub record Starts (plant : Plant) (me : ℕ) (xs : List Incarnation) (s : Starti
   pub notes : List Note
   pub kept : Bool
   pub started : all_started (model_of plant) plant.wiring me xs (unstarted plant.wiring me)
-      ≡ record { doing = record { body = body_of plant me s.actors; sent = s.sent; back = s.back; notes = notes; kept = kept }; entries = s.entries }
+      ≡ record { doing = record { body = body_of plant me s.actors; sent = s.output.messages; back = s.output.back; notes = notes; kept = kept }; entries = s.entries }
   pub well : IsWell plant me s.actors
   pub lives : lives_of s.actors ≡ first_lives plant.wiring me
 

@@ -5,9 +5,9 @@
 pub mod command_sends;
 mod commands;
 pub mod deferred_messages;
-mod doing;
+mod output;
 
-pub use command_sends::{Output, Services, Speaker};
+pub use command_sends::{Services, Speaker};
 pub use commands::apply_all;
 pub use deferred_messages::{DeferredMessages, Recalled};
-pub use doing::Doing;
+pub use output::Output;

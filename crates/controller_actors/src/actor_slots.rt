@@ -5,5 +5,5 @@
 mod actor_slot;
 mod occupant;
 
-pub use actor_slot::{ActorSlot, Entrance};
+pub use actor_slot::ActorSlot;
 pub use occupant::{Beginning, Occupant, Reaction};

@@ -8,8 +8,8 @@ ghost use Rattle.controller_actors.specs.Plants.{model_of};
 ghost use Rattle.controller_actors.specs.Bodies.{HasSlots, IsWell, body_of, done_of, lives_of};
 ghost use Rattle.controller_actors.specs.Steps.{ActorsBegin, Dispatches, IsLast};
 
-use crate::actor_commands::{Recalled, Speaker};
-use crate::actor_slots::{ActorSlot, Entrance};
+use crate::actor_commands::{Output, Speaker};
+use crate::actor_slots::ActorSlot;
 use crate::plant::Plant;
 use crate::services::ActorServices;
 use crate::start::start;
@@ -78,20 +78,19 @@ impl Actors {
         start(alloc, plant, me)
     }
 
-    /// The actor of a slot begins, and its commands are applied, where so much was sent and came back
-    /// before.
+    /// The actor of a slot begins, and its commands are applied, on top of what was sent and came back
+    /// before; the notes are those of this start alone. It answers the number of the actor's state.
     pub(crate) fn begin(
         &mut self,
         plant: &Plant,
         me: ControllerId,
         who: Incarnation,
-        sent: Outbox,
-        back: Recalled,
-    ) -> Result<Entrance, AllocError>
+        output: &mut Output,
+    ) -> Result<u16, AllocError>
         requires has_slots { HasSlots plant.now me.0 self.old }
         requires last { IsLast plant.now.wiring me.0 (lives_of self.old) who }
-        ensures { IfOk result (λ e.
-            ActorsBegin plant.now me.0 who.slot.0 self.old self.new sent back e) }
+        ensures { IfOk result (λ state.
+            ActorsBegin plant.now me.0 who.slot.0 self.old self.new output.old output.new state) }
     {
         let alloc = self.alloc;
         let speaker = Speaker {
@@ -101,8 +100,8 @@ impl Actors {
         };
         let tables = plant.tables_of(who.slot);
         let actor_slot = &mut self.slots[plant.row_of(who.slot)];
-        let entrance = actor_slot.begin(alloc, &speaker, &mut self.services, tables, sent, back)?;
-        Ok(entrance)
+        let state = actor_slot.begin(alloc, &speaker, &mut self.services, tables, output)?;
+        Ok(state)
     }
 
     /// The actor that lives in the slot of a message handles it.

@@ -5,18 +5,11 @@ ghost use Rattle.controller_actors.specs.Plants.{model_of};
 ghost use Rattle.controller_actors.specs.Bodies.{AreEmpty, HasSlots, lives_of};
 ghost use Rattle.controller_actors.specs.Steps.{IsLast, IsOwn, IsVacated, Moves, StayEmpty};
 
-use crate::actor_commands::{Output, Recalled, Speaker};
+use crate::actor_commands::{Output, Speaker};
 use crate::actors::Actors;
 use crate::plant::Plant;
 use room_kinds::{ControllerId, Incarnation, Note};
 use std::alloc::AllocError;
-
-/// What a turn has done so far: the messages and notes, and the deferred messages that came back.
-#[derive(Drop)]
-pub(crate) struct SoFar {
-    pub output: Output,
-    pub back: Recalled,
-}
 
 impl Actors {
     /// An actor that was made comes up: its note, its initial transition, and its commands.
@@ -25,12 +18,12 @@ impl Actors {
         plant: &Plant,
         me: ControllerId,
         who: Incarnation,
-        so_far: &mut SoFar,
+        output: &mut Output,
     ) -> Result<(), AllocError>
         requires has_slots { HasSlots plant.now me.0 self.old }
         requires last { IsLast plant.now.wiring me.0 (lives_of self.old) who }
         ensures moves { OnOk result (Moves (begun (model_of plant.now) plant.now.wiring me.0 who)
-            plant.now me.0 self.old so_far.old self.new so_far.new) }
+            plant.now me.0 self.old output.old self.new output.new) }
         ensures empty { OnOk result (StayEmpty plant.now me.0 self.old self.new) }
     {
         let alloc = self.alloc;
@@ -41,14 +34,7 @@ impl Actors {
         };
         let tables = plant.tables_of(who.slot);
         let actor_slot = &mut self.slots[plant.row_of(who.slot)];
-        actor_slot.come_up(
-            alloc,
-            &speaker,
-            &mut self.services,
-            tables,
-            &mut so_far.output,
-            &mut so_far.back,
-        )?;
+        actor_slot.come_up(alloc, &speaker, &mut self.services, tables, output)?;
         Ok(())
     }
 
@@ -58,17 +44,17 @@ impl Actors {
         plant: &Plant,
         me: ControllerId,
         made: &[Incarnation],
-        so_far: &mut SoFar,
+        output: &mut Output,
     ) -> Result<(), AllocError>
         requires has_slots { HasSlots plant.now me.0 self.old }
         requires last { All (IsLast plant.now.wiring me.0 (lives_of self.old)) made.now }
         ensures moves { OnOk result (Moves
             (all_begun (model_of plant.now) plant.now.wiring me.0 made.now)
-            plant.now me.0 self.old so_far.old self.new so_far.new) }
+            plant.now me.0 self.old output.old self.new output.new) }
         ensures empty { OnOk result (StayEmpty plant.now me.0 self.old self.new) }
     {
         for who in made {
-            self.come_up(plant, me, *who, so_far)?;
+            self.come_up(plant, me, *who, output)?;
         }
         Ok(())
     }
@@ -80,19 +66,19 @@ impl Actors {
         plant: &Plant,
         me: ControllerId,
         who: Incarnation,
-        so_far: &mut SoFar,
+        output: &mut Output,
     ) -> Result<(), AllocError>
         requires has_slots { HasSlots plant.now me.0 self.old }
         requires own { IsOwn plant.now.wiring me.0 who }
         ensures moves { OnOk result (Moves (gone plant.now.wiring me.0 who) plant.now me.0 self.old
-            so_far.old self.new so_far.new) }
+            output.old self.new output.new) }
         ensures empty { OnOk result (IsVacated plant.now me.0 who self.old self.new) }
     {
         let alloc = self.alloc;
         let actor_slot = &mut self.slots[plant.row_of(who.slot)];
         let lost = actor_slot.vacate(alloc);
-        so_far.output.notes.push(Note::Down { who, lost })?;
-        let out = &mut so_far.output.messages;
+        output.notes.push(Note::Down { who, lost })?;
+        let out = &mut output.messages;
         self.services.links.end_of(&plant.wiring, me, who, out)?;
         Ok(())
     }
@@ -103,17 +89,17 @@ impl Actors {
         plant: &Plant,
         me: ControllerId,
         ended: &[Incarnation],
-        so_far: &mut SoFar,
+        output: &mut Output,
     ) -> Result<(), AllocError>
         requires has_slots { HasSlots plant.now me.0 self.old }
         requires own { All (IsOwn plant.now.wiring me.0) ended.now }
         ensures moves { OnOk result (Moves (all_gone plant.now.wiring me.0 ended.now) plant.now me.0
-            self.old so_far.old self.new so_far.new) }
+            self.old output.old self.new output.new) }
         ensures empty { OnOk result (AreEmpty plant.now me.0 ended.now self.old
             → AreEmpty plant.now me.0 [] self.new) }
     {
         for who in ended {
-            self.go_down(plant, me, *who, so_far)?;
+            self.go_down(plant, me, *who, output)?;
         }
         Ok(())
     }

@@ -12,7 +12,6 @@ ghost use Rattle.controller_actors.specs.Duties.{Finishes, HasDuty, service_of};
 
 use crate::actor_commands::{Output, Recalled};
 use crate::actors::Actors;
-use crate::changes::SoFar;
 use crate::plant::Plant;
 use controller_mail::TurnResult;
 use frame_lives::DutyDone;
@@ -72,45 +71,24 @@ fn passed_over(alloc: Global) -> TurnResult
     only_sends(alloc, Outbox::new(alloc))
 }
 
-/// What a duty made of its message.
-fn done(so_far: SoFar) -> TurnResult
-    ensures { result ≡ record {
-      sent = so_far.output.messages;
-      back = so_far.back;
-      did = Did.Duty;
-      notes = so_far.output.notes;
-    } }
-{
-    let SoFar { output, back } = so_far;
-    TurnResult {
-        sent: output.messages,
-        back: back.into_sequence(),
-        did: Did::Duty,
-        notes: output.notes,
-    }
-}
-
 /// A duty that has sent these messages so far, with room for so many notes.
-fn only_sent(alloc: Global, sent: Outbox, count: usize) -> Result<SoFar, AllocError>
-    ensures { IfOk result (λ s.
-        s ≡ record { output = record { messages = sent; notes = [] }; back = [] }) }
+fn only_sent(alloc: Global, sent: Outbox, count: usize) -> Result<Output, AllocError>
+    ensures { IfOk result (λ o. o ≡ record { messages = sent; notes = []; back = [] }) }
 {
     let notes = Vec::with_capacity(alloc, count)?;
-    Ok(SoFar {
-        output: Output {
-            messages: sent,
-            notes: Sequence::from(notes),
-        },
+    Ok(Output {
+        messages: sent,
+        notes: Sequence::from(notes),
         back: Recalled::new(alloc),
     })
 }
 
 /// The message that closes a request, if there is one.
-fn close(so_far: &mut SoFar, last: Option<Msg>) -> Result<(), AllocError>
-    ensures { OnOk result (Closes so_far.old so_far.new last) }
+fn close(output: &mut Output, last: Option<Msg>) -> Result<(), AllocError>
+    ensures { OnOk result (Closes output.old output.new last) }
 {
     if let Some(m) = last {
-        so_far.output.messages.push(m)?;
+        output.messages.push(m)?;
     }
     Ok(())
 }
@@ -136,11 +114,11 @@ impl Actors {
         let DutyDone { made, ended, last } = left;
         // Each that comes up or goes down has a note. No duty both makes and ends actors.
         let count = made.len().max(ended.len());
-        let mut so_far = only_sent(alloc, sent, count)?;
-        self.all_come_up(plant, me, made.as_slice(), &mut so_far)?;
-        self.all_go_down(plant, me, ended.as_slice(), &mut so_far)?;
-        close(&mut so_far, last)?;
-        Ok(done(so_far))
+        let mut output = only_sent(alloc, sent, count)?;
+        self.all_come_up(plant, me, made.as_slice(), &mut output)?;
+        self.all_go_down(plant, me, ended.as_slice(), &mut output)?;
+        close(&mut output, last)?;
+        Ok(output.into_turn_result(Did::Duty))
     }
 
     /// A duty of the frame service, at a message of this kind.

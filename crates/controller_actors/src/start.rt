@@ -5,8 +5,8 @@ ghost use Rattle.controller_actors.specs.Plants.{model_of};
 ghost use Rattle.controller_actors.specs.Bodies.{HasSlots, IsWell, body_of, vacant, lives_of};
 ghost use Rattle.controller_actors.specs.Steps.{IsLast, Starts, StartsIn, first_below, first_in};
 
-use crate::actor_commands::{Output, Recalled};
-use crate::actor_slots::{ActorSlot, Entrance};
+use crate::actor_commands::Output;
+use crate::actor_slots::ActorSlot;
 use crate::actors::{Actors, Begun};
 use crate::plant::Plant;
 use crate::services::ActorServices;
@@ -14,16 +14,15 @@ use crate::slot_rows::own_count;
 use frame_service::FrameState;
 use journal::{Entry, Journal};
 use layer_service::{Links, NameService};
-use room_kinds::{ControllerId, Incarnation, Outbox, SlotId};
+use room_kinds::{ControllerId, Incarnation, Notes, SlotId};
 use std::alloc::{AllocError, Global};
 use std::mem;
 
-/// A controller whose actors start: what they sent, what came back, and their entries so far.
+/// A controller whose actors start: what they put out, and their entries so far.
 #[derive(Drop)]
 pub(crate) struct Starting {
     actors: Actors,
-    sent: Outbox,
-    back: Recalled,
+    output: Output,
     entries: Journal,
 }
 
@@ -50,17 +49,8 @@ impl Starting {
         ensures { OnOk result (StartsIn plant.now me.0 who.slot.0 self.old self.new) }
     {
         let alloc = self.actors.alloc;
-        let sent = mem::replace(&mut self.sent, Outbox::new(alloc));
-        let back = mem::replace(&mut self.back, Recalled::new(alloc));
-        let entrance = self.actors.begin(plant, me, who, sent, back)?;
-        let Entrance {
-            output,
-            back,
-            state,
-        } = entrance;
-        let Output { messages, notes } = output;
-        self.sent = messages;
-        self.back = back;
+        let state = self.actors.begin(plant, me, who, &mut self.output)?;
+        let notes = mem::replace(&mut self.output.notes, Notes::new(alloc));
         self.entries.push(Entry::Start { who, state, notes })?;
         Ok(())
     }
@@ -121,21 +111,24 @@ pub(crate) fn start(alloc: Global, plant: &Plant, me: ControllerId) -> Result<Be
             table: NameService::new(alloc),
             slots,
         },
-        sent: Outbox::new(alloc),
-        back: Recalled::new(alloc),
+        output: Output::new(alloc, Notes::new(alloc)),
         entries: Journal::new(alloc),
     };
     starting.start_all(plant, me)?;
-    // What came back goes nowhere: at a start nothing was kept before.
     let Starting {
         actors,
-        sent,
-        back: _,
+        output,
         entries,
     } = starting;
+    // The notes are in the entries, and what came back goes nowhere: at a start nothing was kept before.
+    let Output {
+        messages,
+        notes: _,
+        back: _,
+    } = output;
     Ok(Begun {
         actors,
-        sent,
+        sent: messages,
         entries,
     })
 }

@@ -18,12 +18,11 @@ use Rattle.actor_duties.specs.Commands.{Sent, Kept, defer, recall, recall_all}
 use Rattle.actor_world.specs.Body.{Body, Doing as WorldDoing, keeping, sending, apply_all}
 use Rattle.frame_lives.proofs.Rows.{updated_here, updated_else}
 use Rattle.chart_behaviour.specs.ModelCharts.{Actor}
-use Rattle.controller_actors.specs.declared.actor_commands.command_sends.output.Output.{Output}
+use Rattle.controller_actors.specs.declared.actor_commands.output.Output.{Output}
 use Rattle.controller_actors.specs.actor_commands.command_sends.Adding.{Adds}
 use Rattle.controller_actors.specs.actor_commands.command_sends.Asking.{FrameAsked, NameAsked}
 use Rattle.controller_actors.specs.actor_commands.deferred_messages.Steps.{Applies as KeptStep}
-use Rattle.controller_actors.specs.declared.actor_commands.doing.Doing.{Doing}
-use Rattle.controller_actors.specs.actor_commands.Doings.{doing_on, sent_at, Keeps, Applies, AppliesAll, AppliesNow, IsInHand}
+use Rattle.controller_actors.specs.actor_commands.Doings.{Doing, doing_on, sent_at, Keeps, Applies, AppliesAll, AppliesNow, IsInHand}
 
 -- ---- functions that are updated twice
 
@@ -43,18 +42,18 @@ nothing_left (c ∷ cs) none = absurd (omega (arith, none))
 
 -- a step that takes nothing back from what is kept
 pub keeps_here : (k : Kept) (old : Doing) (deferred : List Msg) (told : List Note) → KeptStep k deferred [] [] old.output.notes told
-    → Keeps k true old (record { deferred = deferred; output = record { messages = old.output.messages; notes = told }; back = old.back; kept = true })
+    → Keeps k true old (record { deferred = deferred; output = record { messages = old.output.messages; notes = told; back = old.output.back }; kept = true })
 keeps_here k old deferred told h = record {
   deferred = h.deferred;
   messages = refl;
   notes = h.notes;
-  back = ap (λ (ms : List Msg). ms ++ old.back) (h.back ∙ append-nil k.back);
+  back = ap (λ (ms : List Msg). ms ++ old.output.back) (h.back ∙ append-nil k.back);
   kept = refl;
 }
 
 -- a step by which messages may come back
-pub keeps_back : (k : Kept) (old : Doing) (deferred back : List Msg) (told : List Note) → KeptStep k deferred old.back back old.output.notes told
-    → Keeps k old.kept old (record { deferred = deferred; output = record { messages = old.output.messages; notes = told }; back = back; kept = old.kept })
+pub keeps_back : (k : Kept) (old : Doing) (deferred back : List Msg) (told : List Note) → KeptStep k deferred old.output.back back old.output.notes told
+    → Keeps k old.kept old (record { deferred = deferred; output = record { messages = old.output.messages; notes = told; back = back }; kept = old.kept })
 keeps_back k old deferred back told h = record { deferred = h.deferred; messages = refl; notes = h.notes; back = h.back; kept = refl }
 
 -- equal parts make equal states
@@ -68,8 +67,8 @@ same_doing f l b p q r s u = cc
 -- the same, with another state of the services and more messages
 same_asked : (b : Body Actor) (s : ℕ) (old : Doing) {f f' : Frame} {l l' : Links} {sent sent' : List Msg} → f ≡ f' → l ≡ l' → sent ≡ sent'
     → ◌≡◌ {A = WorldDoing Actor}
-    (record { body = record b { frame = f; links = l; deferred = updated b.deferred s old.deferred }; sent = sent; back = old.back; notes = old.output.notes; kept = old.kept })
-    (record { body = record b { frame = f'; links = l'; deferred = updated b.deferred s old.deferred }; sent = sent'; back = old.back; notes = old.output.notes; kept = old.kept })
+    (record { body = record b { frame = f; links = l; deferred = updated b.deferred s old.deferred }; sent = sent; back = old.output.back; notes = old.output.notes; kept = old.kept })
+    (record { body = record b { frame = f'; links = l'; deferred = updated b.deferred s old.deferred }; sent = sent'; back = old.output.back; notes = old.output.notes; kept = old.kept })
 same_asked b s old p q r = cc
 
 module _ (t : Tables) (me : ℕ) (f : Frame) (l : Links) (x : Incarnation) (m : Option Msg) where
@@ -109,7 +108,7 @@ module _ (t : Tables) (me : ℕ) (f : Frame) (l : Links) (x : Incarnation) (m : 
 
   sending_on : (b : Body Actor) (s : Sent) (old : Doing) (output : Output) → Adds s old.output output
       → sending (doing_on f l b x.slot.0 old) s ≡ doing_on f l b x.slot.0 (record old { output = output })
-  sending_on b s old output h = same_doing f l b refl (sym h.messages) refl (sym h.notes) refl
+  sending_on b s old output h = same_doing f l b refl (sym h.messages) (sym h.back) (sym h.notes) refl
 
   sends : (p : ℕ) (k : Option ℤ) (signal : ℕ) (payload : List ℤ) (prio : Priority) (old : Doing) (output : Output)
       → Adds (sent_at t me f l x p k (record { signal = signal; payload = payload; prio = prio })) old.output output
@@ -120,7 +119,7 @@ module _ (t : Tables) (me : ℕ) (f : Frame) (l : Links) (x : Incarnation) (m : 
   -- ---- what is asked of the frame service
 
   asks_frame : (c : FrameCommand) (f' : Frame) (l' : Links) (old : Doing) (out : List Msg) → FrameAsked t me x c f l f' l' old.output.messages out
-      → Applies t me f l f' l' x m (commands.Frame c) old (record old { output = record { messages = out; notes = old.output.notes } })
+      → Applies t me f l f' l' x m (commands.Frame c) old (record old { output = record { messages = out; notes = old.output.notes; back = old.output.back } })
   asks_frame c f' l' old out h = record {
     on = λ b. same_asked b x.slot.0 old (sym h.frame) (sym h.links) (sym h.sent);
   }
@@ -128,7 +127,7 @@ module _ (t : Tables) (me : ℕ) (f : Frame) (l : Links) (x : Incarnation) (m : 
   -- ---- what is asked of the layer service
 
   asks_name : (c : NameCommand) (f' : Frame) (l' : Links) (old : Doing) (out : List Msg) → NameAsked t me x c f l f' l' old.output.messages out
-      → Applies t me f l f' l' x m (commands.Name c) old (record old { output = record { messages = out; notes = old.output.notes } })
+      → Applies t me f l f' l' x m (commands.Name c) old (record old { output = record { messages = out; notes = old.output.notes; back = old.output.back } })
   asks_name c f' l' old out h = record {
     on = λ b. same_asked b x.slot.0 old (sym h.frame) (sym h.links) (sym h.sent);
   }
@@ -154,17 +153,34 @@ module _ (t : Tables) (me : ℕ) (f : Frame) (l : Links) (x : Incarnation) where
   pub recalls_all_now : (hand : Option Msg) (old new : Doing) → Keeps (recall_all old.deferred) old.kept old new → AppliesNow t me f l f l x commands.RecallAll hand old hand new
   recalls_all_now hand old new h = record { on = λ m i. recalls_all t me f l x m old new h; left = λ m i e. i (sym h.kept ∙ e) }
 
+  -- the same, by what they do to the messages that are kept
+  pub recalls_here : (hand : Option Msg) (deferred deferred' back : List Msg) (told : List Note) (old : Output) (kept : Bool) → KeptStep (recall deferred) deferred' old.back back old.notes told
+      → AppliesNow t me f l f l x commands.Recall hand (record { deferred = deferred; output = old; kept = kept }) hand
+      (record { deferred = deferred'; output = record { messages = old.messages; notes = told; back = back }; kept = kept })
+  recalls_here hand deferred deferred' back told old kept h =
+      let from : Doing = record { deferred = deferred; output = old; kept = kept } in
+      recalls_now hand from (record { deferred = deferred'; output = record { messages = old.messages; notes = told; back = back }; kept = kept })
+      (keeps_back (recall deferred) from deferred' back told h)
+
+  pub recalls_all_here : (hand : Option Msg) (deferred deferred' back : List Msg) (told : List Note) (old : Output) (kept : Bool) → KeptStep (recall_all deferred) deferred' old.back back old.notes told
+      → AppliesNow t me f l f l x commands.RecallAll hand (record { deferred = deferred; output = old; kept = kept }) hand
+      (record { deferred = deferred'; output = record { messages = old.messages; notes = told; back = back }; kept = kept })
+  recalls_all_here hand deferred deferred' back told old kept h =
+      let from : Doing = record { deferred = deferred; output = old; kept = kept } in
+      recalls_all_now hand from (record { deferred = deferred'; output = record { messages = old.messages; notes = told; back = back }; kept = kept })
+      (keeps_back (recall_all deferred) from deferred' back told h)
+
   pub sends_now : (p : ℕ) (k : Option ℤ) (signal : ℕ) (payload : List ℤ) (prio : Priority) (hand : Option Msg) (old : Doing) (output : Output)
       → Adds (sent_at t me f l x p k (record { signal = signal; payload = payload; prio = prio })) old.output output
       → AppliesNow t me f l f l x (commands.Send p k signal payload prio) hand old hand (record old { output = output })
   sends_now p k signal payload prio hand old output h = record { on = λ m i. sends t me f l x m p k signal payload prio old output h; left = λ m i. i }
 
   pub asks_frame_now : (c : FrameCommand) (f' : Frame) (l' : Links) (hand : Option Msg) (old : Doing) (out : List Msg) → FrameAsked t me x c f l f' l' old.output.messages out
-      → AppliesNow t me f l f' l' x (commands.Frame c) hand old hand (record old { output = record { messages = out; notes = old.output.notes } })
+      → AppliesNow t me f l f' l' x (commands.Frame c) hand old hand (record old { output = record { messages = out; notes = old.output.notes; back = old.output.back } })
   asks_frame_now c f' l' hand old out h = record { on = λ m i. asks_frame t me f l x m c f' l' old out h; left = λ m i. i }
 
   pub asks_name_now : (c : NameCommand) (f' : Frame) (l' : Links) (hand : Option Msg) (old : Doing) (out : List Msg) → NameAsked t me x c f l f' l' old.output.messages out
-      → AppliesNow t me f l f' l' x (commands.Name c) hand old hand (record old { output = record { messages = out; notes = old.output.notes } })
+      → AppliesNow t me f l f' l' x (commands.Name c) hand old hand (record old { output = record { messages = out; notes = old.output.notes; back = old.output.back } })
   asks_name_now c f' l' hand old out h = record { on = λ m i. asks_name t me f l x m c f' l' old out h; left = λ m i. i }
 
   -- ---- one after another

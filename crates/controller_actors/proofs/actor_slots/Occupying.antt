@@ -20,7 +20,7 @@ fits_here v m f u e = subst (λ (w : Tables). Fits w m) (let same : v ≡ u = cc
 
 -- a machine with tables
 pub machine_reacts : (v : Tables) (old new : Machine) (m : Msg) (o : Outcome) (state : ℕ) → Acts v old new m o → Fits v new → state ≡ new.leaf
-    → MachineReacts m (Some v) old new (record { came_to = o.result; state = state; notes = o.effects.notes; commands = o.effects.commands })
+    → MachineReacts m (Some v) old new (record { outcome = o; state = state })
 machine_reacts v old new m o state a f s = record {
   handled = machines_handle v old.me old new m o a refl;
   state = s;
@@ -28,9 +28,13 @@ machine_reacts v old new m o state a f s = record {
   fits = fits_here v new f;
 }
 
+-- what comes of a message that isn't handled
+abbrev unhandled : Outcome
+unhandled = record { result = handlings.Unhandled; effects = record { notes = []; commands = [] } }
+
 -- a machine whose class has no tables
 pub machine_passes : (old : Machine) (m : Msg) (state : ℕ) → state ≡ old.leaf
-    → MachineReacts m None old old (record { came_to = handlings.Unhandled; state = state; notes = []; commands = [] })
+    → MachineReacts m None old old (record { outcome = unhandled; state = state })
 unfolding handles
 machine_passes old m state s = record { handled = refl; state = s; me = refl; fits = λ v e. absurd (let no : ◌≡◌ {A = Option Tables} None (Some v) = e in cc) }
 
@@ -41,7 +45,7 @@ unfolding handles
 passes_without x m None = refl
 passes_without x m (Some v) = refl
 
-pub chartless_reacts : (m : Msg) (o : Option Tables) → Reacts m o occupants.Chartless occupants.Chartless (record { came_to = handlings.Unhandled; state = 65535; notes = []; commands = [] })
+pub chartless_reacts : (m : Msg) (o : Option Tables) → Reacts m o occupants.Chartless occupants.Chartless (record { outcome = unhandled; state = 65535 })
 chartless_reacts m o = record { stood = refl; stands = refl; handled = λ x h. passes_without x m o; state = refl; me = λ x h. h; fits = tt }
 
 -- an actor with a machine handles what its machine does
@@ -49,20 +53,20 @@ pub charted_reacts : (m : Msg) (o : Option Tables) (old new : Machine) (r : Reac
 charted_reacts m o old new r h = record {
   stood = refl;
   stands = refl;
-  handled = λ x e. subst (λ y. handles y m o (Some (standing_of old)) ≡ record { machine = Some (standing_of new); result = handling_of (result_view r.came_to); notes = r.notes; commands = r.commands }) e h.handled;
+  handled = λ x e. subst (λ y. handles y m o (Some (standing_of old)) ≡ record { machine = Some (standing_of new); result = handling_of (result_view r.outcome.result); notes = r.outcome.effects.notes; commands = r.outcome.effects.commands }) e h.handled;
   state = h.state;
   me = λ x e. h.me ∙ e;
   fits = h.fits;
 }
 
 -- an actor without a chart begins
-pub chartless_begins : (x : Incarnation) → Begins x None (record { occupant = occupants.Chartless; state = 65535; notes = []; commands = [] })
+pub chartless_begins : (x : Incarnation) → Begins x None (record { occupant = occupants.Chartless; state = 65535; effects = record { notes = []; commands = [] } })
 unfolding begins
 chartless_begins x = record { stands = refl; began = refl; state = refl; me = tt; fits = tt }
 
 -- one with a machine begins
 pub charted_begins : (x : Incarnation) (v : Tables) (m : Machine) (effects : Effects) (state : ℕ) → Starts v x m effects → Fits v m → state ≡ m.leaf
-    → Begins x (Some v) (record { occupant = occupants.Charted m; state = state; notes = effects.notes; commands = effects.commands })
+    → Begins x (Some v) (record { occupant = occupants.Charted m; state = state; effects = effects })
 charted_begins x v m effects state s f e = record {
   stands = refl;
   began = machines_begin v x m effects s;

@@ -15,8 +15,7 @@ use Rattle.actor_world.proofs.Notes.{apply_all_keeps}
 use Rattle.chart_behaviour.specs.ModelCharts.{Actor}
 use Rattle.controller_mail.specs.MailState.{IsForActors}
 use Rattle.frame_lives.proofs.Rows.{updated_here}
-use Rattle.controller_actors.specs.declared.actor_commands.doing.Doing.{Doing as CodeDoing}
-use Rattle.controller_actors.specs.actor_commands.Doings.{doing_on, AppliesAll}
+use Rattle.controller_actors.specs.actor_commands.Doings.{Doing as CodeDoing, doing_on, AppliesAll}
 
 -- the message in hand, if there is one
 abbrev pub InHand : Option Msg → Type 0
@@ -90,7 +89,7 @@ module _ (t : Tables) (me : ℕ) (x : Incarnation) (m : Option Msg) (hand : InHa
         (all_deferred_keep cs (doing_on f l (some_body f l) x.slot.0 old) (written (λ s. []) old.deferred h))
 
     -- what comes back
-    pub back_ranks : All IsForActors old.deferred → All IsForActors old.back → All IsForActors new.back
+    pub back_ranks : All IsForActors old.deferred → All IsForActors old.output.back → All IsForActors new.output.back
     back_ranks h b =
         subst (λ ms. All IsForActors ms) (ap (λ (d : Doing Actor). d.back) (applied.on (some_body f l)))
         (all_back_keep cs (doing_on f l (some_body f l) x.slot.0 old) (written (λ s. []) old.deferred h) b)

@@ -47,7 +47,7 @@ IsOf x (occupants.Charted m) = m.me ≡ x
 -- a machine handled a message, as an actor of its class does
 pub record MachineReacts (m : Msg) (o : Option Tables) (old new : Machine) (r : Reaction) : Type 0 where
   pub handled : handles old.me m o (Some (standing_of old))
-      ≡ record { machine = Some (standing_of new); result = handling_of (result_view r.came_to); notes = r.notes; commands = r.commands }
+      ≡ record { machine = Some (standing_of new); result = handling_of (result_view r.outcome.result); notes = r.outcome.effects.notes; commands = r.outcome.effects.commands }
   pub state : r.state ≡ new.leaf
   pub me : new.me ≡ old.me
   pub fits : MachineFits o new
@@ -57,7 +57,7 @@ pub record Reacts (m : Msg) (o : Option Tables) (old new : Occupant) (r : Reacti
   pub stood : actor_in old ≡ Some (actor_of old)
   pub stands : actor_in new ≡ Some (actor_of new)
   pub handled : (x : Incarnation) → IsOf x old
-      → handles x m o (actor_of old) ≡ record { machine = actor_of new; result = handling_of (result_view r.came_to); notes = r.notes; commands = r.commands }
+      → handles x m o (actor_of old) ≡ record { machine = actor_of new; result = handling_of (result_view r.outcome.result); notes = r.outcome.effects.notes; commands = r.outcome.effects.commands }
   pub state : r.state ≡ state_number (actor_of new)
   pub me : (x : Incarnation) → IsOf x old → IsOf x new
   pub fits : HasTables o new
@@ -65,7 +65,7 @@ pub record Reacts (m : Msg) (o : Option Tables) (old new : Occupant) (r : Reacti
 -- an actor began, as one of its class does
 pub record Begins (x : Incarnation) (o : Option Tables) (r : Beginning) : Type 0 where
   pub stands : actor_in r.occupant ≡ Some (actor_of r.occupant)
-  pub began : begins x o ≡ record { machine = actor_of r.occupant; notes = r.notes; commands = r.commands }
+  pub began : begins x o ≡ record { machine = actor_of r.occupant; notes = r.effects.notes; commands = r.effects.commands }
   pub state : r.state ≡ state_number (actor_of r.occupant)
   pub me : IsOf x r.occupant
   pub fits : HasTables o r.occupant

@@ -14,12 +14,11 @@ use Rattle.actor_world.specs.Body.{Body, Doing as WorldDoing, apply_all}
 use Rattle.actor_world.specs.Turns.{moved, handled_as, treated}
 use Rattle.chart_run.specs.declared.chart_tables.tables.Tables.{Tables}
 use Rattle.chart_behaviour.specs.ModelCharts.{Actor, begins, handles, state_number}
-use Rattle.controller_actors.specs.declared.actor_commands.command_sends.output.Output.{Output}
+use Rattle.controller_actors.specs.declared.actor_commands.output.Output.{Output}
 use Rattle.controller_mail.specs.MailState.{IsForActors}
 use Rattle.controller_mail.specs.declared.mail_queues.TurnResult.{TurnResult}
-use Rattle.controller_actors.specs.actor_commands.Doings.{AppliesAll}
+use Rattle.controller_actors.specs.actor_commands.Doings.{HasApplied}
 use Rattle.controller_actors.specs.declared.actor_slots.actor_slot.ActorSlot.{ActorSlot}
-use Rattle.controller_actors.specs.declared.actor_slots.actor_slot.Entrance.{Entrance}
 use Rattle.controller_actors.specs.actor_slots.Occupants.{HasTables, IsOf, actor_of, actor_in}
 
 -- what stands in a slot is this incarnation, fits the tables of its class, and keeps messages of the six
@@ -38,13 +37,11 @@ slot_body f l b slot s =
 abbrev pub treated_on : TurnResult → Body Actor → Treated (Body Actor)
 treated_on done body = record { body = body; sent = done.sent; back = done.back; did = done.did; notes = done.notes }
 
--- the commands of an actor were applied, from what was put out and came back before to what was then, and
--- from one state of the services to another
-pub record Works (t : Wiring) (me : ℕ) (f : Frame) (l : Links) (f' : Frame) (l' : Links) (x : Incarnation) (m : Option Msg) (cs : List Command) (old new : ActorSlot) (first : Output) (before : List Msg) (last : Output) (after : List Msg) : Type 0 where
-  pub kept : Bool
+-- the commands of an actor were applied, from what was put out before to what was then, and from one state
+-- of the services to another
+pub record Works (t : Wiring) (me : ℕ) (f : Frame) (l : Links) (f' : Frame) (l' : Links) (x : Incarnation) (m : Option Msg) (cs : List Command) (old new : ActorSlot) (first last : Output) : Type 0 where
   pub occupant : new.occupant ≡ old.occupant
-  pub applied : AppliesAll t me f l f' l' x m cs (record { deferred = old.deferred; output = first; back = before; kept = false })
-      (record { deferred = new.deferred; output = last; back = after; kept = kept })
+  pub applied : HasApplied t me f l f' l' x m cs old.deferred first new.deferred last
 
 -- a turn in which an actor's machine did this with a message
 abbrev pub turned : Wiring → ℕ → Body Actor → Incarnation → Msg → Outcome Actor → Treated (Body Actor)
@@ -67,13 +64,14 @@ entered t me x new d =
       kept = false;
     })
 
--- the actor of a slot began, whatever else the body has, where so much was sent and came back before
-pub record SlotBegins (t : Wiring) (me : ℕ) (f : Frame) (l : Links) (f' : Frame) (l' : Links) (x : Incarnation) (o : Option Tables) (old new : ActorSlot) (sent before : List Msg) (e : Entrance) : Type 0 where
+-- the actor of a slot began, whatever else the body has, on top of what was sent and came back before: its
+-- state has this number
+pub record SlotBegins (t : Wiring) (me : ℕ) (f : Frame) (l : Links) (f' : Frame) (l' : Links) (x : Incarnation) (o : Option Tables) (old new : ActorSlot) (first last : Output) (number : ℕ) : Type 0 where
   pub kept : Bool
   pub doing : (b : Body Actor) (notes : List Note) (held : Bool)
-      → entered t me x (begins x o) (record { body = slot_body f l b x.slot.0 old; sent = sent; back = before; notes = notes; kept = held })
-      ≡ record { body = slot_body f' l' b x.slot.0 new; sent = e.output.messages; back = e.back; notes = e.output.notes; kept = kept }
-  pub state : e.state ≡ state_number (begins x o).machine
+      → entered t me x (begins x o) (record { body = slot_body f l b x.slot.0 old; sent = first.messages; back = first.back; notes = notes; kept = held })
+      ≡ record { body = slot_body f' l' b x.slot.0 new; sent = last.messages; back = last.back; notes = last.notes; kept = kept }
+  pub state : number ≡ state_number (begins x o).machine
   pub lives : f'.lives ≡ f.lives
   pub fits : SlotFits x o new
 
@@ -89,12 +87,12 @@ risen t me x new d =
       kept = false;
     })
 
--- the actor of a slot came up, whatever else the body has, with what was put out and came back before
-pub record SlotComesUp (t : Wiring) (me : ℕ) (f : Frame) (l : Links) (f' : Frame) (l' : Links) (x : Incarnation) (o : Option Tables) (old new : ActorSlot) (first : Output) (before : List Msg) (last : Output) (after : List Msg) : Type 0 where
+-- the actor of a slot came up, whatever else the body has, on top of what was put out before
+pub record SlotComesUp (t : Wiring) (me : ℕ) (f : Frame) (l : Links) (f' : Frame) (l' : Links) (x : Incarnation) (o : Option Tables) (old new : ActorSlot) (first last : Output) : Type 0 where
   pub kept : Bool
   pub doing : (b : Body Actor) (held : Bool)
-      → risen t me x (begins x o) (record { body = slot_body f l b x.slot.0 old; sent = first.messages; back = before; notes = first.notes; kept = held })
-      ≡ record { body = slot_body f' l' b x.slot.0 new; sent = last.messages; back = after; notes = last.notes; kept = kept }
+      → risen t me x (begins x o) (record { body = slot_body f l b x.slot.0 old; sent = first.messages; back = first.back; notes = first.notes; kept = held })
+      ≡ record { body = slot_body f' l' b x.slot.0 new; sent = last.messages; back = last.back; notes = last.notes; kept = kept }
   pub lives : f'.lives ≡ f.lives
   pub fits : SlotFits x o new
-  pub back : All IsForActors before → All IsForActors after
+  pub back : All IsForActors first.back → All IsForActors last.back

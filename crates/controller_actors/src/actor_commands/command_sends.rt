@@ -5,11 +5,11 @@
 //! Each step is exactly the definition of its command in `actor_duties`.
 
 mod broadcasts;
-mod output;
 mod sends;
 mod services;
+mod speaker;
 
 pub use broadcasts::broadcast;
-pub use output::{Content, Output, Speaker};
 pub use sends::send;
 pub use services::Services;
+pub use speaker::{Content, Speaker};

@@ -9,31 +9,20 @@ ghost use Rattle.actor_world.specs.Turns.{handled_as};
 ghost use Rattle.controller_actors.specs.actor_slots.Occupants.{AreSound, actor_in};
 ghost use Rattle.controller_actors.specs.actor_slots.Slots.{SlotComesUp, SlotFits, SlotTurns, SlotBegins, Works};
 
-use crate::actor_commands::{
-    DeferredMessages, Doing, Output, Recalled, Services, Speaker, apply_all,
-};
+use crate::actor_commands::{DeferredMessages, Output, Services, Speaker, apply_all};
 use crate::actor_slots::occupant::{Beginning, NO_STATE, Occupant, Reaction};
-use chart_run::{Handling, Tables};
+use action_program::Effects;
+use chart_run::{Handling, Outcome, Tables};
 use controller_mail::TurnResult;
 use journal::Did;
-use room_kinds::{Commands, Incarnation, Msg, Note, Notes, Outbox};
+use room_kinds::{Commands, Incarnation, Msg, Note, Notes};
 use std::alloc::{AllocError, Global};
-use std::mem;
 
 /// What stands in a slot, and the messages that it keeps for later.
 #[derive(Drop)]
 pub struct ActorSlot {
     pub occupant: Occupant,
     pub deferred: DeferredMessages,
-}
-
-/// What came of an actor's start: what was sent so far, with the notes of this start alone, what came back
-/// so far, and the number of the actor's state.
-#[derive(Drop)]
-pub struct Entrance {
-    pub output: Output,
-    pub back: Recalled,
-    pub state: u16,
 }
 
 /// What a journal says of a message that an actor handled.
@@ -44,16 +33,6 @@ fn did_of(came_to: Handling, who: Incarnation, state: u16) -> Did
         Handling::Handled => Did::Handled { who, state },
         Handling::Deferred => Did::Deferred { who, state },
         Handling::Unhandled => Did::Unhandled { who, state },
-    }
-}
-
-/// Nothing is sent, and nothing is told. It takes no memory.
-fn nothing_put_out(alloc: Global) -> Output
-    ensures { result ≡ record { messages = []; notes = [] } }
-{
-    Output {
-        messages: Outbox::new(alloc),
-        notes: Notes::new(alloc),
     }
 }
 
@@ -111,7 +90,7 @@ impl ActorSlot {
     }
 
     /// The commands of an actor that begins, which handles no message, are applied in order, on top of
-    /// what was put out and what came back before. Most actors have none then, and nothing is moved.
+    /// what was put out before. Most actors have none then.
     fn work<S: Services>(
         &mut self,
         alloc: Global,
@@ -119,7 +98,6 @@ impl ActorSlot {
         services: &mut S,
         commands: Commands,
         output: &mut Output,
-        back: &mut Recalled,
     ) -> Result<(), AllocError>
         requires serves { S.serves speaker.now.wiring.now speaker.now.me.0 services.old }
         requires there { speaker.now.who.slot.0 < length speaker.now.wiring.now.slots }
@@ -130,78 +108,14 @@ impl ActorSlot {
             (S.links_of services.old)
             (S.frame_of services.new)
             (S.links_of services.new)
-            speaker.now.who None commands self.old self.new output.old back.old output.new
-            back.new) }
+            speaker.now.who None commands self.old self.new output.old output.new) }
     {
         if commands.is_empty() {
             return Ok(());
         }
-        self.work_through(alloc, speaker, services, commands, output, back)?;
+        let deferred = &mut self.deferred;
+        apply_all(alloc, speaker, services, None, commands, deferred, output)?;
         Ok(())
-    }
-
-    /// The same, whether or not there are commands. It stands apart, since a function pays at its entry for
-    /// the room of what it moves.
-    fn work_through<S: Services>(
-        &mut self,
-        alloc: Global,
-        speaker: &Speaker<'_>,
-        services: &mut S,
-        commands: Commands,
-        output: &mut Output,
-        back: &mut Recalled,
-    ) -> Result<(), AllocError>
-        requires serves { S.serves speaker.now.wiring.now speaker.now.me.0 services.old }
-        requires there { speaker.now.who.slot.0 < length speaker.now.wiring.now.slots }
-        ensures serves { OnOk result (S.serves speaker.now.wiring.now speaker.now.me.0
-            services.new) }
-        ensures works { OnOk result (Works speaker.now.wiring.now speaker.now.me.0
-            (S.frame_of services.old)
-            (S.links_of services.old)
-            (S.frame_of services.new)
-            (S.links_of services.new)
-            speaker.now.who None commands self.old self.new output.old back.old output.new
-            back.new) }
-    {
-        let mut doing = Doing {
-            deferred: mem::replace(&mut self.deferred, DeferredMessages::new(alloc)),
-            output: mem::replace(output, nothing_put_out(alloc)),
-            back: mem::replace(back, Recalled::new(alloc)),
-            kept: false,
-        };
-        apply_all(alloc, speaker, services, None, commands, &mut doing)?;
-        let Doing {
-            deferred,
-            output: told,
-            back: all_back,
-            kept: _,
-        } = doing;
-        self.deferred = deferred;
-        *output = told;
-        *back = all_back;
-        Ok(())
-    }
-
-    /// What the actor does in a turn, so far: it has told this. What it keeps for later is moved there.
-    fn take_up(&mut self, alloc: Global, notes: Notes) -> Doing
-        ensures doing { result
-            ≡ record {
-              deferred = self.old.deferred;
-              output = record { messages = []; notes = notes };
-              back = [];
-              kept = false;
-            } }
-        ensures occupant { self.new.occupant ≡ self.old.occupant }
-    {
-        Doing {
-            deferred: mem::replace(&mut self.deferred, DeferredMessages::new(alloc)),
-            output: Output {
-                messages: Outbox::new(alloc),
-                notes,
-            },
-            back: Recalled::new(alloc),
-            kept: false,
-        }
     }
 
     /// The actor handles a message, and its commands are applied; `None` where nobody stands there. After
@@ -238,73 +152,60 @@ impl ActorSlot {
             Ok(None) => return Ok(None),
             Err(refused) => return Err(refused),
         };
-        let Reaction {
-            came_to,
-            state,
-            notes,
+        let Reaction { outcome, state } = reaction;
+        let Outcome { result, effects } = outcome;
+        let Effects { notes, commands } = effects;
+        let mut output = Output::new(alloc, notes);
+        let deferred = &mut self.deferred;
+        apply_all(
+            alloc,
+            speaker,
+            services,
+            Some(m),
             commands,
-        } = reaction;
-        let mut doing = self.take_up(alloc, notes);
-        apply_all(alloc, speaker, services, Some(m), commands, &mut doing)?;
-        let Doing {
             deferred,
-            output,
-            back,
-            kept: _,
-        } = doing;
-        self.deferred = deferred;
-        let Output { messages, notes } = output;
-        Ok(Some(TurnResult {
-            sent: messages,
-            back: back.into_sequence(),
-            did: did_of(came_to, speaker.who, state),
-            notes,
-        }))
+            &mut output,
+        )?;
+        let did = did_of(result, speaker.who, state);
+        Ok(Some(output.into_turn_result(did)))
     }
 
-    /// The actor of a slot begins, and its commands are applied, where so much was sent and came back
-    /// before. After want of memory the slot is unspecified: the controller has failed.
+    /// The actor of a slot begins, and its commands are applied, on top of what was sent and came back
+    /// before; the notes are those of this start alone. It answers the number of the actor's state. After
+    /// want of memory the slot, and what was put out, is unspecified: the controller has failed.
     pub fn begin<S: Services>(
         &mut self,
         alloc: Global,
         speaker: &Speaker<'_>,
         services: &mut S,
         tables: Option<&Tables>,
-        sent: Outbox,
-        back: Recalled,
-    ) -> Result<Entrance, AllocError>
+        output: &mut Output,
+    ) -> Result<u16, AllocError>
         requires sound { AreSound (option_copied tables) }
         requires kept { All IsForActors self.old.deferred }
         requires serves { S.serves speaker.now.wiring.now speaker.now.me.0 services.old }
         requires there { speaker.now.who.slot.0 < length speaker.now.wiring.now.slots }
         ensures serves { OnOk result (S.serves speaker.now.wiring.now speaker.now.me.0
             services.new) }
-        ensures begins { IfOk result (λ e.
+        ensures begins { IfOk result (λ state.
             SlotBegins speaker.now.wiring.now speaker.now.me.0 (S.frame_of services.old)
             (S.links_of services.old)
             (S.frame_of services.new)
             (S.links_of services.new)
-            speaker.now.who (option_copied tables.entry) self.old self.new sent back e) }
+            speaker.now.who (option_copied tables.entry) self.old self.new output.old output.new
+            state) }
     {
         let beginning = Occupant::begin(alloc, tables, speaker.who)?;
         let Beginning {
             occupant,
             state,
-            notes,
-            commands,
+            effects,
         } = beginning;
+        let Effects { notes, commands } = effects;
         self.occupant = occupant;
-        let mut output = Output {
-            messages: sent,
-            notes,
-        };
-        let mut back = back;
-        self.work(alloc, speaker, services, commands, &mut output, &mut back)?;
-        Ok(Entrance {
-            output,
-            back,
-            state,
-        })
+        output.notes = notes;
+        self.work(alloc, speaker, services, commands, output)?;
+        Ok(state)
     }
 
     /// The same, whether or not the actor's class has a chart.
@@ -315,7 +216,6 @@ impl ActorSlot {
         services: &mut S,
         tables: Option<&Tables>,
         output: &mut Output,
-        back: &mut Recalled,
     ) -> Result<(), AllocError>
         requires sound { AreSound (option_copied tables) }
         requires serves { S.serves speaker.now.wiring.now speaker.now.me.0 services.old }
@@ -327,27 +227,26 @@ impl ActorSlot {
             (S.links_of services.old)
             (S.frame_of services.new)
             (S.links_of services.new)
-            speaker.now.who (option_copied tables.entry) self.old self.new output.old back.old
-            output.new back.new) }
+            speaker.now.who (option_copied tables.entry) self.old self.new output.old
+            output.new) }
     {
         let beginning = Occupant::begin(alloc, tables, speaker.who)?;
         let Beginning {
             occupant,
             state,
-            notes,
-            commands,
+            effects,
         } = beginning;
+        let Effects { notes, commands } = effects;
         self.occupant = occupant;
         self.deferred = DeferredMessages::new(alloc);
         tell_up(&mut output.notes, speaker.who, state, notes.as_slice())?;
-        self.work(alloc, speaker, services, commands, output, back)?;
+        self.work(alloc, speaker, services, commands, output)?;
         Ok(())
     }
 
     /// The actor of a slot comes up: it begins with nothing kept for later, its note `up` tells its
-    /// state, and its commands are applied, on top of what was put out and what came back before. After
-    /// want of memory the slot, and what was put out and came back, is unspecified: the controller has
-    /// failed.
+    /// state, and its commands are applied, on top of what was put out before. After want of memory the
+    /// slot, and what was put out, is unspecified: the controller has failed.
     pub fn come_up<S: Services>(
         &mut self,
         alloc: Global,
@@ -355,7 +254,6 @@ impl ActorSlot {
         services: &mut S,
         tables: Option<&Tables>,
         output: &mut Output,
-        back: &mut Recalled,
     ) -> Result<(), AllocError>
         requires sound { AreSound (option_copied tables) }
         requires serves { S.serves speaker.now.wiring.now speaker.now.me.0 services.old }
@@ -367,12 +265,12 @@ impl ActorSlot {
             (S.links_of services.old)
             (S.frame_of services.new)
             (S.links_of services.new)
-            speaker.now.who (option_copied tables.entry) self.old self.new output.old back.old
-            output.new back.new) }
+            speaker.now.who (option_copied tables.entry) self.old self.new output.old
+            output.new) }
     {
         match tables {
             Some(_) => {
-                self.come_up_by(alloc, speaker, services, tables, output, back)?;
+                self.come_up_by(alloc, speaker, services, tables, output)?;
                 Ok(())
             }
             None => {

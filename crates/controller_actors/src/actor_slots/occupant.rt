@@ -7,7 +7,7 @@ ghost use Rattle.controller_actors.specs.actor_slots.Occupants.{AreSound, HasTab
 
 use action_program::Effects;
 use chart_run::{Handling, Machine, Outcome, Tables};
-use room_kinds::{Commands, Incarnation, Msg, Notes};
+use room_kinds::{Incarnation, Msg};
 use std::alloc::{AllocError, Global};
 
 /// The number of the state of an actor whose class has no chart.
@@ -21,14 +21,11 @@ pub enum Occupant {
     Charted(Machine),
 }
 
-/// What came of a message: whether it was handled, the number of the actor's state then, and what the
-/// actions that ran told and asked for.
+/// What came of a message, and the number of the actor's state then.
 #[derive(Drop)]
 pub struct Reaction {
-    pub came_to: Handling,
+    pub outcome: Outcome,
     pub state: u16,
-    pub notes: Notes,
-    pub commands: Commands,
 }
 
 /// An actor that has begun, the number of its state, and what its first actions told and asked for.
@@ -36,20 +33,26 @@ pub struct Reaction {
 pub struct Beginning {
     pub occupant: Occupant,
     pub state: u16,
-    pub notes: Notes,
-    pub commands: Commands,
+    pub effects: Effects,
 }
 
 /// An actor that doesn't handle a message.
 fn passed_over(alloc: Global, state: u16) -> Reaction
     ensures { result
-        ≡ record { came_to = Handling.Unhandled; state = state; notes = []; commands = [] } }
+        ≡ record {
+          outcome = record {
+            result = Handling.Unhandled;
+            effects = record { notes = []; commands = [] };
+          };
+          state = state;
+        } }
 {
     Reaction {
-        came_to: Handling::Unhandled,
+        outcome: Outcome {
+            result: Handling::Unhandled,
+            effects: Effects::new(alloc),
+        },
         state,
-        notes: Notes::new(alloc),
-        commands: Commands::new(alloc),
     }
 }
 
@@ -68,16 +71,10 @@ fn react_by(
 {
     match tables {
         Some(tables) => match machine.handle(alloc, tables, m) {
-            Ok(outcome) => {
-                let Outcome { result, effects } = outcome;
-                let Effects { notes, commands } = effects;
-                Ok(Reaction {
-                    came_to: result,
-                    state: machine.state(),
-                    notes,
-                    commands,
-                })
-            }
+            Ok(outcome) => Ok(Reaction {
+                outcome,
+                state: machine.state(),
+            }),
             Err(refused) => Err(refused),
         },
         None => Ok(passed_over(alloc, machine.state())),
@@ -147,18 +144,15 @@ impl Occupant {
             return Ok(Beginning {
                 occupant: Occupant::Chartless,
                 state: NO_STATE,
-                notes: Notes::new(alloc),
-                commands: Commands::new(alloc),
+                effects: Effects::new(alloc),
             });
         };
         let (machine, effects) = Machine::start(alloc, tables, who)?;
         let state = machine.state();
-        let Effects { notes, commands } = effects;
         Ok(Beginning {
             occupant: Occupant::Charted(machine),
             state,
-            notes,
-            commands,
+            effects,
         })
     }
 }

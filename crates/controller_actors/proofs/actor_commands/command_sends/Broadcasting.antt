@@ -10,12 +10,12 @@ use Rattle.room_wiring.specs.Places.{port_count, place_count}
 use Rattle.actor_duties.specs.Words.{is_spp, places_of}
 use Rattle.actor_duties.specs.State.{Frame, Links, Link}
 use Rattle.actor_duties.specs.Commands.{Content, Sent, send, all_places, broadcast_places, send_each, broadcast}
-use Rattle.controller_actors.specs.declared.actor_commands.command_sends.output.Output.{Output}
+use Rattle.controller_actors.specs.declared.actor_commands.output.Output.{Output}
 use Rattle.controller_actors.specs.actor_commands.command_sends.Adding.{Adds}
 
 -- nothing is said
 pub Adds-none : (x : Output) → Adds (record { messages = []; notes = [] }) x x
-Adds-none x = record { messages = sym (append-nil x.messages); notes = sym (append-nil x.notes) }
+Adds-none x = record { messages = sym (append-nil x.messages); notes = sym (append-nil x.notes); back = refl }
 
 -- one thing after another
 abbrev joined : Sent → Sent → Sent
@@ -25,6 +25,7 @@ Adds-joined : (a b : Sent) (x y z : Output) → Adds a x y → Adds b y z → Ad
 Adds-joined a b x y z p q = record {
   messages = q.messages ∙ ap (λ m. m ++ b.messages) p.messages ∙ append_assoc x.messages a.messages b.messages;
   notes = q.notes ∙ ap (λ m. m ++ b.notes) p.notes ∙ append_assoc x.notes a.notes b.notes;
+  back = q.back ∙ p.back;
 }
 
 module _ (t : Tables) (me : ℕ) (f : Frame) (l : Links) (x : Incarnation) (p : ℕ) (c : Content) where
@@ -45,7 +46,7 @@ module _ (t : Tables) (me : ℕ) (f : Frame) (l : Links) (x : Incarnation) (p : 
   pub Adds-one : (k : ℕ) (u v : Output) → Adds (send t me f l x p (pos k) c) u v → Adds (send_each t me f l x p c (k ∷ [])) u v
   Adds-one k u v a =
       let s = send t me f l x p (pos k) c in
-      record { messages = a.messages ∙ ap (λ m. u.messages ++ m) (sym (append-nil s.messages)); notes = a.notes ∙ ap (λ m. u.notes ++ m) (sym (append-nil s.notes)) }
+      record { messages = a.messages ∙ ap (λ m. u.messages ++ m) (sym (append-nil s.messages)); notes = a.notes ∙ ap (λ m. u.notes ++ m) (sym (append-nil s.notes)); back = a.back }
 
   -- a send at a linked place: before the first one nothing is sent
   pub link_passed : (first k : ℕ) (u : Output) → k < first → Adds (send_each t me f l x p c (filter (nat_le first) (k ∷ []))) u u

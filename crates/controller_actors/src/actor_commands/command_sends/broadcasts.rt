@@ -7,9 +7,10 @@ ghost use Rattle.actor_duties.specs.Words.{places_of};
 ghost use Rattle.actor_duties.specs.Commands.{send, send_each, broadcast};
 ghost use Rattle.controller_actors.specs.actor_commands.command_sends.Adding.{Adds, content_of};
 
-use crate::actor_commands::command_sends::output::{Content, Output, Speaker};
 use crate::actor_commands::command_sends::sends::send_at;
 use crate::actor_commands::command_sends::services::Services;
+use crate::actor_commands::command_sends::speaker::{Content, Speaker};
+use crate::actor_commands::output::Output;
 use service_messages::is_spp;
 use std::alloc::{AllocError, Global};
 

@@ -4,8 +4,9 @@ ghost use Rattle.actor_duties.specs.Words.{endpoint};
 ghost use Rattle.actor_duties.specs.Commands.{message, send};
 ghost use Rattle.controller_actors.specs.actor_commands.command_sends.Adding.{Adds, content_of};
 
-use crate::actor_commands::command_sends::output::{Content, Output, Speaker};
 use crate::actor_commands::command_sends::services::Services;
+use crate::actor_commands::command_sends::speaker::{Content, Speaker};
+use crate::actor_commands::output::Output;
 use room_kinds::{Endpoint, Msg, Note, Stamp};
 use service_messages::owner_of;
 use std::alloc::AllocError;

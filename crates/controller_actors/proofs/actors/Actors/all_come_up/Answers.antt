@@ -14,7 +14,7 @@ abbrev no_one : Incarnation
 no_one = record { slot = record { 0 = 0 }; generation = record { 0 = 0 } }
 
 pub loop-who-init : goal.loop-who-init
-loop-who-init c = (stays c.args.plant.now c.args.me.0 c.args.self.now c.args.so_far.now c.requires.has_slots, λ gone h. h)
+loop-who-init c = (stays c.args.plant.now c.args.me.0 c.args.self.now c.args.output.now c.requires.has_slots, λ gone h. h)
 
 pub come_up-requires-clause-has_slots : goal.come_up-requires-clause-has_slots
 come_up-requires-clause-has_slots c = c.loop-who.invariant.0.has_slots
@@ -31,9 +31,9 @@ loop-who-preserved c =
     let made = c.args.made.now in
     let at = c.loop-who.who-index in
     let x = get_or made at no_one in (
-      subst (λ (xs : List Incarnation). Moves (all_begun (model_of p) p.wiring me xs) p me c.args.self.now c.args.so_far.now c.come_up.new.self c.come_up.new.so_far)
+      subst (λ (xs : List Incarnation). Moves (all_begun (model_of p) p.wiring me xs) p me c.args.self.now c.args.output.now c.come_up.new.self c.come_up.new.output)
           (sym (take_more made at no_one c.loop-who-test.true))
-          (more_begun p me (take at made) x c.args.self.now c.loop-who.self c.come_up.new.self c.args.so_far.now c.loop-who.so_far c.come_up.new.so_far c.loop-who.invariant.0 c.in_ok-come_up.ensures.moves),
+          (more_begun p me (take at made) x c.args.self.now c.loop-who.self c.come_up.new.self c.args.output.now c.loop-who.output c.come_up.new.output c.loop-who.invariant.0 c.in_ok-come_up.ensures.moves),
       λ gone h. c.in_ok-come_up.ensures.empty gone (c.loop-who.invariant.1 gone h),
     )
 
@@ -42,7 +42,7 @@ returns-clause-moves c =
     let p = c.args.plant.now in
     let me = c.args.me.0 in
     let made = c.args.made.now in
-    subst (λ (xs : List Incarnation). Moves (all_begun (model_of p) p.wiring me xs) p me c.args.self.now c.args.so_far.now c.loop-who.self c.loop-who.so_far)
+    subst (λ (xs : List Incarnation). Moves (all_begun (model_of p) p.wiring me xs) p me c.args.self.now c.args.output.now c.loop-who.self c.loop-who.output)
     (take_all c.loop-who.who-index made c.loop-who-test.false) c.loop-who.invariant.0
 
 pub returns-clause-empty : goal.returns-clause-empty

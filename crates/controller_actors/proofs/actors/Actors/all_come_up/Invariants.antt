@@ -7,5 +7,5 @@ use Rattle.controller_actors.proofs.actors.Actors.all_come_up.Given as goal
 -- those so far came up
 abbrev pub invariant-loop-who : goal.invariant-loop-who
 invariant-loop-who l =
-    Moves (all_begun (model_of l.plant) l.plant.wiring l.me.0 (take l.who-index l.made)) l.plant l.me.0 l.fn.self l.fn.so_far l.self l.so_far
+    Moves (all_begun (model_of l.plant) l.plant.wiring l.me.0 (take l.who-index l.made)) l.plant l.me.0 l.fn.self l.fn.output l.self l.output
     × StayEmpty l.plant l.me.0 l.fn.self l.self

@@ -12,7 +12,7 @@ abbrev no_one : Incarnation
 no_one = record { slot = record { 0 = 0 }; generation = record { 0 = 0 } }
 
 pub loop-who-init : goal.loop-who-init
-loop-who-init c = (stays c.args.plant.now c.args.me.0 c.args.self.now c.args.so_far.now c.requires.has_slots, λ h. h)
+loop-who-init c = (stays c.args.plant.now c.args.me.0 c.args.self.now c.args.output.now c.requires.has_slots, λ h. h)
 
 pub go_down-requires-clause-has_slots : goal.go_down-requires-clause-has_slots
 go_down-requires-clause-has_slots c = c.loop-who.invariant.0.has_slots
@@ -29,9 +29,9 @@ loop-who-preserved c =
     let at = c.loop-who.who-index in
     let x = get_or ended at no_one in
     let old = c.args.self.now in (
-      subst (λ (xs : List Incarnation). Moves (all_gone p.wiring me xs) p me old c.args.so_far.now c.go_down.new.self c.go_down.new.so_far)
+      subst (λ (xs : List Incarnation). Moves (all_gone p.wiring me xs) p me old c.args.output.now c.go_down.new.self c.go_down.new.output)
           (sym (take_more ended at no_one c.loop-who-test.true))
-          (more_gone p me (take at ended) x old c.loop-who.self c.go_down.new.self c.args.so_far.now c.loop-who.so_far c.go_down.new.so_far c.loop-who.invariant.0 c.in_ok-go_down.ensures.moves),
+          (more_gone p me (take at ended) x old c.loop-who.self c.go_down.new.self c.args.output.now c.loop-who.output c.go_down.new.output c.loop-who.invariant.0 c.in_ok-go_down.ensures.moves),
       λ h. c.in_ok-go_down.ensures.empty (drop (at + 1) ended)
           (subst (λ (xs : List Incarnation). AreEmpty p me xs c.loop-who.self) (drop_more ended at no_one c.loop-who-test.true) (c.loop-who.invariant.1 h)),
     )
@@ -40,7 +40,7 @@ pub returns-clause-moves : goal.returns-clause-moves
 returns-clause-moves c =
     let p = c.args.plant.now in
     let me = c.args.me.0 in
-    subst (λ (xs : List Incarnation). Moves (all_gone p.wiring me xs) p me c.args.self.now c.args.so_far.now c.loop-who.self c.loop-who.so_far)
+    subst (λ (xs : List Incarnation). Moves (all_gone p.wiring me xs) p me c.args.self.now c.args.output.now c.loop-who.self c.loop-who.output)
     (take_all c.loop-who.who-index c.args.ended.now c.loop-who-test.false) c.loop-who.invariant.0
 
 pub returns-clause-empty : goal.returns-clause-empty

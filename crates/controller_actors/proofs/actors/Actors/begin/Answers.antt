@@ -50,12 +50,14 @@ returns c =
     let k = links_in c.begin.new.services in
     let before = c.index_mut-actor_slot.result.now in
     let after = c.begin.new.self in
-    let e = c.in_ok-entrance.entrance in
+    let first = c.args.output.now in
+    let last = c.begin.new.output in
+    let state = c.in_ok-state.state in
     let own = c.requires.last.own in
     let at : c.row_of.result ≡ own_below p.wiring c.args.me.0 s = c.row_of.ensures c.args.me.0 own in
-    actors_begin p c.args.me.0 old _ s before after c.args.sent c.args.back e (has_row p.wiring c.args.me.0 old.slots.items s c.requires.has_slots.count own)
+    actors_begin p c.args.me.0 old _ s before after first last state (has_row p.wiring c.args.me.0 old.slots.items s c.requires.has_slots.count own)
     (slot_read p c.args.me.0 old s c.row_of.result before c.requires.has_slots own at c.index_mut-actor_slot.ensures.value) refl
-    (ap (λ i. set old.slots.items i after) at) c.in_ok-entrance.ensures.serves
-    (subst (λ (o : Option Tables). SlotBegins p.wiring c.args.me.0 f l g k (last_of (lives_of old) s) o before after c.args.sent c.args.back e) c.tables_of-tables.ensures
-    (subst (λ (x : Incarnation). SlotBegins p.wiring c.args.me.0 f l g k x (option_copied c.tables_of-tables.result) before after c.args.sent c.args.back e) (sym c.requires.last.last) c.in_ok-entrance.ensures.begins))
+    (ap (λ i. set old.slots.items i after) at) c.in_ok-state.ensures.serves
+    (subst (λ (o : Option Tables). SlotBegins p.wiring c.args.me.0 f l g k (last_of (lives_of old) s) o before after first last state) c.tables_of-tables.ensures
+    (subst (λ (x : Incarnation). SlotBegins p.wiring c.args.me.0 f l g k x (option_copied c.tables_of-tables.result) before after first last state) (sym c.requires.last.last) c.in_ok-state.ensures.begins))
     c.requires.last.live c.requires.has_slots

@@ -7,7 +7,6 @@ use Rattle.std.specs.Vec.{with_item}
 use Rattle.controller_actors.specs.Served.{links_in}
 use Rattle.controller_actors.specs.Rows.{own_below}
 use Rattle.controller_actors.specs.declared.actors.Actors.{Actors}
-use Rattle.controller_actors.specs.declared.changes.SoFar.{SoFar}
 use Rattle.controller_actors.specs.actor_slots.Slots.{SlotComesUp}
 use Rattle.controller_actors.proofs.OwnRows.{has_row}
 use Rattle.controller_actors.proofs.SlotReads.{read_sound, row_within, slot_read}
@@ -40,15 +39,15 @@ returns-clause-moves c =
     let k = links_in c.come_up.new.services in
     let before = c.index_mut-actor_slot.result.now in
     let after = c.come_up.new.self in
-    let first = c.args.so_far.now in
-    let last : SoFar = record { output = c.come_up.new.output; back = c.come_up.new.back } in
+    let first = c.args.output.now in
+    let last = c.come_up.new.output in
     let me = c.args.me.0 in
     let own = c.requires.last.own in
     let at : c.row_of.result ≡ own_below p.wiring me x.slot.0 = c.row_of.ensures me own in
     comes_up p me old _ x before after first last (has_row p.wiring me old.slots.items x.slot.0 c.requires.has_slots.count own)
     (slot_read p me old x.slot.0 c.row_of.result before c.requires.has_slots own at c.index_mut-actor_slot.ensures.value) refl
     (ap (λ i. set old.slots.items i after) at) c.in_ok-come_up.ensures.serves
-    (subst (λ (o : Option Tables). SlotComesUp p.wiring c.args.me.0 f l g k x o before after first.output first.back last.output last.back) c.tables_of-tables.ensures c.in_ok-come_up.ensures.up)
+    (subst (λ (o : Option Tables). SlotComesUp p.wiring c.args.me.0 f l g k x o before after first last) c.tables_of-tables.ensures c.in_ok-come_up.ensures.up)
     c.requires.has_slots c.requires.last
 
 pub returns-clause-empty : goal.returns-clause-empty

@@ -30,10 +30,10 @@ returns-clause-moves c =
     let at : c.row_of.result ≡ row = c.row_of.ensures me own in
     let read : c.index_mut-actor_slot.result.now ≡ slot_at p.wiring me old.slots.items x.slot.0 =
     slot_read p me old x.slot.0 c.row_of.result c.index_mut-actor_slot.result.now c.requires.has_slots own at c.index_mut-actor_slot.ensures.value in
-    goes_down p me old _ x c.args.so_far.now _ (has_row p.wiring me old.slots.items x.slot.0 c.requires.has_slots.count own) refl c.in_ok-end_of.ensures.now refl
+    goes_down p me old _ x c.args.output.now _ (has_row p.wiring me old.slots.items x.slot.0 c.requires.has_slots.count own) refl c.in_ok-end_of.ensures.now refl
     (ap (λ i. set old.slots.items i c.vacate-lost.new.self) at ∙ ap (set old.slots.items row) c.vacate-lost.ensures.vacant)
     c.in_ok-end_of.ensures.sent refl
-    (c.in_ok-push.ensures.ok ∙ ap (λ (n : ℕ). c.args.so_far.now.output.notes ++ notes.Down x n ∷ []) (c.vacate-lost.ensures.lost ∙ ap (λ (y : ActorSlot). length y.deferred) read))
+    (c.in_ok-push.ensures.ok ∙ ap (λ (n : ℕ). c.args.output.now.notes ++ notes.Down x n ∷ []) (c.vacate-lost.ensures.lost ∙ ap (λ (y : ActorSlot). length y.deferred) read))
     c.requires.has_slots
 
 pub returns-clause-empty : goal.returns-clause-empty

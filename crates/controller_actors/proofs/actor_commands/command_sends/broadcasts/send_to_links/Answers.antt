@@ -2,7 +2,7 @@ use Rattle.std.proofs.Common.{◌<◌, ◌≤◌, [], ◌∷◌, List, ℕ, map,
 use Rattle.std.proofs.lemmas.List.{length-map}
 use Rattle.actor_duties.specs.State.{Link}
 use Rattle.actor_duties.specs.Commands.{send_each}
-use Rattle.controller_actors.specs.declared.actor_commands.command_sends.output.Output.{Output}
+use Rattle.controller_actors.specs.declared.actor_commands.output.Output.{Output}
 use Rattle.controller_actors.specs.actor_commands.command_sends.Adding.{Adds, content_of}
 use Rattle.controller_actors.proofs.actor_commands.command_sends.Broadcasting.{Adds-append, filter-more, link_passed, link_sent}
 use Rattle.controller_actors.proofs.actor_commands.command_sends.broadcasts.send_to_links.Goals as goal

@@ -11,5 +11,5 @@ returns-in_ok-push-in-None g c =
     let output = c.args.output.now in
     let same = to_z-of_z w64 c.args.place c.ranges.place in
     adds_note_below s.wiring.now s.me.0 (g.S.Services.frame_of c.args.services.now) (g.S.Services.links_of c.args.services.now) s.who c.args.port c.args.place (content_of c.args.content)
-    output (record { messages = output.messages; notes = c.push.new.self }) (subst (λ (z : ℤ). z <ℤ pos 0) same c.in-None.ensures) refl
-    (c.in_ok-push-in-None.ensures.ok ∙ ap (λ (z : ℤ). output.notes ++ notes.Unbound c.args.port z ∷ []) same)
+    output (record { messages = output.messages; notes = c.push.new.self; back = output.back }) (subst (λ (z : ℤ). z <ℤ pos 0) same c.in-None.ensures) refl
+    (c.in_ok-push-in-None.ensures.ok ∙ ap (λ (z : ℤ). output.notes ++ notes.Unbound c.args.port z ∷ []) same) refl

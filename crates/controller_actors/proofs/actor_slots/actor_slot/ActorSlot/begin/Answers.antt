@@ -1,7 +1,6 @@
 use Rattle.std.proofs.Common.{refl}
 use Rattle.std.specs.Option.{option_copied}
 use Rattle.controller_actors.specs.declared.actor_slots.actor_slot.ActorSlot.{ActorSlot}
-use Rattle.controller_actors.specs.declared.actor_slots.actor_slot.Entrance.{Entrance}
 use Rattle.controller_actors.proofs.actor_slots.Working.{starts}
 use Rattle.controller_actors.proofs.actor_slots.actor_slot.ActorSlot.begin.Goals as goal
 
@@ -15,6 +14,5 @@ returns-clause-begins g c =
     let l2 = g.S.Services.links_of c.work.new.services in
     let r = c.in_ok-beginning.beginning in
     let mid : ActorSlot = record { occupant = r.occupant; deferred = c.args.self.now.deferred } in
-    let e : Entrance = record { output = c.work.new.output; back = c.work.new.back; state = r.state } in
-    starts t s.me.0 f l f2 l2 s.who (option_copied c.args.tables) c.args.self.now mid c.work.new.self r c.args.sent c.args.back e c.in_ok-beginning.ensures refl refl
-    c.in_ok-work.ensures.works refl c.requires.kept
+    starts t s.me.0 f l f2 l2 s.who (option_copied c.args.tables) c.args.self.now mid c.work.new.self r c.args.output.now c.work.new.output c.in_ok-beginning.ensures refl refl
+    c.in_ok-work.ensures.works c.requires.kept

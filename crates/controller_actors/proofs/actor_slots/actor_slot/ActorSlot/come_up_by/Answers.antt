@@ -17,10 +17,8 @@ returns-clause-up g c =
     let r = c.in_ok-beginning.beginning in
     let mid : ActorSlot = record { occupant = r.occupant; deferred = c.new.result } in
     let first = c.args.output.now in
-    let before = c.args.back.now in
     let told = c.tell_up.new.notes in
     let last = c.work.new.output in
-    let after = c.work.new.back in
-    comes_up t s.me.0 f l f2 l2 s.who (option_copied c.args.tables) c.args.self.now mid c.work.new.self r first before last after c.in_ok-beginning.ensures refl c.new.ensures told
+    comes_up t s.me.0 f l f2 l2 s.who (option_copied c.args.tables) c.args.self.now mid c.work.new.self r first last c.in_ok-beginning.ensures refl c.new.ensures told
     c.in_ok-work.ensures.works
     (c.in_ok-tell_up.ensures ∙ ap (λ (ns : List Note). first.notes ++ notes.Up s.who r.state ∷ ns) c.as_slice.ensures)

@@ -1,11 +1,11 @@
-use Rattle.std.proofs.Common.{◌≡◌, List, [], Some, false, refl, sym, subst}
+use Rattle.std.proofs.Common.{[], Some, refl, sym, subst}
 use Rattle.std.specs.Option.{option_copied}
-use Rattle.room_kinds.specs.declared.message.Msg.{Msg}
-use Rattle.controller_actors.specs.declared.actor_commands.doing.Doing.{Doing}
 use Rattle.controller_mail.specs.declared.mail_queues.TurnResult.{TurnResult}
 use Rattle.controller_actors.specs.declared.actor_slots.actor_slot.ActorSlot.{ActorSlot}
-use Rattle.controller_actors.specs.actor_commands.Doings.{AppliesAll}
+use Rattle.controller_actors.specs.declared.actor_commands.output.Output.{Output}
+use Rattle.controller_actors.specs.actor_commands.Doings.{HasApplied}
 use Rattle.controller_actors.specs.actor_slots.Occupants.{Reacts}
+use Rattle.controller_actors.specs.actor_slots.Slots.{SlotTurns}
 use Rattle.controller_actors.proofs.actor_slots.Working.{turns}
 use Rattle.controller_actors.proofs.actor_slots.actor_slot.ActorSlot.handle.Goals as goal
 
@@ -19,18 +19,14 @@ returns-clause-turns g c =
     let l2 = g.S.Services.links_of c.apply_all.new.services in
     let o = option_copied c.args.tables in
     let r = c.in-Ok-Some.reaction in
-    let all = c.apply_all.new.doing in
-    let first : Doing = record { deferred = c.args.self.now.deferred; output = record { messages = []; notes = r.notes }; back = []; kept = false } in
+    let out = c.apply_all.new.output in
     let mid : ActorSlot = record { occupant = c.react.new.self; deferred = c.args.self.now.deferred } in
-    let new : ActorSlot = record { occupant = c.take_up-doing.new.self.occupant; deferred = all.deferred } in
-    let done : TurnResult = record { sent = all.output.messages; back = c.into_sequence.result; did = c.did_of.result; notes = all.output.notes } in
+    let new : ActorSlot = record { occupant = c.react.new.self; deferred = c.apply_all.new.deferred } in
+    let done : TurnResult = record { sent = out.messages; back = out.back; did = c.did_of-did.result; notes = out.notes } in
+    let applied : HasApplied t s.me.0 f l f2 l2 s.who (Some c.args.m) r.outcome.effects.commands c.args.self.now.deferred (record { messages = []; notes = r.outcome.effects.notes; back = [] }) c.apply_all.new.deferred out =
+    subst (λ (first : Output). HasApplied t s.me.0 f l f2 l2 s.who (Some c.args.m) r.outcome.effects.commands c.args.self.now.deferred first c.apply_all.new.deferred out) c.new-output.ensures c.in_ok-apply_all.ensures.applied in
     let h : Reacts c.args.m o c.args.self.now.occupant c.react.new.self r = rw c.in-Ok-Some.field-0-is at c.in-Ok-Some.ensures in
-    let applied : AppliesAll t s.me.0 f l f2 l2 s.who (Some c.args.m) r.commands first all =
-    subst (λ (d : Doing). AppliesAll t s.me.0 f l f2 l2 s.who (Some c.args.m) r.commands d all) c.take_up-doing.ensures.doing (c.in_ok-apply_all.ensures.applied (Some c.args.m) (λ _. refl)) in
-    turns t s.me.0 f l f2 l2 s.who c.args.m o c.args.self.now mid new r done h refl
-    (record {
-      kept = all.kept;
-      occupant = c.take_up-doing.ensures.occupant;
-      applied = subst (λ (back : List Msg). AppliesAll t s.me.0 f l f2 l2 s.who (Some c.args.m) r.commands first (record { deferred = all.deferred; output = all.output; back = back; kept = all.kept })) (sym c.into_sequence.ensures) applied;
-    })
-    c.did_of.ensures c.requires.fits c.requires.prio
+    subst (λ (d : TurnResult). SlotTurns t s.me.0 f l f2 l2 s.who c.args.m o c.args.self.now new d) (sym c.into_turn_result.ensures)
+    (turns t s.me.0 f l f2 l2 s.who c.args.m o c.args.self.now mid new r done h refl
+    (record { occupant = refl; applied = applied })
+    c.did_of-did.ensures c.requires.fits c.requires.prio)

@@ -1,16 +1,9 @@
-//! What an actor says.
+//! Who speaks, and what is said.
 ghost use Rattle.std.specs.Prelude.{◌≡◌, IfOk};
 
-use room_kinds::{ControllerId, Incarnation, Notes, Outbox, Payload, Priority};
+use room_kinds::{ControllerId, Incarnation, Payload, Priority};
 use room_wiring::Wiring;
 use std::alloc::{AllocError, Global};
-
-/// The messages that were sent so far, and the notes.
-#[derive(Drop)]
-pub struct Output {
-    pub messages: Outbox,
-    pub notes: Notes,
-}
 
 /// An actor that speaks, and the controller that runs it.
 #[derive(Clone, Copy)]
