@@ -5,6 +5,7 @@
 #![tactic(auto)]
 
 mod mapping;
+mod named;
 mod ports;
 mod reference;
 mod subsystems;

@@ -6,11 +6,11 @@ ghost use Rattle.room_tokens.specs.Reader.{Gives, ◌▹◌, flag, optional};
 ghost use Rattle.room_tokens.specs.Single.{left, comes as comes_at, mark, number_at};
 ghost use Rattle.structure_parser.specs.Mappings.{segment_at, slash_segment_at, path_at, head_at, closed_at, nested_view, nested_at, mapping_at};
 
+use crate::named::mark_name;
 use room_ast::{Mapping, MappingPath, Name, Segment};
 use room_lexer::{Mark, Word};
 use room_tokens::{
-    Part, ReadFault, Rest, before_close, comes, each, name, number, place, skip, take_mark,
-    take_word,
+    Part, ReadFault, Rest, before_close, comes, each, number, place, skip, take_mark, take_word,
 };
 use std::alloc::{AllocError, Global};
 
@@ -96,8 +96,7 @@ fn head<'a>(alloc: Global, rest: Rest<'a>) -> Result<((MappingPath, Name), Rest<
 {
     let rest = take_word(rest, Word::ActorInstanceMapping)?;
     let (path, rest) = mapping_path(alloc, rest)?;
-    let rest = take_mark(rest, Mark::Arrow)?;
-    let (thread, rest) = name(alloc, rest)?;
+    let (thread, rest) = mark_name(alloc, rest, Mark::Arrow)?;
     Ok(((path, thread), rest))
 }
 

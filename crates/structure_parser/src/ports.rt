@@ -5,6 +5,7 @@ ghost use Rattle.room_tokens.specs.Reader.{Gives, optional};
 ghost use Rattle.room_tokens.specs.Single.{left, comes as comes_at};
 ghost use Rattle.structure_parser.specs.Ports.{place_count_at, places_at, port_at, external_port_at, provision_at, access_at, implementation_at};
 
+use crate::named::mark_name;
 use room_ast::{
     ExternalPort, Places, Port, ServiceAccess, ServiceImplementation, ServiceProvision,
 };
@@ -51,8 +52,7 @@ pub fn port<'a>(alloc: Global, rest: Rest<'a>) -> Result<(Port, Rest<'a>), ReadF
     let rest = take_word(rest, Word::Port)?;
     let (name, rest) = room_tokens::name(alloc, rest)?;
     let (places, rest) = places_if(rest)?;
-    let rest = take_mark(rest, Mark::Colon)?;
-    let (protocol, rest) = room_tokens::name(alloc, rest)?;
+    let (protocol, rest) = mark_name(alloc, rest, Mark::Colon)?;
     Ok((
         Port {
             conjugated,
@@ -88,8 +88,7 @@ pub fn provision<'a>(
 {
     let rest = take_word(rest, Word::Spp)?;
     let (name, rest) = room_tokens::name(alloc, rest)?;
-    let rest = take_mark(rest, Mark::Colon)?;
-    let (protocol, rest) = room_tokens::name(alloc, rest)?;
+    let (protocol, rest) = mark_name(alloc, rest, Mark::Colon)?;
     Ok((ServiceProvision { name, protocol }, rest))
 }
 
@@ -100,8 +99,7 @@ pub fn access<'a>(alloc: Global, rest: Rest<'a>) -> Result<(ServiceAccess, Rest<
 {
     let rest = take_word(rest, Word::Sap)?;
     let (name, rest) = room_tokens::name(alloc, rest)?;
-    let rest = take_mark(rest, Mark::Colon)?;
-    let (protocol, rest) = room_tokens::name(alloc, rest)?;
+    let (protocol, rest) = mark_name(alloc, rest, Mark::Colon)?;
     Ok((ServiceAccess { name, protocol }, rest))
 }
 

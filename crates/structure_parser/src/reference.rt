@@ -5,6 +5,7 @@ ghost use Rattle.room_tokens.specs.Reader.{Gives, ◌▹◌, optional};
 ghost use Rattle.room_tokens.specs.Single.{left, comes as comes_at, mark, name_at};
 ghost use Rattle.structure_parser.specs.References.{kind_of, kind_at, count_at, actor_ref_at, side_at, binding_at, layer_at, thread_at};
 
+use crate::named::mark_name;
 use room_ast::{ActorRef, Binding, LayerConnection, LogicalThread, Name, Side};
 use room_kinds::ReferenceKind;
 use room_lexer::{Mark, Word};
@@ -58,8 +59,7 @@ pub fn actor_ref<'a>(alloc: Global, rest: Rest<'a>) -> Result<(ActorRef, Rest<'a
     let rest = take_word(rest, Word::ActorRef)?;
     let (name, rest) = room_tokens::name(alloc, rest)?;
     let (count, rest) = count_if(rest)?;
-    let rest = take_mark(rest, Mark::Colon)?;
-    let (class, rest) = room_tokens::name(alloc, rest)?;
+    let (class, rest) = mark_name(alloc, rest, Mark::Colon)?;
     Ok((
         ActorRef {
             kind,
@@ -80,8 +80,7 @@ fn inner_if<'a>(alloc: Global, rest: Rest<'a>) -> Result<(Option<Name>, Rest<'a>
     if !comes(rest, Mark::Dot) {
         return Ok((None, rest));
     }
-    let rest = take_mark(rest, Mark::Dot)?;
-    let (port, rest) = name(alloc, rest)?;
+    let (port, rest) = mark_name(alloc, rest, Mark::Dot)?;
     Ok((Some(port), rest))
 }
 
@@ -126,8 +125,7 @@ pub fn layer<'a>(alloc: Global, rest: Rest<'a>) -> Result<(LayerConnection, Rest
     let (reference, rest) = name(alloc, rest)?;
     let rest = take_word(rest, Word::SatisfiedBy)?;
     let (provider, rest) = name(alloc, rest)?;
-    let rest = take_mark(rest, Mark::Dot)?;
-    let (service, rest) = name(alloc, rest)?;
+    let (service, rest) = mark_name(alloc, rest, Mark::Dot)?;
     Ok((
         LayerConnection {
             reference,

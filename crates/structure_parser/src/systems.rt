@@ -4,9 +4,10 @@ ghost use Rattle.room_tokens.specs.Reader.{Gives};
 ghost use Rattle.room_tokens.specs.Single.{left, before_close as before_close_at};
 ghost use Rattle.structure_parser.specs.Mappings.{subsystem_ref_at, system_at};
 
+use crate::named::mark_name;
 use room_ast::{SubsystemRef, System};
 use room_lexer::{Mark, Word};
-use room_tokens::{Part, ReadFault, Rest, before_close, braces, take_mark, take_word};
+use room_tokens::{Part, ReadFault, Rest, before_close, braces, take_word};
 use std::alloc::Global;
 
 /// `SubSystemRef` name `:` class
@@ -16,8 +17,7 @@ fn subsystem_ref<'a>(alloc: Global, rest: Rest<'a>) -> Result<(SubsystemRef, Res
 {
     let rest = take_word(rest, Word::SubSystemRef)?;
     let (name, rest) = room_tokens::name(alloc, rest)?;
-    let rest = take_mark(rest, Mark::Colon)?;
-    let (class, rest) = room_tokens::name(alloc, rest)?;
+    let (class, rest) = mark_name(alloc, rest, Mark::Colon)?;
     Ok((SubsystemRef { name, class }, rest))
 }
 

@@ -1,5 +1,5 @@
 -- The tables' parts are those of the model.
-use Rattle.std.proofs.Common.{◌≡◌, Bool, not, List, map, sym, ap, ◌∙◌}
+use Rattle.std.proofs.Common.{◌≡◌, Bool, not, List, map, ap, ◌∙◌}
 use Rattle.room_ast.specs.Trees.{ModelTree}
 use Rattle.room_ast.specs.declared.model_parts.entries.TypeEntry.{TypeEntry}
 use Rattle.check_tables.specs.class_tables.Containers.{class_names, tables_with, tables_of}

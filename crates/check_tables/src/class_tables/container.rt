@@ -90,10 +90,10 @@ fn container_of<'a>(
 ) -> Result<Container<'a>, AllocError>
     ensures { IfOk result (λ c. c ≡ container_in protocols.now actors.now interface.now structure.now) }
 {
-    let port_names = port_index(alloc, interface, structure)?;
     let ports = port_table(alloc, interface, structure, protocols)?;
-    let reference_names = reference_index(alloc, structure)?;
     let references = reference_table(alloc, structure, actors)?;
+    let port_names = port_index(alloc, interface, structure)?;
+    let reference_names = reference_index(alloc, structure)?;
     Ok(Container {
         port_names,
         ports,
@@ -149,9 +149,9 @@ pub(crate) fn subsystem_container<'a>(
 ) -> Result<Container<'a>, AllocError>
     ensures { IfOk result (λ c. c ≡ container_of_items actors.now (map subsystem_item_view items.now)) }
 {
+    let references = subsystem_table(alloc, items, actors)?;
     let port_names = NameIndex::of(alloc, Vec::new(alloc))?;
     let reference_names = subsystem_index(alloc, items)?;
-    let references = subsystem_table(alloc, items, actors)?;
     Ok(Container {
         port_names,
         ports: Sequence::new(alloc),

@@ -194,6 +194,19 @@ fn interface_entries(
     Ok(ports)
 }
 
+/// The entries of `frame` and of the ports of an Interface, beside which this Structure stands.
+fn entries_beside(
+    alloc: Global,
+    interface: &[InterfaceItem],
+    structure: &[StructureItem],
+    protocols: &NameIndex,
+) -> Result<Vec<PortEntry>, AllocError>
+    ensures { IfOk result (λ v. v.items ≡ frame_entry ∷ map (interface_entry protocols.now (filter_map external_name structure.now)) interface.now) }
+{
+    let externals = NameIndex::of(alloc, external_names(alloc, structure)?)?;
+    interface_entries(alloc, interface, protocols, &externals)
+}
+
 /// The entries of a class's ports, by number.
 pub(crate) fn port_entries(
     alloc: Global,
@@ -203,8 +216,7 @@ pub(crate) fn port_entries(
 ) -> Result<Vec<PortEntry>, AllocError>
     ensures { IfOk result (λ v. v.items ≡ (frame_entry ∷ map (interface_entry protocols.now (filter_map external_name structure.now)) interface.now) ++ filter_map (structure_entry protocols.now) structure.now) }
 {
-    let externals = NameIndex::of(alloc, external_names(alloc, structure)?)?;
-    let mut ports = interface_entries(alloc, interface, protocols, &externals)?;
+    let mut ports = entries_beside(alloc, interface, structure, protocols)?;
     for item in structure {
         push_if(&mut ports, structure_entry(item, protocols))?;
     }

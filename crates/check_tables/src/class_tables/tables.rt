@@ -175,6 +175,29 @@ fn subsystem_table<'a>(
     Ok(Sequence::from(containers))
 }
 
+/// What tables have beside the names: the types of fields, and what the actor classes and the subsystem
+/// classes know of their parts.
+fn contents_with<'a>(
+    alloc: Global,
+    classes: &'a [Class],
+    names: &ClassNames,
+) -> Result<
+    (
+        Sequence<Sequence<TypeEntry>>,
+        (Sequence<Container<'a>>, Sequence<Container<'a>>),
+    ),
+    AllocError,
+>
+    ensures data_types { IfOk result (λ c. c.0 ≡ data_types_in names.now.data_classes (map class_view classes.now)) }
+    ensures actors { IfOk result (λ c. c.1.0 ≡ actor_containers names.now.protocols names.now.actors (map class_view classes.now)) }
+    ensures subsystems { IfOk result (λ c. c.1.1 ≡ subsystem_containers names.now.actors (map class_view classes.now)) }
+{
+    let data_types = data_table(alloc, classes, &names.data_classes)?;
+    let actors = actor_table(alloc, classes, &names.protocols, &names.actors)?;
+    let subsystems = subsystem_table(alloc, classes, &names.actors)?;
+    Ok((data_types, (actors, subsystems)))
+}
+
 /// The tables of classes of which these are the names.
 #[tactic(auto, unfolding(crate::specs::class_tables::Containers::tables_with))]
 fn tables_with<'a>(
@@ -184,9 +207,7 @@ fn tables_with<'a>(
 ) -> Result<Tables<'a>, AllocError>
     ensures { IfOk result (λ t. t ≡ tables_with names.entry (map class_view classes.now)) }
 {
-    let data_types = data_table(alloc, classes, &names.data_classes)?;
-    let actors = actor_table(alloc, classes, &names.protocols, &names.actors)?;
-    let subsystems = subsystem_table(alloc, classes, &names.actors)?;
+    let (data_types, (actors, subsystems)) = contents_with(alloc, classes, &names)?;
     Ok(Tables {
         names,
         data_types,

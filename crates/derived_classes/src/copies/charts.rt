@@ -31,9 +31,9 @@ fn copy_point(alloc: Global, point: &Point) -> Result<Point, AllocError>
 fn copy_transition_body(alloc: Global, body: &TransitionBody) -> Result<TransitionBody, AllocError>
     ensures { IfOk result (λ copy. copy ≡ body.now) }
 {
-    let triggers = copy_triggers_if(alloc, &body.triggers)?;
     let condition = copy_code_if(alloc, &body.condition)?;
     let action = copy_code_if(alloc, &body.action)?;
+    let triggers = copy_triggers_if(alloc, &body.triggers)?;
     Ok(TransitionBody {
         triggers,
         condition,

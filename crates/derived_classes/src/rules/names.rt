@@ -3,6 +3,7 @@ ghost use Rattle.std.specs.Prelude.{◌≡◌, ◌++◌, map, option_map, IfOk, 
 ghost use Rattle.std.specs.Option.{option_to_list, option_map_or};
 ghost use Rattle.name_tables.specs.name_numbers.Names.{names_of};
 ghost use Rattle.room_ast.specs.ChartTree.{graph_view, item_view, state_view};
+ghost use Rattle.derived_classes.specs.Refining.{with_name};
 ghost use Rattle.derived_classes.specs.Searching.{any_state, name_of, states_in, note, note_item, note_items, no_names, stands_once};
 ghost use Rattle.derived_classes.specs.Views.{transition_names};
 
@@ -19,17 +20,24 @@ pub(super) struct TransitionNames<'a> {
     again: Numbers<'a>,
 }
 
+/// Adds a name, unless it is one of these.
+fn add<'a>(names: &mut Numbers<'a>, name: &'a Name) -> Result<(), AllocError>
+    ensures { OnOk result (names.new ≡ with_name name.now names.old) }
+{
+    names.add(name.as_bytes())?;
+    Ok(())
+}
+
 /// Notes the name of one more transition.
 fn note<'a>(names: &mut TransitionNames<'a>, name: &'a Name) -> Result<(), AllocError>
     ensures { OnOk result (transition_names names.new
         ≡ note name.now (transition_names names.old)) }
 {
     if names.once.has(name.as_bytes()) {
-        names.again.add(name.as_bytes())?;
+        add(&mut names.again, name)
     } else {
-        names.once.add(name.as_bytes())?;
+        add(&mut names.once, name)
     }
-    Ok(())
 }
 
 fn note_if<'a>(names: &mut TransitionNames<'a>, name: &'a Option<Name>) -> Result<(), AllocError>
@@ -56,6 +64,17 @@ fn note_item<'a>(names: &mut TransitionNames<'a>, item: &'a GraphItem) -> Result
     }
 }
 
+/// Notes the names of the items of a graph that are transitions.
+fn note_items<'a>(names: &mut TransitionNames<'a>, graph: &'a [GraphItem]) -> Result<(), AllocError>
+    ensures { OnOk result (transition_names names.new
+        ≡ note_items (graph_view graph.now) (transition_names names.old)) }
+{
+    for item in graph {
+        note_item(names, item)?;
+    }
+    Ok(())
+}
+
 impl<'a> TransitionNames<'a> {
     /// The names of the transitions of a graph. It takes time in proportion to the graph.
     pub(super) fn of(
@@ -69,9 +88,7 @@ impl<'a> TransitionNames<'a> {
             once: Numbers::new(alloc),
             again: Numbers::new(alloc),
         };
-        for item in graph {
-            note_item(&mut names, item)?;
-        }
+        note_items(&mut names, graph)?;
         Ok(names)
     }
 
@@ -79,7 +96,10 @@ impl<'a> TransitionNames<'a> {
     pub(super) fn has_one(&self, name: &Name) -> bool
         ensures { result ≡ stands_once (transition_names self.now) name.now }
     {
-        self.once.has(name.as_bytes()) && !self.again.has(name.as_bytes())
+        if !self.once.has(name.as_bytes()) {
+            return false;
+        }
+        !self.again.has(name.as_bytes())
     }
 }
 
@@ -120,6 +140,13 @@ pub(super) fn states_in<'a>(
     Ok(states)
 }
 
+/// The name of a state.
+fn name_of<'a>(state: &'a State) -> &'a [u8]
+    ensures { result.now ≡ name_of (state_view state.now) }
+{
+    state.name.as_bytes()
+}
+
 /// The names of states, by number.
 pub(super) fn names_of_states<'a>(
     alloc: Global,
@@ -129,7 +156,7 @@ pub(super) fn names_of_states<'a>(
 {
     let mut names = Vec::new(alloc);
     for state in states {
-        names.push(state.name.as_bytes())?;
+        names.push(name_of(*state))?;
     }
     NameIndex::of(alloc, names)
 }

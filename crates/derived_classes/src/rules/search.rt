@@ -3,7 +3,7 @@
 ghost use Rattle.std.specs.Prelude.{◌≡◌, ◌++◌, ◌∷◌, [], Some, None, map, option_map, position, IfOk, OnOk, if◌then◌else◌};
 ghost use Rattle.name_tables.specs.name_numbers.Names.{same};
 ghost use Rattle.room_ast.specs.ChartTree.{graph_view, state_view};
-ghost use Rattle.derived_classes.specs.Searching.{inside, sought_at, sought_in, passed, all_passed, searched, further, next_of, all_succeed, are_named};
+ghost use Rattle.derived_classes.specs.Searching.{inside, no_names, note_items, sought_at, sought_in, passed, all_passed, searched, further, next_of, all_succeed, are_named};
 ghost use Rattle.derived_classes.specs.Views.{change_view, refining_view, refining_views, search_view, search_views, transition_names};
 
 use crate::refining::Pending;
@@ -158,6 +158,26 @@ fn pass_all<'a>(
     Ok(Some(searches))
 }
 
+/// The searches in the graphs of these states, which have these names, that come of what is looked for in
+/// the graph that they stand in; none where that hasn't what it names.
+fn passed_on<'a>(
+    alloc: Global,
+    graph: &'a [GraphItem],
+    states: &[&'a State],
+    names: &NameIndex<'a>,
+    sought: &[Pending<'a>],
+) -> Result<Option<Vec<Search<'a>>>, AllocError>
+    ensures { IfOk result (λ found.
+        option_map (λ v. search_views v.items) found
+        ≡ all_passed names.now (note_items (graph_view graph.entry.now) no_names) (refining_views
+        sought.now)
+        (map inside (map (λ s. state_view s.now) states.now))) }
+{
+    let transitions = TransitionNames::of(alloc, graph)?;
+    let inside = graphs_inside(alloc, states)?;
+    pass_all(names, &transitions, sought, inside)
+}
+
 /// The searches in the graphs of a graph's states that come of what is looked for in the graph; none
 /// where the graph hasn't what that names. It takes time in proportion to the graph and to what is looked for.
 fn searched<'a>(
@@ -169,11 +189,9 @@ fn searched<'a>(
         option_map (λ v. search_views v.items) found
         ≡ searched (graph_view graph.entry.now) (refining_views sought.now)) }
 {
-    let transitions = TransitionNames::of(alloc, graph)?;
     let states = states_in(alloc, graph)?;
     let names = names_of_states(alloc, states.as_slice())?;
-    let inside = graphs_inside(alloc, states.as_slice())?;
-    pass_all(&names, &transitions, sought, inside)
+    passed_on(alloc, graph, states.as_slice(), &names, sought)
 }
 
 /// Adds the searches that come of a search. Whether its graph has what is looked for.

@@ -38,12 +38,15 @@ message_at = reads_as (λ x. record { name = x.0; parameter = x.1 }) (word words
 unfoldable pub messages_at : Word → Reader TokenValue (List Message)
 messages_at w = word w ▹ braces_at message_at
 
--- [ "eventdriven" ] "ProtocolClass" name "{" { usercode } [ "incoming" "{" { message } "}" ] [ "outgoing" "{" { message } "}" ] "}"
+-- [ "incoming" "{" { message } "}" ] [ "outgoing" "{" { message } "}" ] "}"
+abbrev pub directions_at : Reader TokenValue (Option (List Message) × Option (List Message))
+directions_at = optional (comes_word words.Incoming) (messages_at words.Incoming) ⊕ optional (comes_word words.Outgoing) (messages_at words.Outgoing) ◃ mark marks.CloseBrace
+
+-- [ "eventdriven" ] "ProtocolClass" name "{" { usercode } directions
 unfoldable pub protocol_at : Reader TokenValue ProtocolClass
 protocol_at =
     reads_as (λ x. record { event_driven = x.0; name = x.1.0; usercodes = x.1.1.0; incoming = x.1.1.1.0; outgoing = x.1.1.1.1 })
-    (flag (comes_word words.EventDriven) (word words.EventDriven) ⊕ word words.ProtocolClass ▹ name_at ⊕ mark marks.OpenBrace ▹ all_while usercode_comes usercode_at
-    ⊕ optional (comes_word words.Incoming) (messages_at words.Incoming) ⊕ optional (comes_word words.Outgoing) (messages_at words.Outgoing) ◃ mark marks.CloseBrace)
+    (flag (comes_word words.EventDriven) (word words.EventDriven) ⊕ word words.ProtocolClass ▹ name_at ⊕ mark marks.OpenBrace ▹ all_while usercode_comes usercode_at ⊕ directions_at)
 
 -- the item of a data class that begins with a word
 abbrev pub data_item_from : Option Word → Reader TokenValue DataItem

@@ -6,6 +6,7 @@ ghost use Rattle.room_tokens.specs.Reader.{Gives, optional};
 ghost use Rattle.room_tokens.specs.Single.{left, comes as comes_at, comes_word as comes_word_at};
 ghost use Rattle.structure_parser.specs.value_parser.Names.{dot_name_at, dotted_at, goes_on_in_path, path_at, all_at, source_comes, source_at, import_at};
 
+use crate::named::mark_name;
 use room_ast::{Dotted, Import, ImportSource, Name};
 use room_lexer::{Mark, Word};
 use room_tokens::{
@@ -19,8 +20,7 @@ use std::alloc::Global;
 fn dot_name<'a>(alloc: Global, rest: Rest<'a>) -> Result<(Name, Rest<'a>), ReadFault>
     ensures { Gives (λ x. (x.0, left x.1)) result (dot_name_at (left rest.entry)) }
 {
-    let rest = take_mark(rest, Mark::Dot)?;
-    name(alloc, rest)
+    mark_name(alloc, rest, Mark::Dot)
 }
 
 /// A name behind a dot.

@@ -4,8 +4,9 @@ ghost use Rattle.room_lexer.specs.declared.token.Mark.TheVariants as marks;
 ghost use Rattle.room_tokens.specs.Reader.{Gives, ◌▹◌, optional};
 ghost use Rattle.room_tokens.specs.Single.{left, comes as comes_at, comes_word as comes_word_at, before_close as before_close_at, mark, name_at};
 ghost use Rattle.structure_parser.specs.value_parser.Values.{usercode_comes as usercode_comes_at, usercode_at};
-ghost use Rattle.structure_parser.specs.value_parser.Protocols.{parameter_at, message_at, messages_at, protocol_at};
+ghost use Rattle.structure_parser.specs.value_parser.Protocols.{parameter_at, message_at, messages_at, directions_at, protocol_at};
 
+use crate::named::mark_name;
 use crate::value_parser::value::{usercode, usercode_comes};
 use room_ast::{Message, Name, Parameter, ProtocolClass, Usercode};
 use room_kinds::Sequence;
@@ -25,8 +26,7 @@ fn type_if<'a>(alloc: Global, rest: Rest<'a>) -> Result<(Option<Name>, Rest<'a>)
     if !comes(rest, Mark::Colon) {
         return Ok((None, rest));
     }
-    let rest = take_mark(rest, Mark::Colon)?;
-    let (found, rest) = name(alloc, rest)?;
+    let (found, rest) = mark_name(alloc, rest, Mark::Colon)?;
     Ok((Some(found), rest))
 }
 
@@ -124,6 +124,25 @@ impl Part for UsercodePart {
     }
 }
 
+/// Incoming messages and outgoing ones, where either may be missing, `}`
+fn directions<'a>(
+    alloc: Global,
+    rest: Rest<'a>,
+) -> Result<
+    (
+        (Option<Sequence<Message>>, Option<Sequence<Message>>),
+        Rest<'a>,
+    ),
+    ReadFault,
+>
+    ensures { Gives (λ x. (x.0, left x.1)) result (directions_at (left rest.entry)) }
+{
+    let (incoming, rest) = messages_if(alloc, rest, Word::Incoming)?;
+    let (outgoing, rest) = messages_if(alloc, rest, Word::Outgoing)?;
+    let rest = take_mark(rest, Mark::CloseBrace)?;
+    Ok(((incoming, outgoing), rest))
+}
+
 /// `eventdriven`, which may be missing, `ProtocolClass` name `{` usercode, messages `}`
 #[tactic(auto, unfolding(crate::specs::value_parser::Protocols::protocol_at))]
 pub fn protocol_class<'a>(
@@ -137,9 +156,7 @@ pub fn protocol_class<'a>(
     let (name, rest) = room_tokens::name(alloc, rest)?;
     let rest = take_mark(rest, Mark::OpenBrace)?;
     let (usercodes, rest) = each::<UsercodePart>(alloc, rest)?;
-    let (incoming, rest) = messages_if(alloc, rest, Word::Incoming)?;
-    let (outgoing, rest) = messages_if(alloc, rest, Word::Outgoing)?;
-    let rest = take_mark(rest, Mark::CloseBrace)?;
+    let ((incoming, outgoing), rest) = directions(alloc, rest)?;
     Ok((
         ProtocolClass {
             event_driven,
