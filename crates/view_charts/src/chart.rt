@@ -44,14 +44,16 @@ pub struct Chart {
 
 /// The message and the port of an event that begins behind a token: `<` or `|`.
 pub fn event_in(tokens: &[Token]) -> Option<(&Token, &Token)> {
-    match tokens {
-        [before, message, colon, port, ..]
-            if is_mark(colon, Mark::Colon)
-                && (is_mark(before, Mark::Less) || is_mark(before, Mark::Bar)) => {
-            Some((message, port))
-        }
-        _ => None,
-    }
+    let [before, message, colon, port, ..] = tokens else {
+        return None;
+    };
+    let is_event = begins_event(before) && is_mark(colon, Mark::Colon);
+    is_event.then_some((message, port))
+}
+
+/// Whether an event begins behind a token.
+fn begins_event(token: &Token) -> bool {
+    is_mark(token, Mark::Less) || is_mark(token, Mark::Bar)
 }
 
 /// The key of the state that a refinement names by its path.

@@ -65,13 +65,11 @@ fn is_name(token: &Token) -> bool {
 
 /// The message behind a port and its index: `.` name `(`.
 fn message_in(tokens: &[Token]) -> Option<&Token> {
-    match tokens {
-        [dot, name, open, ..]
-            if is_mark(dot, Mark::Dot) && is_name(name) && is_mark(open, Mark::OpenParen) => {
-            Some(name)
-        }
-        _ => None,
-    }
+    let [dot, name, open, ..] = tokens else {
+        return None;
+    };
+    let is_sent = is_mark(dot, Mark::Dot) && is_name(name) && is_mark(open, Mark::OpenParen);
+    is_sent.then_some(name)
 }
 
 /// How many tokens stand before the bracket that closes an open one.
@@ -133,6 +131,11 @@ fn first_of(one: Option<(usize, usize)>, other: (usize, usize)) -> (usize, usize
         Some((start, end)) if start <= other.0 => (start, end),
         _ => other,
     }
+}
+
+fn add_name(names: &mut IndexSet<Vec<u8>>, alloc: Global, name: &[u8]) -> Result<(), AllocError> {
+    names.insert(Vec::from_slice(alloc, name)?)?;
+    Ok(())
 }
 
 impl Deeds {
@@ -211,15 +214,10 @@ impl Deeds {
     /// Adds what a statement does that begins with a word of the language and a name.
     fn add_named(&mut self, alloc: Global, word: &[u8], name: &[u8]) -> Result<(), AllocError> {
         match word {
-            b"incarnate" | b"import" => {
-                self.filled.insert(Vec::from_slice(alloc, name)?)?;
-            }
-            b"register" => {
-                self.registered.insert(Vec::from_slice(alloc, name)?)?;
-            }
-            _ => (),
+            b"incarnate" | b"import" => add_name(&mut self.filled, alloc, name),
+            b"register" => add_name(&mut self.registered, alloc, name),
+            _ => Ok(()),
         }
-        Ok(())
     }
 
     /// Adds what a statement does that is one word.

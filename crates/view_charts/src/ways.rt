@@ -161,18 +161,24 @@ impl Ways {
     fn add(&mut self, alloc: Global, from: Vec<u8>, to: Vec<u8>) -> Result<(), AllocError> {
         let from = self.node(alloc, from)?;
         let to = self.node(alloc, to)?;
-        if let Some(steps) = self.edges.as_mut_slice().get_mut(from) {
-            steps.push(to)?;
+        self.join(from, to)
+    }
+
+    /// Adds a step between two nodes.
+    fn join(&mut self, from: usize, to: usize) -> Result<(), AllocError> {
+        match self.edges.as_mut_slice().get_mut(from) {
+            Some(steps) => Ok(steps.push(to)?),
+            None => Ok(()),
         }
-        Ok(())
     }
 
     /// Adds that a state is entered, and that its graph begins, where it is gone to by its name.
     fn add_entry(&mut self, alloc: Global, key: &[u8]) -> Result<(), AllocError> {
-        let state = Vec::from_slice(alloc, key)?;
-        self.add(alloc, marked(alloc, key, b'!')?, state)?;
-        let begins = marked(alloc, key, b'>')?;
-        self.add(alloc, marked(alloc, key, b'!')?, begins)
+        let entered = self.node(alloc, marked(alloc, key, b'!')?)?;
+        let state = self.node(alloc, Vec::from_slice(alloc, key)?)?;
+        let beginning = self.node(alloc, marked(alloc, key, b'>')?)?;
+        self.join(entered, state)?;
+        self.join(entered, beginning)
     }
 
     /// Adds that the graph that holds a state is active where the state is.

@@ -81,7 +81,7 @@ pub struct Point {
 }
 
 /// Where a link ends: at a block, or at a point of it.
-#[derive(Clone, Copy, PartialEq, Eq)]
+#[derive(Clone, Copy)]
 pub struct End {
     pub block: usize,
     pub point: Option<usize>,
@@ -105,7 +105,7 @@ pub struct Key {
 }
 
 /// What a line of the legend explains.
-#[derive(Clone, Copy, PartialEq, Eq)]
+#[derive(Clone, Copy)]
 pub enum Sign {
     Colour(u8),
     Point(Mark),
@@ -209,16 +209,17 @@ impl Diagram {
     /// Adds a line to the legend for each of these marks that one of the points has.
     pub fn add_marks(&mut self, marks: &[(Mark, &[u8])]) -> Result<(), AllocError> {
         for (mark, text) in marks {
-            if self
-                .points
-                .as_slice()
-                .iter()
-                .any(|point| point.mark == *mark)
-            {
+            if self.has_mark(*mark) {
                 self.add_key(Sign::Point(*mark), text)?;
             }
         }
         Ok(())
+    }
+
+    /// Whether one of the points has this mark.
+    fn has_mark(&self, mark: Mark) -> bool {
+        let points = self.points.as_slice();
+        points.iter().any(|point| point.mark == mark)
     }
 
     /// Adds a line to the legend.

@@ -201,17 +201,19 @@ fn put_legend(page: &mut Page, diagram: &Diagram) -> Result<(), AllocError> {
     Ok(())
 }
 
+/// The letters of the names of nodes and links.
+const FONTS: &[u8] =
+    b"node [fontname=monospace fontsize=10]\nedge [fontname=monospace fontsize=10]";
+
 /// What stands before all blocks.
 fn put_head(page: &mut Page, diagram: &Diagram) -> Result<(), AllocError> {
     if diagram.is_directed {
         page.put(b"di")?;
     }
-    page.put_line(b"graph picture {")?;
-    page.put(b"graph [rankdir=LR fontname=monospace labelloc=t label=\"")?;
+    page.put(b"graph picture {\ngraph [rankdir=LR fontname=monospace labelloc=t label=\"")?;
     put_letters(page, diagram.title.as_slice())?;
     page.put_line(b"\"]")?;
-    page.put_line(b"node [fontname=monospace fontsize=10]")?;
-    page.put_line(b"edge [fontname=monospace fontsize=10]")
+    page.put_line(FONTS)
 }
 
 /// A step through the blocks.

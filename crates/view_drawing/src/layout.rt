@@ -319,18 +319,36 @@ impl Layout {
 
     /// Where all blocks stand, whose links and sides are known.
     fn place_blocks(&mut self, diagram: &Diagram) {
+        self.place_all_rows(diagram);
+        self.measure_all(diagram);
+        self.empty_columns();
+        self.put_title(diagram.title.as_slice());
+        self.put_all(diagram.blocks.as_slice());
+    }
+
+    fn place_all_rows(&mut self, diagram: &Diagram) {
         for (number, block) in diagram.blocks.as_slice().iter().enumerate() {
             self.place_rows(diagram, number, block);
         }
+    }
+
+    /// The sizes of all blocks, those inside of a block before its own.
+    fn measure_all(&mut self, diagram: &Diagram) {
         for (number, block) in diagram.blocks.as_slice().iter().enumerate().rev() {
             self.measure(diagram, number, block);
         }
+    }
+
+    /// Says that nothing stands in any column yet.
+    fn empty_columns(&mut self) {
         for place in self.places.as_mut_slice() {
             place.left.height = 0;
             place.right.height = 0;
         }
-        self.put_title(diagram.title.as_slice());
-        for (number, block) in diagram.blocks.as_slice().iter().enumerate() {
+    }
+
+    fn put_all(&mut self, blocks: &[Block]) {
+        for (number, block) in blocks.iter().enumerate() {
             self.put(number, block);
         }
     }

@@ -3,7 +3,7 @@ use crate::diagram::{Block, Diagram, End, Mark};
 use std::alloc::AllocError;
 
 /// A step along the blocks of a picture.
-#[derive(Clone, Copy, PartialEq, Eq)]
+#[derive(Clone, Copy)]
 pub enum Step {
     /// A block in which something stands begins.
     Open(usize),

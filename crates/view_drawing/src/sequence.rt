@@ -54,7 +54,7 @@ pub enum Way {
 }
 
 /// The row and the lifeline to which a message goes.
-#[derive(Clone, Copy, PartialEq, Eq)]
+#[derive(Clone, Copy)]
 pub struct Lead {
     pub row: usize,
     pub lifeline: usize,

@@ -36,7 +36,7 @@ pub struct Ink<'a> {
 }
 
 /// Where a text begins, or ends, or has its middle.
-#[derive(Clone, Copy, PartialEq, Eq)]
+#[derive(Clone, Copy)]
 pub enum Anchor {
     Begin,
     Middle,
