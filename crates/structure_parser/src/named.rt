@@ -8,7 +8,7 @@ use room_lexer::Mark;
 use room_tokens::{ReadFault, Rest, name, take_mark};
 use std::alloc::Global;
 
-/// A mark and a name
+/// A name behind a mark.
 pub(crate) fn mark_name<'a>(
     alloc: Global,
     rest: Rest<'a>,
