@@ -86,7 +86,7 @@ fn tell_paths(
         Some(slash) => path.get(..slash).unwrap_or(&[]),
         None => &[],
     };
-    page.put_line(b"paths of slots:")?;
+    page.put_line(b"paths of slots:");
     let mut told = 0usize;
     for number in 0..wiring.slot_count() {
         let Some(slot) = wiring.get_slot(SlotId(number as u16)) else {
@@ -97,8 +97,8 @@ fn tell_paths(
         }
         let here = slot.path.to_vec(alloc)?;
         if here.as_slice().starts_with(front) && slot.kind != ReferenceKind::Imported {
-            page.put(b"    ")?;
-            page.put_line(here.as_slice())?;
+            page.put(b"    ");
+            page.put_line(here.as_slice());
             told = told.saturating_add(1);
         }
     }
@@ -106,50 +106,43 @@ fn tell_paths(
 }
 
 /// A signal with the types of its numbers.
-fn tell_signal(page: &mut Page, signal: &SignalNames) -> Result<(), AllocError> {
-    page.put(b"    ")?;
-    page.put(signal.name.as_bytes())?;
+fn tell_signal(page: &mut Page, signal: &SignalNames) {
+    page.put(b"    ");
+    page.put(signal.name.as_bytes());
     for number in signal.numbers.as_slice() {
-        page.put(b" ")?;
-        page.put(type_name(*number))?;
+        page.put(b" ");
+        page.put(type_name(*number));
     }
-    page.end_line()
+    page.end_line();
 }
 
 /// The end ports of a class, with their places at a slot.
-fn tell_ports(
-    page: &mut Page,
-    wiring: &Wiring,
-    slot: SlotId,
-    class: &ClassNames,
-) -> Result<(), AllocError> {
-    page.put_line(b"end ports, with the number of their places:")?;
+fn tell_ports(page: &mut Page, wiring: &Wiring, slot: SlotId, class: &ClassNames) {
+    page.put_line(b"end ports, with the number of their places:");
     for (number, port) in class.ports.as_slice().iter().enumerate() {
         if is_end(port) {
-            page.put(b"    ")?;
-            page.put(port.name.as_bytes())?;
-            page.put(b" ")?;
-            page.put_number(u64::from(place_count(wiring, slot, number)))?;
-            page.end_line()?;
+            page.put(b"    ");
+            page.put(port.name.as_bytes());
+            page.put(b" ");
+            page.put_number(u64::from(place_count(wiring, slot, number)));
+            page.end_line();
         }
     }
     if !class.ports.as_slice().iter().any(is_end) {
-        page.put_line(b"    none")?;
+        page.put_line(b"    none");
     }
-    Ok(())
 }
 
 /// The signals that come in at the port of a class that has this name.
-fn tell_signals(page: &mut Page, class: &ClassNames, name: &[u8]) -> Result<(), AllocError> {
-    page.put_line(b"messages that come in there, with the types of their numbers:")?;
+fn tell_signals(page: &mut Page, class: &ClassNames, name: &[u8]) {
+    page.put_line(b"messages that come in there, with the types of their numbers:");
     for port in class.ports.as_slice() {
         if port.name.is(name) {
             for signal in incoming(port) {
-                tell_signal(page, signal)?;
+                tell_signal(page, signal);
             }
         }
     }
-    Ok(())
 }
 
 /// The slot of a path, and its class.
@@ -170,20 +163,21 @@ fn tell_right(
     let parts = parts_of(line);
     match (fault, slot_and_class(wiring, parts.path)) {
         (LineFault::NoSlot, _) => {
-            page.end_line()?;
-            tell_paths(alloc, page, wiring, parts.path)
+            page.end_line();
+            return tell_paths(alloc, page, wiring, parts.path);
         }
         (LineFault::NoEnd, Some((slot, class))) => {
-            page.end_line()?;
-            tell_ports(page, wiring, slot, class)
+            page.end_line();
+            tell_ports(page, wiring, slot, class);
         }
         (LineFault::NoSignal | LineFault::OtherNumbers, Some((_, class))) => {
-            page.end_line()?;
-            tell_signals(page, class, parts.port)
+            page.end_line();
+            tell_signals(page, class, parts.port);
         }
         (LineFault::NoEnd | LineFault::NoSignal | LineFault::OtherNumbers, None)
-        | (LineFault::NoForm | LineFault::TooManyLines | LineFault::NoTime, _) => Ok(()),
+        | (LineFault::NoForm | LineFault::TooManyLines | LineFault::NoTime, _) => {}
     }
+    Ok(())
 }
 
 /// The bytes of the part of a line that a fault is about, counted in the line.
@@ -215,21 +209,21 @@ pub(crate) fn tell_lines(
     let InjectFault::Code { line, fault } = fault else {
         return Err(AllocError);
     };
-    page.put(named.name.as_bytes())?;
-    page.put(b" is refused: line ")?;
-    page.put_number(u64::from(line))?;
-    page.put(b", code ")?;
-    page.put_number(u64::from(fault.code()))?;
-    page.end_line()?;
-    page.put_meaning(line_meaning(fault))?;
-    page.end_line()?;
+    page.put(named.name.as_bytes());
+    page.put(b" is refused: line ");
+    page.put_number(u64::from(line));
+    page.put(b", code ");
+    page.put_number(u64::from(fault.code()));
+    page.end_line();
+    page.put_meaning(line_meaning(fault));
+    page.end_line();
     let (start, end) = span_of(named.text, line);
     let bytes = named.text.get(start..end).unwrap_or(&[]);
     if fault == LineFault::NoForm {
         return tell_form(alloc, page, named, start, bytes);
     }
     let (from, to) = marked(bytes, fault);
-    page.put_part(named, start.saturating_add(from), start.saturating_add(to))?;
+    page.put_part(named, start.saturating_add(from), start.saturating_add(to));
     tell_right(alloc, page, wiring, bytes, fault)
 }
 
@@ -243,15 +237,17 @@ fn tell_form(
 ) -> Result<(), AllocError> {
     let line = line.strip_suffix(b"\r").unwrap_or(line);
     let Some(part) = wrong_part(alloc, line)? else {
-        return page.put_part(named, start, start.saturating_add(line.len()));
+        page.put_part(named, start, start.saturating_add(line.len()));
+        return Ok(());
     };
     page.put_part(
         named,
         start.saturating_add(part.start),
         start.saturating_add(part.end),
-    )?;
-    page.put(b"    ")?;
-    page.put_line(part.why.as_bytes())
+    );
+    page.put(b"    ");
+    page.put_line(part.why.as_bytes());
+    Ok(())
 }
 
 /// The text of injections that aren't refused over a wiring, or what is told of it and the status.

@@ -66,7 +66,7 @@ fn tell_injections(
     name: &str,
 ) -> Result<Status, AllocError> {
     match injections_of(rt, page, wiring, name)? {
-        Ok(_) => page.put_line(b"ok")?,
+        Ok(_) => page.put_line(b"ok"),
         Err(status) => return Ok(status),
     }
     Ok(Status::Done)
@@ -108,7 +108,7 @@ fn tell_asked(
 ) -> Result<Status, AllocError> {
     let wiring = accepted.wiring();
     match asked {
-        Asked::Nothing => page.put_line(b"ok")?,
+        Asked::Nothing => page.put_line(b"ok"),
         Asked::Doors => tell_doors(rt.alloc(), page, wiring)?,
         Asked::Lint(injections) => return tell_lint(rt, page, model, wiring, injections),
         Asked::Injections(name) => return tell_injections(rt, page, wiring, name),
@@ -172,10 +172,13 @@ fn without_memory(rt: HostRuntime) -> Status {
 
 /// Writes a page: to standard error where the words are refused, and else to standard output.
 fn write_page(rt: HostRuntime, page: &Page, status: Status) -> Status {
+    let Ok(text) = page.bytes() else {
+        return without_memory(rt);
+    };
     if status == Status::WordsRefused {
-        return refuse(rt, page.bytes(), status);
+        return refuse(rt, text, status);
     }
-    match write_whole(&mut OutSink::output(rt.stdout()), page.bytes()) {
+    match write_whole(&mut OutSink::output(rt.stdout()), text) {
         Ok(()) => status,
         Err(_) => Status::WriteFault,
     }

@@ -80,10 +80,10 @@ fn tell(
         None => false,
     };
     if !is_told {
-        tell_unknown(page, b"journals have no message", name.word)?;
+        tell_unknown(page, b"journals have no message", name.word);
         return Ok(Status::WordsRefused);
     }
-    page.put(body.bytes())?;
+    page.put(body.bytes()?);
     Ok(Status::Done)
 }
 

@@ -45,11 +45,11 @@ pub(crate) fn picture_of<'a>(command: &str, rest: &'a [String]) -> Option<Pictur
 }
 
 /// Tells that a model has no chart of a class of this name.
-fn tell_no_chart(page: &mut Page, model: &Model, class: &str) -> Result<Status, AllocError> {
-    page.put(b"room_view: words refused; the model has no chart of a class ")?;
-    page.put(class.as_bytes())?;
-    tell_machines(page, model)?;
-    Ok(Status::WordsRefused)
+fn tell_no_chart(page: &mut Page, model: &Model, class: &str) -> Status {
+    page.put(b"room_view: words refused; the model has no chart of a class ");
+    page.put(class.as_bytes());
+    tell_machines(page, model);
+    Status::WordsRefused
 }
 
 /// The tokens of the text of an accepted model, which has some.
@@ -88,7 +88,7 @@ fn put_chart_of(
 ) -> Result<Status, AllocError> {
     match machine_of(model, class.as_bytes()) {
         Some(machine) => put_chart(alloc, page, class.as_bytes(), machine, titled)?,
-        None => return tell_no_chart(page, model, class),
+        None => return Ok(tell_no_chart(page, model, class)),
     }
     Ok(Status::Done)
 }
@@ -173,7 +173,7 @@ pub(crate) fn tell_run_picture(
     options: Options<'_>,
 ) -> Result<Status, AllocError> {
     let wiring = model.wiring();
-    if !knows(page, wiring, options)? {
+    if !knows(page, wiring, options) {
         return Ok(Status::WordsRefused);
     }
     let titled = Titled {

@@ -41,16 +41,15 @@ fn cause_of(text: &[u8], offset: usize) -> (&'static [u8], Option<usize>) {
 }
 
 /// Tells where a text differs from all journals of runs of a model.
-fn tell_malformed(page: &mut Page, named: Named<'_>, offset: usize) -> Result<(), AllocError> {
-    tell_refused(page, named, b"it isn't the journals of a run of this model")?;
+fn tell_malformed(page: &mut Page, named: Named<'_>, offset: usize) {
+    tell_refused(page, named, b"it isn't the journals of a run of this model");
     let (cause, place) = cause_of(named.text, offset);
-    page.put_line(cause)?;
-    page.put_line(b"cure: take what `room run` wrote of this very model, whole and unchanged")?;
+    page.put_line(cause);
+    page.put_line(b"cure: take what `room run` wrote of this very model, whole and unchanged");
     if let Some(place) = place {
-        page.end_line()?;
-        page.put_part(named, place, place.saturating_add(1))?;
+        page.end_line();
+        page.put_part(named, place, place.saturating_add(1));
     }
-    Ok(())
 }
 
 /// The journals of a text that fit a wiring, or what is told of it and the status.
@@ -64,7 +63,7 @@ pub(crate) fn journals_in(
         Ok(journals) => Ok(Ok(journals)),
         Err(ReadFaultOf::Memory) => Err(AllocError),
         Err(ReadFaultOf::Malformed { offset }) => {
-            tell_malformed(page, named, offset)?;
+            tell_malformed(page, named, offset);
             Ok(Err(Kind::Journals.refused()))
         }
     }
@@ -89,47 +88,43 @@ pub(crate) fn journals_of(
 }
 
 /// Tells that the words name what a model or journals don't have.
-pub(crate) fn tell_unknown(page: &mut Page, what: &[u8], name: &str) -> Result<(), AllocError> {
-    page.put(b"room_view: words refused; the ")?;
-    page.put(what)?;
-    page.put(b" ")?;
-    page.put_line(name.as_bytes())
+pub(crate) fn tell_unknown(page: &mut Page, what: &[u8], name: &str) {
+    page.put(b"room_view: words refused; the ");
+    page.put(what);
+    page.put(b" ");
+    page.put_line(name.as_bytes());
 }
 
 /// Whether a model has an actor's path; that it hasn't is told.
-fn knows_actor(page: &mut Page, wiring: &Wiring, path: &str) -> Result<bool, AllocError> {
+fn knows_actor(page: &mut Page, wiring: &Wiring, path: &str) -> bool {
     if wiring.find(path).is_some() {
-        return Ok(true);
+        return true;
     }
-    tell_unknown(page, b"model has no actor", path)?;
-    Ok(false)
+    tell_unknown(page, b"model has no actor", path);
+    false
 }
 
 /// Whether a model has a message; that it hasn't is told.
-fn knows_signal(page: &mut Page, wiring: &Wiring, name: &str) -> Result<bool, AllocError> {
+fn knows_signal(page: &mut Page, wiring: &Wiring, name: &str) -> bool {
     if find_signal(wiring, name.as_bytes()) {
-        return Ok(true);
+        return true;
     }
-    tell_unknown(page, b"model has no message", name)?;
-    Ok(false)
+    tell_unknown(page, b"model has no message", name);
+    false
 }
 
 /// Whether a model has what options name; what it hasn't is told.
-pub(crate) fn knows(
-    page: &mut Page,
-    wiring: &Wiring,
-    options: Options<'_>,
-) -> Result<bool, AllocError> {
+pub(crate) fn knows(page: &mut Page, wiring: &Wiring, options: Options<'_>) -> bool {
     let is_known = match options.actor {
-        Some(path) => knows_actor(page, wiring, path)?,
+        Some(path) => knows_actor(page, wiring, path),
         None => true,
     };
     if !is_known {
-        return Ok(false);
+        return false;
     }
     match options.signal {
         Some(name) => knows_signal(page, wiring, name),
-        None => Ok(true),
+        None => true,
     }
 }
 
@@ -224,7 +219,7 @@ pub(crate) fn tell_story_of(
     options: Options<'_>,
 ) -> Result<Status, AllocError> {
     let wiring = model.wiring();
-    if !knows(page, wiring, options)? {
+    if !knows(page, wiring, options) {
         return Ok(Status::WordsRefused);
     }
     let wanted = wanted_of(wiring, options);

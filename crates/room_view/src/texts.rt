@@ -58,13 +58,13 @@ fn read_from<S: Shelf>(
         Ok(text) => Ok(Ok(text)),
         Err(ReadRefused::Memory) => Err(AllocError),
         Err(ReadRefused::ReadFault) => {
-            page.put(name.as_bytes())?;
-            page.put_line(b" was not read")?;
+            page.put(name.as_bytes());
+            page.put_line(b" was not read");
             Ok(Err(Status::ReadFault))
         }
         Err(ReadRefused::TooLong) => {
             let named = Named { name, text: &[] };
-            tell_refused(page, named, kind.too_long())?;
+            tell_refused(page, named, kind.too_long());
             Ok(Err(kind.refused()))
         }
     }

@@ -19,26 +19,20 @@ use view_causes::{
 use view_charts::{Item, Source, head_of};
 use view_pages::{Meaning, Named, Page};
 
-pub(crate) fn tell_refused(page: &mut Page, named: Named<'_>, by: &[u8]) -> Result<(), AllocError> {
-    page.put(named.name.as_bytes())?;
-    page.put(b" is refused: ")?;
-    page.put_line(by)
+pub(crate) fn tell_refused(page: &mut Page, named: Named<'_>, by: &[u8]) {
+    page.put(named.name.as_bytes());
+    page.put(b" is refused: ");
+    page.put_line(by);
 }
 
 /// A fault with a number.
-fn tell_numbered(
-    page: &mut Page,
-    named: Named<'_>,
-    what: &[u8],
-    number: u8,
-    meaning: Meaning,
-) -> Result<(), AllocError> {
-    page.put(named.name.as_bytes())?;
-    page.put(b" is refused: ")?;
-    page.put(what)?;
-    page.put_number(u64::from(number))?;
-    page.end_line()?;
-    page.put_meaning(meaning)
+fn tell_numbered(page: &mut Page, named: Named<'_>, what: &[u8], number: u8, meaning: Meaning) {
+    page.put(named.name.as_bytes());
+    page.put(b" is refused: ");
+    page.put(what);
+    page.put_number(u64::from(number));
+    page.end_line();
+    page.put_meaning(meaning);
 }
 
 /// What a byte is with which no token begins, and the cure.
@@ -87,63 +81,53 @@ fn tell_bytes(page: &mut Page, named: Named<'_>, fault: LexFault) -> Result<(), 
         ),
         LexFault::Memory => return Err(AllocError),
     };
-    tell_refused(page, named, b"a byte")?;
-    page.put_line(what)?;
-    page.put_line(cure)?;
-    page.end_line()?;
-    page.put_part(named, at, at.saturating_add(1))
+    tell_refused(page, named, b"a byte");
+    page.put_line(what);
+    page.put_line(cure);
+    page.end_line();
+    page.put_part(named, at, at.saturating_add(1));
+    Ok(())
 }
 
 /// What stands for a name among what could stand in a place.
 const NAME: &[u8] = b"name";
 
 /// What could have stood in a place.
-fn tell_could_stand(page: &mut Page, could_stand: &[&'static [u8]]) -> Result<(), AllocError> {
-    page.put(b"here could stand:")?;
+fn tell_could_stand(page: &mut Page, could_stand: &[&'static [u8]]) {
+    page.put(b"here could stand:");
     for token in could_stand {
-        page.put(b" ")?;
-        page.put(token)?;
+        page.put(b" ");
+        page.put(token);
     }
-    page.end_line()
+    page.end_line();
 }
 
 /// That a word of the language stands where a name could, if it is so.
-fn tell_misread(
-    page: &mut Page,
-    named: Named<'_>,
-    token: &Token,
-    could_stand: &[&'static [u8]],
-) -> Result<(), AllocError> {
+fn tell_misread(page: &mut Page, named: Named<'_>, token: &Token, could_stand: &[&'static [u8]]) {
     let bytes = named.text.get(token.start..token.end).unwrap_or(&[]);
     let is_wanted = could_stand.iter().any(|other| *other == NAME);
-    match word_meaning(token, bytes) {
-        Some(what) if is_wanted => {
-            page.put(b"    `")?;
-            page.put(bytes)?;
-            page.put(b"` ")?;
-            page.put_line(what)
-        }
-        _ => Ok(()),
+    if let Some(what) = word_meaning(token, bytes)
+        && is_wanted
+    {
+        page.put(b"    `");
+        page.put(bytes);
+        page.put(b"` ");
+        page.put_line(what);
     }
 }
 
 /// Where a text stops being a model, and what could have stood there.
-fn tell_unread(
-    page: &mut Page,
-    named: Named<'_>,
-    tokens: &[Token],
-    unread: &Unread,
-) -> Result<(), AllocError> {
-    page.put_line(b"no model goes on with what stands here")?;
-    tell_could_stand(page, unread.could_stand.as_slice())?;
-    page.end_line()?;
+fn tell_unread(page: &mut Page, named: Named<'_>, tokens: &[Token], unread: &Unread) {
+    page.put_line(b"no model goes on with what stands here");
+    tell_could_stand(page, unread.could_stand.as_slice());
+    page.end_line();
     match tokens.get(unread.token) {
         Some(token) => {
-            page.put_part(named, token.start, token.end)?;
-            tell_misread(page, named, token, unread.could_stand.as_slice())
+            page.put_part(named, token.start, token.end);
+            tell_misread(page, named, token, unread.could_stand.as_slice());
         }
         None => {
-            page.put_line(b"at the end of the text, behind")?;
+            page.put_line(b"at the end of the text, behind");
             match tokens.last() {
                 Some(last) => page.put_part(named, last.start, last.end),
                 None => page.put_part(named, 0, 0),
@@ -160,50 +144,40 @@ fn tell_syntax(
     tokens: &[Token],
     line: u32,
 ) -> Result<(), AllocError> {
-    tell_refused(page, named, b"syntax")?;
+    tell_refused(page, named, b"syntax");
     match could_stand(alloc, named.text, tokens)? {
         Some(unread) => tell_unread(page, named, tokens, &unread),
         None => {
-            page.put(b"no model goes on with what stands in line ")?;
-            page.put_number(u64::from(line))?;
-            page.end_line()
+            page.put(b"no model goes on with what stands in line ");
+            page.put_number(u64::from(line));
+            page.end_line();
         }
-    }
-}
-
-fn tell_items(
-    page: &mut Page,
-    named: Named<'_>,
-    tokens: &[Token],
-    items: &[Item],
-) -> Result<(), AllocError> {
-    for item in items {
-        let (start, end) = head_of(tokens, *item);
-        page.put_part(named, start, end)?;
     }
     Ok(())
 }
 
-/// The declarations that causes name, if they name any.
-fn tell_named(
-    page: &mut Page,
-    named: Named<'_>,
-    tokens: &[Token],
-    declared: &[Item],
-) -> Result<(), AllocError> {
-    if declared.is_empty() {
-        return Ok(());
+fn tell_items(page: &mut Page, named: Named<'_>, tokens: &[Token], items: &[Item]) {
+    for item in items {
+        let (start, end) = head_of(tokens, *item);
+        page.put_part(named, start, end);
     }
-    page.end_line()?;
-    page.put_line(b"what it names:")?;
-    tell_items(page, named, tokens, declared)
+}
+
+/// The declarations that causes name, if they name any.
+fn tell_named(page: &mut Page, named: Named<'_>, tokens: &[Token], declared: &[Item]) {
+    if declared.is_empty() {
+        return;
+    }
+    page.end_line();
+    page.put_line(b"what it names:");
+    tell_items(page, named, tokens, declared);
 }
 
 /// A place at which a cause stands, and what is wrong there.
-fn tell_cause(page: &mut Page, named: Named<'_>, cause: &Cause) -> Result<(), AllocError> {
-    page.put_part(named, cause.start, cause.end)?;
-    page.put(b"    ")?;
-    page.put_line(cause.what.as_slice())
+fn tell_cause(page: &mut Page, named: Named<'_>, cause: &Cause) {
+    page.put_part(named, cause.start, cause.end);
+    page.put(b"    ");
+    page.put_line(cause.what.as_slice());
 }
 
 /// Adds declarations that aren't among those already.
@@ -286,10 +260,11 @@ fn tell_seen(
 ) -> Result<(), AllocError> {
     let mut declared = Vec::new(source.alloc);
     for cause in causes {
-        tell_cause(page, named, cause)?;
+        tell_cause(page, named, cause);
         add_declared(&mut declared, cause.declared.as_slice())?;
     }
-    tell_named(page, named, source.tokens, declared.as_slice())
+    tell_named(page, named, source.tokens, declared.as_slice());
+    Ok(())
 }
 
 /// What is wrong with a part that was found to be a cause, as far as the text shows it.
@@ -318,16 +293,18 @@ fn tell_found(
     found: &[Item],
 ) -> Result<(), AllocError> {
     if found.is_empty() {
-        return page.put_line(b"no single part of the text is its cause");
+        page.put_line(b"no single part of the text is its cause");
+        return Ok(());
     }
     for item in found {
         match seen_at(source, fault, *item)? {
-            Some(cause) => tell_cause(page, named, &cause)?,
-            None => tell_items(page, named, source.tokens, &[*item])?,
+            Some(cause) => tell_cause(page, named, &cause),
+            None => tell_items(page, named, source.tokens, &[*item]),
         }
     }
     let declared = named_by(source.alloc, named.text, source.tokens, found)?;
-    tell_named(page, named, source.tokens, declared.as_slice())
+    tell_named(page, named, source.tokens, declared.as_slice());
+    Ok(())
 }
 
 /// What is told of a fault first: which it is, what it means, and its cure.
@@ -339,10 +316,10 @@ fn tell_head(
 ) -> Result<(), AllocError> {
     match fault {
         ModelFault::Bases(rule) => {
-            tell_numbered(page, named, b"rule ", rule.number(), base_meaning(*rule))
+            tell_numbered(page, named, b"rule ", rule.number(), base_meaning(*rule));
         }
         ModelFault::Rule(rule) => {
-            tell_numbered(page, named, b"rule ", rule.number(), rule_meaning(*rule))
+            tell_numbered(page, named, b"rule ", rule.number(), rule_meaning(*rule));
         }
         ModelFault::Wiring(fault) => {
             tell_numbered(
@@ -351,7 +328,7 @@ fn tell_head(
                 b"wiring ",
                 fault.number(),
                 wiring_meaning(*fault),
-            )
+            );
         }
         ModelFault::Chart { class, fault } => {
             let mut what = Vec::new(alloc);
@@ -364,10 +341,11 @@ fn tell_head(
                 what.as_slice(),
                 fault.number(),
                 chart_meaning(*fault),
-            )
+            );
         }
-        ModelFault::Byte(_) | ModelFault::Syntax { .. } | ModelFault::Memory => Ok(()),
+        ModelFault::Byte(_) | ModelFault::Syntax { .. } | ModelFault::Memory => {}
     }
+    Ok(())
 }
 
 /// The actor class that a fault is about, if it is about one.
@@ -394,7 +372,7 @@ fn tell_fault(
         tokens,
     };
     tell_head(alloc, page, named, fault)?;
-    page.end_line()?;
+    page.end_line();
     let causes = seen(source, fault, tree)?;
     if !causes.is_empty() {
         return tell_seen(page, named, source, causes.as_slice());
@@ -468,7 +446,7 @@ pub(crate) fn tell_model(
     named: Named<'_>,
 ) -> Result<Option<Accepted>, AllocError> {
     if named.text.len() as u64 > MAX_TEXT {
-        tell_refused(page, named, b"too long")?;
+        tell_refused(page, named, b"too long");
         return Ok(None);
     }
     let tokens = match lex(alloc, named.text) {

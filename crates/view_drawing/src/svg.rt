@@ -39,28 +39,23 @@ fn triangle(x: usize, y: usize) -> [(usize, usize); 3] {
 }
 
 /// A mark at a place.
-fn put_mark(
-    page: &mut Page,
-    mark: Mark,
-    at: (usize, usize),
-    colour: &[u8],
-) -> Result<(), AllocError> {
+fn put_mark(page: &mut Page, mark: Mark, at: (usize, usize), colour: &[u8]) {
     let (x, y) = at;
     match mark {
-        Mark::Hidden => Ok(()),
+        Mark::Hidden => {}
         Mark::Port => put_circle(page, at, HALF, plain_ink(colour, colour)),
         Mark::ConjugatedPort | Mark::Entry => put_circle(page, at, HALF, plain_ink(WHITE, colour)),
         Mark::Relay => put_corners(page, &square(x, y, 4), plain_ink(colour, colour)),
         Mark::ConjugatedRelay | Mark::Door => {
-            put_corners(page, &square(x, y, 4), plain_ink(WHITE, colour))
+            put_corners(page, &square(x, y, 4), plain_ink(WHITE, colour));
         }
         Mark::Access => put_corners(page, &triangle(x, y), plain_ink(WHITE, colour)),
         Mark::Provision => put_corners(page, &triangle(x, y), plain_ink(colour, colour)),
         Mark::Exit => {
-            put_circle(page, at, HALF, plain_ink(WHITE, colour))?;
+            put_circle(page, at, HALF, plain_ink(WHITE, colour));
             let [first, second, third, fourth] = square(x, y, 3);
-            put_path(page, &[first, third], plain_ink(b"none", colour))?;
-            put_path(page, &[second, fourth], plain_ink(b"none", colour))
+            put_path(page, &[first, third], plain_ink(b"none", colour));
+            put_path(page, &[second, fourth], plain_ink(b"none", colour));
         }
     }
 }
@@ -75,37 +70,31 @@ fn name_line(place: Place, line: usize) -> usize {
 }
 
 /// How many places a point has, and how many of them are joined to nothing.
-fn put_places(page: &mut Page, point: &Point) -> Result<(), AllocError> {
+fn put_places(page: &mut Page, point: &Point) {
     if point.places != 1 {
-        page.put(b"[")?;
-        page.put_number(u64::from(point.places))?;
-        page.put(b"]")?;
+        page.put(b"[");
+        page.put_number(u64::from(point.places));
+        page.put(b"]");
     }
     if point.lost() > 0 {
-        page.put(b" <tspan fill=\"#cc0000\">")?;
-        page.put_number(u64::from(point.lost()))?;
-        page.put(b" unjoined</tspan>")?;
+        page.put(b" <tspan fill=\"#cc0000\">");
+        page.put_number(u64::from(point.lost()));
+        page.put(b" unjoined</tspan>");
     }
-    Ok(())
 }
 
 /// A bar along the rows of the links that leave a point.
-fn put_bar(
-    page: &mut Page,
-    layout: &Layout,
-    place: Place,
-    number: usize,
-) -> Result<(), AllocError> {
+fn put_bar(page: &mut Page, layout: &Layout, place: Place, number: usize) {
     let rows = layout.point(number);
     if rows.leaving < 2 {
-        return Ok(());
+        return;
     }
     let last = rows.row.saturating_add(rows.leaving).saturating_sub(1);
     let bar = [
         (place.edge(), place.line(rows.row)),
         (place.edge(), place.line(last)),
     ];
-    put_path(page, &bar, plain_ink(b"none", BLACK))
+    put_path(page, &bar, plain_ink(b"none", BLACK));
 }
 
 /// The colour of what leads there.
@@ -126,30 +115,24 @@ fn colour_of(point: &Point) -> &'static [u8] {
 }
 
 /// A point of a block, in its row.
-fn put_point(
-    page: &mut Page,
-    layout: &Layout,
-    place: Place,
-    number: usize,
-    point: &Point,
-) -> Result<(), AllocError> {
+fn put_point(page: &mut Page, layout: &Layout, place: Place, number: usize, point: &Point) {
     if point.mark == Mark::Hidden {
-        return Ok(());
+        return;
     }
     let rows = layout.point(number);
     let line = place.line(rows.row);
-    put_mark(page, point.mark, (place.edge(), line), colour_of(point))?;
+    put_mark(page, point.mark, (place.edge(), line), colour_of(point));
     let line = name_line(place, line);
     if place.is_right {
         let at = (behind(place.x, HALF + 4), line);
-        begin_text(page, at, Anchor::Begin, BLACK)?;
+        begin_text(page, at, Anchor::Begin, BLACK);
     } else {
         let at = (before(place.right(), HALF + 4), line);
-        begin_text(page, at, Anchor::End, BLACK)?;
+        begin_text(page, at, Anchor::End, BLACK);
     }
-    put_text(page, point.name.as_slice())?;
-    put_places(page, point)?;
-    page.put_line(b"</text>")
+    put_text(page, point.name.as_slice());
+    put_places(page, point);
+    page.put_line(b"</text>");
 }
 
 /// The dashes of the border of a block.
@@ -172,19 +155,19 @@ fn area_of(place: Place, shape: Shape, sheet: usize) -> Area {
 }
 
 /// The border of a block, with sheets behind it where it stands for several.
-fn put_sheets(page: &mut Page, place: Place, block: &Block) -> Result<(), AllocError> {
+fn put_sheets(page: &mut Page, place: Place, block: &Block) {
     let drawn = Ink {
         fill: light(block.colour),
         stroke: BLACK,
         dashes: dashes(block.shape),
     };
     if block.copies > 2 {
-        put_area(page, area_of(place, block.shape, 2 * SHEET), drawn)?;
+        put_area(page, area_of(place, block.shape, 2 * SHEET), drawn);
     }
     if block.copies > 1 {
-        put_area(page, area_of(place, block.shape, SHEET), drawn)?;
+        put_area(page, area_of(place, block.shape, SHEET), drawn);
     }
-    put_area(page, area_of(place, block.shape, 0), drawn)
+    put_area(page, area_of(place, block.shape, 0), drawn);
 }
 
 /// The middle of a block.
@@ -195,7 +178,7 @@ fn middle(place: Place) -> (usize, usize) {
     )
 }
 
-fn put_choice(page: &mut Page, place: Place, title: &[u8]) -> Result<(), AllocError> {
+fn put_choice(page: &mut Page, place: Place, title: &[u8]) {
     let (x, y) = middle(place);
     let corners = [
         (place.x, y),
@@ -203,52 +186,51 @@ fn put_choice(page: &mut Page, place: Place, title: &[u8]) -> Result<(), AllocEr
         (place.right(), y),
         (x, behind(place.y, place.height)),
     ];
-    put_corners(page, &corners, plain_ink(WHITE, BLACK))?;
-    put_words(page, (x, behind(y, 4)), Anchor::Middle, BLACK, title)
+    put_corners(page, &corners, plain_ink(WHITE, BLACK));
+    put_words(page, (x, behind(y, 4)), Anchor::Middle, BLACK, title);
 }
 
 /// The title of a block, the lines below it, and the sign of a history.
-fn put_titles(page: &mut Page, place: Place, block: &Block) -> Result<(), AllocError> {
+fn put_titles(page: &mut Page, place: Place, block: &Block) {
     let x = behind(place.x, PAD / 2);
     let title = block.title.as_slice();
-    put_words(page, (x, place.line(0)), Anchor::Begin, BLACK, title)?;
+    put_words(page, (x, place.line(0)), Anchor::Begin, BLACK, title);
     for (number, note) in block.notes.as_slice().iter().enumerate() {
         let y = place.line(number.saturating_add(1));
-        page.put_line(b"<g>")?;
-        put_tooltip(page, note.whole.as_slice())?;
+        page.put_line(b"<g>");
+        put_tooltip(page, note.whole.as_slice());
         put_words(
             page,
             (x, y),
             Anchor::Begin,
             b"#555555",
             note.shown.as_slice(),
-        )?;
-        page.put_line(b"</g>")?;
+        );
+        page.put_line(b"</g>");
     }
     if block.has_history {
         let x = before(place.right(), PAD);
-        put_history(page, (x, before(place.line(0), 4)))?;
+        put_history(page, (x, before(place.line(0), 4)));
     }
-    Ok(())
 }
 
-fn put_history(page: &mut Page, at: (usize, usize)) -> Result<(), AllocError> {
-    put_circle(page, at, 7, plain_ink(WHITE, BLACK))?;
-    put_words(page, (at.0, behind(at.1, 4)), Anchor::Middle, BLACK, b"H")
+fn put_history(page: &mut Page, at: (usize, usize)) {
+    put_circle(page, at, 7, plain_ink(WHITE, BLACK));
+    put_words(page, (at.0, behind(at.1, 4)), Anchor::Middle, BLACK, b"H");
 }
 
 /// A block without its points.
-fn put_block(page: &mut Page, place: Place, block: &Block) -> Result<(), AllocError> {
+fn put_block(page: &mut Page, place: Place, block: &Block) {
     match block.shape {
         Shape::Start => {
             let at = (before(place.right(), 6), place.line(0));
-            put_circle(page, at, 6, plain_ink(BLACK, BLACK))
+            put_circle(page, at, 6, plain_ink(BLACK, BLACK));
         }
         Shape::Choice => put_choice(page, place, block.title.as_slice()),
         Shape::Frame | Shape::Actor | Shape::OptionalActor | Shape::ImportedActor | Shape::State =>
             {
-                put_sheets(page, place, block)?;
-                put_titles(page, place, block)
+                put_sheets(page, place, block);
+                put_titles(page, place, block);
             }
     }
 }
@@ -318,12 +300,7 @@ fn last_row(layout: &Layout, link: &Link) -> usize {
 }
 
 /// The tip of an arrow that comes from the left, or from the right.
-fn put_tip(
-    page: &mut Page,
-    at: (usize, usize),
-    from_left: bool,
-    colour: &[u8],
-) -> Result<(), AllocError> {
+fn put_tip(page: &mut Page, at: (usize, usize), from_left: bool, colour: &[u8]) {
     let (x, y) = at;
     let foot = if from_left {
         before(x, 7)
@@ -331,7 +308,7 @@ fn put_tip(
         behind(x, 7)
     };
     let corners = [at, (foot, before(y, 4)), (foot, behind(y, 4))];
-    put_corners(page, &corners, plain_ink(colour, colour))
+    put_corners(page, &corners, plain_ink(colour, colour));
 }
 
 /// Whether a link comes to its end from the left: to a block of the second column, or to the right border around it.
@@ -348,24 +325,25 @@ fn put_label(
     line: usize,
     track: usize,
     drawn: Ink<'_>,
-) -> Result<(), AllocError> {
+) {
     let around = layout.place(link.inside);
     let text = link.label.shown.as_slice();
     let y = before(line, 3);
     if layout.is_leftward(link) {
-        return put_words(
+        put_words(
             page,
             (around.labels_to(), y),
             Anchor::End,
             drawn.stroke,
             text,
         );
+        return;
     }
     let from = around.labels_from();
     if link.from.block == link.inside && !around.is_right {
-        put_path(page, &[(from, line), (track, line)], drawn)?;
+        put_path(page, &[(from, line), (track, line)], drawn);
     }
-    put_words(page, (from, y), Anchor::Begin, drawn.stroke, text)
+    put_words(page, (from, y), Anchor::Begin, drawn.stroke, text);
 }
 
 /// How a link on a track is drawn.
@@ -378,35 +356,29 @@ fn ink_of(link: &Link, track: usize) -> Ink<'static> {
 }
 
 /// A link with its label, which stands at its beginning.
-fn put_link(
-    page: &mut Page,
-    diagram: &Diagram,
-    layout: &Layout,
-    link: &Link,
-    lane: LinkPlace,
-) -> Result<(), AllocError> {
+fn put_link(page: &mut Page, diagram: &Diagram, layout: &Layout, link: &Link, lane: LinkPlace) {
     let row = first_row(diagram, layout, link, lane.order);
     let first = place_of_end(diagram, layout, link.inside, link.from, row);
     let end_row = last_row(layout, link);
     let last = place_of_end(diagram, layout, link.inside, link.to, end_row);
     let track = layout.place(link.inside).track(lane.track);
     let drawn = ink_of(link, lane.track);
-    page.put_line(b"<g>")?;
-    put_tooltip(page, link.label.whole.as_slice())?;
+    page.put_line(b"<g>");
+    put_tooltip(page, link.label.whole.as_slice());
     let corners = [first, (track, first.1), (track, last.1), last];
-    put_path(page, &corners, drawn)?;
+    put_path(page, &corners, drawn);
     let is_repeated = !diagram.is_directed && lane.order > 0;
     if !link.label.shown.is_empty() && !is_repeated {
-        put_label(page, layout, link, first.1, track, drawn)?;
+        put_label(page, layout, link, first.1, track, drawn);
     }
     if diagram.is_directed {
-        put_tip(page, last, comes_from_left(layout, link), drawn.stroke)?;
+        put_tip(page, last, comes_from_left(layout, link), drawn.stroke);
     }
-    page.put_line(b"</g>")
+    page.put_line(b"</g>");
 }
 
 /// A line of the legend.
-fn put_key(page: &mut Page, key: &Key, y: usize) -> Result<(), AllocError> {
+fn put_key(page: &mut Page, key: &Key, y: usize) {
     let at = (behind(PAD, HALF + 4), behind(y, LINE - 4));
     match key.sign {
         Sign::Colour(number) => {
@@ -417,22 +389,22 @@ fn put_key(page: &mut Page, key: &Key, y: usize) -> Result<(), AllocError> {
                 height: 14,
                 rounding: 0,
             };
-            put_area(page, area, plain_ink(light(Some(number)), BLACK))?;
+            put_area(page, area, plain_ink(light(Some(number)), BLACK));
         }
-        Sign::Point(mark) => put_mark(page, mark, at, BLACK)?,
-        Sign::Leads(leads) => put_mark(page, Mark::Port, at, colour_of_leads(leads))?,
-        Sign::History => put_history(page, at)?,
+        Sign::Point(mark) => put_mark(page, mark, at, BLACK),
+        Sign::Leads(leads) => put_mark(page, Mark::Port, at, colour_of_leads(leads)),
+        Sign::History => put_history(page, at),
         Sign::Dashes => {
             let drawn = Ink {
                 fill: b"none",
                 stroke: BLACK,
                 dashes: b"6 3",
             };
-            put_path(page, &[(PAD, at.1), (PAD + 24, at.1)], drawn)?;
+            put_path(page, &[(PAD, at.1), (PAD + 24, at.1)], drawn);
         }
     }
     let text = (PAD + SIGN, behind(y, LINE));
-    put_words(page, text, Anchor::Begin, BLACK, key.text.as_slice())
+    put_words(page, text, Anchor::Begin, BLACK, key.text.as_slice());
 }
 
 /// The width of the legend.
@@ -445,61 +417,53 @@ fn legend_width(diagram: &Diagram) -> usize {
 }
 
 /// The points of a block.
-fn put_points(
-    page: &mut Page,
-    diagram: &Diagram,
-    layout: &Layout,
-    number: usize,
-    block: &Block,
-) -> Result<(), AllocError> {
+fn put_points(page: &mut Page, diagram: &Diagram, layout: &Layout, number: usize, block: &Block) {
     let place = layout.place(number);
     for (order, point) in diagram.points_of(block).iter().enumerate() {
         let point_number = block.first_point.saturating_add(order);
         if diagram.is_directed {
-            put_bar(page, layout, place, point_number)?;
+            put_bar(page, layout, place, point_number);
         }
-        put_point(page, layout, place, point_number, point)?;
+        put_point(page, layout, place, point_number, point);
     }
-    Ok(())
 }
 
 /// The blocks, the links over them, and the points over these.
-fn put_parts(page: &mut Page, diagram: &Diagram, layout: &Layout) -> Result<(), AllocError> {
+fn put_parts(page: &mut Page, diagram: &Diagram, layout: &Layout) {
     for (number, block) in diagram.blocks.as_slice().iter().enumerate() {
-        put_block(page, layout.place(number), block)?;
+        put_block(page, layout.place(number), block);
     }
     for (link, lane) in diagram.links.as_slice().iter().zip(layout.links.as_slice()) {
-        put_link(page, diagram, layout, link, *lane)?;
+        put_link(page, diagram, layout, link, *lane);
     }
     for (number, block) in diagram.blocks.as_slice().iter().enumerate() {
-        put_points(page, diagram, layout, number, block)?;
+        put_points(page, diagram, layout, number, block);
     }
-    Ok(())
 }
 
 /// The legend from a line on.
-fn put_legend(page: &mut Page, diagram: &Diagram, top: usize) -> Result<(), AllocError> {
+fn put_legend(page: &mut Page, diagram: &Diagram, top: usize) {
     for (number, key) in diagram.legend.as_slice().iter().enumerate() {
         let above = number.saturating_mul(ROW);
-        put_key(page, key, top.saturating_add(above))?;
+        put_key(page, key, top.saturating_add(above));
     }
-    Ok(())
 }
 
 /// A picture whose parts have their places.
-fn put_laid_out(page: &mut Page, diagram: &Diagram, layout: &Layout) -> Result<(), AllocError> {
+fn put_laid_out(page: &mut Page, diagram: &Diagram, layout: &Layout) {
     let keys = diagram.legend.len().saturating_mul(ROW);
     let legend = layout.height.saturating_add(PAD);
     let width = layout.width.max(legend_width(diagram));
-    put_head(page, width, legend.saturating_add(keys).saturating_add(PAD))?;
-    put_title(page, diagram.title.as_slice())?;
-    put_parts(page, diagram, layout)?;
-    put_legend(page, diagram, legend)?;
-    page.put_line(b"</svg>")
+    put_head(page, width, legend.saturating_add(keys).saturating_add(PAD));
+    put_title(page, diagram.title.as_slice());
+    put_parts(page, diagram, layout);
+    put_legend(page, diagram, legend);
+    page.put_line(b"</svg>");
 }
 
 /// Puts a picture as an SVG that needs nothing else.
 pub fn put_svg(page: &mut Page, diagram: &Diagram) -> Result<(), AllocError> {
     let layout = lay_out(diagram)?;
-    put_laid_out(page, diagram, &layout)
+    put_laid_out(page, diagram, &layout);
+    Ok(())
 }

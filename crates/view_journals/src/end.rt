@@ -93,14 +93,14 @@ impl<'a> Ended<'a> {
     }
 
     /// How the run ended, what was still open, and who stands where.
-    fn tell(&self, page: &mut Page, journals: &Journals) -> Result<(), AllocError> {
-        page.put_line(end_word(journals.done))?;
-        self.tell_fate(page, b"deferred, and since when:", Fate::Deferred)?;
-        self.tell_fate(page, b"deferred, and lost with their actors:", Fate::Lost)?;
-        self.tell_fate(page, b"never handled:", Fate::NeverHandled)?;
-        tell_left(page, self.wiring, journals)?;
-        tell_unposted(page, journals)?;
-        self.tell_actors(page)
+    fn tell(&self, page: &mut Page, journals: &Journals) {
+        page.put_line(end_word(journals.done));
+        self.tell_fate(page, b"deferred, and since when:", Fate::Deferred);
+        self.tell_fate(page, b"deferred, and lost with their actors:", Fate::Lost);
+        self.tell_fate(page, b"never handled:", Fate::NeverHandled);
+        tell_left(page, self.wiring, journals);
+        tell_unposted(page, journals);
+        self.tell_actors(page);
     }
 
     /// What became in the end of a message that an actor deferred in its last turn.
@@ -127,61 +127,60 @@ impl<'a> Ended<'a> {
     }
 
     /// The line of a turn: when it was, at which actor in which state, and what it did with which message.
-    fn tell_turn(&self, page: &mut Page, turn: &Turn<'_>) -> Result<(), AllocError> {
-        page.put(b"    ")?;
-        put_head(page, self.wiring, &self.fetched, turn)?;
+    fn tell_turn(&self, page: &mut Page, turn: &Turn<'_>) {
+        page.put(b"    ");
+        put_head(page, self.wiring, &self.fetched, turn);
         if let Did::Deferred { who, state } | Did::Unhandled { who, state } = turn.did {
-            page.put(b", ")?;
-            put_state(page, self.wiring, who.slot, state)?;
+            page.put(b", ");
+            put_state(page, self.wiring, who.slot, state);
         }
-        page.end_line()
+        page.end_line();
     }
 
     /// The turns whose messages came to one fate, under a title.
-    fn tell_fate(&self, page: &mut Page, title: &[u8], fate: Fate) -> Result<(), AllocError> {
-        page.put_line(title)?;
+    fn tell_fate(&self, page: &mut Page, title: &[u8], fate: Fate) {
+        page.put_line(title);
         let mut has_some = false;
         for (place, turn) in self.turns.as_slice().iter().enumerate() {
             if self.fate(place, turn) == fate {
                 has_some = true;
-                self.tell_turn(page, turn)?;
+                self.tell_turn(page, turn);
             }
         }
-        tell_none(page, has_some)
+        tell_none(page, has_some);
     }
 
     /// The attributes of the actor that stands in a slot, where they are known.
-    fn put_attributes(&self, page: &mut Page, slot: SlotId) -> Result<(), AllocError> {
+    fn put_attributes(&self, page: &mut Page, slot: SlotId) {
         let (Some(class), Some(numbers)) = (
             self.wiring.class_of(slot),
             self.redone.attributes_of(slot),
         ) else {
-            return Ok(());
+            return;
         };
-        if class.attributes.is_empty() {
-            return Ok(());
+        if !class.attributes.is_empty() {
+            page.put(b"; ");
+            put_attributes(page, class, numbers, numbers);
         }
-        page.put(b"; ")?;
-        put_attributes(page, class, numbers, numbers)
     }
 
     /// Who stands where in the end, in which state, and with which attributes.
-    fn tell_actors(&self, page: &mut Page) -> Result<(), AllocError> {
-        page.put_line(b"who stands where:")?;
+    fn tell_actors(&self, page: &mut Page) {
+        page.put_line(b"who stands where:");
         let mut has_some = false;
         for number in 0..self.wiring.slot_count() {
             let slot = SlotId(number as u16);
             if let Some(standing) = self.actors.at(slot) {
                 has_some = true;
-                page.put(b"    ")?;
-                put_actor(page, self.wiring, incarnation(slot, standing.generation))?;
-                page.put(b": ")?;
-                put_state(page, self.wiring, slot, standing.state)?;
-                self.put_attributes(page, slot)?;
-                page.end_line()?;
+                page.put(b"    ");
+                put_actor(page, self.wiring, incarnation(slot, standing.generation));
+                page.put(b": ");
+                put_state(page, self.wiring, slot, standing.state);
+                self.put_attributes(page, slot);
+                page.end_line();
             }
         }
-        tell_none(page, has_some)
+        tell_none(page, has_some);
     }
 }
 
@@ -190,33 +189,32 @@ fn incarnation(slot: SlotId, generation: Generation) -> Incarnation {
 }
 
 /// A line under a title that has no other.
-fn tell_none(page: &mut Page, has_some: bool) -> Result<(), AllocError> {
-    if has_some {
-        return Ok(());
+fn tell_none(page: &mut Page, has_some: bool) {
+    if !has_some {
+        page.put_line(b"    none");
     }
-    page.put_line(b"    none")
 }
 
 /// What no turn took.
-fn tell_left(page: &mut Page, wiring: &Wiring, journals: &Journals) -> Result<(), AllocError> {
-    page.put_line(b"left untaken:")?;
+fn tell_left(page: &mut Page, wiring: &Wiring, journals: &Journals) {
+    page.put_line(b"left untaken:");
     for left in journals.left.as_slice() {
-        page.put(b"    ")?;
-        put_left(page, wiring, left)?;
-        page.end_line()?;
+        page.put(b"    ");
+        put_left(page, wiring, left);
+        page.end_line();
     }
-    tell_none(page, !journals.left.is_empty())
+    tell_none(page, !journals.left.is_empty());
 }
 
 /// The lines of the injections that were not posted.
-fn tell_unposted(page: &mut Page, journals: &Journals) -> Result<(), AllocError> {
-    page.put_line(b"not posted:")?;
+fn tell_unposted(page: &mut Page, journals: &Journals) {
+    page.put_line(b"not posted:");
     for line in journals.unposted.as_slice() {
-        page.put(b"    line ")?;
-        page.put_number(u64::from(*line))?;
-        page.end_line()?;
+        page.put(b"    line ");
+        page.put_number(u64::from(*line));
+        page.end_line();
     }
-    tell_none(page, !journals.unposted.is_empty())
+    tell_none(page, !journals.unposted.is_empty());
 }
 
 /// Tells what was still open where a run ended: what is deferred and since when, what was lost with its actor, what
@@ -229,7 +227,8 @@ pub fn tell_end(
     journals: &Journals,
     redone: &Redone,
 ) -> Result<(), AllocError> {
-    tell_difference(page, wiring, redone)?;
+    tell_difference(page, wiring, redone);
     let ended = Ended::of(alloc, wiring, journals, redone)?;
-    ended.tell(page, journals)
+    ended.tell(page, journals);
+    Ok(())
 }

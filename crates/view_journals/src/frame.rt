@@ -2,7 +2,6 @@
 use crate::names::put_actor;
 use room_kinds::{Generation, Incarnation, SlotId};
 use room_wiring::Wiring;
-use std::alloc::AllocError;
 use view_pages::Page;
 
 /// An actor's number is its slot's times this, and its generation.
@@ -57,30 +56,24 @@ fn numbers_of(signal: &[u8]) -> Option<Numbers> {
 }
 
 /// The name of a reference of a slot's class, with the index where it is replicated.
-fn put_reference(
-    page: &mut Page,
-    wiring: &Wiring,
-    slot: SlotId,
-    reference: i64,
-    index: i64,
-) -> Result<(), AllocError> {
+fn put_reference(page: &mut Page, wiring: &Wiring, slot: SlotId, reference: i64, index: i64) {
     let found = match (wiring.class_of(slot), usize::try_from(reference)) {
         (Some(class), Ok(number)) => class.references.as_slice().get(number),
         _ => None,
     };
     let Some(found) = found else {
-        page.put(b"reference ")?;
-        page.put_signed(reference)?;
-        page.put(b", index ")?;
-        return page.put_signed(index);
+        page.put(b"reference ");
+        page.put_signed(reference);
+        page.put(b", index ");
+        page.put_signed(index);
+        return;
     };
-    page.put(found.name.as_bytes())?;
+    page.put(found.name.as_bytes());
     if found.count != 1 || index != 0 {
-        page.put(b"[")?;
-        page.put_signed(index)?;
-        page.put(b"]")?;
+        page.put(b"[");
+        page.put_signed(index);
+        page.put(b"]");
     }
-    Ok(())
 }
 
 /// The actor of a number, as actions have it; none of a slot that isn't there.
@@ -97,7 +90,7 @@ pub fn actor_of_number(wiring: &Wiring, number: i64) -> Option<Incarnation> {
 }
 
 /// The name of the actor of a number.
-pub fn put_actor_number(page: &mut Page, wiring: &Wiring, number: i64) -> Result<(), AllocError> {
+pub fn put_actor_number(page: &mut Page, wiring: &Wiring, number: i64) {
     match actor_of_number(wiring, number) {
         Some(who) => put_actor(page, wiring, who),
         None => page.put_signed(number),
@@ -105,13 +98,8 @@ pub fn put_actor_number(page: &mut Page, wiring: &Wiring, number: i64) -> Result
 }
 
 /// An actor by its number, as an import place has it, behind a word.
-pub fn put_home(
-    page: &mut Page,
-    wiring: &Wiring,
-    word: &[u8],
-    home: u64,
-) -> Result<(), AllocError> {
-    page.put(word)?;
+pub fn put_home(page: &mut Page, wiring: &Wiring, word: &[u8], home: u64) {
+    page.put(word);
     match i64::try_from(home) {
         Ok(number) => put_actor_number(page, wiring, number),
         Err(_) => page.put_number(home),
@@ -119,24 +107,18 @@ pub fn put_home(
 }
 
 /// A code and what it means.
-fn put_code(page: &mut Page, code: i64) -> Result<(), AllocError> {
-    page.put(b"code ")?;
-    page.put_signed(code)?;
+fn put_code(page: &mut Page, code: i64) {
+    page.put(b"code ");
+    page.put_signed(code);
     let place = usize::try_from(code.saturating_sub(1)).unwrap_or(CODES.len());
     if let Some(meaning) = CODES.get(place) {
-        page.put(b": ")?;
-        page.put(meaning)?;
+        page.put(b": ");
+        page.put(meaning);
     }
-    Ok(())
 }
 
 /// The name of a port of a slot's class by its number.
-fn put_port_number(
-    page: &mut Page,
-    wiring: &Wiring,
-    slot: SlotId,
-    number: i64,
-) -> Result<(), AllocError> {
+fn put_port_number(page: &mut Page, wiring: &Wiring, slot: SlotId, number: i64) {
     let port = match u16::try_from(number) {
         Ok(number) => wiring.port_of(slot, number),
         Err(_) => None,
@@ -154,28 +136,28 @@ pub fn put_frame_numbers(
     slot: SlotId,
     signal: &[u8],
     numbers: &[i64],
-) -> Result<bool, AllocError> {
+) -> bool {
     let Some(kind) = numbers_of(signal) else {
-        return Ok(false);
+        return false;
     };
     match (kind, numbers) {
         (Numbers::Actor, [reference, index, actor]) => {
-            put_reference(page, wiring, slot, *reference, *index)?;
-            page.put(b", ")?;
-            put_actor_number(page, wiring, *actor)?;
+            put_reference(page, wiring, slot, *reference, *index);
+            page.put(b", ");
+            put_actor_number(page, wiring, *actor);
         }
         (Numbers::Refused, [reference, index, code]) => {
-            put_reference(page, wiring, slot, *reference, *index)?;
-            page.put(b", ")?;
-            put_code(page, *code)?;
+            put_reference(page, wiring, slot, *reference, *index);
+            page.put(b", ");
+            put_code(page, *code);
         }
-        (Numbers::Port, [port]) => put_port_number(page, wiring, slot, *port)?,
+        (Numbers::Port, [port]) => put_port_number(page, wiring, slot, *port),
         (Numbers::NameRefused, [port, code]) => {
-            put_port_number(page, wiring, slot, *port)?;
-            page.put(b", ")?;
-            put_code(page, *code)?;
+            put_port_number(page, wiring, slot, *port);
+            page.put(b", ");
+            put_code(page, *code);
         }
-        _ => return Ok(false),
+        _ => return false,
     }
-    Ok(true)
+    true
 }

@@ -8,7 +8,6 @@ use crate::turns::Turn;
 use journal::{Did, Entry, Left};
 use room_kinds::{Msg, SlotId};
 use room_wiring::Wiring;
-use std::alloc::AllocError;
 use view_pages::Page;
 
 /// The word for what a turn did, and a blank.
@@ -37,35 +36,24 @@ pub fn is_trouble(turn: &Turn<'_>) -> bool {
 }
 
 /// What stands before a line: whether it tells of something that its author hardly meant.
-pub fn put_mark(page: &mut Page, is_trouble: bool) -> Result<(), AllocError> {
-    page.put(if is_trouble { b"! " } else { b"  " })
+pub fn put_mark(page: &mut Page, is_trouble: bool) {
+    page.put(if is_trouble { b"! " } else { b"  " });
 }
 
 /// What entries post, as the actors of a slot see it, behind a semicolon.
-pub fn put_sends(
-    page: &mut Page,
-    wiring: &Wiring,
-    slot: Option<SlotId>,
-    entries: &[Entry],
-) -> Result<(), AllocError> {
+pub fn put_sends(page: &mut Page, wiring: &Wiring, slot: Option<SlotId>, entries: &[Entry]) {
     let mut lead: &[u8] = b"; sends ";
     for entry in entries {
         if let Entry::Post { msg, .. } = entry {
-            page.put(lead)?;
-            put_sent(page, wiring, slot, msg)?;
+            page.put(lead);
+            put_sent(page, wiring, slot, msg);
             lead = b", ";
         }
     }
-    Ok(())
 }
 
 /// The message of a turn, and who sent it.
-fn put_taken(
-    page: &mut Page,
-    wiring: &Wiring,
-    turn: &Turn<'_>,
-    msg: Option<&Msg>,
-) -> Result<(), AllocError> {
+fn put_taken(page: &mut Page, wiring: &Wiring, turn: &Turn<'_>, msg: Option<&Msg>) {
     match msg {
         Some(msg) => put_received(page, wiring, msg),
         None => put_name(page, wiring, turn.from, turn.sent),
@@ -73,19 +61,14 @@ fn put_taken(
 }
 
 /// What became of the message of a turn, where who stands where before it is known.
-fn put_outcome(
-    page: &mut Page,
-    wiring: &Wiring,
-    actors: &Actors,
-    did: Did,
-) -> Result<(), AllocError> {
+fn put_outcome(page: &mut Page, wiring: &Wiring, actors: &Actors, did: Did) {
     match did {
-        Did::Duty => Ok(()),
+        Did::Duty => {}
         Did::Handled { who, state }
         | Did::Deferred { who, state }
         | Did::Unhandled { who, state } => {
-            page.put(b", ")?;
-            put_states(page, wiring, who.slot, actors.state_of(who), state)
+            page.put(b", ");
+            put_states(page, wiring, who.slot, actors.state_of(who), state);
         }
         Did::Stale { .. } => page.put(b", whose actor is gone"),
         Did::Empty { .. } => page.put(b", where nobody is"),
@@ -93,40 +76,31 @@ fn put_outcome(
 }
 
 /// The actor of a turn, or who is meant by its message.
-fn put_who(
-    page: &mut Page,
-    wiring: &Wiring,
-    did: Did,
-    msg: Option<&Msg>,
-) -> Result<(), AllocError> {
+fn put_who(page: &mut Page, wiring: &Wiring, did: Did, msg: Option<&Msg>) {
     match did {
         Did::Handled { who, .. } | Did::Deferred { who, .. } | Did::Unhandled { who, .. } => {
-            put_actor(page, wiring, who)
+            put_actor(page, wiring, who);
         }
         Did::Stale { target } | Did::Empty { target } => put_actor(page, wiring, target),
-        Did::Duty => match msg {
-            Some(msg) => put_actor(page, wiring, actor_at(msg.target)),
-            None => Ok(()),
-        },
+        Did::Duty => {
+            if let Some(msg) = msg {
+                put_actor(page, wiring, actor_at(msg.target));
+            }
+        }
     }
 }
 
 /// A turn's stamp, its controller, its actor, and what it did with which message.
-pub fn put_head(
-    page: &mut Page,
-    wiring: &Wiring,
-    fetched: &Fetched<'_>,
-    turn: &Turn<'_>,
-) -> Result<(), AllocError> {
+pub fn put_head(page: &mut Page, wiring: &Wiring, fetched: &Fetched<'_>, turn: &Turn<'_>) {
     let msg = fetched.get(turn.name());
-    page.put_number(turn.stamp.0)?;
-    page.put(b" ")?;
-    put_controller(page, wiring, turn.controller)?;
-    page.put(b" ")?;
-    put_who(page, wiring, turn.did, msg)?;
-    page.put(b": ")?;
-    page.put(word_of(turn.did))?;
-    put_taken(page, wiring, turn, msg)
+    page.put_number(turn.stamp.0);
+    page.put(b" ");
+    put_controller(page, wiring, turn.controller);
+    page.put(b" ");
+    put_who(page, wiring, turn.did, msg);
+    page.put(b": ");
+    page.put(word_of(turn.did));
+    put_taken(page, wiring, turn, msg);
 }
 
 /// The line of a turn: its head, its actor's states, its notes, and what it sent.
@@ -136,10 +110,10 @@ pub fn tell_turn(
     fetched: &Fetched<'_>,
     actors: &Actors,
     turn: &Turn<'_>,
-) -> Result<(), AllocError> {
-    put_mark(page, is_trouble(turn))?;
-    put_head(page, wiring, fetched, turn)?;
-    put_outcome(page, wiring, actors, turn.did)?;
+) {
+    put_mark(page, is_trouble(turn));
+    put_head(page, wiring, fetched, turn);
+    put_outcome(page, wiring, actors, turn.did);
     put_notes(
         page,
         wiring,
@@ -147,23 +121,23 @@ pub fn tell_turn(
         turn.did.speaker(),
         turn.notes,
         turn.said,
-    )?;
-    put_sends(page, wiring, turn.slot(fetched), turn.behind)?;
-    page.end_line()
+    );
+    put_sends(page, wiring, turn.slot(fetched), turn.behind);
+    page.end_line();
 }
 
 /// A message that no turn took, and where it is.
-pub fn put_left(page: &mut Page, wiring: &Wiring, left: &Left) -> Result<(), AllocError> {
-    page.put(b"left ")?;
-    put_controller(page, wiring, usize::from(left.to.0))?;
-    page.put(b" ")?;
-    put_actor(page, wiring, actor_at(left.msg.target))?;
+pub fn put_left(page: &mut Page, wiring: &Wiring, left: &Left) {
+    page.put(b"left ");
+    put_controller(page, wiring, usize::from(left.to.0));
+    page.put(b" ");
+    put_actor(page, wiring, actor_at(left.msg.target));
     page.put(if left.pending {
         b": pending "
     } else {
         b": not fetched "
-    })?;
-    put_received(page, wiring, &left.msg)
+    });
+    put_received(page, wiring, &left.msg);
 }
 
 /// The word for how a run ended.

@@ -309,23 +309,23 @@ pub fn arming_before(
 }
 
 /// How long after which post a timer was due.
-pub fn put_arming(page: &mut Page, wiring: &Wiring, arming: Arming) -> Result<(), AllocError> {
-    page.put_number(arming.delay)?;
-    page.put(b" after ")?;
+pub fn put_arming(page: &mut Page, wiring: &Wiring, arming: Arming) {
+    page.put_number(arming.delay);
+    page.put(b" after ");
     put_name(
         page,
         wiring,
         ControllerId(arming.by.from),
         Stamp(arming.by.sent),
-    )
+    );
 }
 
 /// When a moment was.
-pub fn put_moment(page: &mut Page, wiring: &Wiring, moment: Moment) -> Result<(), AllocError> {
+pub fn put_moment(page: &mut Page, wiring: &Wiring, moment: Moment) {
     match (moment.time, moment.arming) {
         (Some(time), _) => {
-            page.put(b"time ")?;
-            page.put_number(time)
+            page.put(b"time ");
+            page.put_number(time);
         }
         (None, Some(arming)) => put_arming(page, wiring, arming),
         (None, None) => page.put(b"timeouts"),
@@ -333,10 +333,10 @@ pub fn put_moment(page: &mut Page, wiring: &Wiring, moment: Moment) -> Result<()
 }
 
 /// The line that divides what was before a moment from what is behind it.
-fn tell_moment(page: &mut Page, wiring: &Wiring, moment: Moment) -> Result<(), AllocError> {
-    page.put(b"  ---- ")?;
-    put_moment(page, wiring, moment)?;
-    page.end_line()
+fn tell_moment(page: &mut Page, wiring: &Wiring, moment: Moment) {
+    page.put(b"  ---- ");
+    put_moment(page, wiring, moment);
+    page.end_line();
 }
 
 /// The lines that divide a story at its moments: those ahead, and the one that stands before the next line.
@@ -368,11 +368,10 @@ impl<'a> Dividers<'a> {
     }
 
     /// Tells the last moment that was passed, if it isn't told yet.
-    pub fn tell(&mut self, page: &mut Page, wiring: &Wiring) -> Result<(), AllocError> {
+    pub fn tell(&mut self, page: &mut Page, wiring: &Wiring) {
         if let Some(moment) = self.next {
             self.next = None;
-            tell_moment(page, wiring, moment)?;
+            tell_moment(page, wiring, moment);
         }
-        Ok(())
     }
 }

@@ -2,7 +2,6 @@
 use journal::naming;
 use room_kinds::{ControllerId, Incarnation, Priority, SlotId, Stamp};
 use room_wiring::{Path, SignalNames, Wiring};
-use std::alloc::AllocError;
 use view_pages::Page;
 
 /// How many places a port of a slot has; none where there is no such port.
@@ -30,7 +29,7 @@ fn priority_name(prio: Priority) -> Option<&'static [u8]> {
 }
 
 /// A priority by its name.
-pub fn put_priority(page: &mut Page, prio: Priority) -> Result<(), AllocError> {
+pub fn put_priority(page: &mut Page, prio: Priority) {
     match priority_name(prio) {
         Some(name) => page.put(name),
         None => page.put_number(u64::from(prio.0)),
@@ -38,62 +37,46 @@ pub fn put_priority(page: &mut Page, prio: Priority) -> Result<(), AllocError> {
 }
 
 /// The path of a slot.
-pub fn put_path(page: &mut Page, path: &Path) -> Result<(), AllocError> {
-    path.push_to(page.bytes_mut())
+pub fn put_path(page: &mut Page, path: &Path) {
+    let text = path.to_vec(page.alloc());
+    page.put_made(text);
 }
 
 /// The path of an actor; from the second one of its slot on with its generation.
-pub fn put_actor(page: &mut Page, wiring: &Wiring, who: Incarnation) -> Result<(), AllocError> {
+pub fn put_actor(page: &mut Page, wiring: &Wiring, who: Incarnation) {
     if let Some(slot) = wiring.get_slot(who.slot) {
-        put_path(page, &slot.path)?;
+        put_path(page, &slot.path);
     }
     if who.generation.0 > 1 {
-        page.put(b"#")?;
-        page.put_number(u64::from(who.generation.0))?;
+        page.put(b"#");
+        page.put_number(u64::from(who.generation.0));
     }
-    Ok(())
 }
 
 /// The name of a port of a slot, with the place where it has several.
-pub fn put_port(
-    page: &mut Page,
-    wiring: &Wiring,
-    slot: SlotId,
-    port: u16,
-    place: i64,
-) -> Result<(), AllocError> {
-    page.put(wiring.port_name(slot, port))?;
+pub fn put_port(page: &mut Page, wiring: &Wiring, slot: SlotId, port: u16, place: i64) {
+    page.put(wiring.port_name(slot, port));
     if place != 0 || place_count(wiring, slot, usize::from(port)) > 1 {
-        page.put(b"[")?;
-        page.put_signed(place)?;
-        page.put(b"]")?;
+        page.put(b"[");
+        page.put_signed(place);
+        page.put(b"]");
     }
-    Ok(())
 }
 
 /// The name of a controller.
-pub fn put_controller(
-    page: &mut Page,
-    wiring: &Wiring,
-    controller: usize,
-) -> Result<(), AllocError> {
-    page.put(naming::controller_name(wiring, controller))
+pub fn put_controller(page: &mut Page, wiring: &Wiring, controller: usize) {
+    page.put(naming::controller_name(wiring, controller));
 }
 
 /// What journals call a message: by its sender and the stamp of its post.
-pub fn put_name(
-    page: &mut Page,
-    wiring: &Wiring,
-    from: ControllerId,
-    sent: Stamp,
-) -> Result<(), AllocError> {
+pub fn put_name(page: &mut Page, wiring: &Wiring, from: ControllerId, sent: Stamp) {
     if from.0 < wiring.controller_count() {
-        page.put_number(u64::from(from.0))?;
+        page.put_number(u64::from(from.0));
     } else {
-        page.put(b"env")?;
+        page.put(b"env");
     }
-    page.put(b"@")?;
-    page.put_number(sent.0)
+    page.put(b"@");
+    page.put_number(sent.0);
 }
 
 /// Whether actors of a slot have a chart.
@@ -105,32 +88,22 @@ fn has_chart(wiring: &Wiring, slot: SlotId) -> bool {
 }
 
 /// In which state an actor of a slot is.
-pub fn put_state(
-    page: &mut Page,
-    wiring: &Wiring,
-    slot: SlotId,
-    state: u16,
-) -> Result<(), AllocError> {
-    if !has_chart(wiring, slot) {
-        return page.put(b"without a chart");
+pub fn put_state(page: &mut Page, wiring: &Wiring, slot: SlotId, state: u16) {
+    if has_chart(wiring, slot) {
+        page.put(b"in ");
+        page.put(naming::state_label(wiring, slot, state));
+    } else {
+        page.put(b"without a chart");
     }
-    page.put(b"in ")?;
-    page.put(naming::state_label(wiring, slot, state))
 }
 
 /// From which state to which an actor of a slot went, where its state before is known.
-pub fn put_states(
-    page: &mut Page,
-    wiring: &Wiring,
-    slot: SlotId,
-    before: Option<u16>,
-    after: u16,
-) -> Result<(), AllocError> {
+pub fn put_states(page: &mut Page, wiring: &Wiring, slot: SlotId, before: Option<u16>, after: u16) {
     match before {
         Some(before) if before != after => {
-            page.put(naming::state_label(wiring, slot, before))?;
-            page.put(b" -> ")?;
-            page.put(naming::state_label(wiring, slot, after))
+            page.put(naming::state_label(wiring, slot, before));
+            page.put(b" -> ");
+            page.put(naming::state_label(wiring, slot, after));
         }
         _ => put_state(page, wiring, slot, after),
     }

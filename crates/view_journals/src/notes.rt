@@ -5,7 +5,6 @@ use crate::unheard::{put_said, why_unheard};
 use journal::speaker_after;
 use room_kinds::{Note, SlotId};
 use room_wiring::Wiring;
-use std::alloc::AllocError;
 use view_pages::Page;
 
 /// Whether a note, with what was said where nobody hears it, tells of something that its author hardly meant.
@@ -33,16 +32,11 @@ pub fn have_trouble(notes: &[Note], said: &[Said]) -> bool {
 }
 
 /// What an actor of a slot says that nobody hears, and why.
-fn put_unheard(
-    page: &mut Page,
-    wiring: &Wiring,
-    slot: SlotId,
-    said: &Said,
-) -> Result<(), AllocError> {
-    page.put(b"says ")?;
-    put_said(page, wiring, slot, said)?;
-    page.put(b", ")?;
-    page.put(why_unheard(wiring, slot, said))
+fn put_unheard(page: &mut Page, wiring: &Wiring, slot: SlotId, said: &Said) {
+    page.put(b"says ");
+    put_said(page, wiring, slot, said);
+    page.put(b", ");
+    page.put(why_unheard(wiring, slot, said));
 }
 
 /// A send at a place of a port of who speaks, which leads to nobody; what is said there where it is known.
@@ -52,24 +46,23 @@ fn put_unbound(
     speaker: Option<SlotId>,
     note: &Note,
     said: Option<&Said>,
-) -> Result<(), AllocError> {
+) {
     match (speaker, note, said) {
         (Some(slot), _, Some(said)) => put_unheard(page, wiring, slot, said),
         (Some(slot), Note::Unbound { port, place }, None) => {
-            page.put(b"unbound ")?;
-            put_port(page, wiring, slot, *port, *place)
+            page.put(b"unbound ");
+            put_port(page, wiring, slot, *port, *place);
         }
         _ => page.put(b"unbound "),
     }
 }
 
 /// How many deferred messages were lost with an actor, if any were.
-fn put_lost(page: &mut Page, lost: u64) -> Result<(), AllocError> {
-    if lost == 0 {
-        return Ok(());
+fn put_lost(page: &mut Page, lost: u64) {
+    if lost > 0 {
+        page.put(b", deferred and lost: ");
+        page.put_number(lost);
     }
-    page.put(b", deferred and lost: ")?;
-    page.put_number(lost)
 }
 
 /// A note of a start or a turn, at which actors of this slot speak, and what was said where nobody hears it.
@@ -79,25 +72,25 @@ pub fn put_note(
     speaker: Option<SlotId>,
     note: &Note,
     said: Option<&Said>,
-) -> Result<(), AllocError> {
+) {
     match note {
         Note::Zero => page.put(b"division by 0"),
         Note::NoMessage => page.put(b"defer without a message"),
         Note::Unbound { .. } => put_unbound(page, wiring, speaker, note, said),
         Note::Recall { count } => {
-            page.put(b"recalls ")?;
-            page.put_number(*count)
+            page.put(b"recalls ");
+            page.put_number(*count);
         }
         Note::Up { who, state } => {
-            page.put(b"up ")?;
-            put_actor(page, wiring, *who)?;
-            page.put(b" ")?;
-            put_state(page, wiring, who.slot, *state)
+            page.put(b"up ");
+            put_actor(page, wiring, *who);
+            page.put(b" ");
+            put_state(page, wiring, who.slot, *state);
         }
         Note::Down { who, lost } => {
-            page.put(b"down ")?;
-            put_actor(page, wiring, *who)?;
-            put_lost(page, *lost)
+            page.put(b"down ");
+            put_actor(page, wiring, *who);
+            put_lost(page, *lost);
         }
     }
 }
@@ -110,13 +103,12 @@ pub fn put_notes(
     speaker: Option<SlotId>,
     notes: &[Note],
     said: &[Said],
-) -> Result<(), AllocError> {
+) {
     let mut speaking = speaker;
     let mut sayings = Sayings::of(said);
     for note in notes {
-        page.put(b"; ")?;
-        put_note(page, wiring, speaking, note, sayings.with(note))?;
+        page.put(b"; ");
+        put_note(page, wiring, speaking, note, sayings.with(note));
         speaking = speaker_after(is_duty, speaking, *note);
     }
-    Ok(())
 }

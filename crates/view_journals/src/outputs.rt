@@ -29,36 +29,25 @@ fn speaker_of(did: Did) -> Option<Incarnation> {
 }
 
 /// When something is said, and who says it.
-fn put_head(
-    page: &mut Page,
-    wiring: &Wiring,
-    at: Moment,
-    who: Incarnation,
-) -> Result<(), AllocError> {
+fn put_head(page: &mut Page, wiring: &Wiring, at: Moment, who: Incarnation) {
     match at.stamp {
-        Some(stamp) => page.put_number(stamp)?,
-        None => page.put(b"start")?,
+        Some(stamp) => page.put_number(stamp),
+        None => page.put(b"start"),
     }
-    page.put(b" ")?;
-    put_controller(page, wiring, at.controller)?;
-    page.put(b" ")?;
-    put_actor(page, wiring, who)?;
-    page.put(b": ")
+    page.put(b" ");
+    put_controller(page, wiring, at.controller);
+    page.put(b" ");
+    put_actor(page, wiring, who);
+    page.put(b": ");
 }
 
 /// What an actor of a slot says, and why nobody hears it, where it doesn't go out of the model.
-fn put_output(
-    page: &mut Page,
-    wiring: &Wiring,
-    slot: SlotId,
-    said: &Said,
-) -> Result<(), AllocError> {
-    put_said(page, wiring, slot, said)?;
-    if said.goes_out {
-        return Ok(());
+fn put_output(page: &mut Page, wiring: &Wiring, slot: SlotId, said: &Said) {
+    put_said(page, wiring, slot, said);
+    if !said.goes_out {
+        page.put(b", ");
+        page.put(why_unheard(wiring, slot, said));
     }
-    page.put(b", ")?;
-    page.put(why_unheard(wiring, slot, said))
 }
 
 /// The line of a note, if it is of a send that leads to nobody.
@@ -69,36 +58,35 @@ fn tell_note(
     who: Incarnation,
     note: &Note,
     said: Option<&Said>,
-) -> Result<(), AllocError> {
+) {
     let Note::Unbound { port, place } = note else {
-        return Ok(());
+        return;
     };
-    put_head(page, wiring, at, who)?;
+    put_head(page, wiring, at, who);
     match said {
-        Some(said) => put_output(page, wiring, who.slot, said)?,
+        Some(said) => put_output(page, wiring, who.slot, said),
         None => {
-            page.put(b"unbound ")?;
-            put_port(page, wiring, who.slot, *port, *place)?;
+            page.put(b"unbound ");
+            put_port(page, wiring, who.slot, *port, *place);
         }
     }
-    page.end_line()
+    page.end_line();
 }
 
 /// The lines of a start.
-fn tell_start(page: &mut Page, wiring: &Wiring, start: &Start<'_>) -> Result<(), AllocError> {
+fn tell_start(page: &mut Page, wiring: &Wiring, start: &Start<'_>) {
     let at = Moment {
         stamp: None,
         controller: start.controller,
     };
     let mut sayings = Sayings::of(start.said);
     for note in start.notes {
-        tell_note(page, wiring, at, start.who, note, sayings.with(note))?;
+        tell_note(page, wiring, at, start.who, note, sayings.with(note));
     }
-    Ok(())
 }
 
 /// The lines of a turn. In a duty those speak who come up.
-fn tell_turn(page: &mut Page, wiring: &Wiring, turn: &Turn<'_>) -> Result<(), AllocError> {
+fn tell_turn(page: &mut Page, wiring: &Wiring, turn: &Turn<'_>) {
     let at = Moment {
         stamp: Some(turn.stamp.0),
         controller: turn.controller,
@@ -111,10 +99,9 @@ fn tell_turn(page: &mut Page, wiring: &Wiring, turn: &Turn<'_>) -> Result<(), Al
         }
         let said = sayings.with(note);
         if let Some(who) = speaker {
-            tell_note(page, wiring, at, who, note, said)?;
+            tell_note(page, wiring, at, who, note, said);
         }
     }
-    Ok(())
 }
 
 /// Tells what the actors of a run say that nobody hears: what goes out of the model, and what is joined to nothing
@@ -126,18 +113,18 @@ pub fn tell_outputs(
     journals: &Journals,
     redone: &Redone,
 ) -> Result<(), AllocError> {
-    tell_difference(page, wiring, redone)?;
-    let before = page.bytes().len();
+    tell_difference(page, wiring, redone);
+    let before = page.len();
     let starts = starts_of(alloc, journals, redone)?;
     for start in starts.as_slice() {
-        tell_start(page, wiring, start)?;
+        tell_start(page, wiring, start);
     }
     let turns = turns_of(alloc, journals, redone)?;
     for turn in turns.as_slice() {
-        tell_turn(page, wiring, turn)?;
+        tell_turn(page, wiring, turn);
     }
-    if page.bytes().len() > before {
-        return Ok(());
+    if page.len() == before {
+        page.put_line(b"none");
     }
-    page.put_line(b"none")
+    Ok(())
 }

@@ -5,7 +5,6 @@ use crate::ports::is_joined;
 use crate::redone::Said;
 use room_kinds::{Priority, SlotId};
 use room_wiring::{PortNames, Wiring};
-use std::alloc::AllocError;
 use view_pages::Page;
 
 /// The priority that a message has where nothing else is said.
@@ -35,23 +34,17 @@ pub fn said_signal<'a>(wiring: &'a Wiring, slot: SlotId, said: &Said) -> &'a [u8
 }
 
 /// What an actor of a slot says, as actions write it.
-pub fn put_said(
-    page: &mut Page,
-    wiring: &Wiring,
-    slot: SlotId,
-    said: &Said,
-) -> Result<(), AllocError> {
-    put_port(page, wiring, slot, said.port, said.place)?;
-    page.put(b".")?;
-    page.put(said_signal(wiring, slot, said))?;
-    page.put(b"(")?;
-    put_plain_numbers(page, said.payload.numbers())?;
-    page.put(b")")?;
-    if said.prio == GENERAL {
-        return Ok(());
+pub fn put_said(page: &mut Page, wiring: &Wiring, slot: SlotId, said: &Said) {
+    put_port(page, wiring, slot, said.port, said.place);
+    page.put(b".");
+    page.put(said_signal(wiring, slot, said));
+    page.put(b"(");
+    put_plain_numbers(page, said.payload.numbers());
+    page.put(b")");
+    if said.prio != GENERAL {
+        page.put(b" ");
+        put_priority(page, said.prio);
     }
-    page.put(b" ")?;
-    put_priority(page, said.prio)
 }
 
 /// The place of a port of a slot at which something is said, where it is there.

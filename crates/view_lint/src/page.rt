@@ -104,58 +104,44 @@ fn in_order(alloc: Global, findings: &[Finding]) -> Result<Vec<Place>, AllocErro
 }
 
 /// What findings of a kind are, what is meant, and the cure.
-fn tell_kind(page: &mut Page, kind: Kind) -> Result<(), AllocError> {
+fn tell_kind(page: &mut Page, kind: Kind) {
     let meaning = kind.meaning();
-    page.put_line(kind.title().as_bytes())?;
-    page.put_meaning(meaning)?;
-    page.end_line()
+    page.put_line(kind.title().as_bytes());
+    page.put_meaning(meaning);
+    page.end_line();
 }
 
 /// Begins to tell findings of a kind, behind those of the kind before.
-fn change_kind(page: &mut Page, before: Option<Kind>, kind: Kind) -> Result<(), AllocError> {
+fn change_kind(page: &mut Page, before: Option<Kind>, kind: Kind) {
     if before == Some(kind) {
-        return Ok(());
+        return;
     }
     if before.is_some() {
-        page.end_line()?;
+        page.end_line();
     }
-    tell_kind(page, kind)
+    tell_kind(page, kind);
 }
 
 /// Tells of a finding where it stands, and what it is in particular.
-fn tell_finding(
-    page: &mut Page,
-    named: Named<'_>,
-    findings: &[Finding],
-    place: Place,
-) -> Result<(), AllocError> {
-    page.put_part(named, place.start, place.end)?;
-    match findings.get(place.number) {
-        Some(finding) => {
-            page.put(b"    ")?;
-            page.put_line(finding.detail.as_slice())
-        }
-        None => Ok(()),
+fn tell_finding(page: &mut Page, named: Named<'_>, findings: &[Finding], place: Place) {
+    page.put_part(named, place.start, place.end);
+    if let Some(finding) = findings.get(place.number) {
+        page.put(b"    ");
+        page.put_line(finding.detail.as_slice());
     }
 }
 
 /// Tells the findings at places in a text, kind by kind.
-fn tell_places(
-    page: &mut Page,
-    named: Named<'_>,
-    findings: &[Finding],
-    places: &[Place],
-) -> Result<(), AllocError> {
+fn tell_places(page: &mut Page, named: Named<'_>, findings: &[Finding], places: &[Place]) {
     let mut told: Option<Kind> = None;
     for place in places {
-        change_kind(page, told, place.kind)?;
+        change_kind(page, told, place.kind);
         told = Some(place.kind);
-        tell_finding(page, named, findings, *place)?;
+        tell_finding(page, named, findings, *place);
     }
     if told.is_some() {
-        page.end_line()?;
+        page.end_line();
     }
-    Ok(())
 }
 
 /// Tells findings in a text, kind by kind; says how many there are.
@@ -166,18 +152,18 @@ fn tell_all(
     findings: &[Finding],
 ) -> Result<usize, AllocError> {
     let places = in_order(alloc, findings)?;
-    tell_places(page, named, findings, places.as_slice())?;
+    tell_places(page, named, findings, places.as_slice());
     Ok(places.len())
 }
 
 /// How many findings there are.
-fn tell_count(page: &mut Page, count: usize) -> Result<(), AllocError> {
+fn tell_count(page: &mut Page, count: usize) {
     match count {
         0 => page.put_line(b"nothing found"),
         1 => page.put_line(b"1 finding"),
         _ => {
-            page.put_number(count as u64)?;
-            page.put_line(b" findings")
+            page.put_number(count as u64);
+            page.put_line(b" findings");
         }
     }
 }
@@ -234,5 +220,6 @@ pub fn tell_findings(
         let more = tell_numbers(alloc, page, wiring, lines)?;
         count = count.saturating_add(more);
     }
-    tell_count(page, count)
+    tell_count(page, count);
+    Ok(())
 }

@@ -183,33 +183,28 @@ fn goes_on<'a>(
 }
 
 /// A code that ran, under what it is called.
-fn tell_code(page: &mut Page, what: &[u8], code: Option<&Code>) -> Result<(), AllocError> {
+fn tell_code(page: &mut Page, what: &[u8], code: Option<&Code>) {
     if let Some(code) = code {
-        page.put(b"        ")?;
-        page.put(what)?;
-        page.put(b" ")?;
-        put_code(page, code)?;
-        page.end_line()?;
+        page.put(b"        ");
+        page.put(what);
+        page.put(b" ");
+        put_code(page, code);
+        page.end_line();
     }
-    Ok(())
 }
 
-fn tell_action(page: &mut Page, transition: &Transition) -> Result<(), AllocError> {
-    match &transition.body {
-        Some(body) => tell_code(page, b"action", body.action.as_ref()),
-        None => Ok(()),
+fn tell_action(page: &mut Page, transition: &Transition) {
+    if let Some(body) = &transition.body {
+        tell_code(page, b"action", body.action.as_ref());
     }
 }
 
 /// A branch with its condition.
-fn put_branch(page: &mut Page, branch: &Transition) -> Result<(), AllocError> {
-    put_transition(page, branch, NOTHING)?;
-    match condition_of(branch) {
-        Some(code) => {
-            page.put(b" cond ")?;
-            put_code(page, code)
-        }
-        None => Ok(()),
+fn put_branch(page: &mut Page, branch: &Transition) {
+    put_transition(page, branch, NOTHING);
+    if let Some(code) = condition_of(branch) {
+        page.put(b" cond ");
+        put_code(page, code);
     }
 }
 
@@ -220,20 +215,19 @@ fn tell_branches(
     choice: &[u8],
     before: usize,
     taken: &Transition,
-) -> Result<(), AllocError> {
-    page.put(b"        at ")?;
-    page.put(choice)?;
-    page.put(b" by ")?;
-    put_branch(page, taken)?;
-    page.end_line()?;
+) {
+    page.put(b"        at ");
+    page.put(choice);
+    page.put(b" by ");
+    put_branch(page, taken);
+    page.end_line();
     for place in 0..before {
         if let Some(branch) = branch_of(items, choice, place) {
-            page.put(b"            after ")?;
-            put_branch(page, branch)?;
-            page.put_line(b", which did not hold")?;
+            page.put(b"            after ");
+            put_branch(page, branch);
+            page.put_line(b", which did not hold");
         }
     }
-    Ok(())
 }
 
 /// The state of a chart with a label.
@@ -264,10 +258,10 @@ fn tell_state(
     chain: Chain<'_>,
     state: u16,
     is_entry: bool,
-) -> Result<(), AllocError> {
+) {
     let label = naming::state_label(chain.wiring, chain.slot, state);
     let Some(state) = state_of(machine, label) else {
-        return Ok(());
+        return;
     };
     if let Some(code) = code_of(state, is_entry) {
         let lead: &[u8] = if is_entry {
@@ -275,13 +269,12 @@ fn tell_state(
         } else {
             b"        exit of "
         };
-        page.put(lead)?;
-        page.put(label)?;
-        page.put(b" ")?;
-        put_code(page, code)?;
-        page.end_line()?;
+        page.put(lead);
+        page.put(label);
+        page.put(b" ");
+        put_code(page, code);
+        page.end_line();
     }
-    Ok(())
 }
 
 /// The transition that goes on behind another one, by the branch that a choice point chose, if it leads to one.
@@ -295,15 +288,15 @@ fn tell_next<'a>(
     let Some(choice) = choice_of(items, &before.target) else {
         let next = goes_on(graphs, &before.target)?;
         if let Some(transition) = next {
-            page.put(b"        on by ")?;
-            put_transition(page, transition, NOTHING)?;
-            page.end_line()?;
+            page.put(b"        on by ");
+            put_transition(page, transition, NOTHING);
+            page.end_line();
         }
         return Ok(next);
     };
     let next = branch_of(items, choice, chosen);
     if let Some(taken) = next {
-        tell_branches(page, items, choice, chosen, taken)?;
+        tell_branches(page, items, choice, chosen, taken);
     }
     Ok(next)
 }
@@ -321,8 +314,8 @@ pub(crate) fn tell_chain<'a>(
     let mut chosen = 0usize;
     for passed in chain.passed {
         match passed {
-            Passed::Left(state) => tell_state(page, machine, chain, *state, false)?,
-            Passed::Entered(state) => tell_state(page, machine, chain, *state, true)?,
+            Passed::Left(state) => tell_state(page, machine, chain, *state, false),
+            Passed::Entered(state) => tell_state(page, machine, chain, *state, true),
             Passed::Chose(before) => chosen = *before,
             Passed::Went => {
                 let next = match last {
@@ -332,7 +325,7 @@ pub(crate) fn tell_chain<'a>(
                 let Some(transition) = next else {
                     return Ok(());
                 };
-                tell_action(page, transition)?;
+                tell_action(page, transition);
                 last = Some(transition);
             }
         }

@@ -58,13 +58,13 @@ impl<'a> Explained<'a> {
     }
 
     /// The message, and whom it is for.
-    fn tell_message(&self, page: &mut Page, msg: &Msg) -> Result<(), AllocError> {
-        put_received(page, self.wiring, msg)?;
-        page.end_line()?;
-        page.put(b"to ")?;
-        put_actor(page, self.wiring, actor_at(msg.target))?;
-        page.put(b", an actor of ")?;
-        page.put_line(self.class_name(msg.target.slot))
+    fn tell_message(&self, page: &mut Page, msg: &Msg) {
+        put_received(page, self.wiring, msg);
+        page.end_line();
+        page.put(b"to ");
+        put_actor(page, self.wiring, actor_at(msg.target));
+        page.put(b", an actor of ");
+        page.put_line(self.class_name(msg.target.slot));
     }
 
     /// The line of the injections for which the environment posted a message at a place of its journal, and the time then.
@@ -91,19 +91,20 @@ impl<'a> Explained<'a> {
         place: usize,
         dated: Dated<'_>,
     ) -> Result<(), AllocError> {
-        page.put(b"    at the time ")?;
-        page.put_number(dated.time)?;
+        page.put(b"    at the time ");
+        page.put_number(dated.time);
         if dated.is_timeout {
             let first = first_together(self.journals.environment.as_slice(), place);
             let target = msg.target;
             let arming = arming_before(alloc, self.wiring, self.journals, target, first)?;
             if let Some(arming) = arming {
-                page.put(b", ")?;
-                put_arming(page, self.wiring, arming)?;
-                page.put(b", which armed the timer")?;
+                page.put(b", ");
+                put_arming(page, self.wiring, arming);
+                page.put(b", which armed the timer");
             }
         }
-        page.end_line()
+        page.end_line();
+        Ok(())
     }
 
     /// The line of the injections from which the environment posted a message, at a place of its journal.
@@ -115,14 +116,15 @@ impl<'a> Explained<'a> {
         place: usize,
     ) -> Result<(), AllocError> {
         let Some(dated) = self.dated(alloc, msg, place)? else {
-            return page.put_line(b"    the injections have no line for it");
+            page.put_line(b"    the injections have no line for it");
+            return Ok(());
         };
-        page.put(b"    line ")?;
-        page.put_number(dated.line.number as u64)?;
-        page.put(b" of ")?;
-        page.put(self.injections.name.as_bytes())?;
-        page.put(b": ")?;
-        page.put_line(dated.line.text)?;
+        page.put(b"    line ");
+        page.put_number(dated.line.number as u64);
+        page.put(b" of ");
+        page.put(self.injections.name.as_bytes());
+        page.put(b": ");
+        page.put_line(dated.line.text);
         if moves_time(self.injections.text) {
             self.tell_time(alloc, page, msg, place, dated)?;
         }
@@ -130,14 +132,10 @@ impl<'a> Explained<'a> {
     }
 
     /// In which turn a message was posted, or at which start.
-    fn put_turn_of_post(
-        &self,
-        page: &mut Page,
-        entries: &[Entry],
-        place: usize,
-    ) -> Result<(), AllocError> {
+    fn put_turn_of_post(&self, page: &mut Page, entries: &[Entry], place: usize) {
         let Some(turn) = turn_before(entries, place) else {
-            return page.put(b", at its start");
+            page.put(b", at its start");
+            return;
         };
         if let Some(
             Entry::Turn {
@@ -148,12 +146,11 @@ impl<'a> Explained<'a> {
             },
         ) = entries.get(turn)
         {
-            page.put(b", in the turn at ")?;
-            page.put_number(stamp.0)?;
-            page.put(b" with ")?;
-            put_name(page, self.wiring, *from, *sent)?;
+            page.put(b", in the turn at ");
+            page.put_number(stamp.0);
+            page.put(b" with ");
+            put_name(page, self.wiring, *from, *sent);
         }
-        Ok(())
     }
 
     /// Where a message was posted, at a place among the entries of its sender.
@@ -164,37 +161,37 @@ impl<'a> Explained<'a> {
         msg: &Msg,
         place: usize,
     ) -> Result<(), AllocError> {
-        page.put(b"posted at ")?;
-        page.put_number(msg.stamp.0)?;
-        page.put(b" by ")?;
+        page.put(b"posted at ");
+        page.put_number(msg.stamp.0);
+        page.put(b" by ");
         let Some(source) = msg.source else {
-            page.put_line(b"environment")?;
+            page.put_line(b"environment");
             return self.tell_line(alloc, page, msg, place);
         };
-        put_end(page, self.wiring, source)?;
-        page.put(b" on ")?;
-        put_controller(page, self.wiring, usize::from(msg.from.0))?;
+        put_end(page, self.wiring, source);
+        page.put(b" on ");
+        put_controller(page, self.wiring, usize::from(msg.from.0));
         let entries = entries_of(self.wiring, self.journals, msg.from);
-        self.put_turn_of_post(page, entries, place)?;
-        page.end_line()
+        self.put_turn_of_post(page, entries, place);
+        page.end_line();
+        Ok(())
     }
 
     /// Where a message was fetched.
-    fn tell_fetched(&self, page: &mut Page, name: Name) -> Result<(), AllocError> {
+    fn tell_fetched(&self, page: &mut Page, name: Name) {
         for (controller, journal) in self.journals.controllers.as_slice().iter().enumerate() {
             for entry in journal.as_slice() {
                 if let Entry::Fetch { stamp, msg } = entry {
                     if Name::new(msg.from, msg.stamp) == name {
-                        page.put(b"fetched at ")?;
-                        page.put_number(stamp.0)?;
-                        page.put(b" by ")?;
-                        put_controller(page, self.wiring, controller)?;
-                        page.end_line()?;
+                        page.put(b"fetched at ");
+                        page.put_number(stamp.0);
+                        page.put(b" by ");
+                        put_controller(page, self.wiring, controller);
+                        page.end_line();
                     }
                 }
             }
         }
-        Ok(())
     }
 
     /// What the chart of an actor made of a message in a state.
@@ -209,7 +206,8 @@ impl<'a> Explained<'a> {
     ) -> Result<(), AllocError> {
         let slot = msg.target.slot;
         let Some(machine) = machine_of(self.model, self.class_name(slot)) else {
-            return page.put_line(b"    its class has no chart, and takes nothing");
+            page.put_line(b"    its class has no chart, and takes nothing");
+            return Ok(());
         };
         let incoming = Incoming {
             signal: naming::signal_name(self.wiring, msg),
@@ -250,7 +248,7 @@ impl<'a> Explained<'a> {
     ) -> Result<(), AllocError> {
         let replayed = self.replays.get(place);
         if let (Some(replayed), Some(class)) = (replayed, self.wiring.class_of(msg.target.slot)) {
-            tell_attributes(page, class, replayed)?;
+            tell_attributes(page, class, replayed);
         }
         self.tell_chart(alloc, page, msg, before, turn.did, replayed)
     }
@@ -269,7 +267,7 @@ impl<'a> Explained<'a> {
         let mut place = 0usize;
         for turn in turns {
             if turn.name() == name {
-                tell_turn(page, self.wiring, fetched, &actors, turn)?;
+                tell_turn(page, self.wiring, fetched, &actors, turn);
                 if let Some(before) = state_before(&actors, turn.did) {
                     self.tell_actor(alloc, page, msg, turn, before, place)?;
                     place = place.saturating_add(1);
@@ -288,15 +286,14 @@ impl<'a> Explained<'a> {
     }
 
     /// Where a message is that no turn took.
-    fn tell_left(&self, page: &mut Page, name: Name) -> Result<(), AllocError> {
+    fn tell_left(&self, page: &mut Page, name: Name) {
         for left in self.journals.left.as_slice() {
             if Name::new(left.msg.from, left.msg.stamp) == name {
-                page.put(b"! ")?;
-                put_left(page, self.wiring, left)?;
-                page.end_line()?;
+                page.put(b"! ");
+                put_left(page, self.wiring, left);
+                page.end_line();
             }
         }
-        Ok(())
     }
 }
 
@@ -328,11 +325,11 @@ pub fn tell_message(
         return Ok(false);
     };
     let name = Name::new(from, sent);
-    tell_difference(page, told.wiring, told.redone)?;
-    told.tell_message(page, msg)?;
+    tell_difference(page, told.wiring, told.redone);
+    told.tell_message(page, msg);
     told.tell_posted(alloc, page, msg, place)?;
-    told.tell_fetched(page, name)?;
+    told.tell_fetched(page, name);
     told.tell_turns(alloc, page, msg)?;
-    told.tell_left(page, name)?;
+    told.tell_left(page, name);
     Ok(true)
 }

@@ -1,7 +1,6 @@
 //! What a chart's replay tells of a turn: the attributes of its actor.
 use crate::chart_replays::Passed;
 use room_wiring::ClassNames;
-use std::alloc::AllocError;
 use view_journals::put_attributes;
 use view_pages::Page;
 
@@ -17,16 +16,11 @@ pub struct Replayed {
 }
 
 /// Tells the attributes of an actor before and after a turn, by their names.
-pub(crate) fn tell_attributes(
-    page: &mut Page,
-    class: &ClassNames,
-    replayed: &Replayed,
-) -> Result<(), AllocError> {
-    if class.attributes.is_empty() {
-        return Ok(());
+pub(crate) fn tell_attributes(page: &mut Page, class: &ClassNames, replayed: &Replayed) {
+    if !class.attributes.is_empty() {
+        page.put(b"    ");
+        let after = replayed.after.as_slice();
+        put_attributes(page, class, replayed.before.as_slice(), after);
+        page.end_line();
     }
-    page.put(b"    ")?;
-    let after = replayed.after.as_slice();
-    put_attributes(page, class, replayed.before.as_slice(), after)?;
-    page.end_line()
 }

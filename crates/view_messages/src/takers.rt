@@ -16,51 +16,41 @@ struct Graph<'a> {
 }
 
 /// Where a transition of a graph that has the message begins, and the transition.
-fn tell_taker(
-    page: &mut Page,
-    owner: &[u8],
-    transition: &Transition,
-    incoming: Incoming<'_>,
-) -> Result<(), AllocError> {
-    page.put(b"        ")?;
+fn tell_taker(page: &mut Page, owner: &[u8], transition: &Transition, incoming: Incoming<'_>) {
+    page.put(b"        ");
     if is_from_point(transition) {
         let whole: &[u8] = b"the chart";
-        page.put(b"in every state of ")?;
+        page.put(b"in every state of ");
         page.put(if owner.is_empty() {
             whole
         } else {
             owner.strip_suffix(b".").unwrap_or(owner)
-        })?;
+        });
     } else if let Source::At(Target::Bare(state)) = &transition.source {
-        page.put(b"in ")?;
-        page.put(owner)?;
-        page.put(state.as_bytes())?;
+        page.put(b"in ");
+        page.put(owner);
+        page.put(state.as_bytes());
     }
-    page.put(b", by ")?;
-    put_transition(page, transition, incoming)?;
-    page.end_line()
+    page.put(b", by ");
+    put_transition(page, transition, incoming);
+    page.end_line();
 }
 
 /// The transitions of a graph that have the message; says whether there are any.
-fn tell_graph(
-    page: &mut Page,
-    graph: &Graph<'_>,
-    incoming: Incoming<'_>,
-    told: bool,
-) -> Result<bool, AllocError> {
+fn tell_graph(page: &mut Page, graph: &Graph<'_>, incoming: Incoming<'_>, told: bool) -> bool {
     let mut has_some = told;
     for item in graph.items {
         if let GraphItem::Transition(transition) = item {
             if fit_of(transition, incoming) != Fit::Never {
                 if !has_some {
-                    page.put_line(b"    it is taken")?;
+                    page.put_line(b"    it is taken");
                 }
                 has_some = true;
-                tell_taker(page, graph.owner.as_slice(), transition, incoming)?;
+                tell_taker(page, graph.owner.as_slice(), transition, incoming);
             }
         }
     }
-    Ok(has_some)
+    has_some
 }
 
 /// Adds the graph of a state.
@@ -112,13 +102,13 @@ pub fn tell_takers(
     for _deep in 0..MOST_DEEP {
         let mut below = Vec::new(alloc);
         for graph in level.as_slice() {
-            has_some = tell_graph(page, graph, incoming, has_some)?;
+            has_some = tell_graph(page, graph, incoming, has_some);
             add_graphs(alloc, &mut below, graph.owner.as_slice(), graph.items)?;
         }
         level = below;
     }
-    if has_some {
-        return Ok(());
+    if !has_some {
+        page.put_line(b"    no state of its class takes it");
     }
-    page.put_line(b"    no state of its class takes it")
+    Ok(())
 }

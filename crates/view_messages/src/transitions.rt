@@ -2,7 +2,6 @@
 use room_ast::{
     Code, CodeText, Event, EventMessage, Name, Source, Target, Transition, Trigger, Triggers,
 };
-use std::alloc::AllocError;
 use view_pages::Page;
 
 /// A message that comes in at a port, both by name.
@@ -97,24 +96,24 @@ pub fn is_from_point(transition: &Transition) -> bool {
     }
 }
 
-fn put_words(page: &mut Page, lead: &[u8], name: &Name) -> Result<(), AllocError> {
-    page.put(lead)?;
-    page.put(name.as_bytes())
+fn put_words(page: &mut Page, lead: &[u8], name: &Name) {
+    page.put(lead);
+    page.put(name.as_bytes());
 }
 
-fn put_target(page: &mut Page, target: &Target) -> Result<(), AllocError> {
+fn put_target(page: &mut Page, target: &Target) {
     match target {
         Target::Bare(name) => page.put(name.as_bytes()),
         Target::Choice(name) => put_words(page, b"cp ", name),
         Target::My(name) => put_words(page, b"my ", name),
         Target::Of { point, state } => {
-            page.put(point.as_bytes())?;
-            put_words(page, b" of ", state)
+            page.put(point.as_bytes());
+            put_words(page, b" of ", state);
         }
     }
 }
 
-fn put_source(page: &mut Page, source: &Source) -> Result<(), AllocError> {
+fn put_source(page: &mut Page, source: &Source) {
     match source {
         Source::Initial => page.put(b"initial"),
         Source::At(target) => put_target(page, target),
@@ -122,7 +121,7 @@ fn put_source(page: &mut Page, source: &Source) -> Result<(), AllocError> {
 }
 
 /// A text of a code on one line: a blank for each byte that is no letter, and one for all between two lines.
-fn put_text(page: &mut Page, text: &CodeText) -> Result<(), AllocError> {
+fn put_text(page: &mut Page, text: &CodeText) {
     let bytes = match text {
         CodeText::Str(text) => text.as_bytes(),
         CodeText::Block(text) => text.as_bytes(),
@@ -134,86 +133,70 @@ fn put_text(page: &mut Page, text: &CodeText) -> Result<(), AllocError> {
             is_between = true;
         } else if *byte > b' ' || !is_between {
             if is_between && has_some {
-                page.put(b" ")?;
+                page.put(b" ");
             }
-            page.put(&[if *byte < b' ' { b' ' } else { *byte }])?;
+            page.put(&[if *byte < b' ' { b' ' } else { *byte }]);
             is_between = false;
             has_some = true;
         }
     }
-    Ok(())
 }
 
 /// A code, on one line.
-pub(crate) fn put_code(page: &mut Page, code: &Code) -> Result<(), AllocError> {
-    page.put(b"\"")?;
+pub(crate) fn put_code(page: &mut Page, code: &Code) {
+    page.put(b"\"");
     match code {
-        Code::Single(text) => put_text(page, text)?,
+        Code::Single(text) => put_text(page, text),
         Code::Texts(texts) => {
             let mut before: &[u8] = b"";
             for text in texts.as_slice() {
-                page.put(before)?;
-                put_text(page, text)?;
+                page.put(before);
+                put_text(page, text);
                 before = b" ";
             }
         }
     }
-    page.put(b"\"")
+    page.put(b"\"");
 }
 
 /// The guard of a trigger that has a message.
-fn put_guard(page: &mut Page, trigger: &Trigger, incoming: Incoming<'_>) -> Result<(), AllocError> {
-    if !has(trigger, incoming) {
-        return Ok(());
-    }
-    match &trigger.guard {
-        Some(code) => {
-            page.put(b" guard ")?;
-            put_code(page, code)
-        }
-        None => Ok(()),
+fn put_guard(page: &mut Page, trigger: &Trigger, incoming: Incoming<'_>) {
+    if let Some(code) = &trigger.guard
+        && has(trigger, incoming)
+    {
+        page.put(b" guard ");
+        put_code(page, code);
     }
 }
 
-fn put_guards(
-    page: &mut Page,
-    triggers: &Triggers,
-    incoming: Incoming<'_>,
-) -> Result<(), AllocError> {
-    put_guard(page, &triggers.first, incoming)?;
+fn put_guards(page: &mut Page, triggers: &Triggers, incoming: Incoming<'_>) {
+    put_guard(page, &triggers.first, incoming);
     for trigger in triggers.others.as_slice() {
-        put_guard(page, trigger, incoming)?;
+        put_guard(page, trigger, incoming);
     }
-    Ok(())
 }
 
 /// A transition: its name, from where to where, and the guards of its triggers that have a message.
-pub fn put_transition(
-    page: &mut Page,
-    transition: &Transition,
-    incoming: Incoming<'_>,
-) -> Result<(), AllocError> {
+pub fn put_transition(page: &mut Page, transition: &Transition, incoming: Incoming<'_>) {
     if let Some(name) = &transition.name {
-        page.put(name.as_bytes())?;
-        page.put(b": ")?;
+        page.put(name.as_bytes());
+        page.put(b": ");
     }
-    put_source(page, &transition.source)?;
-    page.put(b" -> ")?;
-    put_target(page, &transition.target)?;
-    match &transition.body {
-        Some(body) => match &body.triggers {
-            Some(triggers) => put_guards(page, triggers, incoming),
-            None => Ok(()),
-        },
-        None => Ok(()),
+    put_source(page, &transition.source);
+    page.put(b" -> ");
+    put_target(page, &transition.target);
+    if let Some(body) = &transition.body
+        && let Some(triggers) = &body.triggers
+    {
+        put_guards(page, triggers, incoming);
     }
 }
 
 /// A message as a trigger names it.
-pub fn put_incoming(page: &mut Page, incoming: Incoming<'_>) -> Result<(), AllocError> {
-    page.put(b"<")?;
-    page.put(incoming.signal)?;
-    page.put(b": ")?;
-    page.put(incoming.port)?;
-    page.put(b">")
+pub fn put_incoming(page: &mut Page, incoming: Incoming<'_>) {
+    page.put(b"<");
+    page.put(incoming.signal);
+    page.put(b": ");
+    page.put(incoming.port);
+    page.put(b">");
 }

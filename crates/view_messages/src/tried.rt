@@ -114,20 +114,15 @@ pub struct Moment<'a> {
 }
 
 /// The transitions up to the first that is always taken.
-fn tell_all(
-    page: &mut Page,
-    tried: &[Tried<'_>],
-    incoming: Incoming<'_>,
-) -> Result<(), AllocError> {
+fn tell_all(page: &mut Page, tried: &[Tried<'_>], incoming: Incoming<'_>) {
     for one in tried {
-        page.put(b"        ")?;
-        put_transition(page, one.transition, incoming)?;
-        page.end_line()?;
+        page.put(b"        ");
+        put_transition(page, one.transition, incoming);
+        page.end_line();
         if one.fit == Fit::Always {
-            return Ok(());
+            return;
         }
     }
-    Ok(())
 }
 
 /// Which of the transitions is taken, where that is known.
@@ -160,23 +155,17 @@ fn graphs_of<'a>(
 }
 
 /// The transition at a place, which was taken, and those that were tried before it.
-fn tell_one(
-    page: &mut Page,
-    tried: &[Tried<'_>],
-    place: usize,
-    incoming: Incoming<'_>,
-) -> Result<(), AllocError> {
+fn tell_one(page: &mut Page, tried: &[Tried<'_>], place: usize, incoming: Incoming<'_>) {
     if let Some(one) = tried.get(place) {
-        page.put(b"    taken by ")?;
-        put_transition(page, one.transition, incoming)?;
-        page.end_line()?;
+        page.put(b"    taken by ");
+        put_transition(page, one.transition, incoming);
+        page.end_line();
     }
     for one in tried.get(..place).unwrap_or(&[]) {
-        page.put(b"        after ")?;
-        put_transition(page, one.transition, incoming)?;
-        page.put_line(b", which did not hold")?;
+        page.put(b"        after ");
+        put_transition(page, one.transition, incoming);
+        page.put_line(b", which did not hold");
     }
-    Ok(())
 }
 
 /// Tells which transition took a message, as far as that is known.
@@ -191,18 +180,19 @@ pub fn tell_taken(
     let all = tried.as_slice();
     match place_of_taken(all, at.holds) {
         Some(place) => {
-            tell_one(page, all, place, at.incoming)?;
+            tell_one(page, all, place, at.incoming);
             let Some(one) = all.get(place) else {
                 return Ok(());
             };
             let graphs = graphs_of(alloc, levels.as_slice(), one.depth)?;
-            tell_chain(page, machine, at.chain, graphs, one.transition)
+            return tell_chain(page, machine, at.chain, graphs, one.transition);
         }
         None => {
-            page.put_line(b"    taken by the first of these whose guard held:")?;
-            tell_all(page, all, at.incoming)
+            page.put_line(b"    taken by the first of these whose guard held:");
+            tell_all(page, all, at.incoming);
         }
     }
+    Ok(())
 }
 
 /// Tells which transitions were tried for a message that none took.
@@ -215,12 +205,14 @@ pub fn tell_tried(
     let levels = levels_of(alloc, machine, at.label)?;
     let tried = tried_in(alloc, levels.as_slice(), at.incoming)?;
     if tried.is_empty() {
-        page.put(b"    no transition from ")?;
-        page.put(at.label)?;
-        page.put(b" takes ")?;
-        put_incoming(page, at.incoming)?;
-        return page.end_line();
+        page.put(b"    no transition from ");
+        page.put(at.label);
+        page.put(b" takes ");
+        put_incoming(page, at.incoming);
+        page.end_line();
+        return Ok(());
     }
-    page.put_line(b"    tried, and no guard held:")?;
-    tell_all(page, tried.as_slice(), at.incoming)
+    page.put_line(b"    tried, and no guard held:");
+    tell_all(page, tried.as_slice(), at.incoming);
+    Ok(())
 }

@@ -14,14 +14,14 @@ use view_pages::Page;
 
 /// A label with the bytes of a page.
 fn label_of(alloc: Global, page: &Page) -> Result<Label, AllocError> {
-    Label::of(alloc, Vec::from_slice(alloc, page.bytes())?)
+    Label::of(alloc, Vec::from_slice(alloc, page.bytes()?)?)
 }
 
 /// A message as its receiver sees it, without the priority that a message has where nothing else is said.
 pub fn message_label(alloc: Global, wiring: &Wiring, msg: &Msg) -> Result<Label, AllocError> {
     let mut page = Page::new(alloc);
-    put_incoming(&mut page, wiring, msg)?;
-    let text = page.bytes();
+    put_incoming(&mut page, wiring, msg);
+    let text = page.bytes()?;
     let text = text.strip_suffix(b" general").unwrap_or(text);
     Label::of(alloc, Vec::from_slice(alloc, text)?)
 }
@@ -46,15 +46,15 @@ pub fn turn_label(
     msg: Option<&Msg>,
 ) -> Result<Label, AllocError> {
     let mut page = Page::new(alloc);
-    page.put(word_of(turn.did))?;
-    put_name(&mut page, wiring, turn.from, turn.sent)?;
+    page.put(word_of(turn.did));
+    put_name(&mut page, wiring, turn.from, turn.sent);
     if let Some(msg) = msg {
-        page.put(b" ")?;
-        put_incoming(&mut page, wiring, msg)?;
+        page.put(b" ");
+        put_incoming(&mut page, wiring, msg);
     }
     Ok(Label {
         shown: Vec::from_slice(alloc, shown_of(turn.did))?,
-        whole: Vec::from_slice(alloc, page.bytes())?,
+        whole: Vec::from_slice(alloc, page.bytes()?)?,
     })
 }
 
@@ -82,7 +82,7 @@ pub fn note_label(
     said: Option<&Said>,
 ) -> Result<Label, AllocError> {
     let mut page = Page::new(alloc);
-    put_note(&mut page, wiring, speaker, note, said)?;
+    put_note(&mut page, wiring, speaker, note, said);
     label_of(alloc, &page)
 }
 
@@ -94,24 +94,24 @@ fn counted(
     behind: &[u8],
 ) -> Result<Label, AllocError> {
     let mut page = Page::new(alloc);
-    page.put(before)?;
-    page.put_number(number as u64)?;
-    page.put(behind)?;
+    page.put(before);
+    page.put_number(number as u64);
+    page.put(behind);
     whole_label(alloc, &page)
 }
 
 /// A label that is shown as a whole.
 fn whole_label(alloc: Global, page: &Page) -> Result<Label, AllocError> {
     Ok(Label {
-        shown: Vec::from_slice(alloc, page.bytes())?,
-        whole: Vec::from_slice(alloc, page.bytes())?,
+        shown: Vec::from_slice(alloc, page.bytes()?)?,
+        whole: Vec::from_slice(alloc, page.bytes()?)?,
     })
 }
 
 /// A label with this text.
 fn plain_label(alloc: Global, text: &[u8]) -> Result<Label, AllocError> {
     let mut page = Page::new(alloc);
-    page.put(text)?;
+    page.put(text);
     whole_label(alloc, &page)
 }
 
@@ -125,7 +125,7 @@ pub fn settle_text(
         return plain_label(alloc, b"settle");
     };
     let mut page = Page::new(alloc);
-    put_moment(&mut page, wiring, moment)?;
+    put_moment(&mut page, wiring, moment);
     whole_label(alloc, &page)
 }
 
@@ -136,7 +136,7 @@ pub fn difference_text(
     difference: &Difference,
 ) -> Result<Label, AllocError> {
     let mut page = Page::new(alloc);
-    put_difference(&mut page, wiring, difference)?;
+    put_difference(&mut page, wiring, difference);
     whole_label(alloc, &page)
 }
 
@@ -173,10 +173,10 @@ pub fn undrawn_text(alloc: Global, messages: usize) -> Result<Label, AllocError>
 /// How a run ended.
 pub fn end_text(alloc: Global, journals: &Journals) -> Result<Label, AllocError> {
     let mut page = Page::new(alloc);
-    page.put(end_word(journals.done))?;
+    page.put(end_word(journals.done));
     if !journals.unposted.is_empty() {
-        page.put(b"; lines not posted: ")?;
-        page.put_number(journals.unposted.len() as u64)?;
+        page.put(b"; lines not posted: ");
+        page.put_number(journals.unposted.len() as u64);
     }
     whole_label(alloc, &page)
 }

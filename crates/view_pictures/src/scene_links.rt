@@ -144,14 +144,14 @@ fn label_of(
     is_mutual: bool,
 ) -> Result<Label, AllocError> {
     let mut ends = Page::new(alloc);
-    put_end(&mut ends, wiring, from)?;
-    ends.put(if is_mutual { b" and " } else { b" to " })?;
-    put_end(&mut ends, wiring, to)?;
+    put_end(&mut ends, wiring, from);
+    ends.put(if is_mutual { b" and " } else { b" to " });
+    put_end(&mut ends, wiring, to);
     let mut shown = name_of(alloc, protocol_of(wiring, from))?;
     if !is_mutual {
         shown.extend_from_slice(b", one way")?;
     }
-    Label::named(alloc, ends.bytes(), shown.as_slice())
+    Label::named(alloc, ends.bytes()?, shown.as_slice())
 }
 
 /// Adds the link of an end to the one that it leads to, if both live. That inside of a container comes first.

@@ -11,7 +11,7 @@ use view_pages::Page;
 
 /// Adds a line to a block.
 fn add_note(alloc: Global, block: &mut Block, note: &Page) -> Result<(), AllocError> {
-    let text = Vec::from_slice(alloc, note.bytes())?;
+    let text = Vec::from_slice(alloc, note.bytes()?)?;
     let note = Label::of(alloc, text)?;
     Ok(block.notes.push(note)?)
 }
@@ -31,8 +31,8 @@ fn add_state(
         return Ok(());
     }
     let mut note = Page::new(alloc);
-    note.put(b"in ")?;
-    note.put(naming::state_label(wiring, actor.who.slot, actor.state))?;
+    note.put(b"in ");
+    note.put(naming::state_label(wiring, actor.who.slot, actor.state));
     add_note(alloc, block, &note)
 }
 
@@ -49,9 +49,9 @@ fn add_count(
         return Ok(());
     }
     let mut note = Page::new(alloc);
-    note.put(lead)?;
-    note.put_number(count)?;
-    note.put(if count == 1 { of_one } else { of_several })?;
+    note.put(lead);
+    note.put_number(count);
+    note.put(if count == 1 { of_one } else { of_several });
     add_note(alloc, block, &note)
 }
 
@@ -84,9 +84,9 @@ fn add_lent(
         return Ok(());
     };
     let mut note = Page::new(alloc);
-    note.put(b"lent to ")?;
+    note.put(b"lent to ");
     if let Some(slot) = wiring.get_slot(slot) {
-        put_path(&mut note, &slot.path)?;
+        put_path(&mut note, &slot.path);
     }
     add_note(alloc, block, &note)
 }
@@ -106,10 +106,10 @@ fn add_gone(
         who.slot,
         peer.port,
         i64::from(peer.place),
-    )?;
-    note.put(b" leads to ")?;
-    put_end(&mut note, wiring, peer.peer)?;
-    note.put(b", who is gone")?;
+    );
+    note.put(b" leads to ");
+    put_end(&mut note, wiring, peer.peer);
+    note.put(b", who is gone");
     add_note(alloc, block, &note)
 }
 
@@ -172,10 +172,10 @@ pub(crate) fn add_place_notes(
 ) -> Result<(), AllocError> {
     let mut note = Page::new(alloc);
     match state {
-        PlaceState::Empty => note.put(b"empty")?,
-        PlaceState::Asking(home) => put_home(&mut note, wiring, b"asks for ", home)?,
-        PlaceState::Held(home) => put_home(&mut note, wiring, b"holds ", home)?,
-        PlaceState::Leaving(home) => put_home(&mut note, wiring, b"gives back ", home)?,
+        PlaceState::Empty => note.put(b"empty"),
+        PlaceState::Asking(home) => put_home(&mut note, wiring, b"asks for ", home),
+        PlaceState::Held(home) => put_home(&mut note, wiring, b"holds ", home),
+        PlaceState::Leaving(home) => put_home(&mut note, wiring, b"gives back ", home),
     }
     add_note(alloc, block, &note)?;
     add_waiting(alloc, living, block, slot)
@@ -205,8 +205,8 @@ pub(crate) fn name_of_actor(
     who: Incarnation,
 ) -> Result<Vec<u8>, AllocError> {
     let mut name = Page::new(alloc);
-    put_actor(&mut name, wiring, who)?;
+    put_actor(&mut name, wiring, who);
     let before = letters_before(alloc, wiring, container)?;
-    let below = name.bytes().get(before..).unwrap_or(&[]);
+    let below = name.bytes()?.get(before..).unwrap_or(&[]);
     Ok(Vec::from_slice(alloc, below)?)
 }

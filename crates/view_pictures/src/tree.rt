@@ -1,6 +1,5 @@
 //! The charts in the tree of a model.
 use room_ast::{ActorClass, Class, Model, StateMachine};
-use std::alloc::AllocError;
 use view_pages::Page;
 
 fn machine_in(actor: &ActorClass) -> Option<&StateMachine> {
@@ -23,7 +22,7 @@ pub fn machine_of<'a>(model: &'a Model, name: &[u8]) -> Option<&'a StateMachine>
 }
 
 /// The names of the actor classes that have a chart.
-pub fn tell_machines(page: &mut Page, model: &Model) -> Result<(), AllocError> {
+pub fn tell_machines(page: &mut Page, model: &Model) {
     let mut is_first = true;
     for class in model.classes.as_slice() {
         if let Class::Actor(actor) = class
@@ -33,10 +32,10 @@ pub fn tell_machines(page: &mut Page, model: &Model) -> Result<(), AllocError> {
                 b"; it has those of "
             } else {
                 b", "
-            })?;
-            page.put(actor.name.as_bytes())?;
+            });
+            page.put(actor.name.as_bytes());
             is_first = false;
         }
     }
-    page.end_line()
+    page.end_line();
 }

@@ -53,10 +53,11 @@ fn put_diagram(page: &mut Page, mut diagram: Diagram, titled: Titled) -> Result<
 fn put_sequence(page: &mut Page, mut sequence: Sequence, titled: Titled) -> Result<(), AllocError> {
     sequence.title = titled.title;
     match titled.form {
-        Form::Svg => put_sequence_svg(page, &sequence),
-        Form::Dot => put_sequence_dot(page, &sequence),
+        Form::Svg => return put_sequence_svg(page, &sequence),
+        Form::Dot => return put_sequence_dot(page, &sequence),
         Form::Mermaid => put_sequence_mermaid(page, &sequence),
     }
+    Ok(())
 }
 
 /// Puts the picture of the actors of a model.

@@ -34,10 +34,10 @@ fn alone<'a>(actor: Option<&'a ActorView>, other: Option<&'a ActorView>) -> Opti
 }
 
 /// An actor by its name, on a line of its own.
-fn begin_line(page: &mut Page, wiring: &Wiring, actor: &ActorView) -> Result<(), AllocError> {
-    page.put(b"    ")?;
-    put_actor(page, wiring, actor.who)?;
-    page.put(b": ")
+fn begin_line(page: &mut Page, wiring: &Wiring, actor: &ActorView) {
+    page.put(b"    ");
+    put_actor(page, wiring, actor.who);
+    page.put(b": ");
 }
 
 /// Tells of an actor in which state it is, with which attributes, and which messages it defers.
@@ -47,16 +47,16 @@ fn tell_actor(
     wiring: &Wiring,
     actor: &ActorView,
 ) -> Result<(), AllocError> {
-    begin_line(page, wiring, actor)?;
-    put_state(page, wiring, actor.who.slot, actor.state)?;
+    begin_line(page, wiring, actor);
+    put_state(page, wiring, actor.who.slot, actor.state);
     let numbers = actor.attributes.as_slice();
     if let Some(class) = wiring.class_of(actor.who.slot)
         && !numbers.is_empty()
     {
-        page.put(b"; ")?;
-        put_attributes(page, class, numbers, numbers)?;
+        page.put(b"; ");
+        put_attributes(page, class, numbers, numbers);
     }
-    page.end_line()?;
+    page.end_line();
     let deferred = actor.deferred.as_slice();
     tell_deferred_but(alloc, page, wiring, b"deferred ", deferred, &[])
 }
@@ -76,12 +76,12 @@ fn tell_alone(
     for (actor, other) in actors.iter().zip(others) {
         if let Some(actor) = alone(*actor, *other) {
             if is_first {
-                page.put_line(title)?;
+                page.put_line(title);
                 is_first = false;
             }
             tell_actor(alloc, page, wiring, actor)?;
             if with_peers {
-                tell_peers(page, wiring, actor)?;
+                tell_peers(page, wiring, actor);
             }
         }
     }
@@ -89,11 +89,10 @@ fn tell_alone(
 }
 
 /// Tells whom the ports of an actor lead to.
-fn tell_peers(page: &mut Page, wiring: &Wiring, actor: &ActorView) -> Result<(), AllocError> {
+fn tell_peers(page: &mut Page, wiring: &Wiring, actor: &ActorView) {
     for peer in actor.peers.as_slice() {
-        tell_peer(page, wiring, actor.who.slot, peer)?;
+        tell_peer(page, wiring, actor.who.slot, peer);
     }
-    Ok(())
 }
 
 /// Whether an actor is as it was.
@@ -127,16 +126,17 @@ fn tell_changed(
     after: &ActorView,
 ) -> Result<(), AllocError> {
     let slot = after.who.slot;
-    begin_line(page, wiring, after)?;
-    put_states(page, wiring, slot, Some(before.state), after.state)?;
+    begin_line(page, wiring, after);
+    put_states(page, wiring, slot, Some(before.state), after.state);
     if let Some(class) = wiring.class_of(slot) {
         let (old, new) = (before.attributes.as_slice(), after.attributes.as_slice());
-        put_changed_attributes(page, class, old, new)?;
+        put_changed_attributes(page, class, old, new);
     }
-    page.end_line()?;
+    page.end_line();
     tell_deferred_changes(alloc, page, wiring, before, after)?;
     let (old, new) = (before.peers.as_slice(), after.peers.as_slice());
-    tell_peer_changes(page, wiring, slot, old, new)
+    tell_peer_changes(page, wiring, slot, old, new);
+    Ok(())
 }
 
 /// Both of an actor that stayed, and changed.
@@ -164,7 +164,7 @@ fn tell_changed_ones(
     for (old, new) in before.iter().zip(after) {
         if let Some((old, new)) = changed(*old, *new) {
             if is_first {
-                page.put_line(b"who changed:")?;
+                page.put_line(b"who changed:");
                 is_first = false;
             }
             tell_changed(alloc, page, wiring, old, new)?;

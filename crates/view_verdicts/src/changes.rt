@@ -13,10 +13,10 @@ use view_journals::{put_controller, put_home, put_path};
 use view_pages::Page;
 
 /// A number before and after.
-fn put_numbers(page: &mut Page, before: u64, after: u64) -> Result<(), AllocError> {
-    page.put_number(before)?;
-    page.put(b" -> ")?;
-    page.put_number(after)
+fn put_numbers(page: &mut Page, before: u64, after: u64) {
+    page.put_number(before);
+    page.put(b" -> ");
+    page.put_number(after);
 }
 
 /// Tells of a controller its clock, if it did anything, and how many turns it has taken, if it took any.
@@ -26,32 +26,26 @@ fn tell_controller(
     number: usize,
     before: &ControllerView,
     after: &ControllerView,
-) -> Result<(), AllocError> {
+) {
     if before.clock == after.clock {
-        return Ok(());
+        return;
     }
-    put_controller(page, wiring, number)?;
-    page.put(b": clock ")?;
-    put_numbers(page, before.clock.0, after.clock.0)?;
+    put_controller(page, wiring, number);
+    page.put(b": clock ");
+    put_numbers(page, before.clock.0, after.clock.0);
     if before.turns != after.turns {
-        page.put(b", turns ")?;
-        put_numbers(page, before.turns, after.turns)?;
+        page.put(b", turns ");
+        put_numbers(page, before.turns, after.turns);
     }
-    page.end_line()
+    page.end_line();
 }
 
-fn tell_controllers(
-    page: &mut Page,
-    wiring: &Wiring,
-    before: &Snapshot,
-    after: &Snapshot,
-) -> Result<(), AllocError> {
+fn tell_controllers(page: &mut Page, wiring: &Wiring, before: &Snapshot, after: &Snapshot) {
     let old = before.controllers.as_slice();
     let new = after.controllers.as_slice();
     for (number, (old, new)) in old.iter().zip(new).enumerate() {
-        tell_controller(page, wiring, number, old, new)?;
+        tell_controller(page, wiring, number, old, new);
     }
-    Ok(())
 }
 
 /// The import places of live containers, by the slots' numbers.
@@ -73,11 +67,7 @@ fn places_of(
 }
 
 /// What an import place holds, if its container lives.
-fn put_place(
-    page: &mut Page,
-    wiring: &Wiring,
-    state: Option<PlaceState>,
-) -> Result<(), AllocError> {
+fn put_place(page: &mut Page, wiring: &Wiring, state: Option<PlaceState>) {
     match state {
         None => page.put(b"not there"),
         Some(PlaceState::Empty) => page.put(b"empty"),
@@ -94,16 +84,16 @@ fn tell_place(
     slot: SlotId,
     before: Option<PlaceState>,
     after: Option<PlaceState>,
-) -> Result<(), AllocError> {
-    page.put(b"    ")?;
+) {
+    page.put(b"    ");
     if let Some(slot) = wiring.get_slot(slot) {
-        put_path(page, &slot.path)?;
+        put_path(page, &slot.path);
     }
-    page.put(b": ")?;
-    put_place(page, wiring, before)?;
-    page.put(b" -> ")?;
-    put_place(page, wiring, after)?;
-    page.end_line()
+    page.put(b": ");
+    put_place(page, wiring, before);
+    page.put(b" -> ");
+    put_place(page, wiring, after);
+    page.end_line();
 }
 
 /// What the import place of a slot holds, if there is one.
@@ -120,7 +110,7 @@ fn tell_places(
     wiring: &Wiring,
     before: &[Option<PlaceState>],
     after: &[Option<PlaceState>],
-) -> Result<(), AllocError> {
+) {
     let mut is_first = true;
     for number in 0..wiring.slot_count() {
         let slot = SlotId(number as u16);
@@ -129,12 +119,11 @@ fn tell_places(
             continue;
         }
         if is_first {
-            page.put_line(b"what imported slots hold:")?;
+            page.put_line(b"what imported slots hold:");
             is_first = false;
         }
-        tell_place(page, wiring, slot, old, new)?;
+        tell_place(page, wiring, slot, old, new);
     }
-    Ok(())
 }
 
 /// Tells which messages wait that didn't before, and which did and don't any more.
@@ -175,20 +164,20 @@ fn tell_changes(
     before: &Moment,
     after: &Moment,
 ) -> Result<(), AllocError> {
-    page.put(b"from ")?;
-    page.put_number(before.snapshot.at)?;
-    page.put(b" to ")?;
-    page.put_number(after.snapshot.at)?;
-    page.end_line()?;
-    let told = page.bytes().len();
-    tell_controllers(page, wiring, &before.snapshot, &after.snapshot)?;
+    page.put(b"from ");
+    page.put_number(before.snapshot.at);
+    page.put(b" to ");
+    page.put_number(after.snapshot.at);
+    page.end_line();
+    let told = page.len();
+    tell_controllers(page, wiring, &before.snapshot, &after.snapshot);
     tell_actors(alloc, page, wiring, &before.snapshot, &after.snapshot)?;
     let old = places_of(alloc, wiring, &before.snapshot)?;
     let new = places_of(alloc, wiring, &after.snapshot)?;
-    tell_places(page, wiring, old.as_slice(), new.as_slice())?;
+    tell_places(page, wiring, old.as_slice(), new.as_slice());
     tell_waiting(alloc, page, wiring, before, after)?;
-    if page.bytes().len() == told {
-        page.put_line(b"nothing changed")?;
+    if page.len() == told {
+        page.put_line(b"nothing changed");
     }
     Ok(())
 }

@@ -232,35 +232,35 @@ impl<'a> Sheet<'a> {
     }
 
     /// Which lines would be told as not posted.
-    fn say_unposted(self, page: &mut Page, number: Option<u32>) -> Result<(), AllocError> {
+    fn say_unposted(self, page: &mut Page, number: Option<u32>) {
         match number {
             Some(number) => {
-                page.put(b"    here would stand: unposted ")?;
-                page.put_number(u64::from(number))?;
-                page.end_line()
+                page.put(b"    here would stand: unposted ");
+                page.put_number(u64::from(number));
+                page.end_line();
             }
             None => self.say(page, b"all lines behind are told"),
         }
     }
 
     /// That a controller has fuel left.
-    fn say_fuel(self, page: &mut Page, c: ControllerId, turns: u64) -> Result<(), AllocError> {
-        page.put(b"    ")?;
-        put_name_of(page, self.wiring, usize::from(c.0))?;
-        page.put(b" has a message, and took ")?;
-        page.put_number(turns)?;
-        page.put(b" of the ")?;
-        page.put_number(self.fuel)?;
-        page.put_line(b" turns that the fuel allows")
+    fn say_fuel(self, page: &mut Page, c: ControllerId, turns: u64) {
+        page.put(b"    ");
+        put_name_of(page, self.wiring, usize::from(c.0));
+        page.put(b" has a message, and took ");
+        page.put_number(turns);
+        page.put(b" of the ");
+        page.put_number(self.fuel);
+        page.put_line(b" turns that the fuel allows");
     }
 
     /// Why a run hasn't ended so.
-    fn say_open(self, page: &mut Page, open: Open) -> Result<(), AllocError> {
+    fn say_open(self, page: &mut Page, open: Open) {
         match open {
             Open::Unsent(c) => {
-                page.put(b"    ")?;
-                put_name_of(page, self.wiring, usize::from(c.0))?;
-                page.put_line(b" hasn't posted all that it sent")
+                page.put(b"    ");
+                put_name_of(page, self.wiring, usize::from(c.0));
+                page.put_line(b" hasn't posted all that it sent");
             }
             Open::NotQuiet => self.say(page, b"not all is quiet, so the run isn't done"),
             Open::Told => self.say(
@@ -277,18 +277,19 @@ impl<'a> Sheet<'a> {
 
     /// Tells why a run hasn't ended as the text says.
     pub(crate) fn tell_unended(self, page: &mut Page, unended: &Unended) -> Result<(), AllocError> {
-        self.show(page, self.part_of(unended.open))?;
-        self.say_open(page, unended.open)?;
+        self.show(page, self.part_of(unended.open));
+        self.say_open(page, unended.open);
         let Some(made) = &unended.made else {
             return Ok(());
         };
-        self.say_made(page, b"there could happen", made, usize::MAX)?;
+        self.say_made(page, b"there could happen", made, usize::MAX);
         let front = Front {
             journals: self.journals,
             passed: unended.passed.as_slice(),
         };
         let mut sources = Sources::new(self.alloc);
         made_follows(&mut sources, front, made, unended.line)?;
-        self.tell_sources(page, &sources)
+        self.tell_sources(page, &sources);
+        Ok(())
     }
 }

@@ -105,24 +105,18 @@ fn differ_in_stamp(told: &Entry, made: &Entry) -> bool {
 
 impl<'a> Sheet<'a> {
     /// Why an entry can't happen.
-    fn say_why(
-        self,
-        page: &mut Page,
-        why: Why,
-        spot: Spot,
-        entry: &Entry,
-    ) -> Result<(), AllocError> {
+    fn say_why(self, page: &mut Page, why: Why, spot: Spot, entry: &Entry) {
         match (why, entry) {
-            (Why::Other, _) => Ok(()),
+            (Why::Other, _) => {}
             (Why::EmptyLane, Entry::Fetch { msg, .. }) => {
-                page.put(b"    from ")?;
-                put_name_of(page, self.wiring, usize::from(msg.from.0))?;
-                page.put(b" no message is on its way to ")?;
-                put_name_of(page, self.wiring, spot.party)?;
-                page.put(b" at the priority ")?;
-                page.put_line(priority_word(msg.prio))
+                page.put(b"    from ");
+                put_name_of(page, self.wiring, usize::from(msg.from.0));
+                page.put(b" no message is on its way to ");
+                put_name_of(page, self.wiring, spot.party);
+                page.put(b" at the priority ");
+                page.put_line(priority_word(msg.prio));
             }
-            (Why::EmptyLane, _) => Ok(()),
+            (Why::EmptyLane, _) => {}
             (Why::Unposted, _) => self.say(
                 page,
                 b"no turn is taken before all is posted that the last one sent",
@@ -190,11 +184,11 @@ impl<'a> Sheet<'a> {
         spot: Spot,
         refused: &Refused,
     ) -> Result<(), AllocError> {
-        self.show(page, Part::Entry(spot))?;
+        self.show(page, Part::Entry(spot));
         let Some(entry) = entries_of(self.journals, spot.party).get(spot.at) else {
             return Ok(());
         };
-        self.say_why(page, refused.why, spot, entry)?;
+        self.say_why(page, refused.why, spot, entry);
         let front = Front {
             journals: self.journals,
             passed: refused.passed.as_slice(),
@@ -205,9 +199,10 @@ impl<'a> Sheet<'a> {
             } else {
                 b"there could happen"
             };
-            self.say_made(page, lead, made, spot.party)?;
+            self.say_made(page, lead, made, spot.party);
         }
         let sources = self.sources_of(front, spot, entry, refused)?;
-        self.tell_sources(page, &sources)
+        self.tell_sources(page, &sources);
+        Ok(())
     }
 }

@@ -145,18 +145,19 @@ impl<'a> Sheet<'a> {
         let told = self.journals.left.as_slice();
         let at = first_unlike(told, lefts.all.as_slice());
         if at < told.len() {
-            self.show(page, Part::Left(at))?;
+            self.show(page, Part::Left(at));
         } else if self.journals.unposted.is_empty() {
-            self.show(page, Part::End)?;
+            self.show(page, Part::End);
         } else {
-            self.show(page, Part::Unposted(0))?;
+            self.show(page, Part::Unposted(0));
         }
         let Some(left) = lefts.all.get(at) else {
-            return self.say(page, b"nothing more is left");
+            self.say(page, b"nothing more is left");
+            return Ok(());
         };
-        page.put(b"    here would stand: ")?;
-        put_left(page, self.wiring, left)?;
-        page.end_line()?;
+        page.put(b"    here would stand: ");
+        put_left(page, self.wiring, left);
+        page.end_line();
         self.tell_left_sources(page, lefts, left)
     }
 
@@ -179,6 +180,7 @@ impl<'a> Sheet<'a> {
             front.fetch_of(party, msg.from, msg.stamp),
             b"here it was fetched",
         )?;
-        self.tell_sources(page, &sources)
+        self.tell_sources(page, &sources);
+        Ok(())
     }
 }

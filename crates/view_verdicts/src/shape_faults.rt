@@ -124,23 +124,20 @@ impl<'a> Sheet<'a> {
     /// Tells where the stamps of a party don't rise.
     pub(crate) fn tell_order(self, page: &mut Page, party: usize) -> Result<(), AllocError> {
         let Some((before, at)) = first_unrisen(entries_of(self.journals, party)) else {
-            return self.show(page, Part::Head(party));
+            self.show(page, Part::Head(party));
+            return Ok(());
         };
-        self.show(page, Part::Entry(Spot { party, at }))?;
-        self.say(page, b"its stamp isn't above that of the entry before it")?;
+        self.show(page, Part::Entry(Spot { party, at }));
+        self.say(page, b"its stamp isn't above that of the entry before it");
         let mut sources = Sources::new(self.alloc);
         let spot = Spot { party, at: before };
         sources.add(Some(spot), b"this is the entry before")?;
-        self.tell_sources(page, &sources)
+        self.tell_sources(page, &sources);
+        Ok(())
     }
 
     /// Tells where a journal doesn't begin with the lines of its start.
-    pub(crate) fn tell_start(
-        self,
-        page: &mut Page,
-        party: usize,
-        starts: &[Journal],
-    ) -> Result<(), AllocError> {
+    pub(crate) fn tell_start(self, page: &mut Page, party: usize, starts: &[Journal]) {
         let entries = entries_of(self.journals, party);
         let starts = match starts.get(party) {
             Some(start) => start.as_slice(),
@@ -148,9 +145,9 @@ impl<'a> Sheet<'a> {
         };
         let at = first_unlike(entries, starts).unwrap_or(0);
         if at < entries.len() {
-            self.show(page, Part::Entry(Spot { party, at }))?;
+            self.show(page, Part::Entry(Spot { party, at }));
         } else {
-            self.show(page, Part::Head(party))?;
+            self.show(page, Part::Head(party));
         }
         match starts.get(at) {
             Some(start) => self.say_entry(page, b"here would stand", start),
@@ -159,17 +156,18 @@ impl<'a> Sheet<'a> {
     }
 
     /// Tells the first turn for which a controller had no fuel.
-    pub(crate) fn tell_fuel(self, page: &mut Page, party: usize) -> Result<(), AllocError> {
+    pub(crate) fn tell_fuel(self, page: &mut Page, party: usize) {
         let entries = entries_of(self.journals, party);
         let Some(at) = turn_of_number(entries, self.fuel) else {
-            return self.show(page, Part::Head(party));
+            self.show(page, Part::Head(party));
+            return;
         };
-        self.show(page, Part::Entry(Spot { party, at }))?;
-        page.put(b"    this is the controller's turn ")?;
-        page.put_number(self.fuel.saturating_add(1))?;
-        page.put(b", and the fuel allows ")?;
-        page.put_number(self.fuel)?;
-        page.end_line()
+        self.show(page, Part::Entry(Spot { party, at }));
+        page.put(b"    this is the controller's turn ");
+        page.put_number(self.fuel.saturating_add(1));
+        page.put(b", and the fuel allows ");
+        page.put_number(self.fuel);
+        page.end_line();
     }
 
     /// Tells what a controller had sent itself and not fetched when it took a turn.
@@ -185,19 +183,21 @@ impl<'a> Sheet<'a> {
             .iter()
             .position(|entry| is_turn(entry) && stamp_of(entry) == stamp)
         else {
-            return self.show(page, Part::Head(party));
+            self.show(page, Part::Head(party));
+            return Ok(());
         };
-        self.show(page, Part::Entry(Spot { party, at }))?;
+        self.show(page, Part::Entry(Spot { party, at }));
         self.say(
             page,
             b"what the controller sent itself is fetched before the next turn",
-        )?;
+        );
         let before = entries.get(..at).unwrap_or(&[]);
         let mut sources = Sources::new(self.alloc);
         if let Some(post) = open_post(before, party) {
             let spot = Spot { party, at: post };
             sources.add(Some(spot), b"this message was not fetched")?;
         }
-        self.tell_sources(page, &sources)
+        self.tell_sources(page, &sources);
+        Ok(())
     }
 }

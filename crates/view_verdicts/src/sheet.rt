@@ -87,70 +87,58 @@ impl Sources {
 
 impl<'a> Sheet<'a> {
     /// Shows a part of the text of the journals.
-    pub(crate) fn show(self, page: &mut Page, part: Part) -> Result<(), AllocError> {
+    pub(crate) fn show(self, page: &mut Page, part: Part) {
         let Span { start, end } = span_of(self.texts.journals.text, part);
-        page.put_part(self.texts.journals, start, end)
+        page.put_part(self.texts.journals, start, end);
     }
 
     /// Shows a line of the injections.
-    fn show_line(self, page: &mut Page, number: u32) -> Result<(), AllocError> {
+    fn show_line(self, page: &mut Page, number: u32) {
         let Span { start, end } = span_of_line(self.texts.injections.text, number);
-        page.put_part(self.texts.injections, start, end)
+        page.put_part(self.texts.injections, start, end);
     }
 
     /// A line below what is shown.
-    pub(crate) fn say(self, page: &mut Page, what: &[u8]) -> Result<(), AllocError> {
-        page.put(b"    ")?;
-        page.put_line(what)
+    pub(crate) fn say(self, page: &mut Page, what: &[u8]) {
+        page.put(b"    ");
+        page.put_line(what);
     }
 
     /// An entry, behind what is said of it.
-    pub(crate) fn say_entry(
-        self,
-        page: &mut Page,
-        lead: &[u8],
-        entry: &Entry,
-    ) -> Result<(), AllocError> {
-        page.put(b"    ")?;
-        page.put(lead)?;
-        page.put(b": ")?;
-        put_entry(page, self.wiring, entry)?;
-        page.end_line()
+    pub(crate) fn say_entry(self, page: &mut Page, lead: &[u8], entry: &Entry) {
+        page.put(b"    ");
+        page.put(lead);
+        page.put(b": ");
+        put_entry(page, self.wiring, entry);
+        page.end_line();
     }
 
     /// What happens at a party, or could.
-    pub(crate) fn say_made(
-        self,
-        page: &mut Page,
-        lead: &[u8],
-        made: &Made,
-        here: usize,
-    ) -> Result<(), AllocError> {
-        page.put(b"    ")?;
-        page.put(lead)?;
+    pub(crate) fn say_made(self, page: &mut Page, lead: &[u8], made: &Made, here: usize) {
+        page.put(b"    ");
+        page.put(lead);
         if made.party != here {
-            page.put(b" at ")?;
-            put_name_of(page, self.wiring, made.party)?;
+            page.put(b" at ");
+            put_name_of(page, self.wiring, made.party);
         }
-        page.put(b": ")?;
-        put_entry(page, self.wiring, &made.entry)?;
-        page.end_line()
+        page.put(b": ");
+        put_entry(page, self.wiring, &made.entry);
+        page.end_line();
     }
 
     /// From what something follows, if from anything.
-    pub(crate) fn tell_sources(self, page: &mut Page, sources: &Sources) -> Result<(), AllocError> {
+    pub(crate) fn tell_sources(self, page: &mut Page, sources: &Sources) {
         if sources.all.is_empty() {
-            return Ok(());
+            return;
         }
-        page.end_line()?;
-        page.put_line(b"it follows from:")?;
+        page.end_line();
+        page.put_line(b"it follows from:");
         for source in sources.all.as_slice() {
             match source.part {
-                Some(part) => self.show(page, part)?,
-                None => self.show_line(page, source.line)?,
+                Some(part) => self.show(page, part),
+                None => self.show_line(page, source.line),
             }
-            self.say(page, source.role)?;
+            self.say(page, source.role);
         }
-        Ok(())
     }
 }

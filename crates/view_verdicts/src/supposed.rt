@@ -26,53 +26,52 @@ struct Supposed {
 
 impl Supposed {
     /// A line that asks for no message.
-    fn line(&mut self, text: &[u8]) -> Result<(), AllocError> {
-        self.page.put_line(text)?;
+    fn line(&mut self, text: &[u8]) {
+        self.page.put_line(text);
         self.count = self.count.saturating_add(1);
-        Ok(())
     }
 
     /// The line for which a message was posted.
-    fn message(&mut self, wiring: &Wiring, msg: &Msg) -> Result<(), AllocError> {
+    fn message(&mut self, wiring: &Wiring, msg: &Msg) {
         let page = &mut self.page;
         if let Some(slot) = wiring.get_slot(msg.target.slot) {
-            put_path(page, &slot.path)?;
+            put_path(page, &slot.path);
         }
-        page.put(b".")?;
-        page.put(wiring.port_name(msg.target.slot, msg.target.port))?;
-        page.put(b"[")?;
-        page.put_number(u64::from(msg.target.place))?;
-        page.put(b"] ")?;
-        page.put(naming::signal_name(wiring, msg))?;
+        page.put(b".");
+        page.put(wiring.port_name(msg.target.slot, msg.target.port));
+        page.put(b"[");
+        page.put_number(u64::from(msg.target.place));
+        page.put(b"] ");
+        page.put(naming::signal_name(wiring, msg));
         for number in msg.payload.numbers() {
-            page.put(b" ")?;
-            page.put_signed(*number)?;
+            page.put(b" ");
+            page.put_signed(*number);
         }
-        page.put(b" at ")?;
-        self.line(priority_word(msg.prio))
+        page.put(b" at ");
+        self.line(priority_word(msg.prio));
     }
 
     /// The line for a post: behind a `settle` where its stamp isn't the next one.
-    fn post(&mut self, wiring: &Wiring, stamp: u64, msg: &Msg) -> Result<(), AllocError> {
+    fn post(&mut self, wiring: &Wiring, stamp: u64, msg: &Msg) {
         if stamp != self.stamp.saturating_add(1) {
-            self.line(b"settle")?;
+            self.line(b"settle");
         }
         self.stamp = stamp;
-        self.message(wiring, msg)
+        self.message(wiring, msg);
     }
 
     /// A line that wasn't posted, of this number: a `settle`, with comments before it.
-    fn unposted(&mut self, number: u32) -> Result<(), AllocError> {
+    fn unposted(&mut self, number: u32) {
         let missing = number.min(MOST_LINES).saturating_sub(self.count);
         for _line in 1..missing {
-            self.line(b"#")?;
+            self.line(b"#");
         }
-        self.line(b"settle")
+        self.line(b"settle");
     }
 }
 
 /// Injections over which these journals are those of a run, if they are over any.
-fn supposed_text(alloc: Global, wiring: &Wiring, journals: &Journals) -> Result<Page, AllocError> {
+fn supposed_text(alloc: Global, wiring: &Wiring, journals: &Journals) -> Page {
     let mut text = Supposed {
         page: Page::new(alloc),
         count: 0,
@@ -80,14 +79,14 @@ fn supposed_text(alloc: Global, wiring: &Wiring, journals: &Journals) -> Result<
     };
     for entry in journals.environment.as_slice() {
         if let Entry::Post { stamp, msg } = entry {
-            text.post(wiring, stamp.0, msg)?;
+            text.post(wiring, stamp.0, msg);
         }
     }
     for number in journals.unposted.as_slice() {
-        text.unposted(*number)?;
+        text.unposted(*number);
     }
     let Supposed { page, .. } = text;
-    Ok(page)
+    page
 }
 
 /// Whether the environment posted a timeout.
@@ -115,14 +114,15 @@ pub fn tell_no_run(
     }
     // A law, and no code: lines that were read name what the wiring has.
     read_lines_fit();
-    let text = supposed_text(alloc, &plant.wiring, journals)?;
-    let lines = match read_untimed(alloc, text.bytes(), &plant.wiring) {
+    let text = supposed_text(alloc, &plant.wiring, journals);
+    let lines = match read_untimed(alloc, text.bytes()?, &plant.wiring) {
         Ok(lines) => lines,
         Err(InjectFault::Memory) => return Err(AllocError),
         Err(InjectFault::Code { .. }) => {
-            return page.put_line(
+            page.put_line(
                 b"! not a run of this model: no injections ask for what the environment posted",
             );
+            return Ok(());
         }
     };
     let judged = Judged {
@@ -134,7 +134,8 @@ pub fn tell_no_run(
     let Some(verdict) = verdict_if_unlawful(alloc, judged)? else {
         return Ok(());
     };
-    page.put(b"! not a run of this model, whatever the injections: ")?;
-    put_verdict(page, &plant.wiring, verdict)?;
-    page.end_line()
+    page.put(b"! not a run of this model, whatever the injections: ");
+    put_verdict(page, &plant.wiring, verdict);
+    page.end_line();
+    Ok(())
 }

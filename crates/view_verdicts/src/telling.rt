@@ -59,12 +59,14 @@ fn tell_entry(
     requires fit { LinesFit plant.now.wiring lines.now }
 {
     let Some(spot) = spot_of(sheet.journals, party, stamp) else {
-        return sheet.show(page, Part::Head(usize::from(party.0)));
+        sheet.show(page, Part::Head(usize::from(party.0)));
+        return Ok(());
     };
     match first_refused(sheet.alloc, plant, lines, sheet.journals, spot)? {
-        Some(refused) => sheet.tell_refused(page, spot, &refused),
+        Some(refused) => return sheet.tell_refused(page, spot, &refused),
         None => sheet.show(page, Part::Entry(spot)),
     }
+    Ok(())
 }
 
 /// Tells what is left.
@@ -77,9 +79,10 @@ fn tell_left(
     requires fit { LinesFit plant.now.wiring lines.now }
 {
     match lefts_in(sheet.alloc, plant, lines, sheet.journals)? {
-        Some(lefts) => sheet.tell_left(page, &lefts),
+        Some(lefts) => return sheet.tell_left(page, &lefts),
         None => sheet.show(page, Part::End),
     }
+    Ok(())
 }
 
 /// Tells why the run hasn't ended.
@@ -92,9 +95,10 @@ fn tell_ended(
     requires fit { LinesFit plant.now.wiring lines.now }
 {
     match end_fault(sheet.alloc, plant, lines, sheet.journals, sheet.fuel)? {
-        Some(unended) => sheet.tell_unended(page, &unended),
+        Some(unended) => return sheet.tell_unended(page, &unended),
         None => sheet.show(page, Part::End),
     }
+    Ok(())
 }
 
 /// Tells which starts the journal of a controller begins with.
@@ -105,7 +109,8 @@ fn tell_start(
     c: ControllerId,
 ) -> Result<(), AllocError> {
     let begun = Replay::start(sheet.alloc, plant)?;
-    sheet.tell_start(page, usize::from(c.0), begun.entries.as_slice())
+    sheet.tell_start(page, usize::from(c.0), begun.entries.as_slice());
+    Ok(())
 }
 
 /// Tells what is wrong with journals of which this is the verdict.
@@ -119,15 +124,16 @@ fn tell_fault(
     requires fit { LinesFit plant.now.wiring lines.now }
 {
     match verdict {
-        Verdict::Order(party) => sheet.tell_order(page, usize::from(party.0)),
-        Verdict::Start(c) => tell_start(page, sheet, plant, c),
-        Verdict::Entry(party, stamp) => tell_entry(page, sheet, plant, lines, party, stamp),
-        Verdict::Left => tell_left(page, sheet, plant, lines),
+        Verdict::Order(party) => return sheet.tell_order(page, usize::from(party.0)),
+        Verdict::Start(c) => return tell_start(page, sheet, plant, c),
+        Verdict::Entry(party, stamp) => return tell_entry(page, sheet, plant, lines, party, stamp),
+        Verdict::Left => return tell_left(page, sheet, plant, lines),
         Verdict::Fuel(c) => sheet.tell_fuel(page, usize::from(c.0)),
-        Verdict::Ended => tell_ended(page, sheet, plant, lines),
-        Verdict::Prompt(c, stamp) => sheet.tell_prompt(page, c, stamp.0),
-        Verdict::Lawful => Ok(()),
+        Verdict::Ended => return tell_ended(page, sheet, plant, lines),
+        Verdict::Prompt(c, stamp) => return sheet.tell_prompt(page, c, stamp.0),
+        Verdict::Lawful => {}
     }
+    Ok(())
 }
 
 /// Tells whether journals are those of a run, and else why not: the verdict, the place in their text, what
@@ -145,7 +151,7 @@ pub fn tell_verdict(
     let lines = judged.lines;
     let verdict = verdict_of(alloc, plant, lines, judged.fuel, judged.journals)?;
     if verdict == Verdict::Lawful {
-        page.put_line(b"lawful")?;
+        page.put_line(b"lawful");
         return Ok(true);
     }
     tell_whole(alloc, page, judged, texts, verdict)?;
@@ -170,12 +176,12 @@ pub(crate) fn tell_whole(
         texts,
         fuel: judged.fuel,
     };
-    page.put(texts.journals.name.as_bytes())?;
-    page.put(b" is unlawful: ")?;
-    put_verdict(page, sheet.wiring, verdict)?;
-    page.end_line()?;
-    page.put_meaning(meaning_of(verdict))?;
-    page.end_line()?;
+    page.put(texts.journals.name.as_bytes());
+    page.put(b" is unlawful: ");
+    put_verdict(page, sheet.wiring, verdict);
+    page.end_line();
+    page.put_meaning(meaning_of(verdict));
+    page.end_line();
     tell_fault(page, sheet, judged.plant, judged.lines, verdict)
 }
 
@@ -206,7 +212,8 @@ pub fn tell_unlawful(alloc: Global, page: &mut Page, judged: Judged<'_>) -> Resu
     let Some(verdict) = verdict_if_unlawful(alloc, judged)? else {
         return Ok(());
     };
-    page.put(b"! not a run of this model over these injections: ")?;
-    put_verdict(page, &judged.plant.wiring, verdict)?;
-    page.put_line(b"; `why MODEL INJECT JOURNALS` tells more")
+    page.put(b"! not a run of this model over these injections: ");
+    put_verdict(page, &judged.plant.wiring, verdict);
+    page.put_line(b"; `why MODEL INJECT JOURNALS` tells more");
+    Ok(())
 }

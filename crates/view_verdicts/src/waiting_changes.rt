@@ -28,16 +28,11 @@ fn add_waiting_names(names: &mut IndexSet<Name>, waiting: &[Left]) -> Result<(),
 }
 
 /// Tells of a message that an actor defers, or did.
-fn tell_deferred(
-    page: &mut Page,
-    wiring: &Wiring,
-    word: &[u8],
-    msg: &Msg,
-) -> Result<(), AllocError> {
-    page.put(b"        ")?;
-    page.put(word)?;
-    put_received(page, wiring, msg)?;
-    page.end_line()
+fn tell_deferred(page: &mut Page, wiring: &Wiring, word: &[u8], msg: &Msg) {
+    page.put(b"        ");
+    page.put(word);
+    put_received(page, wiring, msg);
+    page.end_line();
 }
 
 /// Tells, behind a word, of those of the messages that have other names than these.
@@ -47,13 +42,12 @@ fn tell_deferred_beside(
     word: &[u8],
     messages: &[Msg],
     names: &IndexSet<Name>,
-) -> Result<(), AllocError> {
+) {
     for msg in messages {
         if !names.contains(&name_of(msg)) {
-            tell_deferred(page, wiring, word, msg)?;
+            tell_deferred(page, wiring, word, msg);
         }
     }
-    Ok(())
 }
 
 /// Tells, behind a word, of those of the messages that are not among others.
@@ -67,7 +61,8 @@ pub(crate) fn tell_deferred_but(
 ) -> Result<(), AllocError> {
     let mut names = IndexSet::new(alloc);
     add_names(&mut names, others)?;
-    tell_deferred_beside(page, wiring, word, messages, &names)
+    tell_deferred_beside(page, wiring, word, messages, &names);
+    Ok(())
 }
 
 /// Whether two lists have the same messages, in the same order.
@@ -80,16 +75,16 @@ pub(crate) fn are_same(messages: &[Msg], others: &[Msg]) -> bool {
 }
 
 /// Tells of a message for whom it waits, and where.
-fn tell_waiting(page: &mut Page, wiring: &Wiring, left: &Left) -> Result<(), AllocError> {
-    page.put(b"    for ")?;
-    put_actor(page, wiring, actor_at(left.msg.target))?;
-    page.put(b": ")?;
-    put_received(page, wiring, &left.msg)?;
+fn tell_waiting(page: &mut Page, wiring: &Wiring, left: &Left) {
+    page.put(b"    for ");
+    put_actor(page, wiring, actor_at(left.msg.target));
+    page.put(b": ");
+    put_received(page, wiring, &left.msg);
     page.put_line(if left.pending {
         b", fetched"
     } else {
         b", on its way"
-    })
+    });
 }
 
 /// Tells, under a title, of those of the messages that wait which have other names than these.
@@ -99,19 +94,18 @@ fn tell_waiting_beside(
     title: &[u8],
     waiting: &[Left],
     names: &IndexSet<Name>,
-) -> Result<(), AllocError> {
+) {
     let mut is_first = true;
     for left in waiting {
         if names.contains(&name_of(&left.msg)) {
             continue;
         }
         if is_first {
-            page.put_line(title)?;
+            page.put_line(title);
             is_first = false;
         }
-        tell_waiting(page, wiring, left)?;
+        tell_waiting(page, wiring, left);
     }
-    Ok(())
 }
 
 /// Tells, under a title, of those of the messages that wait which are not among others.
@@ -125,5 +119,6 @@ pub(crate) fn tell_waiting_but(
 ) -> Result<(), AllocError> {
     let mut names = IndexSet::new(alloc);
     add_waiting_names(&mut names, others)?;
-    tell_waiting_beside(page, wiring, title, waiting, &names)
+    tell_waiting_beside(page, wiring, title, waiting, &names);
+    Ok(())
 }

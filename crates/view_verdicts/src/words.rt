@@ -2,7 +2,6 @@
 use room_kinds::{ControllerId, Priority};
 use room_verify::Verdict;
 use room_wiring::Wiring;
-use std::alloc::AllocError;
 use view_journals::put_controller;
 use view_pages::{Meaning, Page};
 
@@ -15,46 +14,42 @@ const WITH_FUEL: &str =
     "name the fuel of that run with --fuel, and take what it printed whole and unchanged";
 
 /// A controller's number, or the word for the environment.
-fn put_party(page: &mut Page, wiring: &Wiring, party: ControllerId) -> Result<(), AllocError> {
+fn put_party(page: &mut Page, wiring: &Wiring, party: ControllerId) {
     if party.0 < wiring.controller_count() {
-        page.put_number(u64::from(party.0))
+        page.put_number(u64::from(party.0));
     } else {
-        page.put(b"env")
+        page.put(b"env");
     }
 }
 
 /// A verdict, as the note of `verify` has it (docs/VERIFY.md).
-pub(crate) fn put_verdict(
-    page: &mut Page,
-    wiring: &Wiring,
-    verdict: Verdict,
-) -> Result<(), AllocError> {
+pub(crate) fn put_verdict(page: &mut Page, wiring: &Wiring, verdict: Verdict) {
     match verdict {
         Verdict::Order(party) => {
-            page.put(b"order ")?;
-            put_party(page, wiring, party)
+            page.put(b"order ");
+            put_party(page, wiring, party);
         }
         Verdict::Start(c) => {
-            page.put(b"start ")?;
-            page.put_number(u64::from(c.0))
+            page.put(b"start ");
+            page.put_number(u64::from(c.0));
         }
         Verdict::Entry(party, stamp) => {
-            page.put(b"entry ")?;
-            put_party(page, wiring, party)?;
-            page.put(b" ")?;
-            page.put_number(stamp.0)
+            page.put(b"entry ");
+            put_party(page, wiring, party);
+            page.put(b" ");
+            page.put_number(stamp.0);
         }
         Verdict::Left => page.put(b"left"),
         Verdict::Fuel(c) => {
-            page.put(b"fuel ")?;
-            page.put_number(u64::from(c.0))
+            page.put(b"fuel ");
+            page.put_number(u64::from(c.0));
         }
         Verdict::Ended => page.put(b"ended"),
         Verdict::Prompt(c, stamp) => {
-            page.put(b"prompt ")?;
-            page.put_number(u64::from(c.0))?;
-            page.put(b" ")?;
-            page.put_number(stamp.0)
+            page.put(b"prompt ");
+            page.put_number(u64::from(c.0));
+            page.put(b" ");
+            page.put_number(stamp.0);
         }
         Verdict::Lawful => page.put(b"lawful"),
     }
@@ -92,15 +87,11 @@ pub(crate) fn meaning_of(verdict: Verdict) -> Meaning {
 }
 
 /// A controller by its name, or the environment.
-pub(crate) fn put_name_of(
-    page: &mut Page,
-    wiring: &Wiring,
-    party: usize,
-) -> Result<(), AllocError> {
+pub(crate) fn put_name_of(page: &mut Page, wiring: &Wiring, party: usize) {
     if party < usize::from(wiring.controller_count()) {
-        put_controller(page, wiring, party)
+        put_controller(page, wiring, party);
     } else {
-        page.put(b"environment")
+        page.put(b"environment");
     }
 }
 
