@@ -8,7 +8,7 @@ ghost use Rattle.wiring_plan.specs.structure_plan.Plans.{plan_of};
 ghost use Rattle.wiring_slots.specs.model_slots.Answers.{AnswersSlots};
 
 use crate::model_slots::fault::SlotFault;
-use crate::slot_names::wired_names;
+use crate::slot_names::{WiredNames, wired_names};
 use crate::slot_tree::{has_few_slots, has_too_many_places, slots_of};
 use check_tables::Tables;
 use room_ast::Model;
@@ -25,6 +25,14 @@ pub struct WiredSlots {
     pub controllers: Sequence<Label>,
     pub classes: Sequence<ClassNames>,
     pub slots: Sequence<Slot>,
+}
+
+/// The names of the controllers. Those of slots, and the mappings, go here, before the names of classes
+/// take room.
+fn only_controllers(names: WiredNames) -> Sequence<Label>
+    ensures { result ≡ names.controllers }
+{
+    names.controllers
 }
 
 /// The slots of a model that keeps the rules, with its structure and its names, where these are its
@@ -51,10 +59,11 @@ pub fn wired_slots<'m, 't>(
     if has_too_many_places(alloc, &plan, slots.as_slice())? {
         return Err(SlotFault::TooManyPlaces);
     }
+    let controllers = only_controllers(names);
     let classes = classes_of(alloc, model, tables)?;
     Ok(WiredSlots {
         plan,
-        controllers: names.controllers,
+        controllers,
         classes,
         slots,
     })

@@ -1,4 +1,4 @@
-use Rattle.std.proofs.Common.{◌∙◌, refl, sym, subst}
+use Rattle.std.proofs.Common.{ℕ, List, ◌∙◌, refl, sym, ap, subst}
 use Rattle.room_ast.specs.Trees.{model_view}
 use Rattle.wiring_plan.specs.declared.structure_plan.plan.StructurePlan.{StructurePlan}
 use Rattle.wiring_slots.specs.slot_tree.Placing.{IsNumbered}
@@ -30,7 +30,8 @@ pub returns : goal.returns
 returns c =
     let m = model_view c.args.model.now in
     let all = all_found m c.in_ok-plan.plan c.in_ok-names.names c.in_ok-names.names.mappings c.in_ok-slots.field-0 c.in_ok-plan.ensures c.in_ok-names.ensures refl c.in_ok-slots.ensures c.in-Some.slots c.in-Some.is in (
-      same_wired m c.in_ok-plan.plan c.in_ok-names.names c.in_ok-classes.classes c.in-Some.slots c.in_ok-plan.ensures c.in_ok-names.ensures c.in_ok-classes.ensures all.0,
+      ap (λ (controllers : List (List ℕ)). record { plan = c.in_ok-plan.plan; controllers = controllers; classes = c.in_ok-classes.classes; slots = c.in-Some.slots }) c.only_controllers-controllers.ensures
+          ∙ same_wired m c.in_ok-plan.plan c.in_ok-names.names c.in_ok-classes.classes c.in-Some.slots c.in_ok-plan.ensures c.in_ok-names.ensures c.in_ok-classes.ensures all.0,
       all.1,
       sym (places_of_all m c.in_ok-plan.plan c.in_ok-names.names c.in_ok-names.names.mappings c.in_ok-slots.field-0 c.in_ok-plan.ensures c.in_ok-names.ensures refl c.in_ok-slots.ensures c.in-Some.slots c.as_slice.result.now
           c.in_ok-has_too_many_places.field-0 c.in-Some.is c.as_slice.ensures c.in_ok-has_too_many_places.ensures) ∙ c.if-branch.false,
