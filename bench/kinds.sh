@@ -3,7 +3,7 @@
 # All kinds. `long_` stands for names and paths of 200 letters and more, `chain` for mappings nested as
 # deep as the text goes, each in an actor inside the one before. Of `leaves` and `teeth` each actor of a
 # chain holds another one beside the next, which is empty or holds one itself.
-all_kinds="references mappings nested_mappings chain bindings layers ports classes empty_classes derived refinements messages
+all_kinds="references mappings nested_mappings chain bindings layers ports classes empty_classes tight_classes derived refinements messages
 states transitions choices branches points subgraphs composites attributes data_classes services long_bindings
 long_mappings long_chain long_leaves long_teeth long_classes long_states long_services empty_statements assignments
 short_assignments dotted_assignments sends sends_of_numbers sends_at_places ifs nested_ifs else_ifs elses filled_ifs
@@ -79,6 +79,32 @@ comb() {
     }'
 }
 
+# Classes with nothing in them, in as few bytes as can be: names of one letter, of two, of three.
+tight_classes() {
+    awk -v most="$1" -v start="$2" -v stop="$3" '
+    function of_length(letters, name, all, number) {
+        if (letters == 0) {
+            text = "ActorClass " name "{}"
+            if (name ~ /^[ALMPS]$/) return
+            size += length(text)
+            if (size > most || ++classes > 59000) exit
+            printf "%s", text
+            return
+        }
+        all = (name == "" ? capitals : capitals small digits)
+        for (number = 1; number <= length(all); number++) of_length(letters - 1, name substr(all, number, 1))
+    }
+    BEGIN {
+        capitals = "ABCDEFGHIJKLMNOPQRSTUVWXYZ"
+        small = "abcdefghijklmnopqrstuvwxyz"
+        digits = "0123456789_"
+        size = length(start) + length(stop)
+        printf "%s", start
+        for (letters = 1; letters <= 3; letters++) of_length(letters, "")
+    }
+    END { printf "%s", stop }'
+}
+
 # An action of at most so many bytes: a beginning, these bytes again and again, and an end.
 act() { fill "$1" "$action$2" "$3" "$4$action_end" 2000000; }
 
@@ -99,6 +125,7 @@ text_of() {
     ports) fill "$most" "${head}${top_class}ActorClass A { Structure {\n" 'Port p#: P\n' '} }\n}' 60000 ;;
     classes) fill "$most" "${head}${top_class}ActorClass A { }\n" 'ActorClass C# { Interface { Port p: P } Structure { external Port p ActorRef a: A } }\n' '}' 59000 ;;
     empty_classes) fill "$most" "${head}${top_class}ActorClass A { }\n" 'ActorClass C# { }\n' '}' 59000 ;;
+    tight_classes) tight_classes "$most" "${head}${top_class}ActorClass A { }\n" '}' ;;
     derived) fill "$most" "${head}${top_class}ActorClass A { }\nActorClass B { Interface { Port p: P } Structure { external Port p } }\n" 'ActorClass C# extends B { Structure { ActorRef a: A } }\n' '}' 59000 ;;
     refinements)
         fill "$((most / 2))" "${head}${top_class}ActorClass B { Interface { Port p: P } Structure { external Port p } Behavior { StateMachine {\nTransition b: initial -> S\nState S\n" 'State S# Transition t#: S# -> S# { triggers { <go: p> } }\n' '} } }\n'

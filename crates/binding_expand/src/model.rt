@@ -21,8 +21,8 @@ use structure_check::Checked;
 use wiring_slots::{SlotFault, WiredSlots, wired_slots};
 
 /// The slots of a model, within the limits.
-fn slots_within(alloc: Global, model: &Model, tables: &Tables) -> Result<WiredSlots, ExpandFault>
-    requires tables { tables.now ≡ tables_of (model_view model.now) }
+fn slots_within(alloc: Global, model: &Model, tables: Tables) -> Result<WiredSlots, ExpandFault>
+    requires tables { tables ≡ tables_of (model_view model.now) }
     requires finite { data_is_finite (model_view model.now) ≡ true }
     requires numbered { IsNumbered (plan_of (model_view model.now)) }
     ensures { FindsSlots (model_view model.now) result }
@@ -42,7 +42,7 @@ fn kept_slots(alloc: Global, model: &Model) -> Result<WiredSlots, ExpandFault>
     ensures { FindsSlots (model_view model.now) result }
 {
     let tables = tables_of(alloc, model)?;
-    slots_within(alloc, model, &tables)
+    slots_within(alloc, model, tables)
 }
 
 /// The wiring of a model that keeps all rules: its slots, controllers and classes by number, the places

@@ -48,6 +48,7 @@ fn note_first<'a>(
     Ok(())
 }
 
+/// The first place of each name. The table stays as long as the model, so it keeps no room for more.
 fn first_places<'a>(
     alloc: Global,
     names: &[&'a [u8]],
@@ -58,6 +59,7 @@ fn first_places<'a>(
     for (place, name) in names.iter().enumerate() {
         note_first(&mut first, *name, place)?;
     }
+    first.shrink_to_fit();
     Ok(first)
 }
 
@@ -83,10 +85,13 @@ fn place_among(names: &[&[u8]], name: &[u8]) -> Option<usize>
 }
 
 impl<'a> NameIndex<'a> {
-    /// The index of a list of names. It takes time in proportion to the list.
+    /// The index of a list of names. It takes time in proportion to the list, and gives back the room
+    /// that the list has for more names.
     pub fn of(alloc: Global, names: Vec<&'a [u8]>) -> Result<NameIndex<'a>, AllocError>
         ensures { IfOk result (λ n. n ≡ names_of names.entry.items) }
     {
+        let mut names = names;
+        names.shrink_to_fit();
         let first = table_of(alloc, names.as_slice())?;
         Ok(NameIndex { names, first })
     }

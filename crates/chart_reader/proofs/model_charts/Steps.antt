@@ -10,13 +10,10 @@ use Rattle.room_ast.specs.model_parts.Charts.{chart_of as machine_of, states_in}
 use Rattle.chart_trees.specs.declared.chart_graphs.Chart.{Chart as CodeChart}
 use Rattle.chart_trees.specs.chart_graphs.Views.{chart_view}
 use Rattle.chart_model.specs.Chart.{Name, Chart}
-use Rattle.chart_trees.specs.Reading.{reading}
-use Rattle.chart_reader.specs.Reads.{Reads}
 use Rattle.chart_reader.proofs.Lowest.{valid_told}
 use Rattle.chart_reader.proofs.NestedGraphs.{whole_told}
 use Rattle.chart_reader.proofs.model_charts.Few.{HaveFewStates}
 use Rattle.chart_reader.specs.declared.fault.ChartFault.{ChartFault}
-use Rattle.chart_reader.specs.declared.fault.ReadFault.{ReadFault}
 use Rattle.chart_reader.specs.declared.fault.ReadFault.TheVariants as read_faults
 use Rattle.check_scopes.specs.class_scopes.Views.{ScopeView, scope_view}
 use Rattle.chart_reader.specs.declared.model_charts.fault.ChartsFault.{ChartsFault}
@@ -25,28 +22,6 @@ use Rattle.chart_reader.specs.model_charts.Written.{Written, written, names_afte
 use Rattle.chart_reader.specs.model_charts.Charts.{HasFault, NoneIsFaulty, IsFirstFaulty, chart_in, AreValid, HasCharts}
 use Rattle.chart_reader.specs.model_charts.Making.{ReadsClass, TellsClass, IsRead}
 use Rattle.chart_reader.specs.model_charts.Reads.{ReadsCharts}
-
--- ---- one class
-
-after_names : (scope : Scope) (names new : List Name) (is : GraphItems) → (reading scope names is).names ≡ Some new → names_after scope names (Some is) ≡ new
-after_names scope names new is h = ap (λ (o : Option (List Name)). option_or o names) h
-  where
-    option_or : Option (List Name) → List Name → List Name
-    option_or None d = d
-    option_or (Some x) d = x
-
--- a class with a chart was read
-pub chart_read : (scope : Scope) (names new : List Name) (is : GraphItems) (c : CodeChart) → Reads scope names is (Ok c) → (reading scope names is).names ≡ Some new → ReadsClass scope names new (Some is) (Ok (Some c))
-chart_read scope names new is c h n = (h.0, ap Some h.1, after_names scope names new is n)
-
--- and has a fault
-pub chart_refused : (scope : Scope) (names new : List Name) (is : GraphItems) (f : ReadFault) → Reads scope names is (Err f) → ReadsClass scope names new (Some is) (Err f)
-chart_refused scope names new is (read_faults.Chart fault) h = h
-chart_refused scope names new is read_faults.Memory h = tt
-
--- a class without a state machine
-pub nothing_read : (scope : Scope) (names new : List Name) → names ≡ new → ReadsClass scope names new None (Ok None)
-nothing_read scope names new e = (refl, refl, e)
 
 -- ---- class after class
 

@@ -41,7 +41,7 @@ fn as_actor<'a>(class: &'a Class) -> Option<&'a ActorClass>
     }
 }
 
-/// The actor classes among classes, by number.
+/// The actor classes among classes, by number. The list has no room for more.
 pub fn actor_classes<'a>(
     alloc: Global,
     classes: &'a [Class],
@@ -53,6 +53,7 @@ pub fn actor_classes<'a>(
     for class in classes {
         push_if(&mut actors, as_actor(class))?;
     }
+    actors.shrink_to_fit();
     Ok(actors)
 }
 

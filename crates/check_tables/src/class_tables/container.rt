@@ -37,8 +37,7 @@ fn port_index<'a>(
 ) -> Result<NameIndex<'a>, AllocError>
     ensures { IfOk result (λ n. n ≡ names_in interface.now structure.now) }
 {
-    let mut names = port_names(alloc, interface, structure)?;
-    names.shrink_to_fit();
+    let names = port_names(alloc, interface, structure)?;
     NameIndex::of(alloc, names)
 }
 
@@ -62,8 +61,7 @@ fn reference_index<'a>(
 ) -> Result<NameIndex<'a>, AllocError>
     ensures { IfOk result (λ n. n ≡ names_of_references (references_in structure.now)) }
 {
-    let mut names = reference_names(alloc, structure)?;
-    names.shrink_to_fit();
+    let names = reference_names(alloc, structure)?;
     NameIndex::of(alloc, names)
 }
 

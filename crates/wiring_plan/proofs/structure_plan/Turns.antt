@@ -10,13 +10,18 @@ module _ {P : Type 0} (make : Container → ActorTree → P) (cs : List Class) (
   now : map class_view (drop i cs) ≡ class_view k ∷ map class_view (drop (i + 1) cs)
   now = rw (add-one, drop-cons cs i k, ← is) refl
 
+  -- the part that is taken is the first of those that are left
+  pub taken_turn : (a : ActorTree) → as_actor (class_view k) ≡ Some a → (left others : List Container) (own : Container) → left ≡ own ∷ others → (plan : P) → plan ≡ make own a → (plans whole : List P)
+      → plans ++ made as_actor make (map class_view (drop i cs)) left ≡ whole → (plans ++ plan ∷ []) ++ made as_actor make (map class_view (drop (i + 1) cs)) others ≡ whole
+  taken_turn a some left others own first plan plan_is plans whole inv =
+      let rest = map class_view (drop (i + 1) cs) in
+      let step : made as_actor make (map class_view (drop i cs)) left ≡ make own a ∷ made as_actor make rest others =
+      ap (λ (parts : List Container). made as_actor make (map class_view (drop i cs)) parts) first ∙ ap (λ (ks : List ClassTree). made as_actor make ks (own ∷ others)) now
+      ∙ ap (λ (o : Option ActorTree). made_first make (made as_actor make rest) o (own ∷ others)) some
+      in
+      append_assoc plans (plan ∷ []) (made as_actor make rest others) ∙ ap (λ (p : P). plans ++ p ∷ made as_actor make rest others) plan_is ∙ ap (λ (ps : List P). plans ++ ps) (sym step) ∙ inv
+
   pub actor_turn : (a : ActorTree) → as_actor (class_view k) ≡ Some a → (left : List Container) (own : Container) → 1 ≤ length left → own ≡ get_or left 0 own → (plan : P) → plan ≡ make own a → (plans whole : List P)
       → plans ++ made as_actor make (map class_view (drop i cs)) left ≡ whole → (plans ++ plan ∷ []) ++ made as_actor make (map class_view (drop (i + 1) cs)) (drop 1 left) ≡ whole
   actor_turn a some [] own lt first plan plan_is plans whole inv = absurd (omega arith)
-  actor_turn a some (x ∷ xs) own lt first plan plan_is plans whole inv =
-      let rest = map class_view (drop (i + 1) cs) in
-      let step : made as_actor make (map class_view (drop i cs)) (x ∷ xs) ≡ make x a ∷ made as_actor make rest xs =
-      ap (λ (ks : List ClassTree). made as_actor make ks (x ∷ xs)) now ∙ ap (λ (o : Option ActorTree). made_first make (made as_actor make rest) o (x ∷ xs)) some
-      in
-      append_assoc plans (plan ∷ []) (made as_actor make rest xs) ∙ ap (λ (p : P). plans ++ p ∷ made as_actor make rest xs) (plan_is ∙ ap (λ (c : Container). make c a) first)
-      ∙ ap (λ (ps : List P). plans ++ ps) (sym step) ∙ inv
+  actor_turn a some (x ∷ xs) own lt first plan plan_is plans whole inv = taken_turn a some (x ∷ xs) xs x refl plan (plan_is ∙ ap (λ (c : Container). make c a) first) plans whole inv

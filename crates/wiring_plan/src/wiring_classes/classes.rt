@@ -55,28 +55,28 @@ fn class_names(
     })
 }
 
-/// The names of the actor classes among classes, where `actors` is what each knows of its parts.
+/// The names of the actor classes among classes, where `actors` is what each knows of its parts, which goes
+/// as soon as the class has its names.
 fn all_names(
     alloc: Global,
     names: &TableNames,
     signals: &SignalTable<SignalNames>,
     kinds: &[Sequence<NumberType>],
     classes: &[Class],
-    actors: &[Container],
+    actors: Sequence<Container>,
 ) -> Result<Vec<ClassNames>, AllocError>
     ensures { IfOk result (λ v.
         v.items
-        ≡ classes_by names.now signals.now kinds.now (map class_view classes.now) actors.now) }
+        ≡ classes_by names.now signals.now kinds.now (map class_view classes.now) actors.entry) }
 {
     let mut all = Vec::with_capacity(alloc, actors.len())?;
-    let mut left = actors;
+    let mut left = actors.into_vec().into_iter();
     for class in classes {
         if let Class::Actor(actor) = class {
-            let [container, others @ ..] = left else {
+            let Some(container) = left.next() else {
                 return Ok(all);
             };
-            all.push(class_names(alloc, names, signals, kinds, container, actor)?)?;
-            left = others;
+            all.push(class_names(alloc, names, signals, kinds, &container, actor)?)?;
         }
     }
     Ok(all)
@@ -86,35 +86,29 @@ fn all_names(
 fn named_in(
     alloc: Global,
     classes: &[Class],
-    tables: &Tables,
+    tables: Tables,
     kinds: &[Sequence<NumberType>],
 ) -> Result<Vec<ClassNames>, AllocError>
     ensures { IfOk result (λ v.
-        v.items ≡ named_in tables.now kinds.now (map class_view classes.now)) }
+        v.items ≡ named_in tables.entry kinds.now (map class_view classes.now)) }
 {
-    let signals = signal_table(alloc, classes, &tables.names.data_classes, kinds)?;
+    let Tables { names, actors, .. } = tables;
+    let signals = signal_table(alloc, classes, &names.data_classes, kinds)?;
     let labelled = labelled_table(alloc, &signals)?;
-    all_names(
-        alloc,
-        &tables.names,
-        &labelled,
-        kinds,
-        classes,
-        tables.actors.as_slice(),
-    )
+    all_names(alloc, &names, &labelled, kinds, classes, actors)
 }
 
 /// The names of the actor classes of a model, by number, where these are its tables. No data class
 /// contains itself. The time and the room are in proportion to the model and the numbers of its
 /// messages and attributes: the ports of a protocol class share its messages, and no list has room for
-/// more than its entries.
+/// more than its entries. What the tables know of a class goes as soon as it has its names.
 #[tactic(auto, using(crate::proofs::wiring_classes::KindLaws::some_names, crate::proofs::wiring_classes::KindLaws::no_names))]
 pub fn classes_of(
     alloc: Global,
     model: &Model,
-    tables: &Tables,
+    tables: Tables,
 ) -> Result<Sequence<ClassNames>, AllocError>
-    requires tables { tables.now ≡ tables_of (model_view model.now) }
+    requires tables { tables ≡ tables_of (model_view model.now) }
     requires finite { data_is_finite (model_view model.now) ≡ true }
     ensures { IfOk result (λ s. s ≡ classes_of (model_view model.now)) }
 {

@@ -36,23 +36,19 @@ fn only_controllers(names: WiredNames) -> Sequence<Label>
 }
 
 /// The slots of a model that keeps the rules, with its structure and its names, where these are its
-/// tables. A structure that stands for too many slots is refused before names and mappings are made,
-/// and before more slots than the limit are.
-pub fn wired_slots<'m, 't>(
-    alloc: Global,
-    model: &'t Model,
-    tables: &'t Tables<'m>,
-) -> Result<WiredSlots, SlotFault>
-    requires tables { tables.now ≡ tables_of (model_view model.now) }
+/// tables, which go with this call. A structure that stands for too many slots is refused before names
+/// and mappings are made, and before more slots than the limit are.
+pub fn wired_slots(alloc: Global, model: &Model, tables: Tables) -> Result<WiredSlots, SlotFault>
+    requires tables { tables ≡ tables_of (model_view model.now) }
     requires finite { data_is_finite (model_view model.now) ≡ true }
     requires numbered { IsNumbered (plan_of (model_view model.now)) }
     ensures { AnswersSlots (model_view model.now) result }
 {
-    let plan = plan_of(alloc, model, tables)?;
+    let plan = plan_of(alloc, model, &tables)?;
     if !has_few_slots(alloc, &plan)? {
         return Err(SlotFault::TooManySlots);
     }
-    let names = wired_names(alloc, model, tables)?;
+    let names = wired_names(alloc, model, &tables)?;
     let Some(slots) = slots_of(alloc, &plan, &names.slots, &names.mappings)? else {
         return Err(SlotFault::TooManySlots);
     };
