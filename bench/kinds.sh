@@ -3,12 +3,13 @@
 # All kinds. `long_` stands for names and paths of 200 letters and more, `chain` for mappings nested as
 # deep as the text goes, each in an actor inside the one before. Of `leaves` and `teeth` each actor of a
 # chain holds another one beside the next, which is empty or holds one itself.
-all_kinds="references mappings nested_mappings chain bindings layers ports classes empty_classes tight_classes derived refinements messages
-states transitions choices branches points subgraphs composites attributes data_classes services long_bindings
-long_mappings long_chain long_leaves long_teeth long_classes long_states long_services empty_statements assignments
-short_assignments dotted_assignments sends sends_of_numbers sends_at_places ifs nested_ifs else_ifs elses filled_ifs
-repetitions verbs imports registrations deferrals sums products attribute_sums dotted_sums signs signed_sums parentheses
-guards injections journals read_journals"
+all_kinds="references mappings nested_mappings chain bindings layers ports classes empty_classes
+tight_classes derived refinements messages states transitions choices branches points subgraphs composites
+attributes data_classes services long_bindings long_mappings long_chain long_leaves long_teeth long_classes
+long_states long_services empty_statements assignments short_assignments dotted_assignments sends
+sends_of_numbers sends_at_places ifs nested_ifs else_ifs elses filled_ifs repetitions verbs imports
+registrations deferrals sums products attribute_sums dotted_sums signs signed_sums parentheses guards
+injections journals read_journals"
 
 head='RoomModel M {\nLogicalSystem L { SubSystemRef s: S }\nProtocolClass P { incoming { Message go() } outgoing { Message ok() } }\n'
 top_class='SubSystemClass S { ActorRef a: A }\n'
