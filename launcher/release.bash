@@ -62,28 +62,41 @@ strip_program() {
     (exec -a llvm-strip "$kit/toolchain/bin/clang" --strip-all -o "$2" "$top/crates/$1/out/$1")
 }
 
-# Puts the programs that were proved here from the sources as they are into dist/, with what they were made of.
-release() {
-    local name dist="$top/dist"
-    make_work_folder
+# The programs that dist/SUMS names.
+released() {
+    local name
     for name in room room_view; do
-        stands_proved "crates/$name/out" "$name" ||
-            give_up "crates/$name/out has no program that was proved from these sources: .ci/run or ./room --prove builds it"
-        strip_program "$name" "$work/$name" || give_up "the symbols of $name could not be left out"
+        [ -z "$(said_of "$top/dist/SUMS" "$name")" ] || echo "$name"
     done
-    {
-        mkdir -p -- "$dist" &&
-            for name in room room_view; do
-                cp -- "$work/$name" "$dist/$name.new" && chmod 755 "$dist/$name.new" &&
-                    mv -f -- "$dist/$name.new" "$dist/$name" || exit
-                echo "$name $(sum_of_file "$dist/$name")"
-            done >"$work/SUMS" &&
-            {
-                echo "sources ${sums[sources]}"
-                echo "kit $(said_of "$top/crates/room/out/SUMS" kit)"
-            } >>"$work/SUMS" && cp -- "$work/SUMS" "$dist/SUMS"
-    } || give_up 'dist/ could not be written'
-    say 'dist/ has the proved programs of these sources'
+}
+
+# Puts one program into dist/ and tells its line of dist/SUMS.
+release_program() {
+    local to="$top/dist/$1"
+    strip_program "$1" "$work/$1" && cp -- "$work/$1" "$to.new" && chmod 755 "$to.new" && mv -f -- "$to.new" "$to" &&
+        echo "$1 $(sum_of_file "$to")"
+}
+
+# Puts the programs that were proved here from the sources as they are into dist/, with what they were made of. One
+# that wasn't is left out, and told.
+release() {
+    local name made_by='' dist="$top/dist"
+    make_work_folder
+    : >"$work/SUMS"
+    mkdir -p -- "$dist" || give_up 'dist/ could not be written'
+    for name in room room_view; do
+        if stands_proved "crates/$name/out" "$name"; then
+            made_by="$(said_of "$top/crates/$name/out/SUMS" kit)"
+            release_program "$name" >>"$work/SUMS" || give_up "dist/$name could not be written"
+        else
+            say "crates/$name/out has no program that was proved from these sources: .ci/run or ./room --prove builds it"
+            rm -f -- "$dist/$name"
+        fi
+    done
+    [ -n "$made_by" ] || give_up 'there is nothing to release'
+    printf 'sources %s\nkit %s\n' "${sums[sources]}" "$made_by" >>"$work/SUMS"
+    cp -- "$work/SUMS" "$dist/SUMS" || give_up 'dist/SUMS could not be written'
+    say "dist/ has the proved programs of these sources: $(released | paste -s -d ' ')"
 }
 
 # Whether dist/ is what it says. Its programs have the sums of dist/SUMS; and where that tells of the sources as they
@@ -97,7 +110,7 @@ check_release() {
     fi
     find_sums
     for name in room room_view; do
-        [ "$(said_of "$dist/SUMS" "$name")" = "${sums[dist/$name]}" ] ||
+        [ "$(said_of "$dist/SUMS" "$name")" = "${sums[dist/$name]#-}" ] ||
             { say "dist/$name isn't the program that dist/SUMS names" && return 1; }
     done
     if [ "$(said_of "$dist/SUMS" sources)" != "${sums[sources]}" ]; then
@@ -110,7 +123,7 @@ check_release() {
         return 0
     fi
     make_work_folder
-    for name in room room_view; do
+    for name in $(released); do
         if ! stands_proved "crates/$name/out" "$name"; then
             say "no proved $name was built here: the sums of dist/ alone were compared"
             continue

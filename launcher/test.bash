@@ -50,6 +50,7 @@ run_tests() {
     [ "${#of_launcher[@]}" -eq 0 ] || count_tried "$top/.ci/cases" "$top/room" "${of_launcher[@]}"
     [ -n "$pattern" ] && [ "${#of_room[@]}" -eq 0 ] || count_tried "$top/.ci/verified" "${answers[room]}" "${of_room[@]}"
     [ -n "$pattern" ] || count_tried "$top/.ci/examples" "${answers[room]}"
+    [ "$((passed + failed))" -gt 0 ] || say "no case has $pattern in its name"
     echo "$passed passed, $failed failed"
     [ "$failed" -eq 0 ] && [ "$passed" -gt 0 ]
 }
