@@ -33,11 +33,12 @@ list_files() {
         -printf '%p %s %T@ %C@\n' 2>/dev/null) || :
 }
 
-# The sum of a list of the sums of all files in these folders, by their paths; `-` where one can't be read.
+# The sum of a list of the sums of all files in these folders, by their paths; `-` where one can't be read, which
+# is told.
 sum_of_folders() {
     local sum
     sum="$(set -o pipefail && cd "$top" && find "$@" -type f -print0 | LC_ALL=C sort -z | xargs -0 sha256sum |
-        sha256sum)" 2>/dev/null || sum=-
+        sha256sum)" || sum=-
     printf '%s\n' "${sum%% *}"
 }
 
@@ -58,7 +59,7 @@ make_sums() {
         done
     done < <(crates_in_order room room_view)
     sums[sources]="$(sum_of_folders "${all[@]}")"
-    sums[code]="$(sum_of_folders "${code[@]}")"
+    sums[code]="$(sum_of_folders "${code[@]}" 2>/dev/null)"
     for name in "${summed[@]:2}"; do
         sums[$name]="$(sum_of_file "$top/$name")"
     done
