@@ -31,8 +31,7 @@ build_program() {
 prove() {
     stands_proved crates/room/out room && stands_proved crates/room_view/out room_view &&
         say 'the proved programs are up to date' && return
-    unproved='this proves the sources'
-    need_rt them
+    need_rt
     make_work_folder
     trap 'say "cut off; ./room --prove goes on with the crate that was in work"; exit 130' INT TERM HUP
     local names count name at=0
